@@ -1,4 +1,4 @@
--- An exchange over an honest port, from what its calls did.
+-- An exchange over an honest port, from the effects of its calls.
 use Rattle.std.proofs.Common.{◌≡◌, ◌∙◌, ◌<◌, ◌++◌, ℕ, List, [], ◌∷◌, length, refl, sym, subst, ap, arith, inr, length-append}
 use Rattle.std.specs.Prelude.{◌⊎◌, slice_index, Result, Ok, Err, OnErr}
 use Rattle.std.proofs.lemmas.List.{append-nil}
@@ -9,7 +9,7 @@ use Rattle.nor_serprog.specs.declared.command.Command.{Command}
 use Rattle.nor_serprog.specs.declared.command.Command.TheVariants.{Operate}
 use Rattle.nor_serprog.specs.Device.{PortState, IsIdle, IfOperates, Operates, AnswerBegins, IsSent, IsCutOff, TakesAnswer, MissesAnswer, Exchanged, Interrupted}
 
--- A whole frame of O_SPIOP reaches an idle programmer: it is carried out.
+-- A whole frame of O_SPIOP that reaches an idle programmer is carried out.
 pub operated : (frame : List ℕ) (old sent : PortState) → IsIdle old.device → IsFrame frame
     → slice_index frame 0 ≡ 0x13 → IsSent frame old sent → Operates frame old.device sent.device
 operated frame old sent idle whole opcode s =
@@ -19,7 +19,7 @@ operated frame old sent idle whole opcode s =
     let R : List ℕ → Type 0 = λ b. Operates b old.device sent.device in
     subst R (sym e) (s.done (record { whole = subst P e whole; opcode = subst Q e opcode }))
 
--- All of an answer was received, if as many bytes were received as it has.
+-- A reply was received completely if as many bytes were received as it has.
 pub none_rest : (answer reply rest : List ℕ) → answer ≡ reply ++ rest → length answer ≡ length reply → rest ≡ []
 none_rest answer reply [] e len = refl
 none_rest answer reply (x ∷ rest) e len =
@@ -45,7 +45,7 @@ exchanged frame out replies reply old sent new idle whole opcode goes comes s t 
       step = subst R (sym t.chip) (subst Q got (subst P goes o.step));
     }
 
--- The answer of an operation begins with ACK.
+-- The reply to an operation begins with ACK.
 pub begins_with_ack : (frame : List ℕ) (old sent : PortState) → IsIdle old.device
     → Operates frame old.device sent.device → AnswerBegins sent
 begins_with_ack frame old sent idle o =
@@ -55,7 +55,7 @@ begins_with_ack frame old sent idle o =
     let Q : List ℕ → Type 0 = λ p. slice_index p 0 ≡ 6 in
     record { some = subst P (sym e) (omega arith); ack = subst Q (sym e) refl }
 
--- The port failed while the frame was sent.
+-- The port failed while the frame was sent, so the transaction was interrupted.
 pub cut_off : (frame out : List ℕ) (old new : PortState) → IsIdle old.device → IsFrame frame
     → slice_index frame 0 ≡ 0x13 → out_in frame ≡ out → IsCutOff frame old new → Interrupted out old new
 cut_off frame out old new idle whole opcode goes c =
@@ -75,7 +75,7 @@ cut_off frame out old new idle whole opcode goes c =
       chip = c.chip;
     }
 
--- The port failed while the answer was received.
+-- The port failed while the reply was received, so the transaction was interrupted.
 pub missed : (frame out : List ℕ) (old sent new : PortState) → IsIdle old.device → IsFrame frame
     → slice_index frame 0 ≡ 0x13 → out_in frame ≡ out → IsSent frame old sent → MissesAnswer sent new
     → Interrupted out old new
@@ -90,7 +90,7 @@ missed frame out old sent new idle whole opcode goes s m =
       chip = m.chip;
     }
 
--- The three for any command.
+-- These three facts for any command.
 pub exchanged_by : (command : Command) (frame reply : List ℕ) (len : ℕ) (old sent new : PortState)
     → IsIdle old.device → IsFrame frame → Reads frame command → IsSent frame old sent → TakesAnswer reply sent new
     → length reply ≡ len → IfOperates command (λ out replies. len ≡ replies → Exchanged out reply old new)
@@ -112,7 +112,7 @@ missed_by (Operate out replies) frame old sent new idle whole reads s m =
     (m (begins_with_ack frame old sent idle (operated frame old sent idle whole reads.0 s)))
 missed_by _ frame old sent new idle whole reads s m = tt
 
--- A fact holds on an error if it holds.
+-- A fact that holds also holds on an error.
 pub on_err : {T E : Type 0} (result : Result T E) (P : Type 0) → P → OnErr result P
 on_err (Ok x) P p = tt
 on_err (Err e) P p = p

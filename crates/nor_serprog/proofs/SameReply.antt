@@ -1,4 +1,4 @@
--- A chip replies to a read of data as it did the first time.
+-- A chip gives the same reply when data is read a second time.
 use Rattle.std.proofs.Common.{◌≡◌, ◌∙◌, ◌<◌, ◌+◌, ◌%◌, ℕ, Bool, true, false, List, [], ◌∷◌, length, refl, sym, subst, ap}
 use Rattle.std.specs.Prelude.{◌==◌, if◌then◌else◌}
 use Rattle.std.proofs.lemmas.Bool.{eqb-true, false≢true}
@@ -11,7 +11,7 @@ use Rattle.nor_chip.specs.Command.{address_of}
 use Rattle.nor_chip.specs.Step.{Step, Does, reply_byte}
 use Rattle.nor_serprog.specs.Twice.{begins_read}
 
--- What a read of data leaves of a chip: all that its reply depends on.
+-- The parts of a chip that a read of data leaves as they are: all that the reply depends on.
 pub record Still (old new : Chip) : Type 0 where
   pub config : new.config ≡ old.config
   pub bytes : (a : ℕ) → new.bytes a ≡ old.bytes a
@@ -33,7 +33,7 @@ reply_alike true x y z old mid s i =
     ∙ s.bytes ((address_of old.config x y z + i) % old.config.size)
 reply_alike false x y z old mid s i = refl
 
--- Two chips that reply alike to a command, and two replies of one length.
+-- Two chips with the same reply to a command give equal replies of equal length.
 pub alike : (command other : Command) (sent : List ℕ) (old mid new : Chip) (first again : List ℕ)
     → Does command sent old first mid → Does other sent mid again new → length again ≡ length first
     → ((i : ℕ) → reply_byte mid other i ≡ reply_byte old command i) → again ≡ first
@@ -58,7 +58,7 @@ read_alike x y z old mid new first again one two len =
     again
     one two len same
 
--- The same for bytes of which the first is 03h.
+-- `same_reply` for transactions whose first byte is 03h.
 pub same_reply_03 : (rest : List ℕ) (old mid new : Chip) (first again : List ℕ)
     → Step old (3 ∷ rest) first mid → Step mid (3 ∷ rest) again new → length again ≡ length first → again ≡ first
 same_reply_03 [] old mid new first again one two len =
@@ -74,7 +74,7 @@ same_reply_03 (x ∷ y ∷ z ∷ b ∷ []) old mid new first again one two len =
 same_reply_03 (x ∷ y ∷ z ∷ b ∷ c ∷ rest) old mid new first again one two len =
     alike Ignored Ignored (b ∷ c ∷ rest) old mid new first again one two len (λ i. refl)
 
--- A transaction that begins like a read of data, twice: the replies are the same.
+-- A transaction that begins as a read of data is sent twice: the replies are equal.
 pub same_reply : (out : List ℕ) (old mid new : Chip) (first again : List ℕ) → begins_read out ≡ true
     → Step old out first mid → Step mid out again new → length again ≡ length first → again ≡ first
 same_reply [] old mid new first again reads one two len = absurd (false≢true reads)

@@ -1,4 +1,4 @@
--- The bus to the chip behind a programmer, as contracts see it.
+-- The bus to the chip at a programmer, as contracts see it.
 use Rattle.std.specs.Prelude.{Bool, Option}
 use Rattle.nor_chip.specs.declared.sent.Sent.{Sent}
 use Rattle.nor_chip.specs.Bus.{BusState, unknown_bus}
@@ -15,11 +15,11 @@ link_of bus = bus.link
 abbrev pub port_in : {P C : Type 0} → SerprogBus P C → P
 port_in bus = bus.link.port
 
--- What was sent that may modify a chip, or was tried.
+-- The modifying commands that were sent, or that the bus tried to send.
 abbrev pub sent_of : {P C : Type 0} → SerprogBus P C → Sent
 sent_of bus = bus.sent
 
--- The last poll that was replied to showed that the chip is ready.
+-- The reply to the last poll showed that the chip is ready.
 abbrev pub heard_of : {P C : Type 0} → SerprogBus P C → Bool
 heard_of bus = bus.heard
 
@@ -31,6 +31,6 @@ cause_of bus = bus.cause
 abbrev pub is_ready : {P C : Type 0} → SerprogBus P C → Bool
 is_ready bus = is_in_step bus.link
 
--- A bus of which nothing is known except what was sent and what polls replied.
+-- The state of a bus about which only the modifying commands sent and the replies to polls are known.
 abbrev pub state_of : {P C : Type 0} → SerprogBus P C → BusState
 state_of bus = unknown_bus bus.sent bus.heard

@@ -16,7 +16,7 @@ four_of n = n % 256 ∷ n / 256 % 256 ∷ n / 65536 % 256 ∷ n / 16777216 % 256
 abbrev pub number_of : (a b c : ℕ) → ℕ
 number_of a b c = a + 256 * b + 65536 * c
 
--- The frame of O_SPIOP: the opcode, the number of bytes to send, the number of replies, and the bytes to send.
+-- The frame of O_SPIOP: the opcode, the number of bytes to send, the number of reply bytes, and the bytes to send.
 abbrev pub operation_frame : (out : List ℕ) → (replies : ℕ) → List ℕ
 operation_frame out replies = 0x13 ∷ three_of (length out) ++ three_of replies ++ out
 
@@ -36,13 +36,13 @@ frame_of (Operate out replies) = operation_frame out.now replies
 frame_of (SetFrequency hertz) = 0x14 ∷ four_of hertz
 frame_of (SetPins enabled) = 0x15 ∷ (if enabled then 1 else 0) ∷ []
 
--- The command fits into one frame of this crate: O_SPIOP sends at most 260 bytes, and its number of replies has 24
+-- The command fits into one frame of this crate: O_SPIOP sends at most 260 bytes, and its number of reply bytes has 24
 -- bits.
 abbrev pub Fits : Command → Type 0
 Fits (Operate out replies) = (length out.now ≤ 260) × (replies < 16777216)
 Fits _ = ⊤
 
--- How many bytes of arguments follow an opcode. O_SPIOP and "write n" (0Dh) have more, and are described below.
+-- The number of argument bytes after an opcode. O_SPIOP and "write n" (0Dh) have more, which `long_len` describes.
 abbrev pub arguments_of : (opcode : ℕ) → ℕ
 arguments_of opcode =
     if opcode == 0x12 || opcode == 0x15 then 1
@@ -51,8 +51,8 @@ arguments_of opcode =
     else if opcode == 0x0A then 6
     else 0
 
--- The length of a frame of O_SPIOP or "write n", by what follows its opcode: two numbers of three bytes, of which the
--- first is the number of bytes after them.
+-- The length of a frame of O_SPIOP or "write n", from the bytes after its opcode: two numbers of three bytes, the first
+-- of which is the number of bytes after them.
 abbrev pub long_len : List ℕ → Option ℕ
 long_len (a ∷ b ∷ c ∷ rest) = Some (7 + number_of a b c)
 long_len _ = None
@@ -71,12 +71,12 @@ IsFrame bytes = frame_len bytes ≡ Some (length bytes)
 abbrev pub out_in : List ℕ → List ℕ
 out_in frame = drop 7 frame
 
--- The number of replies that a frame of O_SPIOP asks for.
+-- The number of reply bytes that a frame of O_SPIOP requests.
 abbrev pub replies_in : List ℕ → ℕ
 replies_in frame = number_of (slice_index frame 4) (slice_index frame 5) (slice_index frame 6)
 
 -- A programmer that reads this frame carries out this command: the opcode is the command's, and O_SPIOP has its bytes
--- and its number of replies.
+-- and its number of reply bytes.
 abbrev pub Reads : List ℕ → Command → Type 0
 Reads frame (Operate out replies) =
     (slice_index frame 0 ≡ 0x13) × (out_in frame ≡ out.now) × (replies_in frame ≡ replies)

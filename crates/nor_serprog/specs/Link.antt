@@ -8,11 +8,11 @@ use Rattle.nor_serprog.specs.declared.link.Sync.TheVariants.{InStep, Lost, Cut}
 abbrev pub port_of : {P C : Type 0} → Link P C → P
 port_of link = link.port
 
--- Whether the answers can be matched to the frames.
+-- Whether the replies can be matched to the frames.
 abbrev pub sync_of : {P C : Type 0} → Link P C → Sync
 sync_of link = link.sync
 
--- Each frame was answered, and each answer was read.
+-- Each frame had its reply, and each reply was read.
 abbrev pub is_in_step : {P C : Type 0} → Link P C → Bool
 is_in_step link = elim link.sync [ InStep ↦ true | Lost ↦ false | Cut ↦ false ]
 

@@ -1,4 +1,4 @@
--- A bus that reads everything twice, as contracts see it.
+-- A bus that reads data twice, as contracts see it.
 use Rattle.std.specs.Prelude.{◌==◌, ℕ, Bool, false, List, [], ◌∷◌}
 use Rattle.nor_chip.specs.Bus.{BusState, Carries, unknown_bus}
 use Rattle.nor_serprog.specs.declared.twice.ReadTwice.{ReadTwice}
@@ -7,15 +7,15 @@ use Rattle.nor_serprog.specs.declared.twice.ReadTwice.{ReadTwice}
 abbrev pub twice_of : {B : Type 0} → ReadTwice B → B
 twice_of twice = twice.bus
 
--- Two readings of the same bytes differed.
+-- Two reads of the same bytes differed.
 abbrev pub has_differed : {B : Type 0} → ReadTwice B → Bool
 has_differed twice = twice.differed
 
--- What is known of the bus: what was sent over the bus inside, and what polls replied.
+-- The state of the bus: only what was sent over the bus inside, and the replies to polls, are known.
 abbrev pub view_of : BusState → BusState
 view_of inside = unknown_bus inside.sent inside.heard
 
--- A transaction reads data.
+-- True if a transaction reads data (03h).
 abbrev pub begins_read : (out : List ℕ) → Bool
 begins_read [] = false
 begins_read (opcode ∷ rest) = opcode == 0x03

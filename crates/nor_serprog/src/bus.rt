@@ -1,4 +1,4 @@
-//! A bus to the chip behind a programmer.
+//! A bus to the chip at a serial programmer.
 ghost use Rattle.std.specs.Prelude.{◌≡◌, ◌≤◌, true, false, length, OnOk, OnErr, IsSome, option_copied};
 ghost use Rattle.std.proofs.lemmas.Bool.{false≢true};
 ghost use Rattle.nor_chip.specs.Sent.{IsNothing};
@@ -10,16 +10,18 @@ ghost use Rattle.nor_serprog.specs.Link.{port_of, is_in_step};
 use crate::{Command, Failure, Link, Port, Programmer, Sync};
 use nor_chip::{Bus, Sent, Stopped, heard_after};
 
-/// A bus to the chip behind a serial programmer, over any port. One transaction is one O_SPIOP (serprog protocol,
+/// A bus to the chip at a serial programmer, over any port. One transaction is one O_SPIOP (serprog protocol,
 /// flashrom's Documentation/serprog-protocol.txt).
 ///
-/// In the sense of `Bus` this bus is not honest, because it refuses a transaction of more than 260 bytes. Over any port
-/// its contract notes what was sent that may modify a chip, and what polls replied. A modifying command is noted before
-/// its first byte is sent. After a transaction that failed, nothing more is sent until `synchronize` returns `Ok`.
+/// This bus is not honest as `Bus` defines it, because it rejects transactions of more than 260 bytes. Over any port
+/// its contract records the modifying commands that were sent and the replies to polls. A modifying command is recorded
+/// before its first byte is sent. After a transaction that failed, nothing more is sent until `synchronize` returns
+/// `Ok`.
 ///
 /// Over an honest port to an idle programmer, a transaction that succeeds is one step of the chip, and leaves the
-/// programmer idle (`Exchanged`). A transaction of at most 260 bytes and 4,096 replies fails only if fewer than three
-/// calls of the port were left; the chip has then made its step or is as it was (`Interrupted`).
+/// programmer idle (`Exchanged`). If the bus is in step, a transaction of at most 260 bytes and 4,096 replies fails
+/// only if fewer than three calls of the port were left. The chip has then made its step or is as it was, and may have
+/// lost its power (`Interrupted`).
 #[derive(Drop)]
 pub struct SerprogBus<P: Port + Drop> {
     link: Link<P>,
@@ -30,7 +32,7 @@ pub struct SerprogBus<P: Port + Drop> {
 }
 
 impl<P: Port + Drop> SerprogBus<P> {
-    /// A bus over a link whose programmer was identified (`Programmer::identify`).
+    /// Returns a bus over a link whose programmer was identified (`Programmer::identify`).
     pub fn new(link: Link<P>, programmer: Programmer) -> SerprogBus<P>
         ensures link { link_of result ≡ link }
         ensures sent { IsNothing (sent_of result) }
@@ -57,15 +59,16 @@ impl<P: Port + Drop> SerprogBus<P> {
         self.link.port()
     }
 
-    /// Returns the cause of the last transaction that failed. A transaction that is refused because an earlier one
-    /// failed does not replace the cause of the earlier one.
+    /// Returns the cause of the last transaction that failed. A transaction that is rejected because an earlier one
+    /// failed does not replace the earlier cause.
     pub fn cause(&self) -> Option<&Failure<P::Cause>>
         ensures { option_copied result ≡ cause_of self.now }
     {
         self.cause.as_ref()
     }
 
-    /// Brings the programmer into step again after a transaction failed, as `Link::synchronize`. What was noted stays.
+    /// Synchronizes the programmer after a transaction failed, as `Link::synchronize` does. The record of modifying
+    /// commands and polls is kept.
     ///
     /// The chip may have carried out the transaction that failed, or not.
     pub fn synchronize(&mut self) -> Result<(), Failure<P::Cause>>
@@ -122,7 +125,7 @@ impl<P: Port + Drop> Bus for SerprogBus<P> {
     }
 }
 
-// One transaction, as one O_SPIOP.
+// Makes one transaction, as one O_SPIOP.
 fn carry<P: Port + Drop>(
     link: &mut Link<P>,
     longest_read: u32,

@@ -1,4 +1,4 @@
-//! The commands of serprog as bytes, and the first byte of each answer.
+//! The commands of serprog as bytes, and the first byte of each reply.
 
 ghost use Rattle.std.specs.Prelude.{◌≡◌, ◌<◌, ◌≤◌, ◌↔◌, [], ◌++◌, ℕ, List, length, IfOk, IsOk, IsSome, if◌then◌else◌, ◌==◌};
 ghost use Rattle.nor_serprog.specs.Frame.{frame_of, operation_frame, arguments_of, Fits, IsFrame, Reads, frame_len as frame_len_of};
@@ -7,15 +7,16 @@ ghost use Rattle.nor_serprog.specs.declared.command.Answer.TheVariants as Answer
 use arrayvec::ArrayVec;
 use thiserror::Error;
 
-/// The most bytes that an O_SPIOP of this crate sends to the chip: an opcode, three address bytes and a page of 256.
+/// The greatest number of bytes that an O_SPIOP of this crate sends to the chip: an opcode, three address bytes and a
+/// page of 256 bytes.
 pub const LONGEST_OUT: usize = 260;
 
-// The opcode of O_SPIOP and its two lengths.
+// The length of the opcode of O_SPIOP and its two 24-bit lengths.
 const HEADER_LEN: usize = 7;
 
 const LONGEST_FRAME: usize = HEADER_LEN + LONGEST_OUT;
 
-// The number of replies has 24 bits.
+// The first number of reply bytes that 24 bits can't represent.
 const REPLIES_END: u32 = 1 << 24;
 
 /// The bytes of one command.
@@ -37,17 +38,17 @@ pub enum Command<'a> {
     QuerySerialBuffer,
     /// 05h, Q_BUSTYPE: the types of bus that the programmer supports, 1 byte of flags.
     QueryBuses,
-    /// 08h, Q_WRNMAXLEN: the most bytes that an O_SPIOP may send, 3 bytes; 0 means 2^24.
+    /// 08h, Q_WRNMAXLEN: the greatest number of bytes that an O_SPIOP may send, 3 bytes; 0 means 2^24.
     QueryLongestWrite,
-    /// 10h, SYNCNOP: no effect; the answer is NAK and then ACK.
+    /// 10h, SYNCNOP: no effect; the reply is NAK and then ACK.
     SyncNop,
-    /// 11h, Q_RDNMAXLEN: the most bytes that an O_SPIOP may read, 3 bytes; 0 means 2^24.
+    /// 11h, Q_RDNMAXLEN: the greatest number of bytes that an O_SPIOP may read, 3 bytes; 0 means 2^24.
     QueryLongestRead,
-    /// 12h, S_BUSTYPE: use one of these types of bus (flags as in the answer to Q_BUSTYPE).
+    /// 12h, S_BUSTYPE: use one of these types of bus (flags as in the reply to Q_BUSTYPE).
     SetBuses(u8),
     /// 13h, O_SPIOP: one SPI transaction that sends `out` and then reads `replies` bytes.
     Operate { out: &'a [u8], replies: u32 },
-    /// 14h, S_SPI_FREQ: the clock in hertz. The answer has the frequency that was set, 4 bytes.
+    /// 14h, S_SPI_FREQ: the clock in hertz. The reply has the frequency that was set, 4 bytes.
     SetFrequency(u32),
     /// 15h, S_PIN_STATE: switch the programmer's pin drivers on or off.
     SetPins(bool),
@@ -59,7 +60,7 @@ pub enum Command<'a> {
 pub struct TooLong;
 
 impl Command<'_> {
-    /// Returns the frame of the command. Only `Operate` can be too long.
+    /// Returns the frame of the command, or `TooLong`. Only `Operate` can be too long.
     ///
     /// A frame is always whole, a programmer reads exactly this command from it, and no longer frame begins with it
     /// (serprog protocol, flashrom's Documentation/serprog-protocol.txt).
@@ -91,7 +92,7 @@ impl Command<'_> {
     }
 }
 
-// A frame of these bytes.
+// Returns the frame that has these bytes.
 fn short(bytes: &[u8]) -> Result<Frame, TooLong>
     requires { length bytes.now ≤ 267 }
     ensures fits { IsOk result }
@@ -102,7 +103,7 @@ fn short(bytes: &[u8]) -> Result<Frame, TooLong>
     Ok(frame)
 }
 
-// The frame of O_SPIOP.
+// Returns the frame of O_SPIOP, or `TooLong`.
 fn operation(out: &[u8], replies: u32) -> Result<Frame, TooLong>
     ensures fits { IsOk result ↔ (length out.now ≤ 260) × (replies < 16777216) }
     ensures exact { IfOk result (λ frame. frame.items ≡ operation_frame out.now replies) }
@@ -125,10 +126,10 @@ fn operation(out: &[u8], replies: u32) -> Result<Frame, TooLong>
     Ok(frame)
 }
 
-/// Returns the length of the frame that begins with these bytes, as a programmer reads it: `None` until the bytes
-/// determine it. Bytes that follow never change a length that is known, so no frame begins another.
+/// Returns the length of the frame that begins with these bytes, as a programmer reads it, or `None` until the bytes
+/// determine it. Bytes that follow never change a length that is known, so no frame is a prefix of another.
 ///
-/// All commands of the protocol are known here, those for parallel chips too.
+/// The function knows all commands of the protocol, including those for parallel chips.
 pub fn frame_len(begun: &[u8]) -> Option<usize>
     ensures value { result ≡ frame_len_of begun.now }
     ensures known { (more : List ℕ) → IsSome result → frame_len_of (begun.now ++ more) ≡ result }
@@ -144,7 +145,7 @@ pub fn frame_len(begun: &[u8]) -> Option<usize>
     }
 }
 
-// How many bytes of arguments follow an opcode that has a fixed number of them.
+// Returns the number of argument bytes after an opcode that has a fixed number of them.
 fn arguments_len(opcode: u8) -> usize
     ensures { result ≡ arguments_of opcode }
 {
@@ -157,19 +158,19 @@ fn arguments_len(opcode: u8) -> usize
     }
 }
 
-/// The first byte of an answer.
+/// The meaning of the first byte of a reply.
 #[derive(Clone, Copy, Debug, PartialEq, Eq)]
 pub enum Answer {
     /// 06h, ACK: the command was carried out, and the bytes that it returns follow.
     Ack,
     /// 15h, NAK: the command was refused, and nothing follows.
     Nak,
-    /// Neither of them, so this is no answer.
+    /// Neither of these, so this byte begins no valid reply.
     Other(u8),
 }
 
 impl Answer {
-    /// Returns what the first byte of an answer means.
+    /// Returns the meaning of the first byte of a reply.
     pub fn of(byte: u8) -> Answer
         ensures { result
             ≡ (if byte == 0x06 then Answers.Ack else if byte == 0x15 then Answers.Nak else Answers.Other byte) }

@@ -1,20 +1,20 @@
-//! The handshake: what is asked of a programmer before the first transaction.
+//! The handshake that precedes the first transaction: identifies a programmer, and prepares it for SPI.
 ghost use Rattle.std.specs.Prelude.{◌≡◌, ◌≤◌, true, OnOk};
 ghost use Rattle.nor_serprog.specs.Link.{is_in_step};
 
 use crate::{Command, Failure, LONGEST_OUT, Link, Port};
 use thiserror::Error;
 
-/// The most bytes that a transaction of flashnor reads: a sector.
+/// The greatest number of bytes that a transaction of flashnor reads: a sector.
 pub const LONGEST_REPLY: u32 = 4096;
 
-// The flag of SPI in the answer to Q_BUSTYPE, and in S_BUSTYPE.
+// The flag of SPI in the reply to Q_BUSTYPE and in S_BUSTYPE.
 const SPI: u8 = 0x08;
 
-// What a limit of 0 means, and what is assumed if the programmer has no such query.
+// The limit that 0 means, and that is assumed if the programmer lacks the query.
 const NO_LIMIT: u32 = 1 << 24;
 
-// A whole frame of a page program.
+// The length of the frame of a full page program.
 const LONGEST_FRAME: u16 = 267;
 
 const S_BUSTYPE: u8 = 0x12;
@@ -31,10 +31,10 @@ pub enum HandshakeFault<C> {
     /// The programmer speaks another version of the protocol.
     #[error("the programmer speaks version {0} of serprog, and only version 1 is known")]
     Version(u16),
-    /// The programmer lacks the command with this opcode: O_SPIOP (13h), or S_SPI_FREQ (14h) if a clock was asked for.
+    /// The programmer lacks the command with this opcode: O_SPIOP (13h), or S_SPI_FREQ (14h) if a clock was requested.
     #[error("the programmer lacks command {0:02X}h, which is needed here")]
     Lacks(u8),
-    /// The programmer supports no SPI, or supports other types of bus too and has no command that selects one. The
+    /// The programmer doesn't support SPI, or supports other types of bus too and has no command that selects one. The
     /// value is the flags that it returned: 1 parallel, 2 LPC, 4 FWH, 8 SPI.
     #[error("the programmer cannot be set to SPI: its types of bus are {0:02X}h")]
     NotSpi(u8),
@@ -50,14 +50,14 @@ pub enum HandshakeFault<C> {
     SmallBuffer(u16),
 }
 
-/// What a programmer replied when it was identified.
+/// The replies of a programmer to its identification.
 #[derive(Clone, Copy, Debug, PartialEq, Eq)]
 pub struct Programmer {
     name: [u8; 16],
     longest_write: u32,
     longest_read: u32,
     frequency: Option<u32>,
-    // a page program fits into a transaction, and a sector into its reply
+    // A transaction may send a page program, and read a sector.
     ghost writes: { 260 ≤ longest_write },
     ghost reads: { 4096 ≤ longest_read },
 }
@@ -65,8 +65,8 @@ pub struct Programmer {
 impl Programmer {
     ghost use Rattle.nor_serprog.specs.Programmer.{reads_most, writes_most};
 
-    /// Identifies the programmer behind a new link, and makes it ready for SPI transactions. No transaction is sent, so
-    /// the chip is not selected.
+    /// Identifies the programmer on a new link, and prepares it for SPI transactions. It sends no transaction, so the
+    /// chip is not selected.
     ///
     /// The steps are: synchronize; require version 1 (Q_IFACE) and O_SPIOP (Q_CMDMAP); select SPI (S_BUSTYPE), or
     /// require that the programmer has SPI only (Q_BUSTYPE); require that a transaction may send 260 bytes
@@ -108,7 +108,7 @@ impl Programmer {
         self.name
     }
 
-    /// Returns the most bytes that a transaction may send, at least 260.
+    /// Returns the greatest number of bytes that a transaction may send, which is at least 260.
     pub fn longest_write(&self) -> u32
         ensures value { result ≡ writes_most self.now }
         ensures enough { 260 ≤ result }
@@ -116,7 +116,7 @@ impl Programmer {
         self.longest_write
     }
 
-    /// Returns the most bytes that a transaction may read, at least 4,096.
+    /// Returns the greatest number of bytes that a transaction may read, which is at least 4,096.
     pub fn longest_read(&self) -> u32
         ensures value { result ≡ reads_most self.now }
         ensures enough { 4096 ≤ result }
@@ -124,7 +124,7 @@ impl Programmer {
         self.longest_read
     }
 
-    /// Returns the clock in hertz that the programmer set, if a clock was asked for.
+    /// Returns the clock in hertz that the programmer set, or `None` if no clock was requested.
     pub fn frequency(&self) -> Option<u32> {
         self.frequency
     }
@@ -144,7 +144,7 @@ fn synchronize<P: Port + Drop>(link: &mut Link<P>) -> Result<(), HandshakeFault<
     link.synchronize().map_err(HandshakeFault::Failure)
 }
 
-// An exchange of the handshake.
+// Makes one exchange of the handshake.
 fn ask<P: Port + Drop>(
     link: &mut Link<P>,
     command: Command<'_>,
@@ -156,7 +156,7 @@ fn ask<P: Port + Drop>(
         .map_err(HandshakeFault::Failure)
 }
 
-// The map of commands of a programmer that speaks version 1 and has O_SPIOP.
+// Returns the map of commands. Returns `Version` or `Lacks` if the programmer doesn't speak version 1 or lacks O_SPIOP.
 fn query_commands<P: Port + Drop>(link: &mut Link<P>) -> Result<Map, HandshakeFault<P::Cause>>
     ensures { is_in_step link.old ≡ true → OnOk result (is_in_step link.new ≡ true) }
 {
@@ -195,7 +195,7 @@ fn select_spi<P: Port + Drop>(
     Ok(())
 }
 
-// A limit that the programmer returns, if it has the query with this opcode.
+// Returns a limit of the programmer, or 2^24 if it lacks the query with this opcode or returns 0.
 fn query_limit<P: Port + Drop>(
     link: &mut Link<P>,
     commands: &Map,
@@ -216,7 +216,8 @@ fn query_limit<P: Port + Drop>(
     }
 }
 
-// A programmer that returns a limit of writes takes frames of that length, whatever the size of its buffer.
+// Checks that the longest frame fits into the serial buffer. A programmer with a limit of writes accepts frames of that
+// length, regardless of its buffer.
 fn check_buffer<P: Port + Drop>(
     link: &mut Link<P>,
     commands: &Map,

@@ -1,4 +1,13 @@
-//! The serprog protocol: a bus to a SPI NOR chip behind a serial programmer.
+//! A bus to a SPI NOR chip that is connected to a serial programmer. It speaks the serprog protocol, version 1, over
+//! any port; flashnor's program doesn't use it.
+//!
+//! - `command.rt`: commands as bytes (frames), and the first byte of a reply
+//! - `port.rt`: the contract of a port to a programmer
+//! - `link.rt`: exchanges of a frame and its reply, and synchronization
+//! - `handshake.rt`: identifies a programmer and prepares it for SPI
+//! - `bus.rt`: the bus; one transaction is one O_SPIOP
+//! - `paced.rt`: a bus that pauses between polls of a busy chip
+//! - `twice.rt`: a bus that reads data twice and compares
 #![tactic(auto)]
 
 mod bus;

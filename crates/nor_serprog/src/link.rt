@@ -1,4 +1,4 @@
-//! Exchanges with a programmer: a frame, and its answer.
+//! Exchanges with a programmer: a frame, and the reply to it.
 ghost use Rattle.std.specs.Prelude.{◌≡◌, ◌≤◌, true, false, length, ◌↔◌, IsOk, IfOk, IsErr, OnOk, OnErr};
 ghost use Rattle.nor_serprog.specs.Device.{IsIdle, IsSent, IsCutOff, IfOperates, Exchanged, Interrupted, AnswerBegins, TakesAnswer, MissesAnswer};
 ghost use Rattle.nor_serprog.specs.Frame.{Fits, IsFrame, Reads};
@@ -17,7 +17,7 @@ pub enum Failure<C> {
     /// The programmer replied NAK (15h) to the command with this opcode.
     #[error("the programmer refused command {0:02X}h")]
     Refused(u8),
-    /// The answer began with this byte, which is neither ACK (06h) nor NAK (15h).
+    /// The reply began with this byte, which is neither ACK (06h) nor NAK (15h).
     #[error("the programmer answered {0:02X}h, which is neither ACK nor NAK")]
     Strange(u8),
     /// The transaction sends more than 260 bytes, or reads more than the programmer can return. Nothing was sent.
@@ -29,23 +29,24 @@ pub enum Failure<C> {
     /// Nothing was sent, because a frame may have been cut off: any further byte could complete it.
     #[error("a frame may have been cut off: disconnect the programmer from power before it is used again")]
     CutFrame,
-    /// The programmer replied to the row of SYNCNOP and NOP with other bytes.
+    /// The expected reply to SYNCNOP, or to the row of SYNCNOP and NOP, was not among 65,536 bytes received.
     #[error("the programmer did not reply to SYNCNOP as it must")]
     NoSync,
 }
 
-/// Whether the answers that a programmer sends can be matched to the frames that were sent.
+/// Whether the replies of a programmer can be matched to the frames that were sent.
 #[derive(Clone, Copy, Debug, PartialEq, Eq)]
 pub enum Sync {
-    /// Each frame was answered, and each answer was read.
+    /// Each frame had its reply, and each reply was read.
     InStep,
-    /// An exchange failed after its whole frame was sent, so bytes of its answer may still arrive.
+    /// The link isn't synchronized: it is new, a command was too long, `synchronize` failed, or an exchange failed
+    /// after its whole frame was sent, so that bytes of the reply may still arrive.
     Lost,
     /// A frame may have been sent in part, so the programmer may take the next bytes as the rest of it.
     Cut,
 }
 
-/// A programmer behind a port, and whether its answers can be matched to the frames.
+/// A programmer at a port, and whether its replies can be matched to the frames.
 #[derive(Drop)]
 pub struct Link<P: Port + Drop> {
     port: P,
@@ -59,17 +60,17 @@ const ROW: [u8; 16] = [
 
 const ROW_ANSWERS_LEN: usize = 25;
 
-// The answers to `ROW`: NAK ACK (15h 06h) to each SYNCNOP, and ACK to each NOP.
+// The replies to `ROW`: NAK and ACK (15h 06h) to each SYNCNOP, and ACK to each NOP.
 const ROW_ANSWERS: [u8; ROW_ANSWERS_LEN] = [
     0x15, 0x06, 0x15, 0x06, 0x06, 0x15, 0x06, 0x06, 0x06, 0x15, 0x06, 0x15, 0x06, 0x15, 0x06, 0x06,
     0x06, 0x06, 0x15, 0x06, 0x06, 0x15, 0x06, 0x15, 0x06,
 ];
 
-// The most bytes that are received while the answers to `ROW` are looked for.
+// The greatest number of bytes that are received in search of the replies to `ROW`.
 const MOST_STALE: u32 = 1 << 16;
 
 impl<P: Port + Drop> Link<P> {
-    /// A link over this port, which is not synchronized yet.
+    /// Returns a link over this port. It is not synchronized yet.
     pub fn new(port: P) -> Link<P>
         ensures port { port_of result ≡ port }
         ensures lost { is_in_step result ≡ false }
@@ -88,14 +89,14 @@ impl<P: Port + Drop> Link<P> {
         &self.port
     }
 
-    /// Returns whether the answers can be matched to the frames.
+    /// Returns whether the replies can be matched to the frames.
     pub fn sync(&self) -> Sync
         ensures { result ≡ sync_of self.now }
     {
         self.sync
     }
 
-    /// Sends the frame of a command, and reads its answer: ACK, and as many bytes as `reply` holds.
+    /// Sends the frame of a command, and reads the reply: ACK, and as many bytes as `reply` holds.
     ///
     /// After any error nothing more is sent, until `synchronize` returns `Ok`. If the link was out of step, the call
     /// returns `OutOfStep` or `CutFrame` and does not use the port.
@@ -123,8 +124,8 @@ impl<P: Port + Drop> Link<P> {
         }
     }
 
-    /// Refuses a command that is too long. Sends nothing, and returns `TooLong`, or if the link was out of step
-    /// `OutOfStep` or `CutFrame`. As after any error, nothing more is sent until `synchronize` returns `Ok`.
+    /// Rejects a command that is too long, and sends nothing. Returns `TooLong`, or `OutOfStep` or `CutFrame` if the
+    /// link was out of step. Nothing more is sent until `synchronize` returns `Ok`.
     pub(crate) fn refuse(&mut self) -> Result<(), Failure<P::Cause>>
         ensures silent { is_in_step self.old ≡ false → self.new ≡ self.old }
         ensures port { port_of self.new ≡ port_of self.old }
@@ -167,14 +168,15 @@ impl<P: Port + Drop> Link<P> {
         Ok(())
     }
 
-    /// Brings the answers into step with the frames: sends SYNCNOP, and then a row of SYNCNOP and NOP, and skips all
-    /// bytes before the answers to that row (serprog protocol, flashrom's Documentation/serprog-protocol.txt, 10h).
+    /// Matches the replies to the frames again: sends SYNCNOP, and then a row of SYNCNOP and NOP, and skips all bytes
+    /// before the replies to that row (serprog protocol, flashrom's Documentation/serprog-protocol.txt, 10h).
     ///
-    /// If a frame may have been cut off, the call returns `CutFrame` and does not use the port, because the bytes could
-    /// complete the frame, and the chip would carry out what nobody asked for. A frame that another run cut off is not
-    /// known here, so disconnect the programmer from power after a run that was killed.
+    /// Returns `CutFrame`, and does not use the port, if a frame may have been cut off: further bytes could complete
+    /// the frame, and the chip would carry out a command that was never intended. A frame that another run cut off
+    /// isn't known here, so disconnect the programmer from power after a run that was killed.
     ///
-    /// Returns `Port` if the port fails, and `NoSync` if the answers to the row are not among the next 65,536 bytes.
+    /// Returns `Port` if the port fails. Returns `NoSync` if the reply to the first SYNCNOP isn't among the next 65,536
+    /// bytes, or the replies to the row aren't among the 65,536 bytes after it.
     pub fn synchronize(&mut self) -> Result<(), Failure<P::Cause>>
         ensures silent { is_cut self.old ≡ true → self.new ≡ self.old }
         ensures was_whole { OnOk result (is_cut self.old ≡ false) }
@@ -185,7 +187,7 @@ impl<P: Port + Drop> Link<P> {
             return Err(Failure::CutFrame);
         }
         self.sync = Sync::Lost;
-        // If the programmer waits for the rest of a frame, it gets one byte and no more.
+        // If the programmer waits for the rest of a frame, it receives only this byte.
         self.port.send(&[0x10]).map_err(Failure::Port)?;
         skip_past(&mut self.port, &[0x15, 0x06])?;
         self.port.send(&ROW).map_err(Failure::Port)?;
@@ -213,7 +215,7 @@ fn send<P: Port>(port: &mut P, frame: &Frame) -> Result<(), Failure<P::Cause>>
     port.send(frame).map_err(Failure::Port)
 }
 
-// Receives the answer to the command with this opcode.
+// Receives the reply to the command with this opcode.
 fn receive_answer<P: Port>(
     port: &mut P,
     opcode: u8,
@@ -234,7 +236,7 @@ fn receive_answer<P: Port>(
     }
 }
 
-// Receives bytes until the last of them are these.
+// Receives bytes until the last ones are `wanted`. Returns `NoSync` after 65,536 bytes.
 fn skip_past<P: Port>(port: &mut P, wanted: &[u8]) -> Result<(), Failure<P::Cause>>
     requires { length wanted.now ≤ 25 }
 {

@@ -1,4 +1,4 @@
-//! A bus that gives a busy chip time.
+//! A bus that pauses between polls of a busy chip.
 ghost use Rattle.std.specs.Prelude.{◌≡◌, ◌≤◌, true, OnOk, OnErr};
 ghost use Rattle.nor_chip.specs.Bus.{Sends, Stops, Carries, Hears};
 ghost use Rattle.nor_serprog.specs.Pace.{pause_before, pauses, busy_row_after, busy_row, paced_of};
@@ -7,8 +7,8 @@ use nor_chip::{Bus, Stopped, heard_after};
 use std::thread;
 use std::time::{Clock, Duration};
 
-// The first polls of a wait follow one another without a pause, so that the end of a page program (typically 0.7 ms,
-// W25Q64FV datasheet, AC characteristics) is seen at once.
+// The first polls of a wait have no pause between them, so that the end of a page program (typically 0.7 ms, W25Q64FV
+// datasheet, AC characteristics) is seen at once.
 const EAGER_POLLS: u64 = 16;
 
 // Up to this poll the pause is short. An operation that takes longer than half a second is an erase.
@@ -21,13 +21,12 @@ const LONG_MILLIS: u64 = 8;
 /// A bus that pauses between polls that show BUSY. Without pauses a fast bus uses up the 65,536 polls of a wait before
 /// an erase ends.
 ///
-/// The pause before a transaction depends on how many polls in a row showed BUSY before it: none for fewer than 16,
-/// 1 ms for fewer than 512, and otherwise 8 ms. The pauses of a wait whose 65,536 polls all show BUSY add up to at
-/// least 400 s. The longest operation of the chips that are known is the erase of a whole W25Q128FV, at most 200 s
-/// (datasheet, AC characteristics). It is not proved that `Clock::sleep` is called, or that it waits for as long as it
-/// is asked to.
+/// The pause before a transaction depends on how many polls in a row showed BUSY before it: none for fewer than 16, 1
+/// ms for fewer than 512, and otherwise 8 ms. The pauses of a wait whose 65,536 polls all show BUSY add up to at least
+/// 400 s. The longest operation of the known chips is the erase of a whole W25Q128FV, at most 200 s (datasheet, AC
+/// characteristics). It is not proved that `Clock::sleep` is called, or that it waits for the requested time.
 ///
-/// The state is that of the bus inside, so a paced bus is honest if and only if the bus inside is.
+/// The bus has the state of the bus inside, so it is honest if and only if the bus inside is.
 #[derive(Drop)]
 pub struct Paced<B, C> {
     bus: B,
@@ -36,7 +35,7 @@ pub struct Paced<B, C> {
 }
 
 impl<B: Bus + Drop, C: Clock + Drop> Paced<B, C> {
-    /// Paces this bus by this clock.
+    /// Returns a bus that paces `bus` with this clock.
     pub fn new(bus: B, clock: C) -> Paced<B, C>
         ensures bus { paced_of result ≡ bus }
         ensures none_yet { busy_row result ≡ 0 }
@@ -56,7 +55,7 @@ impl<B: Bus + Drop, C: Clock + Drop> Paced<B, C> {
         &self.bus
     }
 
-    /// Returns the bus inside as it is, and ends the pacing.
+    /// Returns the bus inside, without the pacing.
     pub fn into_inner(self) -> B
         ensures { result ≡ paced_of self }
     {

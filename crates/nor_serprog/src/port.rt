@@ -5,11 +5,12 @@ ghost use Rattle.nor_serprog.specs.Device.{PortState, IsSent, IsCutOff, IsReceiv
 /// A port to a serial programmer: a terminal device, a socket, or a model in tests.
 ///
 /// Contracts see a port as a `PortState`. An *honest* port fails if and only if no call is left. It passes what is sent
-/// to a programmer that carries out O_SPIOP as the protocol says, and returns the answers in their order. If it fails,
-/// any number of bytes may have been sent, and the chip may then have lost its power. Nothing is assumed of any other
-/// port, except that its honesty never changes. A port of an operating system is never honest (`unknown_port`).
+/// to a programmer that carries out O_SPIOP as the protocol says, and returns the programmer's replies in order. If it
+/// fails, any number of bytes may have been sent, and the chip may then have lost its power. Nothing is assumed about
+/// any other port, except that its honesty never changes. A port of an operating system is never honest
+/// (`unknown_port`).
 ///
-/// Each call must return, so an implementation that can block for ever needs a time-out of its own.
+/// Each call must return, so an implementation that can block forever needs a timeout.
 pub trait Port {
     /// What went wrong at the port.
     type Cause: Drop;

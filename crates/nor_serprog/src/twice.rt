@@ -1,4 +1,4 @@
-//! A bus that reads everything twice.
+//! A bus that reads data twice.
 ghost use Rattle.std.specs.Prelude.{◌≡◌, ◌≢◌, ◌≤◌, true, false, length, OnOk, OnErr};
 ghost use Rattle.std.proofs.lemmas.Bool.{false≢true};
 ghost use Rattle.nor_chip.specs.Bus.{Sends, Stops, Carries, Hears, unknown_bus};
@@ -6,17 +6,19 @@ ghost use Rattle.nor_serprog.specs.Twice.{twice_of, has_differed, begins_read, R
 
 use nor_chip::{Bus, Stopped};
 
-// The most bytes of a read: a sector.
+// The greatest length of a read: a sector.
 const LONGEST_READ: usize = 4096;
 
 const READ_DATA: u8 = 0x03;
 
-/// A bus that carries out each read of data (03h) twice, and stops if the replies differ. A poor contact flips bits of
-/// some reads. Without a second reading a flipped bit gets into the journal, and a restore writes it into the chip.
+/// A bus that carries out each read of data (03h) twice, and stops if the replies differ. A poor contact flips bits in
+/// some reads. Without a second read a flipped bit gets into the journal, and a restore writes it to the chip. A read
+/// of more than 4,096 bytes is rejected.
 ///
-/// An error that is the same in both readings is not detected. A read over this bus is two transactions over the bus
-/// inside, so this bus is not honest in the sense of `Bus`, even if the bus inside is. If the bus inside is honest,
-/// a read that succeeds had the same reply twice, and a difference never occurs.
+/// An error that is the same in both reads is not detected. A read over this bus is two transactions over the bus
+/// inside, so this bus is not honest as `Bus` defines it, even if the bus inside is. If the bus inside is honest, a
+/// read that succeeds had the same reply twice. A read of at most 4,096 bytes then fails only if no transaction is left
+/// afterwards.
 #[derive(Drop)]
 pub struct ReadTwice<B> {
     bus: B,
@@ -24,7 +26,7 @@ pub struct ReadTwice<B> {
 }
 
 impl<B: Bus + Drop> ReadTwice<B> {
-    /// Reads everything twice over this bus.
+    /// Returns a bus that reads data twice over `bus`.
     pub fn new(bus: B) -> ReadTwice<B>
         ensures bus { twice_of result ≡ bus }
         ensures differed { has_differed result ≡ false }
@@ -42,7 +44,7 @@ impl<B: Bus + Drop> ReadTwice<B> {
         &self.bus
     }
 
-    /// Returns whether two readings of the same bytes differed. Once they did, this stays so.
+    /// Returns whether two reads of the same bytes ever differed.
     pub fn differed(&self) -> bool
         ensures { result ≡ has_differed self.now }
     {
@@ -92,7 +94,7 @@ impl<B: Bus> Bus for ReadTwice<B> {
     }
 }
 
-// A transaction reads data.
+// Returns whether a transaction reads data.
 fn reads_data(out: &[u8]) -> bool
     ensures { result ≡ begins_read out.now }
 {

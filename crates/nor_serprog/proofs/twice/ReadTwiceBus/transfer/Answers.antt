@@ -4,7 +4,7 @@ use Rattle.nor_chip.specs.Bus.{Carries}
 use Rattle.nor_serprog.proofs.SameReply.{same_reply}
 use Rattle.nor_serprog.proofs.twice.ReadTwiceBus.transfer.Goals as goal
 
--- Both readings had the reply that is returned.
+-- Both reads had the reply that is returned.
 pub returns-clause-twice : goal.returns-clause-twice
 returns-clause-twice g c honest reads =
     let still : (g.B.Bus.state c.transfer-2.new.self).honest ≡ true =
@@ -18,7 +18,7 @@ returns-clause-twice g c honest reads =
       again = subst P (c.are_same.ensures.same c.if-not-are_same.false) (c.in_ok-transfer-2.ensures.carries still);
     }
 
--- Over an honest bus the second reply is the first one.
+-- If the bus inside is honest, the second reply equals the first one.
 pub returns-then-not-are_same-clause-no_difference : goal.returns-then-not-are_same-clause-no_difference
 returns-then-not-are_same-clause-no_difference g c honest short =
     let still : (g.B.Bus.state c.transfer-2.new.self).honest ≡ true =
