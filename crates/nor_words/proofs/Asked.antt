@@ -1,4 +1,4 @@
--- What options come to that words give.
+-- The job or fault of the arguments, from that of the options that they give.
 use Rattle.std.proofs.Common.{◌≡◌, arith, Bool, List, [], Some, None, Result, Ok, Err}
 use Rattle.std.specs.Prelude.{MatchResult}
 use Rattle.clap.specs.declared.error.Error.{Error}
@@ -12,7 +12,7 @@ use Rattle.nor_words.specs.declared.words.UsageFault.{UsageFault}
 use Rattle.nor_words.specs.declared.words.UsageFault.TheVariants as why
 use Rattle.nor_words.proofs.Sound.{cases}
 
--- none of the cases is a fault of `clap`'s
+-- none of the faults 2 to 9 is the fault 1, which `clap` reports
 not-words : (a b c d e f g h : Bool) (error : Error) → first_fault (cases a b c d e f g h) ≡ Some (why.Words error) → ⊥
 not-words a b c d e f g h error is = grind arith
 
@@ -21,7 +21,7 @@ fault-told : (words : List Text) (fault : UsageFault) → refusals_of words ≡ 
 fault-told words (why.Words error) taken h = absurd (not-words _ _ _ _ _ _ _ _ error h)
 fault-told words _ taken h = search
 
--- what options come to that words give
+-- if the options that the arguments give are a job or have a fault, then so do the arguments
 pub asked-by_words : (words : List Text) (given : Texts) (r : Result Job UsageFault) → refusals_of words ≡ []
     → given ≡ given_by words
     → MatchResult r (λ job. (first_fault (usage_faults given) ≡ None) × IsAsked given job)

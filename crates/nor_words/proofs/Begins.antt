@@ -1,4 +1,4 @@
--- What `strip_prefix` says, by `starts_with`.
+-- The result of `strip_prefix`, by `starts_with`; which texts describe a programmer.
 use Rattle.std.proofs.Common.{◌≡◌, ◌∙◌, true, false, List, Option, Some, None, ℕ, length, drop, ap, codes, option_map}
 use Rattle.std.proofs.Common.{arith, refl, sym, nat_eq}
 use Rattle.std.specs.Prelude.{option_and_then}
@@ -15,7 +15,7 @@ pub stripped : (p s rest : List ℕ) → StripsPrefix (FindsTextPrefix p) s rest
 stripped p s rest h =
     (sym (starts_text true p s (h.0, h.1, rw h.1.0 h.1.2)), h.2 ∙ ap (λ n. drop n s) h.1.0)
 
--- ---- whose text is a programmer's
+-- ---- which texts describe a programmer
 
 pub is_programmer-unsound : (text : Text) → are_settings (settings_of text) ≡ false → is_programmer_text text ≡ false
 is_programmer-unsound text unsound = grind arith
@@ -24,13 +24,13 @@ pub is_programmer-unnamed : (text : Text) → option_and_then chip_named (said t
     → is_programmer_text text ≡ false
 is_programmer-unnamed text unnamed = grind arith
 
--- a reading of a text that there may be
+-- a parser that is applied to an optional value
 pub and_then-read : {T : Type 0} (f : Text → Option T) (o : Option (Bor Text)) (r : Option T)
     → MatchOption o (r ≡ None) (λ x. r ≡ f x.now) → option_and_then f (option_map (λ x. x.now) o) ≡ r
 and_then-read f None r h = sym h
 and_then-read f (Some x) r h = sym h
 
--- a value that is read as it stands
+-- a value that needs no parser
 pub and_then-some : {T : Type 0} (o : Option T) → option_and_then Some o ≡ o
 and_then-some None = refl
 and_then-some (Some x) = refl

@@ -1,4 +1,4 @@
--- Settings that are gathered one by one: what was said, and what is left to be said.
+-- Settings that are taken in one after the other: those that were, and those that remain.
 use Rattle.std.proofs.Common.{◌≡◌, ◌∙◌, ℕ, ◌+◌, ◌<◌, ◌≤◌, ◌&&◌, ◌||◌, Bool, true, false, cond, List, [], ◌∷◌, Option}
 use Rattle.std.proofs.Common.{Some, None, length, drop, get_or, nat_le, is_some, refl, sym, ap, arith, inl, inr}
 use Rattle.std.specs.Prelude.{option_and_then}
@@ -17,7 +17,8 @@ use Rattle.nor_words.specs.declared.settings.Settings.{Settings}
 
 -- ---- one key
 
--- All settings say of the key what stands in its place, or else what those say that are left; at most one says it.
+-- For one key: its value in all settings is the one in its field or, if that is empty, the one in the remaining
+-- settings. All settings have the key once more than the remaining ones if the field has a value.
 pub record Open {T : Type 0} (all left : List Text) (key : Text) (read : Text → Option T)
     (place : Option T) : Type 0 where
   pub value : option_and_then read (value_in all key) ≡ option_or place (option_and_then read (value_in left key))
@@ -59,7 +60,7 @@ alone-as : (all : List Text) (setting key : Text) → has_key key setting ≡ tr
     → is_alone_in all setting ≡ nat_le (count_by (has_key key) all) 1
 alone-as all setting key has = rw ((bytes_eq-Decides (key_of setting) key).0 has) refl
 
--- what was said once isn't said again
+-- if a key was taken in before, a further setting with this key isn't the only one
 twice : (all left : List Text) (setting key : Text) (some : Bool)
     → count_by (has_key key) all ≡ cond some 1 0 + count_by (has_key key) (setting ∷ left)
     → has_key key setting ≡ true → some ≡ true → is_alone_in all setting ≡ false
@@ -96,7 +97,7 @@ either true true c first more is = first refl refl
 either true false c first more is = more is
 either false b c first more is = more is
 
--- what holds of a setting, whichever key it has
+-- if a statement holds for a setting with each key, it holds for a setting with any known key
 any-key : (setting : Text) (P : Type 0) → EachKey (λ T key is_value read place. has_key key setting ≡ true
     → is_value (value_of setting) ≡ true → P) → is_setting setting ≡ true → P
 any-key setting P each =
@@ -104,12 +105,13 @@ any-key setting P each =
     (either _ _ _ each.stop (either _ _ _ each.unique (either _ _ _ each.busy
     (either _ _ _ each.power (λ none. cc))))))))
 
--- What was said is all that isn't left, and all that isn't left are settings.
+-- The state after some settings: those that don't remain all have known keys and correct values, and the fields have
+-- their values.
 pub record Gathered (all left : List Text) (said : Settings) : Type 0 where
   pub sound : list_all is_setting left ≡ list_all is_setting all
   pub keys : EachKey (λ T key is_value read place. Open all left key read (place said))
 
--- each of the settings is to be
+-- the test that each setting must pass: a known key with a correct value, which no other setting has
 abbrev is_sound_in : List Text → Text → Bool
 is_sound_in all setting = is_setting setting && is_alone_in all setting
 
@@ -124,7 +126,7 @@ module _ (all : List Text) (n : ℕ) (setting : Text) (at : (n < length all) × 
             open-next all (drop (n + 1) all) setting key read (place old) (place new)) adds now.keys;
       }
 
-  -- a setting that is refused isn't one, or isn't alone
+  -- a setting that can't be added has an unknown key or a wrong value, or its key is there twice
   pub gathered-refused : (said : Settings) → Gathered all (drop n all) said → IsRefused setting said
       → are_settings all ≡ false
   gathered-refused said before refused =
@@ -143,11 +145,11 @@ both-all p q [] more all = refl
 both-all p q (x ∷ xs) more all =
     let parts = and_parts _ _ all in rw (parts.0, more x parts.0) (both-all p q xs more parts.1)
 
--- the text says of each key what is kept
+-- each field has the value that the settings give its key
 abbrev pub AreValues : List Text → Settings → Type 0
 AreValues all said = EachKey (λ T key is_value read place. option_and_then read (value_in all key) ≡ place said)
 
--- in the end each setting is alone, and all is kept
+-- after the last setting no two had the same key, and each field has its value
 pub gathered-last : (all : List Text) (n : ℕ) (said : Settings) → Gathered all (drop n all) said → n ≡ length all
     → (are_settings all ≡ true) × AreValues all said
 gathered-last all n said before end =

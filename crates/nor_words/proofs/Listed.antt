@@ -1,4 +1,4 @@
--- Stops that are gone through in turn, from the n-th on.
+-- The list of stops, read one after the other.
 use Rattle.std.proofs.Common.{◌≡◌, ℕ, suc, ◌+◌, ◌<◌, ◌≤◌, ◌&&◌, true, List, [], ◌∷◌, ◌++◌, Option, Some}
 use Rattle.std.proofs.Common.{None, length, drop, get_or, cond, ap, refl, arith, nat_le}
 use Rattle.std.specs.Prelude.{filter_map}
@@ -10,12 +10,12 @@ use Rattle.nor_words.specs.Numbers.{decimal_number}
 use Rattle.nor_words.specs.Stops.{stops_of}
 use Rattle.nor_words.proofs.InTurn.{turned}
 
--- these stops, and those that are left
+-- the result for these stops and those in the remaining pieces
 abbrev pub with_stops : List ℕ → List Text → Option (List ℕ)
 with_stops stops pieces = cond (list_all (reads decimal_number) pieces && nat_le (length stops + length pieces) 64)
     (Some (stops ++ filter_map decimal_number pieces)) None
 
--- the piece at n is a stop more, or none
+-- the piece at n is one more stop, or isn't a stop
 module _ (stops : List ℕ) (pieces : List Text) (n : ℕ) (piece : Text)
     (at : (n < length pieces) × (piece ≡ get_or pieces n piece)) where
   pub stops-refused : decimal_number piece ≡ None → with_stops stops (drop n pieces) ≡ None

@@ -1,4 +1,4 @@
--- Numbers of digits, and a range of two.
+-- Numbers as digits, and ranges as two of them.
 use Rattle.std.proofs.Common.{◌≡◌, ℕ, ◌^◌, ◌<◌, ◌≤◌, ◌==◌, ◌&&◌, Bool, true, [], ◌∷◌, Option, Some, None, Result}
 use Rattle.std.proofs.Common.{Ok, Err, length, cond, ap, sym, refl, arith, inl, inr, nat_lt, nat_le, option_map}
 use Rattle.std.specs.Prelude.{option_and_then}
@@ -12,7 +12,7 @@ use Rattle.std.proofs.lemmas.List.{at_drop_all}
 use Rattle.nor_words.specs.Text.{Text, front_of, rest_of}
 use Rattle.nor_words.specs.Numbers.{numeral, place_of, range_of}
 
--- a plus is no digit
+-- a text of digits has no leading plus
 without_plus : (radix : ℕ) (text : Text) → radix ≤ 36 → list_all (λ digit. is_digit digit radix) text ≡ true
     → without_leading_plus text ≡ text
 without_plus radix [] low all = refl
@@ -31,11 +31,11 @@ all_digits radix (c ∷ cs) all =
     let first : nat_lt (digit_value c) radix ≡ true = (and_parts _ _ all).0 in
     (grind (arith, nat_tests), all_digits radix cs (and_parts _ _ all).1)
 
--- a number that isn't above the greatest
+-- the number, or `None` if it is above the greatest
 abbrev pub at_most : ℕ → ℕ → Option ℕ
 at_most greatest n = cond (nat_le n greatest) (Some n) None
 
--- what `from_str_radix` gives of digits that aren't too many
+-- the numeral, from the result of `from_str_radix` for at most `most` digits
 pub numeral-parsed : {E : Type 0} (radix most greatest : ℕ) (text : Text) (r : Result ℕ E) → radix ≤ 36
     → greatest < 2 ^ 64 → list_all (λ digit. is_digit digit radix) text ≡ true → length text ≤ most
     → ParsesUnsigned 64 radix text r
@@ -57,7 +57,7 @@ numeral-parsed radix most greatest text (Err e) low fits all short parses =
         → cond (long && small) (Some value) None ≡ None
     unread long small value none = grind arith
 
--- no range is without a comma
+-- a text without a comma isn't a range
 pub range_of-uncut : (text : Text) → position_or_len (λ byte. byte == 44) text ≡ length text → range_of text ≡ None
 range_of-uncut text uncut =
     let none : rest_of text ≡ [] = at_drop_all (λ (x : Text). x) text _ (omega (arith, uncut)) in

@@ -1,4 +1,4 @@
--- What a parse of the program's options gives.
+-- The result of a parse of the program's options.
 use Rattle.std.proofs.Common.{◌≡◌, [], true, List, Ok, refl}
 use Rattle.clap.specs.Words.{App, FailsBy, HasMatchesOf, fault_of, found_of, is_simple, is_simple_and_free, matches_of}
 use Rattle.clap.specs.Words.{rows_of}
@@ -8,7 +8,7 @@ use Rattle.nor_words.specs.Text.{Text}
 use Rattle.nor_words.specs.Options.{options}
 use Rattle.nor_words.specs.Words.{refusals_of}
 
--- no option has a rule on another
+-- no option requires or excludes another
 options_are_free : is_simple_and_free options ≡ true
 unfolding clap_on_literals
 options_are_free = refl
@@ -17,12 +17,12 @@ options_are_simple : is_simple options ≡ true
 unfolding clap_on_literals
 options_are_simple = refl
 
--- words that are taken aren't refused
+-- if a parse succeeds, `clap` doesn't reject the arguments
 pub refusals_of-taken : (app : App) → app ≡ options → (words : List Text) (m : ArgMatches)
     → (is_simple_and_free app ≡ true → FailsBy (fault_of app words) (Ok m)) → refusals_of words ≡ []
 refusals_of-taken app same words m fails = let free = rw same at fails in free options_are_free
 
--- the rows of the matches are those that the words give
+-- the rows of the matches are those that the arguments give
 pub rows-taken : (app : App) → app ≡ options → (words : List Text) (m : ArgMatches) → HasMatchesOf app words m
     → rows_of (found_of m) ≡ matches_of options words
 rows-taken app same words m matches = let simple = rw same at matches in (simple options_are_simple).0

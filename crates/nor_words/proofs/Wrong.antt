@@ -1,4 +1,4 @@
--- Which texts of options mean nothing, by what was read from them.
+-- Which values of options can't be parsed, from the results of their parsers.
 use Rattle.std.proofs.Common.{◌≡◌, ◌&&◌, ◌||◌, ℕ, false, List, Option, Some, None, is_some}
 use Rattle.std.proofs.Common.{not, option_map, refl, sym}
 use Rattle.std.specs.Prelude.{option_and_then}
@@ -13,7 +13,7 @@ use Rattle.nor_words.specs.declared.programmer.Programmer.{Programmer}
 abbrev text_at : Option (Bor Text) → Option Text
 text_at = option_map (λ t. t.now)
 
--- the programmer that a text means, or none
+-- the programmer that a text describes, or none
 abbrev pub Means : Option Text → Option Programmer → Type 0
 Means text found = MatchOption found (is_there is_programmer_text text ≡ false)
     (λ programmer. IsSomeAnd text (λ t. IsProgrammer t programmer))
@@ -30,7 +30,7 @@ pub wrong-read : {T : Type 0} (f : Text → Option T) (text : Option (Bor Text))
 wrong-read f None found means = refl
 wrong-read f (Some t) found means = rw means refl
 
--- the programmer stops
+-- the programmer has a `stop=` if and only if its text has one
 stops-beside : (text : Option Text) (found : Option Programmer) → Means text found
     → option_map_or (λ programmer. is_some programmer.stop) found false ≡ is_there has_stop text
 stops-beside None None means = refl
@@ -51,7 +51,7 @@ wrong-stops v None programmer found stops means read = refl
 wrong-stops v (Some t) programmer found stops means read =
     rw (read, is_some-viewed v stops, stops-beside programmer found means) refl
 
--- ---- what `and_then` says of a reading
+-- ---- the result of `and_then` with a parser
 
 pub means-read : (text : Option (Bor Text)) (found : Option Programmer)
     → MatchOption text (found ≡ None)

@@ -1,4 +1,4 @@
--- The faults that words may have: those of options that `clap` takes, and the number and text of each.
+-- The usage faults: which of the faults 2 to 9 options have that `clap` accepts, and each fault's number and message.
 use Rattle.std.specs.Prelude.{◌&&◌, ◌||◌, ◌++◌, ℕ, Bool, false, Option, Some, None, List, [], ◌∷◌, codes, decimal, is_some, nat_eq, nat_lt, not, if◌then◌else◌}
 use Rattle.std.specs.Option.{option_map_or}
 use Rattle.nor_words.specs.Text.{Text, reads}
@@ -9,29 +9,29 @@ use Rattle.nor_words.specs.Stops.{stops_of}
 use Rattle.nor_words.specs.declared.words.UsageFault.{UsageFault}
 use Rattle.nor_words.specs.declared.words.UsageFault.TheVariants as why
 
--- a fault, beside whether it holds
+-- a fault, and whether the options have it
 abbrev pub Case : Type 0
 Case = Bool × UsageFault
 
--- there is a text, and it passes the test
+-- true if there is a text and it passes the test
 abbrev pub is_there : (Text → Bool) → Option Text → Bool
 is_there test text = option_map_or test text false
 
--- there is a text, and it doesn't pass the test
+-- true if there is a text and it fails the test
 abbrev pub is_no : (Text → Bool) → Option Text → Bool
 is_no test = is_there (λ text. not (test text))
 
--- a change has exactly one of `--journal` and `--rehearse`, and all else has neither
+-- fault 6: true unless a change has exactly one of `--journal` and `--rehearse`, and anything else neither
 abbrev pub has_wrong_journal : Texts → Bool
 has_wrong_journal given =
     not (nat_eq (how_many (is_some given.journal ∷ is_some given.rehearse ∷ [])) (if asks_change given then 1 else 0))
 
--- one of `-l` and `-i` is there, and not both with an operation that takes regions
+-- fault 7: true if there is only one of `-l` and `-i`, or if there are both and the operation takes no regions
 abbrev pub has_wrong_regions : Texts → Bool
 has_wrong_regions given = (is_some given.layout || is_some given.names)
     && not (is_some given.layout && (is_some given.names && takes_regions given))
 
--- all of them in their order
+-- the faults 2 to 9, in this order, and whether the options have each
 abbrev pub usage_faults : Texts → List Case
 usage_faults given =
     (not (is_some given.programmer) && not given.list, why.NoProgrammer)
@@ -48,14 +48,14 @@ usage_faults given =
     )
     ∷ []
 
--- the first that holds
+-- the first fault that the options have
 abbrev pub first_fault : List Case → Option UsageFault
 first_fault [] = None
 first_fault (case ∷ cases) = if case.0 then Some case.1 else first_fault cases
 
--- ---- how they are told
+-- ---- messages
 
--- the number that a fault has in its message
+-- the number of a fault, which its message has
 abbrev pub number_of_usage_fault : UsageFault → ℕ
 number_of_usage_fault (why.Words error) = 1
 number_of_usage_fault why.NoProgrammer = 2
@@ -68,11 +68,11 @@ number_of_usage_fault why.Unneeded = 8
 number_of_usage_fault why.Stops = 9
 number_of_usage_fault why.Memory = 10
 
--- the text of the fault of this number
+-- the message of the fault with this number
 abbrev pub numbered : ℕ → List ℕ
 numbered number = codes "Usage fault " ++ (decimal number ++ codes ".")
 
--- the text of a fault; before that of the first stands what `clap` says, of which nothing is known
+-- the message of a fault; fault 1 prints `clap`'s message first, and nothing is specified about that
 abbrev pub usage_fault_text : UsageFault → Option (List ℕ)
 usage_fault_text (why.Words error) = None
 usage_fault_text fault = Some (numbered (number_of_usage_fault fault))

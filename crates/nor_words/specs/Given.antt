@@ -1,4 +1,4 @@
--- What the words of the command line give each option.
+-- The values that the arguments give the options.
 use Rattle.std.specs.Prelude.{◌||◌, ℕ, Bool, false, Option, List, [], ◌∷◌, codes, is_some, option_map}
 use Rattle.std.specs.List.{count_by}
 use Rattle.std.specs.Option.{option_map_or}
@@ -8,7 +8,7 @@ use Rattle.nor_words.specs.Text.{Text}
 use Rattle.nor_words.specs.Options.{options}
 use Rattle.nor_words.specs.declared.given.Given.{Given}
 
--- The texts of the options that take one, and whether the flags are set.
+-- The values of the options that take one, and for each flag whether it is set.
 pub record Texts : Type 0 where
   -- `-p TEXT`, `-c NAME`
   pub programmer : Option Text
@@ -36,18 +36,18 @@ pub record Texts : Type 0 where
   pub no_verify : Bool
   pub unlock : Bool
 
--- `clap` gives a flag that is set the value `true`
+-- true if the value is `true`, which `clap` gives a flag that is set
 abbrev pub is_flag_set : Option Text → Bool
 is_flag_set value = option_map_or (λ text. bytes_eq text (codes "true")) value false
 
--- the text of an option, and whether a flag is set, in what a parse found
+-- the value of the option with this ID in the matches of a parse, and whether a flag is set there
 abbrev pub text_in : List Row → Text → Option Text
 text_in rows id = first_of id rows
 
 abbrev pub is_set_in : List Row → Text → Bool
 is_set_in rows id = is_flag_set (first_of id rows)
 
--- what a parse found
+-- the options in the matches of a parse
 abbrev pub given_in : List Row → Texts
 given_in rows = record {
   programmer = text_in rows (codes "programmer");
@@ -70,11 +70,11 @@ given_in rows = record {
   unlock = is_set_in rows (codes "unlock");
 }
 
--- what the words give
+-- the options that the arguments give, as `clap` parses them
 abbrev pub given_by : List Text → Texts
 given_by words = given_in (matches_of options words)
 
--- what the code holds of it
+-- the options that a `Given` of the code has
 abbrev pub texts_of : Given → Texts
 texts_of given = record {
   programmer = option_map (λ text. text.now) given.programmer;
@@ -97,25 +97,25 @@ texts_of given = record {
   unlock = given.unlock;
 }
 
--- how many of these are asked for
+-- how many of these are true
 abbrev pub how_many : List Bool → ℕ
 how_many = count_by (λ asked. asked)
 
--- how many operations there are
+-- how many operations are asked for
 abbrev pub operations : Texts → ℕ
 operations given = how_many (
     given.list ∷ given.flash_size ∷ given.wp_status ∷ given.wp_list
     ∷ is_some given.read ∷ is_some given.verify
     ∷ is_some given.write ∷ given.erase ∷ is_some given.wp_range ∷ is_some given.restore ∷ [])
 
--- the operation gives the chip new content
+-- true for `-w` or `-E`, which change the bytes of the chip
 abbrev pub is_new_content : Texts → Bool
 is_new_content given = is_some given.write || given.erase
 
--- the operation changes the chip and keeps a journal, or rehearses that
+-- true for `-w`, `-E` or `--wp-range`, which change the chip and write a journal or rehearse
 abbrev pub asks_change : Texts → Bool
 asks_change given = is_new_content given || is_some given.wp_range
 
--- the operation may be held to regions
+-- true for `-r`, `-v`, `-w` or `-E`, which may include only some regions
 abbrev pub takes_regions : Texts → Bool
 takes_regions given = is_some given.read || (is_some given.verify || is_new_content given)

@@ -1,4 +1,4 @@
--- The job that options ask for which have no fault.
+-- The job that options without a fault ask for.
 use Rattle.std.specs.Prelude.{◌≡◌, true, false, Option, Some, None, not, option_and_then, option_map}
 use Rattle.std.specs.Borrow.{Bor}
 use Rattle.std.specs.Option.{IsSomeAnd}
@@ -20,27 +20,27 @@ use Rattle.nor_words.specs.declared.job.Task.TheVariants as task
 use Rattle.nor_words.specs.declared.job.Wanted.{Wanted}
 use Rattle.nor_words.specs.declared.job.Wanted.TheVariants as want
 
--- the option has this text
+-- the option's value is this name of a file
 abbrev pub NamesFile : Option Text → Bor Text → Type 0
 NamesFile option text = option ≡ Some text.now
 
--- `-l` and `-i`, or neither
+-- the values of `-l` and `-i`, or `None` if both are missing
 abbrev pub IsRegions : Texts → Option Regions → Type 0
 IsRegions given None = (given.layout ≡ None) × (given.names ≡ None)
 IsRegions given (Some regions) = NamesFile given.layout regions.layout × NamesFile given.names regions.names
 
--- what a change makes of the chip
+-- the target of a change is the one that the options ask for
 abbrev pub IsWantedByWords : Texts → Wanted → Type 0
 IsWantedByWords given (want.Write image) = NamesFile given.write image
 IsWantedByWords given want.Erase = given.erase ≡ true
 IsWantedByWords given (want.Range start len) = option_and_then range_of given.wp_range ≡ Some (start, len)
 
--- where its journal is kept, or how it is rehearsed
+-- the name after `--journal`, or the stops after `--rehearse`
 abbrev pub IsJournalUse : Texts → JournalUse → Type 0
 IsJournalUse given (uses.Journal file) = NamesFile given.journal file
 IsJournalUse given (uses.Rehearse stops) = option_and_then stops_of given.rehearse ≡ Some stops.items
 
--- Each part of a change is what the options say.
+-- Holds if each field of a change has the value of its option.
 pub record IsChange (given : Texts) (change : Change) : Type 0 where
   pub wanted : IsWantedByWords given change.wanted
   pub regions : IsRegions given change.regions
@@ -48,7 +48,7 @@ pub record IsChange (given : Texts) (change : Change) : Type 0 where
   pub verify : change.verify ≡ not given.no_verify
   pub journal_use : IsJournalUse given change.journal_use
 
--- the one operation that there is; none is a probe
+-- Holds if the operation is asked for; `Probe` if no operation is.
 abbrev pub IsTask : Texts → Task → Type 0
 IsTask given task.Probe = operations given ≡ 0
 IsTask given task.FlashSize = given.flash_size ≡ true
@@ -59,13 +59,13 @@ IsTask given (task.Verify file regions) = NamesFile given.verify file × IsRegio
 IsTask given (task.Change change) = IsChange given change
 IsTask given (task.Restore journal) = NamesFile given.restore journal
 
--- Each part of a job on a chip is what the options say.
+-- Holds if each field of a job on a chip has the value of its option.
 pub record IsChipJob (given : Texts) (on_chip : ChipJob) : Type 0 where
   pub programmer : IsSomeAnd given.programmer (λ text. IsProgrammer text on_chip.programmer)
   pub named : on_chip.named ≡ option_map name_of given.chip
   pub task : IsTask given on_chip.task
 
--- `-L` is the list of chips, and all else is done with a chip
+-- Holds if the job lists the chips and `-L` is given, or is the given job on a chip and `-L` isn't.
 abbrev pub IsAsked : Texts → Job → Type 0
 IsAsked given job.List = given.list ≡ true
 IsAsked given (job.Chip on_chip) = (given.list ≡ false) × IsChipJob given on_chip

@@ -1,15 +1,15 @@
--- What texts, numbers and the settings of a programmer say.
+-- The meaning of values: texts, numbers, and the settings of a programmer.
 pub mod Text
 pub mod Numbers
 pub mod Stops
 pub mod Programmer
--- The options, what the words give them, and the faults that they may have.
+-- The options, their values, and the faults that they may have.
 pub mod Options
 pub mod Given
 pub mod Faults
--- The job that the words ask for.
+-- The job that the arguments ask for.
 pub mod Job
 pub mod Words
--- What the code makes of the texts on the way there.
+-- Results of the private functions that parse values.
 pub mod Settings
 pub mod Meaning

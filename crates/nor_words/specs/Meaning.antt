@@ -1,4 +1,4 @@
--- What the code reads from the texts of options that aren't names.
+-- The parsed values of `-p`, `--wp-range` and `--rehearse`.
 use Rattle.std.specs.Prelude.{◌≡◌, false, option_and_then, option_map}
 use Rattle.std.specs.Option.{IsSomeAnd, MatchOption}
 use Rattle.nor_words.specs.Faults.{is_there}
@@ -8,7 +8,8 @@ use Rattle.nor_words.specs.Programmer.{IsProgrammer, is_programmer_text}
 use Rattle.nor_words.specs.Stops.{stops_of}
 use Rattle.nor_words.specs.declared.given.Meaning.{Meaning}
 
--- Each is there just where its text is there and has a meaning.
+-- Holds if each field is the parsed value of its option, or `None` if the option is missing or its value can't be
+-- parsed.
 pub record IsMeaning (given : Texts) (meaning : Meaning) : Type 0 where
   pub programmer : MatchOption meaning.programmer (is_there is_programmer_text given.programmer ≡ false)
       (λ found. IsSomeAnd given.programmer (λ text. IsProgrammer text found))

@@ -1,4 +1,4 @@
--- The options of the program, as `clap` reads them.
+-- The options of the program, as rules of `clap`.
 use Rattle.std.specs.Prelude.{◌≡◌, true, false, List, [], ◌∷◌, ◌++◌, None, Some, codes, fold, is_some, slice_get, if◌then◌else◌}
 use Rattle.clap.specs.Words.{App, Rule, new_app, new_rule, rule_of, with_rule}
 use Rattle.clap.specs.declared.builder.arg.Arg.{Arg}
@@ -10,19 +10,19 @@ use Rattle.nor_words.specs.Text.{Text}
 abbrev pub valued : Text → Rule
 valued id = record (new_rule id) { action = Some Set; value_names = 1 }
 
--- an option that is there or isn't
+-- a flag, which takes no value
 abbrev pub flag : Text → Rule
 flag id = record (new_rule id) { action = Some SetTrue }
 
--- it is written as `-` and this letter
+-- the option, written as `-` and this letter
 abbrev pub by_letter : Text → Rule → Rule
 by_letter letter rule = record rule { short = slice_get letter 0 }
 
--- it is written as `--` and its name
+-- the option, written as `--` and its name
 abbrev pub by_name : Rule → Rule
 by_name rule = record rule { long = Some rule.id }
 
--- the programmer and its chip
+-- the options that name a programmer or a chip, and the list of chips
 abbrev pub chip_rules : List Rule
 chip_rules =
     by_letter (codes "p") (valued (codes "programmer"))
@@ -30,7 +30,7 @@ chip_rules =
     ∷ by_letter (codes "L") (flag (codes "list"))
     ∷ []
 
--- the operations that leave the chip as it is
+-- the operations that only read the chip
 abbrev pub reader_rules : List Rule
 reader_rules =
     by_name (flag (codes "flash-size"))
@@ -49,7 +49,7 @@ change_rules =
     ∷ by_name (valued (codes "restore"))
     ∷ []
 
--- how an operation is done
+-- the options that modify an operation
 abbrev pub manner_rules : List Rule
 manner_rules =
     by_name (valued (codes "journal"))
@@ -60,50 +60,50 @@ manner_rules =
     ∷ by_name (flag (codes "unlock"))
     ∷ []
 
--- `-h`
+-- `-h`, which prints the help
 abbrev pub help_rule : Rule
 help_rule = by_letter (codes "h") (record (new_rule (codes "usage")) { action = Some HelpShort })
 
--- an argument of `clap` by this rule
+-- Holds if this `Arg` of `clap` has this rule and isn't a global one.
 pub record IsOption (option : Rule) (arg : Arg) : Type 0 where
   pub rule : rule_of arg ≡ option
   pub local : arg.global ≡ false
 
--- no option yet; the first word is no program's name, and help has no option of `clap`'s own
+-- the command without options: the first argument isn't the program's name, and `clap`'s own help option is disabled
 abbrev pub no_options : App
 no_options = let app = new_app (codes "flashnor") in
     record app { top = record app.top { no_binary_name = true; disable_help_flag = true } }
 
--- these options behind those that there are
+-- the command with these options appended
 abbrev pub with_rules : App → List Rule → App
 with_rules = fold with_rule
 
--- all options
+-- the command with all options
 abbrev pub options : App
 options =
     with_rule (with_rules (with_rules (with_rules (with_rules no_options chip_rules) reader_rules) change_rules)
     manner_rules) help_rule
 
--- ---- the table of the code
+-- ---- the table in src/options.rt
 
--- an option that is written as a row says
+-- an option with a row's name and letter, which is neither a flag nor takes a value yet
 abbrev pub named : Choice → Rule
 named choice = record (new_rule choice.name.now) {
   short = choice.letter;
   long = if is_some choice.letter then None else Some choice.name.now;
 }
 
--- the option of a row
+-- the option that a row describes
 abbrev pub chosen : Choice → Rule
 chosen choice = record (named choice) {
   action = Some (if is_some choice.value then Set else SetTrue);
   value_names = if is_some choice.value then 1 else 0;
 }
 
--- it behind those that there are
+-- the command with the option of one more row
 abbrev pub with_choice : App → Choice → App
 with_choice app choice = with_rule app (chosen choice)
 
--- those of all rows
+-- the options of all rows: all options except `-h`
 abbrev pub most_rules : List Rule
 most_rules = chip_rules ++ reader_rules ++ change_rules ++ manner_rules

@@ -1,4 +1,4 @@
--- What the text of `-p` says.
+-- The value of `-p`.
 use Rattle.std.specs.Prelude.{◌≡◌, ◌&&◌, ℕ, Bool, true, List, [], ◌∷◌, Option, Some, None, length, drop, find, codes, is_some, nat_eq, nat_lt, nat_le, option_map, option_and_then, if◌then◌else◌}
 use Rattle.std.specs.List.{count_by, list_all, list_any, starts_with}
 use Rattle.std.specs.Str.{bytes_eq}
@@ -10,14 +10,14 @@ use Rattle.nor_words.specs.declared.programmer.Programmer.{Programmer}
 use Rattle.nor_words.specs.Numbers.{byte_number, decimal_number, polls_of, unique_number}
 use Rattle.nor_words.specs.Text.{Text, pieces_of, key_of, value_of, reads}
 
--- the emulated chip of this name
+-- the emulated chip with this value of `emulate=`
 abbrev pub chip_named : Text → Option Emulated
 chip_named name = if bytes_eq name (codes "TINY64") then Some Tiny64
     else if bytes_eq name (codes "W25Q64FV") then Some W25q64fv
     else if bytes_eq name (codes "W25Q128FV") then Some W25q128fv
     else None
 
--- how many bytes an emulated chip has
+-- the size of an emulated chip in bytes
 abbrev pub emulated_size : Emulated → ℕ
 emulated_size Tiny64 = 65536
 emulated_size W25q64fv = 8388608
@@ -29,11 +29,11 @@ IsConfigOfEmulated Tiny64 config = IsTiny64 config
 IsConfigOfEmulated W25q64fv config = IsW25q64fv config
 IsConfigOfEmulated W25q128fv config = IsW25q128fv config
 
--- the name of a file isn't empty
+-- true if the name of a file isn't empty
 abbrev pub is_file : Text → Bool
 is_file name = nat_lt 0 (length name)
 
--- the keys, each with what its values are
+-- the known keys, each with the test that its values pass
 abbrev pub keys : List (Text × (Text → Bool))
 keys =
     (codes "emulate", reads chip_named)
@@ -46,49 +46,49 @@ keys =
     ∷ (codes "power", reads byte_number)
     ∷ []
 
--- the setting has this key
+-- true if the setting has this key
 abbrev pub has_key : (key setting : Text) → Bool
 has_key key setting = bytes_eq (key_of setting) key
 
--- there is such a key, and this is a value of it
+-- true if the key is known and the value passes its test
 abbrev pub may_have : (key value : Text) → Bool
 may_have key value = list_any (λ known. bytes_eq key known.0 && known.1 value) keys
 
--- the setting has one of the keys, and a value of this key
+-- true if the setting has a known key and a value that passes this key's test
 abbrev pub is_setting : Text → Bool
 is_setting setting = may_have (key_of setting) (value_of setting)
 
--- at most one of the settings has the key of this one
+-- true if at most one of the settings has the key of this one
 abbrev pub is_alone_in : List Text → Text → Bool
 is_alone_in settings setting = nat_le (count_by (has_key (key_of setting)) settings) 1
 
--- each is a setting, and none has the key of another
+-- true if each has a known key with a correct value, and no two have the same key
 abbrev pub are_settings : List Text → Bool
 are_settings settings = list_all (λ setting. is_setting setting && is_alone_in settings setting) settings
 
--- the settings behind `dummy:`
+-- the settings after `dummy:`
 abbrev pub settings_of : Text → List Text
 settings_of text = pieces_of (drop 6 text)
 
--- the value of the key, where a setting has it
+-- the value of the first setting with this key, if there is one
 abbrev pub value_in : List Text → Text → Option Text
 value_in settings key = option_map value_of (find (has_key key) settings)
 
--- what the text of `-p` says of the key
+-- the value that the text of `-p` gives the key, if it has the key
 abbrev pub said : (text key : Text) → Option Text
 said text = value_in (settings_of text)
 
--- `dummy:` and then settings, of which one names the chip
+-- true if the text describes a programmer: `dummy:` and then settings, one of which names the chip
 abbrev pub is_programmer_text : Text → Bool
 is_programmer_text text = starts_with nat_eq text (codes "dummy:")
     && (are_settings (settings_of text) && is_some (option_and_then chip_named (said text (codes "emulate"))))
 
--- a programmer's text that has a `stop=`
+-- true if the text describes a programmer and has a `stop=`
 abbrev pub has_stop : Text → Bool
 has_stop text = is_programmer_text text && is_some (option_and_then decimal_number (said text (codes "stop")))
 
--- The text is a programmer's, and this one's: each part is what the setting with its key says, or nothing where there
--- is none.
+-- Holds if the text describes this programmer: each field has the value of its key, or is `None` if the text lacks the
+-- key.
 pub record IsProgrammer (text : Text) (programmer : Programmer) : Type 0 where
   pub sound : is_programmer_text text ≡ true
   pub chip : option_and_then chip_named (said text (codes "emulate")) ≡ Some programmer.chip

@@ -1,16 +1,17 @@
--- What the code gathers of the settings of a programmer, one by one.
+-- Taking in the settings of a programmer, one after the other.
 use Rattle.std.specs.Prelude.{◌≡◌, Bool, true, false, Option, None, Some, codes, is_some, option_map}
 use Rattle.nor_words.specs.declared.settings.Settings.{Settings}
 use Rattle.nor_words.specs.Numbers.{byte_number, decimal_number, polls_of, unique_number}
 use Rattle.nor_words.specs.Programmer.{chip_named, is_file, has_key}
 use Rattle.nor_words.specs.Text.{Text, reads, value_of}
 
--- what is said of a key, by which values it has, how they are read, and where this is kept
+-- a statement about a key: the test of its values, the parser of its values, and the field of `Settings` that has its
+-- value
 abbrev pub OfKey : Type 1
 OfKey = (T : Type 0) → (key : Text) → (is_value : Text → Bool) → (read : Text → Option T)
     → (place : Settings → Option T) → Type 0
 
--- It holds of each key.
+-- Holds if the statement is true for each key.
 pub record EachKey (P : OfKey) : Type 0 where
   pub chip : P _ (codes "emulate") (reads chip_named) chip_named (λ said. said.chip)
   pub image : P _ (codes "image") is_file Some (λ said. option_map (λ name. name.now) said.image)
@@ -21,18 +22,18 @@ pub record EachKey (P : OfKey) : Type 0 where
   pub busy : P _ (codes "busy") (reads polls_of) polls_of (λ said. said.busy)
   pub power : P _ (codes "power") (reads byte_number) byte_number (λ said. said.power)
 
--- One more setting, at the place of a key: where it has this key, the place was empty and gets its value, and else the
--- place stays.
+-- The effect of one more setting on the field of one key: if the setting has this key, the field was empty and now has
+-- the setting's value; otherwise the field is as before.
 pub record PutsAt {T : Type 0} (key : Text) (read : Text → Option T) (setting : Text) (old new : Option T)
     : Type 0 where
   pub met : has_key key setting ≡ true → (old ≡ None) × (read (value_of setting) ≡ new) × (is_some new ≡ true)
   pub other : has_key key setting ≡ false → new ≡ old
 
--- the setting is added to those that were said
+-- the setting was added to those that were taken in before
 abbrev pub Adds : Text → (old new : Settings) → Type 0
 Adds setting old new = EachKey (λ T key is_value read place. PutsAt key read setting (place old) (place new))
 
--- the setting has a key that was said, or a value that is none of its key's
+-- The setting can't be added: its key is unknown or was taken in before, or its value isn't one of its key.
 abbrev pub IsRefused : Text → Settings → Type 0
 IsRefused setting said = EachKey (λ T key is_value read place.
     has_key key setting ≡ true → is_value (value_of setting) ≡ true → is_some (place said) ≡ true)

@@ -1,10 +1,10 @@
--- What the text of `--rehearse` says.
+-- The value of `--rehearse`.
 use Rattle.std.specs.Prelude.{◌&&◌, ℕ, List, Option, Some, None, length, filter_map, nat_le, if◌then◌else◌}
 use Rattle.std.specs.List.{list_all}
 use Rattle.nor_words.specs.Text.{Text, pieces_of, reads}
 use Rattle.nor_words.specs.Numbers.{decimal_number}
 
--- the numbers between commas, at most 64
+-- the numbers between the commas, if each part is a number and there are at most 64
 abbrev pub stops_of : Text → Option (List ℕ)
 stops_of text =
     if list_all (reads decimal_number) (pieces_of text) && nat_le (length (pieces_of text)) 64

@@ -1,31 +1,31 @@
--- Texts, as the program reads them.
+-- Texts as lists of bytes, and their parts around commas and `=`.
 use Rattle.std.specs.Prelude.{◌==◌, ℕ, Bool, List, Option, is_some}
 use Rattle.std.specs.List.{slice_split, before_first, after_first}
 
--- a text, by its bytes
+-- a text, as its bytes
 abbrev pub Text : Type 0
 Text = List ℕ
 
--- what stands between the commas
+-- the parts of the text between its commas
 abbrev pub pieces_of : Text → List Text
 pieces_of = slice_split (λ byte. byte == 44)
 
--- all before the first comma, or the whole text where there is none
+-- all before the first comma, or the whole text if it has no comma
 abbrev pub front_of : Text → Text
 front_of = before_first (λ byte. byte == 44)
 
--- all behind the first comma, or nothing where there is none
+-- all after the first comma, or nothing if the text has no comma
 abbrev pub rest_of : Text → Text
 rest_of = after_first (λ byte. byte == 44)
 
--- all before the first `=`, or the whole text where there is none
+-- all before the first `=`, or the whole text if it has no `=`
 abbrev pub key_of : Text → Text
 key_of = before_first (λ byte. byte == 61)
 
--- all behind the first `=`, or nothing where there is none
+-- all after the first `=`, or nothing if the text has no `=`
 abbrev pub value_of : Text → Text
 value_of = after_first (λ byte. byte == 61)
 
--- a reading finds something in a text
+-- true if the parser returns a value for the text
 abbrev pub reads : {T : Type 0} → (Text → Option T) → Text → Bool
 reads reading text = is_some (reading text)

@@ -1,4 +1,4 @@
-//! What the words give each option.
+//! The values that the arguments give the options; the job that the options ask for, or the first fault that they have.
 ghost use Rattle.std.specs.Prelude.{◌≡◌, ◌&&◌, ◌||◌, None, Some, false, true, is_some, not, option_map, option_and_then};
 ghost use Rattle.std.specs.Prelude.{MatchOption, MatchResult};
 ghost use Rattle.std.specs.Option.{option_map_or};
@@ -21,7 +21,7 @@ use arrayvec::ArrayVec;
 use clap::ArgMatches;
 use nor_probe::ChipName;
 
-/// The texts of the options that take one, and whether the flags are set.
+/// The values of the options that take one, and for each flag whether it is set.
 #[derive(Clone, Copy)]
 pub struct Given<'a> {
     programmer: Option<&'a str>,
@@ -44,7 +44,8 @@ pub struct Given<'a> {
     rehearse: Option<&'a str>,
 }
 
-// What the texts mean that aren't names; nothing where a text isn't there or has no meaning.
+// The values that are parsed here, all others being names. A field is `None` if its option is missing, or if its value
+// can't be parsed.
 #[derive(Drop)]
 struct Meaning<'a> {
     programmer: Option<Programmer<'a>>,
@@ -55,7 +56,7 @@ struct Meaning<'a> {
 impl<'a> Given<'a> {
     ghost use Rattle.nor_words.specs.Given.{texts_of};
 
-    /// What a parse of the words found.
+    /// Collects the options from the matches of `clap`.
     pub fn of(matches: &ArgMatches<'a>) -> Given<'a>
         ensures { texts_of result ≡ given_in (rows_of (found_of matches.now)) }
     {
@@ -81,7 +82,7 @@ impl<'a> Given<'a> {
         }
     }
 
-    /// The job that the options ask for, or the first fault that they have.
+    /// Returns the job that the options ask for, or the first of the faults 2 to 9 that they have.
     pub fn job(self) -> Result<Job<'a>, UsageFault>
         ensures { MatchResult result
             (λ job. (first_fault (usage_faults (texts_of self.entry)) ≡ None) × IsAsked (texts_of self.entry) job)
@@ -101,7 +102,7 @@ impl<'a> Given<'a> {
         }
     }
 
-    // Reads the texts that aren't names.
+    // Parses the values of `-p`, `--wp-range` and `--rehearse`.
     fn meaning(&self) -> Meaning<'a>
         ensures { IsMeaning (texts_of self.now) result }
     {
@@ -112,7 +113,7 @@ impl<'a> Given<'a> {
         }
     }
 
-    // The first fault that the options have.
+    // Returns the first of the faults 2 to 9 that the options have.
     fn fault(&self, meaning: &Meaning<'a>) -> Option<UsageFault>
         requires { IsMeaning (texts_of self.now) meaning.now }
         ensures { result ≡ first_fault (usage_faults (texts_of self.now)) }
@@ -138,14 +139,14 @@ impl<'a> Given<'a> {
         }
     }
 
-    // All but the list of chips needs a programmer.
+    // Fault 2: true if there is neither `-p` nor `-L`.
     fn lacks_programmer(&self) -> bool
         ensures { result ≡ (not (is_some (texts_of self.now).programmer) && not (texts_of self.now).list) }
     {
         self.programmer.is_none() && !self.list
     }
 
-    // The text of `-p` is no programmer's.
+    // Fault 3: true if the value of `-p` doesn't describe a programmer.
     fn has_wrong_programmer(&self, meaning: &Meaning<'a>) -> bool
         requires { IsMeaning (texts_of self.now) meaning.now }
         ensures { result ≡ is_no is_programmer_text (texts_of self.now).programmer }
@@ -153,7 +154,7 @@ impl<'a> Given<'a> {
         self.programmer.is_some() && meaning.programmer.is_none()
     }
 
-    // The text of `--wp-range` is no range.
+    // Fault 5: true if the value of `--wp-range` isn't a start and a length.
     fn has_wrong_range(&self, meaning: &Meaning<'a>) -> bool
         requires { IsMeaning (texts_of self.now) meaning.now }
         ensures { result ≡ is_no (reads range_of) (texts_of self.now).wp_range }
@@ -161,7 +162,7 @@ impl<'a> Given<'a> {
         self.wp_range.is_some() && meaning.range.is_none()
     }
 
-    // The text of `--rehearse` isn't stops, or the programmer stops beside it.
+    // Fault 9: true if the value of `--rehearse` isn't a list of stops, or if `-p` has a `stop=` as well.
     fn has_wrong_stops(&self, meaning: &Meaning<'a>) -> bool
         requires { IsMeaning (texts_of self.now) meaning.now }
         ensures { result ≡ (is_no (reads stops_of) (texts_of self.now).rehearse
@@ -170,7 +171,7 @@ impl<'a> Given<'a> {
         self.rehearse.is_some() && (meaning.stops.is_none() || meaning.has_stop())
     }
 
-    // How many operations there are.
+    // Returns the number of operations that are asked for.
     fn operations(&self) -> usize
         ensures { result ≡ operations (texts_of self.now) }
     {
@@ -189,28 +190,28 @@ impl<'a> Given<'a> {
         asked.iter().filter(|asked| **asked).count()
     }
 
-    // The operation gives the chip new bytes.
+    // True for `-w` or `-E`, which change the bytes of the chip.
     fn is_new_content(&self) -> bool
         ensures { result ≡ is_new_content (texts_of self.now) }
     {
         self.write.is_some() || self.erase
     }
 
-    // The operation changes the chip and keeps a journal.
+    // True for `-w`, `-E` or `--wp-range`, which change the chip and write a journal or rehearse.
     fn is_change(&self) -> bool
         ensures { result ≡ asks_change (texts_of self.now) }
     {
         self.is_new_content() || self.wp_range.is_some()
     }
 
-    // The operation may be held to regions.
+    // True for `-r`, `-v`, `-w` or `-E`, which may include only some regions.
     fn takes_regions(&self) -> bool
         ensures { result ≡ takes_regions (texts_of self.now) }
     {
         self.read.is_some() || self.verify.is_some() || self.is_new_content()
     }
 
-    // A change has not exactly one of `--journal` and `--rehearse`, or what is no change has one.
+    // Fault 6: true if a change doesn't have exactly one of `--journal` and `--rehearse`, or anything else has one.
     fn has_wrong_journal(&self) -> bool
         ensures { result ≡ has_wrong_journal (texts_of self.now) }
     {
@@ -221,7 +222,7 @@ impl<'a> Given<'a> {
         }
     }
 
-    // `-n` or `--unlock` is there, and no new content.
+    // Fault 8: true for `-n` or `--unlock` without `-w` or `-E`.
     fn has_unneeded(&self) -> bool
         ensures { result ≡ (((texts_of self.now).no_verify || (texts_of self.now).unlock)
             && not (is_new_content (texts_of self.now))) }
@@ -229,7 +230,7 @@ impl<'a> Given<'a> {
         (self.no_verify || self.unlock) && !self.is_new_content()
     }
 
-    // One of `-l` and `-i` is there without the other, or with an operation that takes no regions.
+    // Fault 7: true if there is only one of `-l` and `-i`, or if the operation takes no regions and there are both.
     fn has_wrong_regions(&self) -> bool
         ensures { result ≡ has_wrong_regions (texts_of self.now) }
     {
@@ -240,7 +241,8 @@ impl<'a> Given<'a> {
         }
     }
 
-    // What is done with the chip, where the options have no fault.
+    // Returns the operation on the chip. Requires options without a fault, and the parsed values of `--wp-range` and
+    // `--rehearse`.
     fn task(&self, range: Option<(u32, u32)>, stops: Option<ArrayVec<u64, MOST_STOPS>>) -> Task<'a>
         requires { ((texts_of self.now).list ≡ false) × (first_fault (usage_faults (texts_of self.now)) ≡ None)
             × (option_and_then range_of (texts_of self.now).wp_range ≡ range)
@@ -259,7 +261,7 @@ impl<'a> Given<'a> {
         })
     }
 
-    // What the chip is changed to.
+    // Returns the target of a change, or `None` if the options have no `-w`, no `-E` and no range.
     fn wanted(&self, range: Option<(u32, u32)>) -> Option<Wanted<'a>>
         requires { option_and_then range_of (texts_of self.now).wp_range ≡ range }
         ensures { MatchOption result ((is_new_content (texts_of self.now) ≡ false) × (range ≡ None))
@@ -273,7 +275,7 @@ impl<'a> Given<'a> {
         }
     }
 
-    // What becomes of a change's journal.
+    // Returns the use of a change's journal. Requires stops if there is no `--journal`, so the `unwrap` can't fail.
     fn journal_use(&self, stops: Option<ArrayVec<u64, MOST_STOPS>>) -> JournalUse<'a>
         requires read { option_and_then stops_of (texts_of self.now).rehearse
             ≡ option_map (λ stops. stops.items) stops }
@@ -288,7 +290,7 @@ impl<'a> Given<'a> {
         }
     }
 
-    // The regions, where there are some.
+    // Returns the regions that are included, if `-l` and `-i` are given.
     fn regions(&self) -> Option<Regions<'a>>
         requires { has_wrong_regions (texts_of self.now) ≡ false }
         ensures { IsRegions (texts_of self.now) result }
@@ -299,7 +301,7 @@ impl<'a> Given<'a> {
         }
     }
 
-    // What is done that is no change.
+    // Returns an operation that isn't a change: a reading, a report, a restore, or only the identification.
     fn plain_task(&self) -> Task<'a>
         requires { ((texts_of self.now).list ≡ false) × (asks_change (texts_of self.now) ≡ false)
             × (has_wrong_regions (texts_of self.now) ≡ false) }
@@ -319,7 +321,7 @@ impl<'a> Given<'a> {
 }
 
 impl Meaning<'_> {
-    // The programmer stops after so many transactions.
+    // True if the programmer has a `stop=`.
     fn has_stop(&self) -> bool
         ensures { result ≡ option_map_or (λ programmer. is_some programmer.stop) self.now.programmer false }
     {
@@ -330,7 +332,7 @@ impl Meaning<'_> {
     }
 }
 
-// A flag that is set has the value `true`.
+// True if the flag is set: `clap` then has the value `true` for it.
 fn is_set(matches: &ArgMatches<'_>, flag: &str) -> bool
     ensures { result ≡ is_set_in (rows_of (found_of matches.now)) flag.now }
 {

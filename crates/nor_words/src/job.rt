@@ -1,20 +1,20 @@
-//! The job that words ask for.
+//! The job that the arguments ask for.
 
 use crate::programmer::Programmer;
 use crate::stops::MOST_STOPS;
 use arrayvec::ArrayVec;
 use nor_probe::ChipName;
 
-/// What the words ask for.
+/// What the arguments ask for.
 #[derive(Drop)]
 pub enum Job<'a> {
-    /// `-L`: the table of chips is listed.
+    /// `-L`: list the table of chips.
     List,
-    /// A chip is found, and perhaps worked on.
+    /// Without `-L`: identify a chip, and perform at most one operation on it.
     Chip(ChipJob<'a>),
 }
 
-/// What is done with the programmer's chip.
+/// A job on the chip that `-p` names.
 #[derive(Drop)]
 pub struct ChipJob<'a> {
     pub programmer: Programmer<'a>,
@@ -26,27 +26,27 @@ pub struct ChipJob<'a> {
 /// The operation on a chip.
 #[derive(Drop)]
 pub enum Task<'a> {
-    /// No operation: the chip is only found.
+    /// No operation: only identify the chip.
     Probe,
-    /// `--flash-size`: its size is told.
+    /// `--flash-size`: print the size of the chip.
     FlashSize,
-    /// `--wp-status`: its protection is told.
+    /// `--wp-status`: print the protected range, and whether it is locked.
     WpStatus,
-    /// `--wp-list`: the ranges that can be protected are listed.
+    /// `--wp-list`: list the ranges that can be protected.
     WpList,
-    /// `-r FILE`: the chip is read into the file of this name.
+    /// `-r FILE`: read the chip into the named file.
     Read {
         file: &'a str,
         regions: Option<Regions<'a>>,
     },
-    /// `-v FILE`: the chip is compared with the file of this name.
+    /// `-v FILE`: compare the chip with the named file.
     Verify {
         file: &'a str,
         regions: Option<Regions<'a>>,
     },
-    /// `-w FILE`, `-E` or `--wp-range S,L`: the chip is changed.
+    /// `-w FILE`, `-E` or `--wp-range S,L`: change the chip.
     Change(Change<'a>),
-    /// `--restore FILE`: what the journal in the file of this name saved is given back.
+    /// `--restore FILE`: restore what the journal in the named file saved.
     Restore {
         journal: &'a str,
     },
@@ -55,42 +55,42 @@ pub enum Task<'a> {
 /// The regions that an operation includes.
 #[derive(Clone, Copy)]
 pub struct Regions<'a> {
-    /// `-l FILE`: the file of the layout.
+    /// `-l FILE`: the name of the layout file.
     pub layout: &'a str,
     /// `-i NAMES`: the names of the regions, separated by commas.
     pub names: &'a str,
 }
 
-/// A change of the chip that can be undone.
+/// A write, an erase or a change of protection, either with a journal or as a rehearsal.
 #[derive(Drop)]
 pub struct Change<'a> {
     pub wanted: Wanted<'a>,
-    /// The regions that it is held to; the whole chip where there are none.
+    /// The regions of the layout that are included, or `None` for the whole chip.
     pub regions: Option<Regions<'a>>,
-    /// `--unlock`: protection is lifted and given back.
+    /// `--unlock`: lift protection that is in the way, and set it again at the end.
     pub unlock: bool,
-    /// What was written is read back and compared, which `-n` forgoes.
+    /// Without `-n`: read what was written back, and compare.
     pub verify: bool,
     pub journal_use: JournalUse<'a>,
 }
 
-/// What a change makes of the chip.
+/// The target of a change.
 #[derive(Clone, Copy)]
 pub enum Wanted<'a> {
-    /// `-w FILE`: the image in the file of this name.
+    /// `-w FILE`: the image in the named file.
     Write { image: &'a str },
     /// `-E`: an erased chip.
     Erase,
-    /// `--wp-range S,L`: protection of exactly `len` bytes from `start` on.
+    /// `--wp-range S,L`: protection of exactly the `len` bytes that begin at `start`.
     Range { start: u32, len: u32 },
 }
 
-/// What becomes of the journal of a change.
+/// The use of a change's journal: kept in a file, or only rehearsed with.
 #[derive(Drop)]
 pub enum JournalUse<'a> {
-    /// `--journal FILE`: it is kept in the file of this name.
+    /// `--journal FILE`: write the journal into the named file.
     Journal { file: &'a str },
-    /// `--rehearse N,N,..`: the change is a rehearsal. It and then each restore is stopped after so many transactions,
-    /// and the chip is given back.
+    /// `--rehearse N,N,..`: rehearse the change. The first number stops the change after that many transactions, each
+    /// further number stops one restore.
     Rehearse { stops: ArrayVec<u64, MOST_STOPS> },
 }

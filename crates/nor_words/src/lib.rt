@@ -1,7 +1,7 @@
-//! What the words of flashnor's command line ask for.
+//! Turns the arguments of flashnor's command line into a job or a usage fault.
 //!
-//! `request_of` reads them: `clap` takes the words apart, and what they give each option is a job or the first fault
-//! that the options have. Nothing is opened here, so the job tells files by the names that were given.
+//! `clap` parses the arguments; the options that it finds make up a job, or have a fault. This crate opens no file, so
+//! a job contains the names of files as you typed them.
 //!
 //! ```rust
 //! use nor_words::{Job, UsageFault, request_of};
@@ -11,7 +11,16 @@
 //! assert!(rt; matches!(request_of(rt.alloc(), &[]), Err(UsageFault::NoProgrammer)));
 //! ```
 //!
-//! Which words are which job stands in `specs/Words.antt` and `Job`, and the faults in `Faults`.
+//! - `words.rt`: `request_of`, and the usage faults
+//! - `options.rt`: the options, as `clap` parses them and as the help shows them
+//! - `given.rt`: the values of the options; the job that they ask for, or the first fault that they have
+//! - `job.rt`: the types of a job
+//! - `programmer.rt`: the value of `-p`, and the chips that can be emulated
+//! - `settings.rt`: the settings in the value of `-p`
+//! - `stops.rt`: the value of `--rehearse`
+//! - `numbers.rt`: the numbers in values
+//!
+//! `specs/Words.antt` and `specs/Job.antt` define which arguments are which job, `specs/Faults.antt` the usage faults.
 #![tactic(auto)]
 
 mod given;

@@ -1,4 +1,4 @@
-//! Numbers, as the words write them.
+//! The numbers in the values of options.
 ghost use Rattle.std.specs.Prelude.{◌≡◌, ◌≤◌, option_map};
 ghost use Rattle.std.specs.Char.{is_digit};
 ghost use Rattle.std.specs.List.{list_all};
@@ -6,14 +6,16 @@ ghost use Rattle.nor_words.specs.Numbers.{numeral, decimal_number, polls_of, pla
 
 use hex::FromHex;
 
-/// The number that the text is: 1 to 20 decimal digits, up to the greatest `u64`.
+/// Returns the number that `text` is: 1 to 20 decimal digits, at most the greatest `u64`. Returns `None` for any other
+/// text.
 pub fn read_number(text: &str) -> Option<u64>
     ensures { result ≡ decimal_number text.now }
 {
     read_numeral(text, 10, 20, u64::MAX)
 }
 
-/// The number of polls that the text is: 1 to 20 decimal digits, up to 65,535.
+/// Returns the number of polls that `text` is: 1 to 20 decimal digits, at most 65,535. Returns `None` for any other
+/// text.
 pub fn read_polls(text: &str) -> Option<u16>
     ensures { result ≡ polls_of text.now }
 {
@@ -21,7 +23,8 @@ pub fn read_polls(text: &str) -> Option<u16>
     u16::try_from(polls).ok()
 }
 
-/// The start and the length that the text is, separated by a comma.
+/// Returns the start and the length that `text` is, each as `read_place` reads it, with a comma between them. Returns
+/// `None` for any other text.
 pub fn read_range(text: &str) -> Option<(u32, u32)>
     ensures { result ≡ range_of text.now }
 {
@@ -29,8 +32,8 @@ pub fn read_range(text: &str) -> Option<(u32, u32)>
     Some((read_place(start)?, read_place(len)?))
 }
 
-// The address or the length that the text is: `0x` and 1 to 8 hexadecimal digits of either case, or 1 to 10 decimal
-// digits up to the greatest `u32`.
+// Returns the address or the length that `text` is: `0x` and 1 to 8 hexadecimal digits of either case, or 1 to 10
+// decimal digits, at most the greatest `u32`. Returns `None` for any other text.
 fn read_place(text: &str) -> Option<u32>
     ensures { result ≡ place_of text.now }
 {
@@ -41,7 +44,8 @@ fn read_place(text: &str) -> Option<u32>
     u32::try_from(place).ok()
 }
 
-// The number that 1 to so many digits of this radix write, where it is at most the greatest.
+// Returns the number that `text` is: 1 to `most` digits of this radix, with a value of at most `greatest`. Returns
+// `None` for any other text.
 fn read_numeral(text: &str, radix: u32, most: usize, greatest: u64) -> Option<u64>
     requires { (2 ≤ radix) × (radix ≤ 36) }
     ensures { result ≡ numeral radix most greatest text.now }
@@ -57,7 +61,8 @@ fn read_numeral(text: &str, radix: u32, most: usize, greatest: u64) -> Option<u6
     }
 }
 
-// All of the text is digits of this radix.
+// True if each byte of the text is a digit of this radix, so for an empty text, too. It excludes the leading plus that
+// `from_str_radix` accepts.
 fn has_digits(text: &str, radix: u32) -> bool
     requires { (2 ≤ radix) × (radix ≤ 36) }
     ensures { result ≡ list_all (λ digit. is_digit digit radix) text.now }
@@ -65,14 +70,14 @@ fn has_digits(text: &str, radix: u32) -> bool
     text.bytes().all(|digit| char::from(digit).is_digit(radix))
 }
 
-/// The eight bytes that 16 hexadecimal digits write.
+/// Returns the eight bytes that `text` is, in 16 hexadecimal digits. Returns `None` for any other text.
 pub fn read_unique(text: &str) -> Option<[u8; 8]>
     ensures { result ≡ unique_number text.now }
 {
     <[u8; 8] as FromHex>::from_hex(text).ok()
 }
 
-/// The byte that two hexadecimal digits write.
+/// Returns the byte that `text` is, in two hexadecimal digits. Returns `None` for any other text.
 pub fn read_byte(text: &str) -> Option<u8>
     ensures { result ≡ byte_number text.now }
 {

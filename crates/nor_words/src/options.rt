@@ -1,4 +1,4 @@
-//! The options of the program.
+//! The options of the program, for `clap` and in its help.
 ghost use Rattle.std.specs.Prelude.{◌≡◌, IfOk, fold, map};
 ghost use Rattle.clap.specs.Words.{app_of};
 ghost use Rattle.nor_words.specs.Options.{options, no_options, help_rule, most_rules, IsOption};
@@ -7,10 +7,10 @@ ghost use Rattle.nor_words.specs.Options.{named, chosen, with_choice};
 use clap::{Arg, ArgAction, Command};
 use std::alloc::{AllocError, Global};
 
-// What stands above the options.
+// The first line of the help, above the options.
 const ABOUT: &str = "flashnor 1.0: programs SPI NOR flash, and can give back what it changed.";
 
-// What stands below the options, at most 80 columns wide.
+// The end of the help, below the options. Its lines have at most 80 columns.
 const NOTES: &str = "\
 TEXT of -p is dummy: and then KEY=VALUE, between commas, each key at most once:
   emulate=NAME  W25Q64FV (8 MiB), W25Q128FV (16 MiB) or TINY64 (64 KiB, known by
@@ -50,17 +50,17 @@ Usage fault 10: out of memory
 
 The manual page, flashnor(8), says what each fault asks for.";
 
-// How an option is written, and what help says of it.
+// An option: how it is written, and its line in the help.
 struct Choice {
-    // It is written as `-` and this letter, or as `--` and its name where there is none.
+    // The letter after `-`. Without one, the option is written as `--` and its name.
     letter: Option<char>,
     name: &'static str,
-    // What stands for its value in help, where it takes one.
+    // The placeholder of its value in the help. Without one, the option is a flag and takes no value.
     value: Option<&'static str>,
     help: &'static str,
 }
 
-// All options but the one that asks for help, in the order of the help.
+// All options except `-h`, in the order of the help.
 static CHOICES: [Choice; 18] = [
     Choice {
         letter: Some('p'),
@@ -172,7 +172,7 @@ static CHOICES: [Choice; 18] = [
     },
 ];
 
-/// The command that reads the words after the program's name.
+/// Returns the `clap` command that parses the arguments, without the program's name. Fails only if memory runs out.
 pub fn make_options<'a>(alloc: Global) -> Result<Command<'a>, AllocError>
     ensures { IfOk result (λ command. app_of command ≡ options) }
 {
@@ -180,7 +180,7 @@ pub fn make_options<'a>(alloc: Global) -> Result<Command<'a>, AllocError>
     chosen.arg(help_option(alloc))
 }
 
-// The program, without an option.
+// Returns the command without options. The help option of `clap` itself is disabled.
 fn new_command<'a>(alloc: Global) -> Command<'a>
     ensures { app_of result ≡ no_options }
 {
@@ -191,14 +191,14 @@ fn new_command<'a>(alloc: Global) -> Command<'a>
         .after_help(NOTES)
 }
 
-// The table.
+// Returns the table, whose options the clause lists.
 fn choices() -> &'static [Choice; 18]
     ensures { map chosen result.now ≡ most_rules }
 {
     &CHOICES
 }
 
-// Adds these options.
+// Adds an option for each row, in the order of the table.
 fn add_choices<'a>(
     alloc: Global,
     command: Command<'a>,
@@ -214,7 +214,7 @@ fn add_choices<'a>(
 }
 
 impl Choice {
-    // The option.
+    // Returns the option of this row: one that takes a value, or a flag.
     fn option<'a>(&self, alloc: Global) -> Arg<'a>
         ensures { IsOption (chosen self.now) result }
     {
@@ -225,7 +225,7 @@ impl Choice {
         }
     }
 
-    // An option that is written so.
+    // Returns an option with this row's name, letter and help, which doesn't say yet whether it takes a value.
     fn named<'a>(&self, alloc: Global) -> Arg<'a>
         ensures { IsOption (named self.now) result }
     {

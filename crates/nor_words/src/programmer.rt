@@ -1,4 +1,4 @@
-//! The text of the option `-p`.
+//! The value of the option `-p`, and the chips that it can name.
 ghost use Rattle.std.specs.Prelude.{◌≡◌, false};
 ghost use Rattle.std.specs.Option.{MatchOption};
 
@@ -8,7 +8,7 @@ use nor_chip::Config;
 /// A chip that the program emulates.
 #[derive(Clone, Copy)]
 pub enum Emulated {
-    /// 64 KiB, known by its SFDP alone.
+    /// 64 KiB. The table of chips lacks its ID, so only its SFDP describes it.
     Tiny64,
     /// 8 MiB.
     W25q64fv,
@@ -20,7 +20,8 @@ impl Emulated {
     ghost use Rattle.nor_chip.specs.declared.config.Config.{Config};
     ghost use Rattle.nor_words.specs.Programmer.{chip_named, emulated_size, IsConfigOfEmulated};
 
-    /// The chip of this name.
+    /// Returns the chip with this value of `emulate=`: `TINY64`, `W25Q64FV` or `W25Q128FV`. Returns `None` for any
+    /// other name.
     pub fn named(name: &str) -> Option<Emulated>
         ensures { result ≡ chip_named name.now }
     {
@@ -32,7 +33,7 @@ impl Emulated {
         }
     }
 
-    /// What never changes of the chip.
+    /// Returns the configuration of the chip, which never changes.
     pub fn config(self) -> Config
         ensures { IsConfigOfEmulated self result }
     {
@@ -43,7 +44,7 @@ impl Emulated {
         }
     }
 
-    /// How many bytes the chip has.
+    /// Returns the size of the chip in bytes.
     pub fn size(self) -> u32
         ensures size { result ≡ emulated_size self }
         ensures configured { (config : Config) → IsConfigOfEmulated self config → config.size ≡ result }
@@ -56,33 +57,35 @@ impl Emulated {
     }
 }
 
-/// The programmer that `-p` names: `dummy:` and then settings `key=value`, separated by commas, in any order and
-/// each at most once.
+/// The programmer that the value of `-p` describes: `dummy:` and then settings `key=value`, separated by commas, in any
+/// order, each key at most once. `emulate=` is required. A field is `None` if its key is missing.
 #[derive(Clone, Copy)]
 pub struct Programmer<'a> {
-    /// `emulate=NAME`, which must be there: the chip.
+    /// `emulate=NAME`: the chip to emulate.
     pub chip: Emulated,
-    /// `image=FILE`: the file of the chip's bytes.
+    /// `image=FILE`: the file with the chip's bytes.
     pub image: Option<&'a str>,
-    /// `status=FILE`: the file of its two status bytes.
+    /// `status=FILE`: the file with the chip's two status bytes.
     pub status: Option<&'a str>,
-    /// `trace=FILE`: the file that gets a line for each transaction.
+    /// `trace=FILE`: the file into which a line is written for each transaction.
     pub trace: Option<&'a str>,
-    /// `stop=N`: how many transactions are allowed.
+    /// `stop=N`: the number of transactions after which the bus stops.
     pub stop: Option<u64>,
-    /// `unique=` and 16 hexadecimal digits: the chip's own number.
+    /// `unique=HEX`: the chip's unique ID, as 16 hexadecimal digits.
     pub unique: Option<[u8; 8]>,
-    /// `busy=N`: how many polls answer BUSY after each operation.
+    /// `busy=N`: the number of polls that return BUSY after each operation.
     pub busy: Option<u16>,
-    /// `power=HH`: a stop is a loss of power, and leaves this byte where something ran.
+    /// `power=HH`: each stop is a power failure, and each byte that a running program or erase works on becomes this
+    /// byte.
     pub power: Option<u8>,
 }
 
 impl<'a> Programmer<'a> {
     ghost use Rattle.nor_words.specs.Programmer.{is_programmer_text, IsProgrammer};
 
-    /// Reads the text. A setting goes on to the next comma, and its key to the first `=`. `None` where the text is no
-    /// programmer's.
+    /// Parses the value of `-p`. A setting ends at the next comma, and its key at the first `=`. Returns `None` if the
+    /// text doesn't begin with `dummy:`, has a setting with an unknown key or a wrong value, has a key twice, or lacks
+    /// `emulate=`.
     pub fn read(text: &'a str) -> Option<Programmer<'a>>
         ensures { MatchOption result (is_programmer_text text.now ≡ false) (IsProgrammer text.now) }
     {

@@ -1,4 +1,4 @@
-//! The settings of a programmer: `key=value`, separated by commas.
+//! The settings in the value of `-p`: `key=value`, separated by commas.
 ghost use Rattle.std.specs.Prelude.{◌≡◌, ◌&&◌, None, false, true, is_none, is_some};
 ghost use Rattle.std.specs.Option.{MatchOption};
 ghost use Rattle.nor_words.specs.Programmer.{is_file, is_setting};
@@ -7,7 +7,7 @@ ghost use Rattle.nor_words.specs.Text.{key_of, value_of};
 use crate::numbers::{read_byte, read_number, read_polls, read_unique};
 use crate::programmer::Emulated;
 
-/// What settings say, each of them with another key.
+/// The settings that were taken in so far, by their keys.
 #[derive(Clone, Copy, Default)]
 pub struct Settings<'a> {
     pub chip: Option<Emulated>,
@@ -23,7 +23,8 @@ pub struct Settings<'a> {
 impl<'a> Settings<'a> {
     ghost use Rattle.nor_words.specs.Settings.{Adds, IsRefused};
 
-    /// Takes in one more setting, which has a key that there is and a value of this key; none had this key before.
+    /// Takes in one more setting. Returns `None` if its key is unknown or was taken in before, or if its value isn't
+    /// one of this key.
     pub fn take_in(&mut self, setting: &'a str) -> Option<()>
         ensures { MatchOption result (IsRefused setting.now self.old)
             (λ _. (is_setting setting.now ≡ true) × Adds setting.now self.old self.new) }
@@ -43,7 +44,8 @@ impl<'a> Settings<'a> {
     }
 }
 
-// The key goes on to the first `=`, and all behind it is the value.
+// Returns the key, which ends at the first `=`, and the value after that. Without an `=` the whole setting is the key,
+// and the value is empty.
 fn split_setting(setting: &str) -> (&str, &str)
     ensures { (result.0.now ≡ key_of setting.now) × (result.1.now ≡ value_of setting.now) }
 {
@@ -53,7 +55,7 @@ fn split_setting(setting: &str) -> (&str, &str)
     }
 }
 
-// The name of a file isn't empty.
+// Returns the name of a file, or `None` if it is empty.
 fn filled(name: &str) -> Option<&str>
     ensures { MatchOption result (is_file name.now ≡ false)
         (λ file. (is_file name.now ≡ true) × (file.now ≡ name.now)) }
@@ -61,7 +63,7 @@ fn filled(name: &str) -> Option<&str>
     if name.is_empty() { None } else { Some(name) }
 }
 
-// Puts what was read into a place that is empty.
+// Stores the value that was read. Returns `None`, and changes nothing, if a value is stored already or none was read.
 fn set<T: Copy>(place: &mut Option<T>, read: Option<T>) -> Option<()>
     ensures { MatchOption result ((is_none place.old && is_some read) ≡ false)
         (λ _. (place.old ≡ None) × (place.new ≡ read) × (is_some read ≡ true)) }

@@ -1,14 +1,15 @@
-//! The text of the option `--rehearse`.
+//! The value of the option `--rehearse`.
 ghost use Rattle.std.specs.Prelude.{◌≡◌, option_map};
 ghost use Rattle.nor_words.specs.Stops.{stops_of};
 
 use crate::numbers::read_number;
 use arrayvec::ArrayVec;
 
-/// The most stops of a rehearsal.
+/// The greatest number of stops in the value of `--rehearse`.
 pub const MOST_STOPS: usize = 64;
 
-/// The stops that the text lists: 1 to 64 numbers, separated by commas.
+/// Returns the stops in `text`: 1 to 64 numbers, separated by commas, each as `read_number` reads it. Returns `None`
+/// for any other text.
 pub fn read_stops(text: &str) -> Option<ArrayVec<u64, MOST_STOPS>>
     ensures { option_map (λ stops. stops.items) result ≡ stops_of text.now }
 {

@@ -1,4 +1,4 @@
-//! The words of the command line, and what is wrong with them.
+//! `request_of`, which turns arguments into a job, and the faults that arguments may have.
 ghost use Rattle.std.specs.Prelude.{◌≡◌, MatchResult, map, string_bytes};
 ghost use Rattle.nor_words.specs.Words.{IsJob, IsFault};
 
@@ -11,36 +11,36 @@ use std::alloc::{AllocError, Global};
 use std::fmt;
 use thiserror::Error;
 
-/// Why the words are no job. Each has the number that its message shows, and they are tested in this order, all but
-/// the last.
+/// A usage fault: why the arguments aren't a job. Its message has the number that is given here. The first of the
+/// faults 1 to 9 is returned; fault 10 may be returned for any arguments.
 #[derive(Debug, Drop, Error)]
 pub enum UsageFault {
-    /// 1: `clap` refuses the words, and says why. It answers a request for help so too.
+    /// 1: `clap` rejects the arguments. The error has its message; a request for help is this fault, too.
     Words(WordsError),
-    /// 2: there is no `-p`, which all but `-L` need.
+    /// 2: `-p` is missing, and `-L` wasn't given, either.
     NoProgrammer,
-    /// 3: the text of `-p` is no programmer's.
+    /// 3: the value of `-p` doesn't describe a programmer.
     Programmer,
-    /// 4: there is more than one operation.
+    /// 4: more than one operation.
     TwoOperations,
-    /// 5: the text of `--wp-range` is no range.
+    /// 5: the value of `--wp-range` isn't a start and a length.
     Range,
-    /// 6: a change of the chip has not exactly one of `--journal` and `--rehearse`, or what is no change has one.
+    /// 6: `--journal` and `--rehearse`: a change of the chip needs exactly one, anything else none.
     Journal,
-    /// 7: one of `-l` and `-i` is there without the other, or with an operation that has no regions.
+    /// 7: `-l` or `-i` without the other, or with an operation that takes no regions.
     Layout,
-    /// 8: `-n` or `--unlock` is there, and neither `-w` nor `-E`.
+    /// 8: `-n` or `--unlock` without `-w` or `-E`.
     Unneeded,
-    /// 9: the text of `--rehearse` isn't 1 to 64 numbers, or the programmer has a `stop=` beside it.
+    /// 9: the value of `--rehearse` isn't 1 to 64 numbers, or the programmer has a `stop=` as well.
     Stops,
-    /// 10: memory ran out, which may come at any time.
+    /// 10: out of memory.
     Memory,
 }
 
 impl UsageFault {
     ghost use Rattle.nor_words.specs.Faults.{number_of_usage_fault};
 
-    /// The number that its message shows.
+    /// Returns the number of the fault, which its message has: 1 to 10.
     pub fn number(&self) -> u8
         ensures { result ≡ number_of_usage_fault self.now }
     {
@@ -59,7 +59,7 @@ impl UsageFault {
     }
 }
 
-// Written out, since a text that is derived has no contract.
+// Not derived, because a derived `Display` has no contract.
 impl fmt::Display for UsageFault {
     ghost use Rattle.nor_words.specs.Faults.{usage_fault_text};
 
@@ -97,8 +97,8 @@ impl From<WordsError> for UsageFault {
     }
 }
 
-/// What the words request, which are those after the program's name: a job. (A `Request` is less, the part of a change
-/// that a session is given.)
+/// Returns the job that the arguments ask for, or the first usage fault that they have. `words` has the arguments
+/// without the program's name. Fault 10, out of memory, may be returned for any arguments.
 pub fn request_of<'a>(alloc: Global, words: &'a [String]) -> Result<Job<'a>, UsageFault>
     ensures { MatchResult result (IsJob (map string_bytes words.now)) (IsFault (map string_bytes words.now)) }
 {

@@ -4,6 +4,6 @@ use Rattle.clap.specs.Words.{app_of}
 use Rattle.nor_words.specs.Options.{with_choice}
 use Rattle.nor_words.proofs.options.add_choices.Given as goal
 
--- the rows that were passed have their options
+-- the options of the rows so far were added
 abbrev pub invariant-loop-choice : goal.invariant-loop-choice
 invariant-loop-choice l = app_of l.longer ≡ fold with_choice (app_of l.fn.command) (take l.choice-index l.choices)
