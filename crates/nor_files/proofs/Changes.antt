@@ -1,4 +1,4 @@
--- What a change may leave of a file.
+-- What a host crash may leave of a file after a change.
 use Rattle.std.proofs.Common.{◌≡◌, ◌∙◌, ◌≤◌, ◌⊎◌, ℕ, List, Some, Result, Ok, refl, sym, ap, subst, arith, length, take}
 use Rattle.std.proofs.Common.{option_map}
 use Rattle.std.proofs.lemmas.List.{take_all}
@@ -12,7 +12,7 @@ use Rattle.nor_files.specs.declared.stored.Change.TheVariants.{Cut}
 use Rattle.nor_files.specs.declared.stored.Content.{Content}
 use Rattle.nor_files.specs.declared.stored.Stored.{Stored}
 
--- where more may have been, a change may leave more
+-- if each content that was possible under `May` is possible under `Might`, so is what a change may make of it
 becomes_more : (change : Change) (May Might : Found → Type 0) (left : Found)
     → ((bytes : List ℕ) → May (Some bytes) → Might (Some bytes)) → Becomes change May left → Becomes change Might left
 becomes_more change May Might left more becomes = grind arith
@@ -29,7 +29,7 @@ file_leaves content change had old new is was becomes left may =
 
 -- ---- writing
 
--- the bytes, or so many of them, written over what was there
+-- overwriting `had` with all or the first `most` of the bytes results in a mix of the two
 pub mixed_over : (had bytes : List ℕ) (most : ℕ) → most ≤ length bytes → IsMixed had bytes (written_over (take most bytes) had)
 mixed_over had bytes most within = grind (arith, common_steps)
 

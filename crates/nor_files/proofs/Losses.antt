@@ -1,4 +1,4 @@
--- What is left of files in memory when the machine is lost.
+-- The files in memory after an interruption.
 use Rattle.std.proofs.Common.{◌≡◌, ◌∙◌, ◌<◌, ℕ, suc, false, List, [], ◌∷◌, ◌++◌, Option, refl, ap, inl, inr, arith}
 use Rattle.std.proofs.Common.{drop, get_or, is_some, length, take}
 use Rattle.std.proofs.lemmas.List.{take_at}
@@ -26,7 +26,7 @@ oldest_allowed old later oldest placed steps there =
 
 -- ---- all files
 
--- What is seen of the file now is what may have been left, and stays.
+-- A read of the file returns what a host crash might have left, and a later host crash can leave nothing else.
 record IsLost (was now : File) : Type 0 where
   allowed : MayLeave was now.seen
   file : now ≡ record { seen = now.seen; steps = []; unplaced = false; out = false }
@@ -43,13 +43,13 @@ all_lost (was ∷ old) (now ∷ new) name many each =
     let later = all_lost old new name (omega (arith, many)) (λ k d within. each (suc k) d (omega (arith, within))) in
     grind arith
 
--- What is seen of each file is what may have been left, and stays.
+-- A read of each file returns what a host crash might have left, and a later host crash can leave nothing else.
 pub record AreLeft (old new : List Stored) (left : ℕ) (lent : Option Name) : Type 0 where
   pub at_rest : AreAtRest (state_of new left lent)
   pub allowed : (name : Name) → MayLeave (file_of old name) (file_of new name).seen
   pub settled : (name : Name) → IsSettled name (file_of new name).seen (state_of new left lent)
 
--- as the loop over them leaves them in their `Vec`
+-- the files in their `Vec` after the loop that interrupts each
 pub are_left : (old now : List Stored) {len left : ℕ} {lent : Option Name} → length now ≡ len → len ≡ length old
     → ((k : ℕ) (d : Stored) → k < length old → FileLoses (get_or old k d) (get_or now k d))
     → AreLeft old (take len (now ++ drop (length now) old)) left lent

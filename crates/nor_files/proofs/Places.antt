@@ -1,4 +1,4 @@
--- The places of files in a list, by their names.
+-- The entries for files in a list, by their names.
 use Rattle.std.proofs.Common.{◌≡◌, ◌≢◌, ◌∙◌, ◌+◌, ◌<◌, ℕ, suc, zero, Bool, true, false, cond, List, [], ◌∷◌, ◌++◌}
 use Rattle.std.proofs.Common.{Option, None, Some, refl, sym, ap, arith, length, get_or, not, set, position}
 use Rattle.std.specs.List.{position_or_len}
@@ -20,12 +20,12 @@ use Rattle.nor_files.specs.declared.stored.Stored.{Stored}
 
 -- ---- finding
 
--- a place of a file comes before the first of that name, where there is none
+-- if no file has that name, each index of the list is below `position_or_len`
 past : (is : Stored → Bool) (files : List Stored) (k : ℕ) → position is files ≡ None → k < length files
     → k < position_or_len is files
 past is files k none within = grind (arith, nat_tests)
 
--- what a function looks up by a name, at the first file of that name
+-- a function that looks a name up in the list: its result is that of the first file of this name, or `miss`
 module _ {Y : Type 0} (name : Name) (look : List Stored → Y) (of : Stored → Y) (miss : Y) (none : look [] ≡ miss)
     (step : (stored : Stored) (files : List Stored)
     → look (stored ∷ files) ≡ cond (is_named name stored) (of stored) (look files)) where
@@ -53,7 +53,7 @@ not_found name = missed name (λ files. file_of files name) file_in missing refl
 pub not_there : (name : Name) (files : List Stored) → position (is_named name) files ≡ None → is_there files name ≡ false
 not_there name = missed name (λ files. is_there files name) (λ _. true) false refl (λ _ _. refl)
 
--- ---- a place more
+-- ---- one more entry
 
 pub place_kept : (name : Name) (files : List Stored) (stored : Stored)
     → position (is_named name) files ≡ None → stored.name.items ≡ name
@@ -84,7 +84,7 @@ pub lent_with_place : (files : List Stored) (stored : Stored) (lent : Option Nam
 lent_with_place files stored None there = refl
 lent_with_place files stored (Some name) there = there_with_place files stored name there
 
--- ---- a file in its place
+-- ---- replacing one file
 
 set_there : (any : Name) (files : List Stored) (at : ℕ) (now d : Stored)
     → is_named any now ≡ is_named any (get_or files at d) → is_there (set files at now) any ≡ is_there files any
@@ -93,7 +93,7 @@ set_there any (first ∷ files) zero now d same = ap (λ named. cond named true 
 set_there any (first ∷ files) (suc at) now d same =
     ap (cond (is_named any first) true) (set_there any files at now d same)
 
--- The file of that name is another now, and each file whose name is apart from it is the same.
+-- The file of that name was replaced, and each file whose name is apart from it is the same.
 pub record IsUpdated (name : Name) (old new : List Stored) (was now : Stored) : Type 0 where
   pub before : file_of old name ≡ file_in was
   pub after : file_of new name ≡ file_in now
@@ -113,7 +113,7 @@ other_named name other stored is ne = false_from_ne_true _
 
 module _ (files : List Stored) (at : ℕ) (was now : Stored) (place : was ≡ get_or files at was)
     (same : now.name ≡ was.name) where
-  -- where a file is, is none of what changes
+  -- the replacement keeps its name, so each index refers to the same name as before
   still_named : (any : Name) → is_named any now ≡ is_named any (get_or files at was)
   still_named any = ap (λ its. is_name its.items any) (same ∙ ap (λ stored. stored.name) place)
 
@@ -144,7 +144,7 @@ module _ (files : List Stored) (at : ℕ) (was now : Stored) (place : was ≡ ge
   lent_updated None there = refl
   lent_updated (Some name) there = set_there name files at now was (still_named name) ∙ there
 
--- the same, where a place was kept first
+-- as before, the file of that name was replaced, if an entry for it was appended first
 pub updated_since : {name : Name} {old kept new : List Stored} {was now : Stored}
     → ((any : Name) → file_of kept any ≡ file_of old any) → IsUpdated name kept new was now
     → IsUpdated name old new was now

@@ -1,4 +1,4 @@
--- What the sync of one file in memory, or of its directory, leaves of all files.
+-- The effect on all files in memory of the sync of one file or its directory.
 use Rattle.std.proofs.Common.{◌≡◌, ◌∙◌, [], Bool, true, false, List, ap, inl, inr, not, refl, sym}
 use Rattle.std.specs.Cmp.Lexicographic.{same_text}
 use Rattle.std.proofs.lemmas.Bool.{cases_Bool, false_from_ne_true, false≢true}
@@ -12,7 +12,7 @@ use Rattle.nor_files.proofs.Places.{IsUpdated}
 
 -- ---- one file
 
--- The file is as it was: a read gives the same, and nothing may be left of it that couldn't be left before.
+-- The file is as it was: a read returns the same, and a host crash can leave nothing that it couldn't leave before.
 pub record FileStays (old new : File) : Type 0 where
   pub out : new.out ≡ old.out
   pub seen : new.seen ≡ old.seen
@@ -21,14 +21,14 @@ pub record FileStays (old new : File) : Type 0 where
 file_same : (file : File) → FileStays file file
 file_same file = record { out = refl; seen = refl; leaves = λ left can. can }
 
--- if more may be, more may be left
+-- if `May` implies `Might`, then each outcome that `OrMissing` allows for `May` it also allows for `Might`
 or_missing : (unplaced : Bool) (May Might : Type 0) (seen left : Found) → (May → Might)
     → OrMissing unplaced May seen left → OrMissing unplaced Might seen left
 or_missing true May Might seen left more (inl gone) = inl gone
 or_missing true May Might seen left more (inr may) = inr (more may)
 or_missing false May Might seen left more (there, may) = (there, more may)
 
--- a file whose name may be lost may be left as it may be if its name can't be lost
+-- what may be left if a host crash can't remove the file may also be left if it may
 placed_or : (unplaced : Bool) (May : Type 0) (seen left : Found) → OrMissing false May seen left
     → OrMissing unplaced May seen left
 placed_or true May seen left (there, may) = inr may

@@ -1,4 +1,4 @@
--- What the calls on files do, where these keep the law.
+-- The effects of the calls on files that obey the contract.
 use Rattle.std.specs.Prelude.{◌≡◌, ◌≤◌, ◌+◌, ◌-◌, ◌⊎◌, ◌++◌, ℕ, Bool, true, false, List, [], None, Some, Result, Ok, Err}
 use Rattle.std.specs.Prelude.{drop, is_some, length, max, option_map, replicate, slice_index, take}
 use Rattle.nor_journal.specs.Vault.{VaultState}
@@ -6,17 +6,18 @@ use Rattle.nor_files.specs.Files.{AllStay, FilesState, Found, IsKnown, IsSettled
 
 -- ---- reading
 
--- at most so many bytes of the file were read, or it wasn't there
+-- The first `most` bytes of the file were read, or all if it has fewer, or it was missing; this needs a file without a
+-- borrowed vault or log.
 abbrev pub Reads : Name → ℕ → Found → View → Type 0
 Reads name most found view = IsKnown name view → found ≡ option_map (take most) (view.seen name)
 
 -- ---- how many calls are left
 
--- A call succeeded.
+-- A call succeeded: one fewer is left.
 pub record Succeeds (old new : FilesState) : Type 0 where
   pub left : old.left ≡ new.left + 1
 
--- A call failed: where none was left, each file is as it was.
+-- A call failed: not more calls are left, and if none was left, each file is as it was.
 pub record Fails (old new : FilesState) : Type 0 where
   pub left : new.left ≤ old.left
   pub none_left : old.left ≡ 0 → AllStay old new
@@ -25,16 +26,17 @@ abbrev pub Counts : {T E : Type 0} → Result T E → (old new : FilesState) →
 Counts (Ok _) old new = Succeeds old new
 Counts (Err _) old new = Fails old new
 
--- A call on that one file, which hands no vault out. Each file whose name is apart from it stays.
+-- A call on one file, which lends no vault. Each file whose name is apart from this one is as it was.
 pub record WorksOn {T E : Type 0} (name : Name) (result : Result T E) (old new : FilesState) : Type 0 where
   pub counts : Counts result old new
   pub lent : new.lent ≡ old.lent
   pub out : new.view.out name ≡ old.view.out name
   pub others : OthersStay name old new
 
--- ---- holding
+-- ---- opening and locking
 
--- The file is opened to be written over later, if it is there; all files are as they were.
+-- The effect of opening a file for overwriting it later: all files are as they were. If the file has no borrowed vault
+-- or log, success returns whether it exists.
 pub record Holds {E : Type 0} (name : Name) (result : Result Bool E) (old new : FilesState) : Type 0 where
   pub counts : Counts result old new
   pub lent : new.lent ≡ old.lent
@@ -43,103 +45,106 @@ pub record Holds {E : Type 0} (name : Name) (result : Result Bool E) (old new : 
 
 -- ---- syncing
 
--- What the file has stays, whatever becomes of the machine; only where its name is new it may still be missing.
+-- A read returns the same as before, and a host crash leaves just that, or no file if that was possible before.
 pub record IsSynced (name : Name) (old new : FilesState) : Type 0 where
   pub seen : new.view.seen name ≡ old.view.seen name
   pub leaves : (left : Found) → new.may_leave name left
       → (left ≡ old.view.seen name) ⊎ ((left ≡ None) × old.may_leave name None)
 
--- Its name is there, or isn't, whatever becomes of the machine.
+-- A read returns the same as before, and a host crash can neither remove the file nor create it, nor leave anything
+-- that it couldn't leave before.
 pub record IsPlaced (name : Name) (old new : FilesState) : Type 0 where
   pub seen : new.view.seen name ≡ old.view.seen name
   pub leaves : (left : Found) → new.may_leave name left
       → old.may_leave name left × (is_some left ≡ is_some (old.view.seen name))
 
--- nothing may be left of the file that couldn't be left before
+-- A host crash can leave nothing of the file that it couldn't leave before.
 abbrev pub LeavesNoMore : Name → (old new : FilesState) → Type 0
 LeavesNoMore name old new = (left : Found) → new.may_leave name left → old.may_leave name left
 
--- Nothing may be left of any file that could not be left before.
+-- A host crash can leave nothing of any file that it couldn't leave before.
 abbrev pub LeaveNoMore : (old new : FilesState) → Type 0
 LeaveNoMore old new = (name : Name) → LeavesNoMore name old new
 
--- Nothing may be left of the file that could not be left before, except an empty file if it was missing.
+-- A host crash can leave nothing of the file that it couldn't leave before, except an empty file if it was missing.
 abbrev pub LeavesOrEmpty : Name → (old new : FilesState) → Type 0
 LeavesOrEmpty name old new = (left : Found) → new.may_leave name left
     → old.may_leave name left ⊎ ((old.view.seen name ≡ None) × (left ≡ Some []))
 
--- what a sync does; after one that failed it isn't known what a read gives
+-- The effect of a sync of a file. After a failure it is unknown what a read returns.
 abbrev pub Syncs : {T E : Type 0} → Name → Result T E → (old new : FilesState) → Type 0
 Syncs name (Ok _) old new = IsSynced name old new
 Syncs name (Err _) old new = LeavesNoMore name old new
 
--- what the sync of a folder does
+-- The effect of a sync of a directory on the file in it.
 abbrev pub Places : {T E : Type 0} → Name → Result T E → (old new : FilesState) → Type 0
 Places name (Ok _) old new = IsPlaced name old new
 Places name (Err _) old new = Stays name old new
 
 -- ---- changing
 
--- Each byte is the one that was there or the one that is written, in whatever order these get there; past the end of
--- what was there each may be clear, too.
+-- `has` is a mix of the old bytes `had` and the written `bytes`: each byte is from one of the two, in any combination.
+-- Past the end of either list the byte from there is 0. The length is from that of `had` to that of the longer list.
 pub record IsMixed (had bytes has : List ℕ) : Type 0 where
   pub shortest : length had ≤ length has
   pub longest : length has ≤ max (length had) (length bytes)
   pub each : (i : ℕ) → (slice_index has i ≡ slice_index had i) ⊎ (slice_index has i ≡ slice_index bytes i)
 
--- what may be left is what might have been before, or a mix of that and the bytes
+-- A host crash can leave what it could leave before, or a mix of that and the bytes.
 abbrev pub LeavesMixes : Name → List ℕ → (old new : FilesState) → Type 0
 LeavesMixes name bytes old new = (left : Found) → new.may_leave name left → old.may_leave name left
     ⊎ ((had : List ℕ) × old.may_leave name (Some had) × ((has : List ℕ) × (left ≡ Some has) × IsMixed had bytes has))
 
--- what the file has after bytes were written over it, from its front
+-- `had`, overwritten in place with `bytes` from its start
 abbrev pub written_over : List ℕ → List ℕ → List ℕ
 written_over bytes had = bytes ++ drop (length bytes) had
 
--- what it has with another length: past its old end the bytes are clear
+-- the first `len` bytes of `had`, with zeros appended if it is shorter
 abbrev pub with_length : ℕ → List ℕ → List ℕ
 with_length len had = take len had ++ replicate (len - length had) 0
 
--- Bytes were written over the file, or some of them.
+-- The effect of overwriting a file in place: after success a read returns all of the bytes. After success or failure a
+-- host crash may leave a mix of old and new bytes.
 pub record WritesOver {T E : Type 0} (name : Name) (bytes : List ℕ) (result : Result T E)
     (old new : FilesState) : Type 0 where
   pub seen : (any : T) → result ≡ Ok any → new.view.seen name ≡ option_map (written_over bytes) (old.view.seen name)
   pub leaves : LeavesMixes name bytes old new
 
--- Its length was set, or not.
+-- The effect of setting the length of a file: after success a read returns that length. After success or failure a host
+-- crash may leave what it could leave before, or that with the new length.
 pub record SetsLength {T E : Type 0} (name : Name) (len : ℕ) (result : Result T E) (old new : FilesState) : Type 0 where
   pub seen : (any : T) → result ≡ Ok any → new.view.seen name ≡ option_map (with_length len) (old.view.seen name)
   pub leaves : (left : Found) → new.may_leave name left → old.may_leave name left
       ⊎ ((had : List ℕ) × old.may_leave name (Some had) × (left ≡ Some (with_length len had)))
 
--- The file was made, empty, and wasn't there.
+-- The file was missing and was created, empty. A host crash may leave what it could leave before, or an empty file.
 pub record IsMade (name : Name) (old new : FilesState) : Type 0 where
   pub missing : old.view.seen name ≡ None
   pub seen : new.view.seen name ≡ Some []
   pub leaves : (left : Found) → new.may_leave name left → old.may_leave name left ⊎ (left ≡ Some [])
 
--- it was made; or that failed, and it is as it was
+-- The effect of creating a file: after a failure the file is as it was.
 abbrev pub Makes : {T E : Type 0} → Name → Result T E → (old new : FilesState) → Type 0
 Makes name (Ok _) old new = IsMade name old new
 Makes name (Err _) old new = Stays name old new
 
 -- ---- vaults and logs
 
--- A vault in that file is in the caller's hands.
+-- A vault in the file was lent. Each file whose name is apart from this one is as it was.
 pub record Lends (name : Name) (old new : FilesState) : Type 0 where
   pub succeeds : Succeeds old new
   pub lent : new.lent ≡ Some name
   pub out : new.view.out name ≡ true
   pub others : OthersStay name old new
 
--- No vault was handed out. Nothing may be left of the file that could not be left before, except an empty file if it
--- was missing.
+-- No vault was lent. If no vault or log in the file was borrowed before, a host crash can leave nothing of it that it
+-- couldn't leave before, except an empty file if it was missing.
 pub record LendsNone (name : Name) (old new : FilesState) : Type 0 where
   pub fails : Fails old new
   pub leaves : IsKnown name old.view → LeavesOrEmpty name old new
 
--- The vault was handed back, which tells its bytes: these are what the file has, and once the vault is sealed they stay
--- there, whatever becomes of the machine.
+-- The vault in the file was taken back. It is faithful (`telling`), and the file has its bytes; if it is sealed, a host
+-- crash can leave nothing else.
 pub record TakesBack (name : Name) (vault : VaultState) (old new : FilesState) : Type 0 where
   pub lent : new.lent ≡ None
   pub in_store : new.view.out name ≡ false

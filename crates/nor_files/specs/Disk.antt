@@ -1,8 +1,8 @@
--- The files of the system, as contracts see them.
+-- The system's files, as contracts see them.
 use Rattle.std.specs.Prelude.{⊤, false, true, None}
 use Rattle.nor_files.specs.Files.{FilesState}
 
--- nothing is known of them, and anything may go wrong
+-- a store of which nothing is known: it need not obey the contract, and each call may fail in each way
 abbrev pub unknown : FilesState
 unknown = record {
   view = record {

@@ -1,60 +1,61 @@
--- What contracts see of the files of a run, by their names.
+-- The files of a run, by their names, as contracts see them.
 use Rattle.std.specs.Prelude.{◌≡◌, ℕ, Bool, true, false, List, Option}
 
--- a name, by its bytes
+-- a name, as its bytes
 abbrev pub Name : Type 0
 Name = List ℕ
 
--- what there is of a file: its bytes, or no such file
+-- the bytes of a file, or `None` if it is missing
 abbrev pub Found : Type 0
 Found = Option (List ℕ)
 
--- What may go wrong with a file of some name.
+-- What a call may find or fail with, for the file of a name.
 pub data Failure : Type 0 where
-  -- it can't be looked at, opened or read
+  -- the file can't be looked up, opened or read, or a read of it may block forever
   Unread : Name → Failure
-  -- it is there, and can't be opened to be written over, or locked
+  -- the file exists, but can't be opened for overwriting, or can't be locked
   Unheld : Name → Failure
-  -- another process has locked it
+  -- another process has locked the file
   Busy : Name → Failure
-  -- it can't be made or emptied
+  -- the file can't be created or truncated
   Unmade : Name → Failure
-  -- it is there already when it is to be made, or it is a journal that would be emptied
+  -- the file exists, or is a journal that would be truncated
   There : Name → Failure
-  -- it can't be written, cut or synced, or its folder can't
+  -- the file can't be created, written, truncated or synced, or its directory can't be synced
   Unwritten : Name → Failure
-  -- it is the file of that other name too
+  -- both names refer to one file
   Shared : Name → Name → Failure
-  -- it is a regular file that the program prints to
+  -- the file is a regular file to which the program prints
   Printed : Name → Failure
 
--- What never changes of a store of files.
+-- The properties of a store of files that never change.
 pub record Nature : Type 0 where
-  -- whether the files keep the law
+  -- whether the files obey the contract
   pub lawful : Bool
-  -- what goes wrong, at whatever time
+  -- which of these a call may ever find or fail with
   pub fails : Failure → Bool
   -- whether two names refer to different files: a call on the first leaves the second as it is. A file may have several
   -- names (`a` and `./a`, links), so two names that differ may be names of one file
   pub apart : Name → Name → Bool
 
--- What reads give.
+-- What a read of each file returns.
 pub record View : Type 0 where
   pub nature : Nature
-  -- a vault or a log in that file is in somebody's hands, so nothing is known of what it has
+  -- whether a vault or a log in that file is borrowed, so that its bytes are unknown
   pub out : Name → Bool
-  -- what a read of that file gives
+  -- what a read of that file returns
   pub seen : Name → Found
 
 -- The files, as contracts see them.
 pub record FilesState : Type 1 where
   pub view : View
-  -- how many calls that change or sync a file still succeed at most; no program can read it. Where none is left each
-  -- fails and changes nothing: the process was killed there, or the machine was lost
+  -- the greatest number of calls that can still succeed, counting `hold`, syncs, and calls that change a file or lend a
+  -- vault. No program can read it. If it is 0, each of these calls fails and changes nothing, as after a kill or a host
+  -- crash
   pub left : ℕ
-  -- the file whose vault was handed out last, and not back
+  -- the file whose vault was borrowed last and not yet taken back
   pub lent : Option Name
-  -- what a machine that is lost now may leave of that file
+  -- what a host crash now may leave of that file
   pub may_leave : Name → Found → Type 0
 
 abbrev pub is_lawful : View → Bool
@@ -65,40 +66,40 @@ abbrev pub AreApart : Nature → (one other : Name) → Type 0
 AreApart nature one other =
     nature.lawful ≡ true → (nature.apart one other ≡ true) × (nature.apart other one ≡ true)
 
--- The files keep the law, and that one is in nobody's hands.
+-- Holds if the files obey the contract, and no vault or log in that one is borrowed.
 pub record IsKnown (name : Name) (view : View) : Type 0 where
   pub lawful : is_lawful view ≡ true
   pub in_store : view.out name ≡ false
 
--- The files keep the law, and none is in anybody's hands.
+-- Holds if the files obey the contract, and no vault or log in any of them is borrowed.
 pub record AreAtRest (files : FilesState) : Type 0 where
   pub lawful : is_lawful files.view ≡ true
   pub in_store : (name : Name) → files.view.out name ≡ false
 
--- The file is as it was: a read gives the same, and nothing may be left of it that couldn't be left before.
+-- The file is as it was: a read returns the same, and a host crash can leave nothing that it couldn't leave before.
 pub record Stays (name : Name) (old new : FilesState) : Type 0 where
   pub out : new.view.out name ≡ old.view.out name
   pub seen : new.view.seen name ≡ old.view.seen name
   pub leaves : (left : Found) → new.may_leave name left → old.may_leave name left
 
--- Reads give the same of each file, and nothing may be left that couldn't be left before.
+-- Each file is as it was: a read returns the same, and a host crash can leave nothing that it couldn't leave before.
 pub record AreUntouched (old new : FilesState) : Type 0 where
   pub view : new.view ≡ old.view
   pub leaves : (name : Name) (left : Found) → new.may_leave name left → old.may_leave name left
 
--- each file is
+-- Each file is as it was.
 abbrev pub AllStay : (old new : FilesState) → Type 0
 AllStay old new = (name : Name) → Stays name old new
 
--- On lawful files, each file stays that has no borrowed vault or log.
+-- If the files obey the contract, each without a borrowed vault or log is as it was.
 abbrev pub KnownStay : (old new : FilesState) → Type 0
 KnownStay old new = (name : Name) → IsKnown name old.view → Stays name old new
 
--- Each file stays whose name is apart from that one. Nothing is said about other names of the same file.
+-- Each file whose name is apart from this one is as it was. Nothing is said about other names of the same file.
 abbrev pub OthersStay : Name → (old new : FilesState) → Type 0
 OthersStay name old new = (other : Name) → AreApart old.view.nature name other → Stays other old new
 
--- The file is just this, and stays so whatever becomes of the machine.
+-- A read returns exactly this, and a host crash can leave nothing else.
 pub record IsSettled (name : Name) (content : Found) (files : FilesState) : Type 0 where
   pub seen : files.view.seen name ≡ content
   pub leaves : (left : Found) → files.may_leave name left → left ≡ content

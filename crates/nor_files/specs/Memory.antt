@@ -6,7 +6,7 @@ use Rattle.nor_files.specs.Stored.{MayLeave}
 use Rattle.nor_files.specs.declared.memory.Memory.{Memory}
 use Rattle.nor_files.specs.declared.stored.Stored.{Stored}
 
--- files that keep the law, each of which has one name; anything may go wrong with them
+-- files that obey the contract, each with exactly one name; each call may fail in each way
 abbrev pub memory_nature : Nature
 memory_nature = record { lawful = true; fails = λ failure. true; apart = λ one other. not (is_name one other) }
 

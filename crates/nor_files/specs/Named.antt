@@ -1,4 +1,4 @@
--- The files of some names, as contracts see them.
+-- Looking up files in memory by their names.
 use Rattle.std.specs.Prelude.{Bool, true, false, List, [], ◌∷◌, Option, None, Some, if◌then◌else◌, nat_eq}
 use Rattle.std.specs.Cmp.Lexicographic.{pointwise}
 use Rattle.nor_files.specs.Files.{Name}
@@ -11,7 +11,7 @@ is_name = pointwise nat_eq
 abbrev pub is_named : Name → Stored → Bool
 is_named name stored = is_name stored.name.items name
 
--- the first file of that name; one that isn't there is missing
+-- the first file of that name, or `missing` if the list has none
 abbrev pub file_of : List Stored → Name → File
 file_of [] name = missing
 file_of (stored ∷ files) name = if is_named name stored then file_in stored else file_of files name
@@ -20,7 +20,7 @@ abbrev pub is_there : List Stored → Name → Bool
 is_there [] name = false
 is_there (stored ∷ files) name = if is_named name stored then true else is_there files name
 
--- whether a place is kept for the file whose vault is out
+-- true if the list has an entry for the file whose vault is borrowed, or if none is
 abbrev pub is_lent_there : List Stored → Option Name → Bool
 is_lent_there files None = true
 is_lent_there files (Some name) = is_there files name

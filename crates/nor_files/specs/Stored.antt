@@ -1,4 +1,4 @@
--- A file in memory, as contracts see it.
+-- A file in memory, as contracts see it, and what a host crash may leave of it.
 use Rattle.std.specs.Prelude.{◌≡◌, ◌⊎◌, ◌&&◌, ◌||◌, ⊤, ℕ, Bool, true, false, List, [], ◌∷◌, Option, None, Some}
 use Rattle.std.specs.Prelude.{Result, Ok, Err, if◌then◌else◌, is_some, not, option_map}
 use Rattle.std.proofs.Common.{refl, inl, inr}
@@ -20,14 +20,14 @@ bytes_in (Vaulted vault) = (held_by vault).bytes
 abbrev pub found_in : Option Content → Found
 found_in content = option_map bytes_in content
 
--- What contracts see of a file, or of one that isn't there.
+-- A file as contracts see it, which may be missing.
 pub record File : Type 0 where
   pub seen : Found
-  -- the changes since it was synced, the newest first
+  -- the changes since the last sync, newest first
   pub steps : List Step
-  -- whether its name may be lost
+  -- whether a host crash may remove the file
   pub unplaced : Bool
-  -- whether a vault or a log in it is in somebody's hands
+  -- whether a vault or a log in the file is borrowed
   pub out : Bool
 
 abbrev pub file_in : Stored → File
@@ -41,30 +41,31 @@ file_in stored = record {
 abbrev pub missing : File
 missing = record { seen = None; steps = []; unplaced = false; out = false }
 
--- ---- what may be left of a file
+-- ---- what a host crash may leave of a file
 
--- a mix of these bytes and what it may have been
+-- a mix of these bytes and what the file may have been
 abbrev pub IsMixOf : List ℕ → (Found → Type 0) → Found → Type 0
 IsMixOf bytes MayHaveBeen left = (had : List ℕ) × MayHaveBeen (Some had)
     × ((has : List ℕ) × (left ≡ Some has) × IsMixed had bytes has)
 
--- what it may have been, with another length
+-- what the file may have been, with this length
 abbrev pub IsCutOf : ℕ → (Found → Type 0) → Found → Type 0
 IsCutOf len MayHaveBeen left = (had : List ℕ) × MayHaveBeen (Some had) × (left ≡ Some (with_length len had))
 
--- what a change may leave of what the file may have been
+-- what a change may make of what the file may have been: after `Lent`, anything
 abbrev pub Becomes : Change → (Found → Type 0) → Found → Type 0
 Becomes (Written bytes) MayHaveBeen left = IsMixOf bytes.items MayHaveBeen left
 Becomes (Cut len) MayHaveBeen left = IsCutOf len MayHaveBeen left
 Becomes Lent MayHaveBeen left = ⊤
 
--- what is seen, or what may have been before the newest change, or what that change may leave of it
+-- what a read returns, or what may have been before the newest change, or what that change may make of it
 abbrev pub MayBe : List Step → Found → Found → Type 0
 MayBe [] seen left = left ≡ seen
 MayBe (step ∷ earlier) seen left = (left ≡ seen) ⊎ (MayBe earlier (found_in step.before) left
     ⊎ Becomes step.change (MayBe earlier (found_in step.before)) left)
 
--- a file whose name may be lost may be missing; another one is there, or isn't, as it is seen
+-- what may be left, if a host crash may remove the file (`true`: it may be missing) or can't (it exists exactly if a
+-- read finds it)
 abbrev pub OrMissing : Bool → Type 0 → (seen left : Found) → Type 0
 OrMissing true May seen left = (left ≡ None) ⊎ May
 OrMissing false May seen left = (is_some left ≡ is_some seen) × May
@@ -72,7 +73,7 @@ OrMissing false May seen left = (is_some left ≡ is_some seen) × May
 abbrev pub MayLeave : File → Found → Type 0
 MayLeave file left = OrMissing file.unplaced (MayBe file.steps file.seen left) file.seen left
 
--- what is seen may be left
+-- a host crash may leave what a read returns
 pub seen_may_be : (steps : List Step) (seen : Found) → MayBe steps seen seen
 seen_may_be [] seen = refl
 seen_may_be (step ∷ earlier) seen = inl refl
@@ -85,9 +86,9 @@ pub seen_may_stay : (file : File) → MayLeave file file.seen
 seen_may_stay file =
     seen_or_missing file.unplaced (MayBe file.steps file.seen file.seen) file.seen (seen_may_be file.steps file.seen)
 
--- ---- what is done to one file
+-- ---- the effects of calls on one file
 
--- The file has this content now, by a change of what it had.
+-- The file has this content, and the change from the old content was recorded.
 pub record IsChanged (content : Content) (change : Change) (old new : Stored) : Type 0 where
   pub name : new.name ≡ old.name
   pub file : file_in new ≡ record {
@@ -106,7 +107,8 @@ abbrev pub Alters : {T E : Type 0} → Result T E → Content → Change → (ol
 Alters (Ok _) content change old new = IsChanged content change old new
 Alters (Err _) content change old new = IsUnchanged old new
 
--- Bytes were written over the file, or some of them.
+-- The effect of overwriting the file in place: after success a read returns all of the bytes. After success or failure
+-- a host crash may leave a mix of old and new bytes.
 pub record FileWrites {T E : Type 0} (bytes : List ℕ) (result : Result T E) (old new : Stored) : Type 0 where
   pub name : new.name ≡ old.name
   pub out : new.out ≡ old.out
@@ -114,7 +116,8 @@ pub record FileWrites {T E : Type 0} (bytes : List ℕ) (result : Result T E) (o
   pub leaves : (left : Found) → MayLeave (file_in new) left
       → MayLeave (file_in old) left ⊎ IsMixOf bytes (MayLeave (file_in old)) left
 
--- Its length was set, or not.
+-- The effect of setting the length of the file: after success a read returns that length. After success or failure a
+-- host crash may leave what it could leave before, or that with the new length.
 pub record FileSets {T E : Type 0} (len : ℕ) (result : Result T E) (old new : Stored) : Type 0 where
   pub name : new.name ≡ old.name
   pub out : new.out ≡ old.out
@@ -122,17 +125,17 @@ pub record FileSets {T E : Type 0} (len : ℕ) (result : Result T E) (old new : 
   pub leaves : (left : Found) → MayLeave (file_in new) left
       → MayLeave (file_in old) left ⊎ IsCutOf len (MayLeave (file_in old)) left
 
--- It was synced.
+-- The file was synced: a host crash can't undo the changes so far. It may still remove the file if it could before.
 pub record FileSyncs (old new : Stored) : Type 0 where
   pub name : new.name ≡ old.name
   pub file : file_in new ≡ record (file_in old) { steps = [] }
 
--- Its name is there for good, or isn't.
+-- The directory was synced: a host crash can neither remove the file nor create it.
 pub record FilePlaces (old new : Stored) : Type 0 where
   pub name : new.name ≡ old.name
   pub file : file_in new ≡ record (file_in old) { unplaced = false }
 
--- It wasn't there, and was made, empty.
+-- The file was missing and was created, empty. A host crash may remove it.
 pub record IsMadeNow (old new : Stored) : Type 0 where
   pub name : new.name ≡ old.name
   pub missing : (file_in old).seen ≡ None
@@ -142,7 +145,8 @@ abbrev pub FileMakes : {T E : Type 0} → Result T E → (old new : Stored) → 
 FileMakes (Ok _) old new = IsMadeNow old new
 FileMakes (Err _) old new = IsUnchanged old new
 
--- A vault or a log in the file was handed out. The file is empty; if it had to be new, it was missing before.
+-- A vault or a log in the file was lent. The file is empty; if it had to be new, it was missing before, and a host
+-- crash can't remove it.
 pub record IsLent (is_new : Bool) (old new : Stored) : Type 0 where
   pub name : new.name ≡ old.name
   pub missing : is_new ≡ true → (file_in old).seen ≡ None
@@ -157,12 +161,13 @@ abbrev pub FileLends : {T E : Type 0} → Bool → Result T E → (old new : Sto
 FileLends is_new (Ok _) old new = IsLent is_new old new
 FileLends is_new (Err _) old new = IsUnchanged old new
 
--- These bytes were put there, for good.
+-- The file has these bytes, and a host crash can leave nothing else.
 pub record FileSettles (bytes : List ℕ) (old new : Stored) : Type 0 where
   pub name : new.name ≡ old.name
   pub file : file_in new ≡ record { seen = Some bytes; steps = []; unplaced = false; out = false }
 
--- Its vault is back: once that was sealed nothing else may be left.
+-- The vault in the file was taken back, and the file has its bytes. If it is sealed, a host crash can leave nothing
+-- else.
 pub record FileTakesBack (vault : VaultState) (old new : Stored) : Type 0 where
   pub name : new.name ≡ old.name
   pub file : file_in new ≡ record {
@@ -172,12 +177,13 @@ pub record FileTakesBack (vault : VaultState) (old new : Stored) : Type 0 where
     out = false;
   }
 
--- What is seen of it now is what may have been left.
+-- A read returns what a host crash might have left.
 pub record FileForgets (old new : Stored) : Type 0 where
   pub name : new.name ≡ old.name
   pub allowed : MayLeave (file_in old) (file_in new).seen
 
--- The machine was lost: what is seen of it now is what may have been left, and stays.
+-- The process or the host was interrupted: a read returns what a host crash might have left, and a later host crash can
+-- leave nothing else.
 pub record FileLoses (old new : Stored) : Type 0 where
   pub name : new.name ≡ old.name
   pub allowed : MayLeave (file_in old) (file_in new).seen

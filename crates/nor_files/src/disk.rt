@@ -1,4 +1,4 @@
-//! The files of the system.
+//! The system's files, as a `Store`.
 ghost use Rattle.std.specs.Prelude.{◌≡◌, IfOk, IfSome, take};
 
 use crate::folder::sync_folder;
@@ -15,21 +15,21 @@ use std::os::unix::fs::FileTypeExt;
 use std::rt::Files;
 use std::{fs, io};
 
-/// The files of the runtime, of which nothing is known. That each call works on the file of the name that it is given,
-/// and keeps the law of a `Store`, is believed, and tested.
+/// The system's files, through the runtime. Contracts know nothing about them: that each call works on the named file
+/// and obeys the contract of `Store` is assumed, and tested.
 ///
-/// The files that a run holds are open until the store is let go: each later call on such a name works on the file
-/// that was opened and locked under it, even if the name refers to another file by then.
+/// Files opened by `hold` and `share` stay open and locked until the store is dropped. Each later call on such a name
+/// works on the file that was opened and locked, even if the name refers to another file by then.
 #[derive(Drop)]
 pub struct Disk<'a, R: Files> {
     files: &'a R,
     held: Vec<Held<R::File>>,
-    // What was written last through a vault. It stays locked.
+    // The file whose vault was taken back last. It stays open, and so locked.
     vaulted: Option<VaultedFile<'a, R>>,
 }
 
 impl<'a, R: Files + AllocGlobal> Disk<'a, R> {
-    /// The files of this runtime.
+    /// Returns the files of this runtime. None is opened yet.
     pub fn new(files: &'a R) -> Disk<'a, R> {
         Disk {
             files,
@@ -38,13 +38,13 @@ impl<'a, R: Files + AllocGlobal> Disk<'a, R> {
         }
     }
 
-    // The file that is held under this name.
+    // Returns the open file that the run keeps under this name, if there is one.
     fn held(&self, name: &str) -> Option<&R::File> {
         let held = self.held.iter().find(|held| held.name.as_str() == name)?;
         held.file.as_ref()
     }
 
-    // Holds a file until the store is let go. Returns whether it is there.
+    // Keeps a file open until the store is dropped. Returns whether the file exists.
     fn keep(&mut self, held: Held<R::File>) -> Result<bool, HoldFault> {
         let there = held.file.is_some();
         match self.held.push(held) {
@@ -189,8 +189,8 @@ where
     }
 }
 
-/// What the file has, of which at most so many bytes are read, into memory that is taken once where the file tells its
-/// length.
+/// Reads the rest of `file`, but not more than `most` bytes. If the file reports its length, memory for that many bytes
+/// is allocated at once.
 pub fn read_up_to<F: Read + OpenFile + Drop>(
     alloc: Global,
     file: F,
@@ -202,7 +202,7 @@ pub fn read_up_to<F: Read + OpenFile + Drop>(
         Ok(metadata) => metadata.len().min(most),
         Err(_) => 0,
     };
-    // One more than there are, so that the read that finds the end has room.
+    // One byte more than the file has, so that the read at the end needs no further allocation.
     let room = (told as usize).saturating_add(1);
     let mut bytes = Vec::with_capacity(alloc, room)?;
     file.take(most).read_to_end(&mut bytes)?;

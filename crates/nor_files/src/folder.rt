@@ -1,4 +1,4 @@
-//! The directory that a file is in.
+//! The directory of a file, and syncing it.
 
 use std::fs::{File, OpenFile};
 use std::io;
@@ -6,9 +6,9 @@ use std::io::ErrorKind;
 use std::path::Path;
 use std::rt::Files;
 
-/// Syncs the directory of this file, so that a file that was made in it stays, and one that is missing stays missing.
-/// Nothing is done if the directory is missing itself, may not be opened for reading, or can't be synced on its file
-/// system. Any other failure is an error.
+/// Syncs the directory of this file, so that a host crash neither removes a file that was created in it nor restores
+/// one that is missing. Returns success and syncs nothing if the directory is missing, may not be opened for reading,
+/// or can't be synced on its file system. Any other failure is an error.
 pub fn sync_folder<R: Files>(files: &R, name: &str) -> io::Result<()> {
     let folder = match File::open(files, folder_of(name)) {
         Ok(folder) => folder,
@@ -21,7 +21,7 @@ pub fn sync_folder<R: Files>(files: &R, name: &str) -> io::Result<()> {
     }
 }
 
-/// The directory of this file.
+/// Returns the directory of this file, `.` if its name has no other.
 pub fn folder_of(name: &str) -> &str {
     match Path::new(name).parent() {
         Some(folder) if !folder.as_str().is_empty() => folder.as_str(),
@@ -29,12 +29,12 @@ pub fn folder_of(name: &str) -> &str {
     }
 }
 
-/// The last part of the name, if it has one.
+/// Returns the last part of the name, if it has one.
 pub fn last_of(name: &str) -> Option<&str> {
     Path::new(name).file_name()
 }
 
-// True if the error says that a directory is missing, or may not be opened.
+// True if the error means that a directory is missing, or may not be opened.
 fn cannot_open(kind: ErrorKind) -> bool {
     matches!(
         kind,
@@ -42,7 +42,7 @@ fn cannot_open(kind: ErrorKind) -> bool {
     )
 }
 
-// True if the error says that a directory can't be synced.
+// True if the error means that directories can't be synced on this file system.
 fn cannot_sync(kind: ErrorKind) -> bool {
     kind == ErrorKind::InvalidInput || kind == ErrorKind::Unsupported
 }

@@ -1,4 +1,4 @@
-//! The files that a run keeps open and locked until it ends: those of the chip, and a journal that is restored.
+//! The files that a run keeps open and locked until it ends: the chip's files, and the journal of a restore.
 
 use crate::identity::is_same;
 use crate::locks::LockFile;
@@ -10,14 +10,15 @@ use std::os::unix::fs::MetadataExt;
 use std::rt::Files;
 use std::{fs, io};
 
-/// A file by its name: open, and locked, if it is there.
+/// A named file, open and locked, or `None` for a file that was missing.
 #[derive(Drop)]
 pub struct Held<F> {
     pub name: String,
     pub file: Option<F>,
 }
 
-/// Opens and locks a file of the chip that the run will write. One that is missing is held as missing.
+/// Opens and locks exclusively a file of the chip that the run will write. A missing file is recorded as missing. Fails
+/// if the name refers to anything but a regular file, or if the file can't be opened for writing or locked.
 pub fn hold_chip<R: Files>(files: &R, alloc: Global, name: &str) -> Result<Held<R::File>, HoldFault>
 where
     R::File: LockFile,
@@ -31,7 +32,8 @@ where
     Ok(Held { name: owned, file })
 }
 
-/// Opens and locks a journal that the run reads. One that is missing, or that is no regular file, is held as missing.
+/// Opens a journal that the run reads, and locks it for reading. A name that doesn't refer to a regular file is
+/// recorded as missing.
 pub fn hold_journal<R: Files>(
     files: &R,
     alloc: Global,
@@ -55,8 +57,8 @@ fn own(alloc: Global, name: &str) -> Result<String, HoldFault> {
     }
 }
 
-// Whether a regular file of this name is there. A directory can't be read; a file of another kind, and a dangling link,
-// can't be written in place.
+// Returns whether a regular file of this name exists. The error for a directory is `Unread`. For a file of another kind
+// or a dangling link, which can't be overwritten in place, it is `Unheld`.
 fn is_there<R: Files>(files: &R, name: &str) -> Result<bool, HoldFault> {
     match fs::metadata(files, name) {
         Ok(metadata) if metadata.is_file() => Ok(true),
@@ -69,7 +71,7 @@ fn is_there<R: Files>(files: &R, name: &str) -> Result<bool, HoldFault> {
     }
 }
 
-// False if no file of this name is there, nor a link to one that isn't.
+// Returns false if neither a file nor a link of this name exists. The error for a dangling link is `Unheld`.
 fn is_nowhere<R: Files>(files: &R, name: &str) -> Result<bool, HoldFault> {
     match fs::symlink_metadata(files, name) {
         Err(error) if error.kind() == ErrorKind::NotFound => Ok(false),
@@ -77,7 +79,7 @@ fn is_nowhere<R: Files>(files: &R, name: &str) -> Result<bool, HoldFault> {
     }
 }
 
-// The regular file of this name, for reading and writing, locked exclusively.
+// Opens the named regular file for reading and writing, and locks it exclusively.
 fn open_alone<R: Files>(files: &R, name: &str) -> Result<R::File, HoldFault>
 where
     R::File: LockFile,
@@ -94,7 +96,7 @@ where
     }
 }
 
-// The file of this name, for reading and writing. If it can only be read, it can't be held.
+// Opens the named file for reading and writing. The error is `Unheld` if it can only be opened for reading.
 fn open_both<R: Files>(files: &R, name: &str) -> Result<R::File, HoldFault> {
     let opened = OpenOptions::new().read(true).write(true).open(files, name);
     match opened {
@@ -106,7 +108,7 @@ fn open_both<R: Files>(files: &R, name: &str) -> Result<R::File, HoldFault> {
     }
 }
 
-// The file of this name, for reading, locked for runs that read it.
+// Opens the named file for reading, and locks it against runs that write it.
 fn open_shared<R: Files>(files: &R, name: &str) -> Result<R::File, HoldFault>
 where
     R::File: LockFile,
@@ -122,14 +124,14 @@ where
     }
 }
 
-/// Writes these bytes over an open file, from its start. It is never truncated.
+/// Overwrites an open file in place with `bytes`, from its start, without truncating it.
 pub fn write_from_start<F: Write + Seek>(file: &mut F, bytes: &[u8]) -> io::Result<()> {
     file.rewind()?;
     file.write_all(bytes)
 }
 
-/// Syncs an open file, and checks that the name still refers to it: another file under that name is not the one that
-/// was read and written.
+/// Syncs an open file, and checks that the name still refers to it. Returns `NotFound` if the name refers to another
+/// file by then: a later run would not find what this one wrote.
 pub fn sync_under<R: Files>(files: &R, name: &str, file: &R::File) -> io::Result<()> {
     file.sync_all()?;
     if is_same(&fs::metadata(files, name)?, &file.metadata()?) {
@@ -139,7 +141,7 @@ pub fn sync_under<R: Files>(files: &R, name: &str, file: &R::File) -> io::Result
     }
 }
 
-/// Returns the permissions of a new file, as `chmod` has them: none that an existing held file lacks.
+/// Returns the mode for a new file, as for `chmod`: read and write for all, except what an open file of the run lacks.
 pub fn mode_beside<F: OpenFile>(held: &[Held<F>]) -> u32 {
     let mut mode = 0o666;
     for held in held {
@@ -151,7 +153,7 @@ pub fn mode_beside<F: OpenFile>(held: &[Held<F>]) -> u32 {
     mode
 }
 
-// The permissions of a file. If they can't be read, only the owner has any.
+// Returns the mode of a file, or read and write for its owner only if the mode can't be read.
 fn mode_of(metadata: io::Result<Metadata>) -> u32 {
     match metadata {
         Ok(metadata) => metadata.mode(),

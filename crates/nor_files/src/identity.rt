@@ -1,4 +1,4 @@
-//! Which names refer to one file of the system.
+//! Whether two names refer to one of the system's files.
 ghost use Rattle.std.specs.Prelude.{◌≡◌, ◌⊎◌, IfErr};
 
 use crate::folder::{folder_of, last_of};
@@ -8,11 +8,12 @@ use std::io::ErrorKind;
 use std::os::unix::fs::MetadataExt;
 use std::rt::Files;
 
-// Standard output and standard error of this process, by the names that Linux has for them.
+// Standard output and standard error of this process, by their names in Linux.
 const STREAMS: [&str; 2] = ["/proc/self/fd/1", "/proc/self/fd/2"];
 
-/// Whether two names refer to one file, or will once a file is made under them. An error is the name that can't be
-/// looked at.
+/// Returns whether two names refer to one file: the same device and inode, or, if neither exists, the same last part in
+/// the same directory. A link to a file that doesn't exist counts as missing. Returns as the error a name that can't be
+/// looked up.
 pub fn is_one_file<'n, R: Files>(files: &R, one: &'n str, other: &'n str) -> Result<bool, &'n str>
     ensures { IfErr result (λ name. name.now ≡ one.now ⊎ name.now ≡ other.now) }
 {
@@ -23,8 +24,8 @@ pub fn is_one_file<'n, R: Files>(files: &R, one: &'n str, other: &'n str) -> Res
     }
 }
 
-/// Whether the name refers to a regular file that is standard output or standard error. Returns the name as the error
-/// if it can't be looked at. The name is looked at only if one of the two streams is a regular file.
+/// Returns whether the name refers to a regular file that is standard output or standard error. The name is looked up
+/// only if one of the two streams is a regular file. Returns the name as the error if that fails.
 pub fn is_stream<'n, R: Files>(files: &R, name: &'n str) -> Result<bool, &'n str>
     ensures { IfErr result (λ unseen. unseen.now ≡ name.now) }
 {
@@ -40,7 +41,7 @@ pub fn is_stream<'n, R: Files>(files: &R, name: &'n str) -> Result<bool, &'n str
     Ok(false)
 }
 
-// A regular file of this path, as the system describes it.
+// Returns the metadata of a regular file, or `None` if the path isn't one.
 fn regular<R: Files>(files: &R, path: &str) -> Option<Metadata> {
     match fs::metadata(files, path) {
         Ok(metadata) if metadata.is_file() => Some(metadata),
@@ -48,12 +49,12 @@ fn regular<R: Files>(files: &R, path: &str) -> Option<Metadata> {
     }
 }
 
-/// The same device and inode.
+/// True if both are of the same device and inode.
 pub fn is_same(one: &Metadata, other: &Metadata) -> bool {
     one.dev() == other.dev() && one.ino() == other.ino()
 }
 
-// Whether two files that aren't there will be one once they are made.
+// Returns whether two missing files would be one if they were created: the same last part in the same directory.
 fn will_be_one_file<'n, R: Files>(files: &R, one: &'n str, other: &'n str) -> Result<bool, &'n str>
     ensures { IfErr result (λ name. name.now ≡ one.now ⊎ name.now ≡ other.now) }
 {
@@ -69,7 +70,7 @@ fn will_be_one_file<'n, R: Files>(files: &R, one: &'n str, other: &'n str) -> Re
     }
 }
 
-// What the system says of a path: None if nothing is there. Any other failure is one of this name.
+// Returns the metadata of a path, or `None` if it doesn't exist. For any other failure the error is `name`.
 fn look<'n, R: Files>(files: &R, path: &str, name: &'n str) -> Result<Option<Metadata>, &'n str>
     ensures { IfErr result (λ unseen. unseen.now ≡ name.now) }
 {

@@ -1,8 +1,8 @@
-//! The files of a run, by their names, and the law that they keep.
+//! The files of a run, by their names, and their contract `Store`.
 //!
-//! A `Store` is what a program needs of files: it reads them, holds those that it will write over, syncs them, and
-//! hands out vaults and logs in them. Contracts see what is in each file, what a machine that is lost may leave of it,
-//! and how many calls still succeed, so a promise at every exit of a function speaks of a kill at each call, too.
+//! A `Store` reads files, locks those that a run will overwrite, syncs them, and lends vaults and logs in them.
+//! Contracts see the bytes of each file, what a host crash may leave of it, and how many calls still succeed. A clause
+//! for every exit of a function therefore covers a kill at each call.
 //!
 //! ```rust
 //! use nor_files::{Loss, Memory, Store};
@@ -15,8 +15,17 @@
 //! assert!(rt; left.bytes_of("image") == Some(b"wxyz".as_slice()));
 //! ```
 //!
-//! `Disk` has the files of the system, of which nothing is known; `Memory` has files that keep the law, and fail after
-//! as many calls as it is told. The law stands in `specs/Files.antt` and `specs/Calls.antt`.
+//! - `store.rt`: `Store`, and why a file can't be locked or created
+//! - `disk.rt`: `Disk`, the system's files; their contract is assumed, not proved
+//! - `held.rt`: the files that a `Disk` keeps open and locked
+//! - `locks.rt`: locks against other runs
+//! - `making.rt`: creating and truncating the system's files; `VaultedFile`, the file that a vault writes to
+//! - `folder.rt`: syncing a directory
+//! - `identity.rt`: whether two names refer to one of the system's files
+//! - `memory.rt`: `Memory`, files in memory that obey the contract, and fail after a given number of calls
+//! - `stored.rt`: one file in memory, and what a host crash may leave of it
+//!
+//! `specs/Files.antt` has the state that contracts see, `specs/Calls.antt` the effect of each call.
 #![tactic(auto)]
 
 mod disk;

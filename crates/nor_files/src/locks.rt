@@ -6,11 +6,12 @@ use std::io::ErrorKind;
 
 /// A file that can be locked against other runs, until it is closed.
 pub trait LockFile {
-    /// Locks the file exclusively. Returns false if another process has locked it. On a file system without
-    /// locks nothing is locked, and true is returned.
+    /// Locks the file exclusively, without waiting. Returns false if another process has locked it. On a file system
+    /// without locks it locks nothing and returns true.
     fn lock_alone(&self) -> io::Result<bool>;
 
-    /// As `lock_alone`, but shared with other runs that only read the file.
+    /// Locks the file for reading, without waiting, so that other runs can do so, too. Returns false if another process
+    /// has locked it exclusively. On a file system without locks it locks nothing and returns true.
     fn lock_shared(&self) -> io::Result<bool>;
 }
 
@@ -38,7 +39,7 @@ fn is_locked(outcome: Result<(), TryLockError>) -> io::Result<bool> {
     }
 }
 
-// Linux's number of the error that no locks are to be had; it has no kind of its own.
+// The number in Linux of the error "no locks available", for which `ErrorKind` has no variant.
 const ENOLCK: i32 = 37;
 
 fn has_no_locks(error: &io::Error) -> bool {

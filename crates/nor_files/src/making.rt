@@ -1,4 +1,4 @@
-//! Files that a run makes, or empties.
+//! Creating and truncating the system's files, and the file that a vault writes to.
 
 use crate::identity::is_same;
 use crate::locks::LockFile;
@@ -10,7 +10,7 @@ use std::os::unix::fs::OpenOptionsExt;
 use std::rt::Files;
 use std::{fs, io};
 
-/// Makes the file of this name, which must not be there, with these permissions, and locks it.
+/// Creates the named file with this mode, and locks it. The error is `There` if it exists.
 pub fn make_new<R: Files>(files: &R, name: &str, mode: u32) -> Result<R::File, MakeFault>
 where
     R::File: LockFile,
@@ -26,8 +26,9 @@ where
     Ok(file)
 }
 
-/// Makes the file of this name, or empties it: a regular file only after it was locked, and never a journal, which may
-/// be all that can restore a chip. A FIFO, a device or a terminal is opened as it is.
+/// Creates or truncates the named file. A regular file is truncated only after it was locked. A journal is never
+/// truncated, since it may be the only way to restore a chip: the error is `There`. A FIFO, a device or a terminal is
+/// opened as it is.
 pub fn make_empty<R: Files>(files: &R, name: &str) -> Result<R::File, MakeFault>
 where
     R::File: LockFile,
@@ -60,7 +61,7 @@ where
     }
 }
 
-// Whether something is there that is no regular file.
+// True if the name refers to something other than a regular file.
 fn is_special<R: Files>(files: &R, name: &str) -> bool {
     match fs::metadata(files, name) {
         Ok(metadata) => !metadata.is_file(),
@@ -76,7 +77,7 @@ fn lock<F: LockFile>(file: &F) -> Result<(), MakeFault> {
     }
 }
 
-// Whether the file begins as a journal does.
+// Returns whether the file begins with the first eight bytes of a journal, of either format.
 fn is_journal<F: Read>(file: &mut F) -> io::Result<bool> {
     let mut start = [0; MAGIC.len()];
     match file.read_exact(&mut start) {
@@ -91,8 +92,8 @@ fn empty<F: OpenFile + Seek>(file: &mut F) -> io::Result<()> {
     file.rewind()
 }
 
-/// A file that a vault writes to. If it has a name, a sync also checks that the name still refers to it, and that it
-/// has all that was written.
+/// A file that a vault writes to. If it has a name, a sync also checks that the name still refers to this file, and
+/// that its length is the number of bytes written.
 #[derive(Drop)]
 pub struct VaultedFile<'a, R: Files> {
     files: &'a R,
@@ -102,7 +103,7 @@ pub struct VaultedFile<'a, R: Files> {
 }
 
 impl<'a, R: Files> VaultedFile<'a, R> {
-    /// An empty file.
+    /// Returns `file`, which must be empty, as a file for a vault. With a `name`, each sync checks the name.
     pub fn new(files: &'a R, file: R::File, name: Option<String>) -> VaultedFile<'a, R> {
         VaultedFile {
             files,
@@ -112,7 +113,8 @@ impl<'a, R: Files> VaultedFile<'a, R> {
         }
     }
 
-    // Checks that what was written is what a later run finds under the name.
+    // Checks that a later run finds this file under the name, with the number of bytes written. The error is
+    // `NotFound`.
     fn check(&self) -> io::Result<()> {
         let Some(name) = &self.name else {
             return Ok(());

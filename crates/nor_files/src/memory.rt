@@ -1,4 +1,4 @@
-//! Files in memory, which keep the law.
+//! Files in memory that obey the contract of `Store`, for tests.
 ghost use Rattle.std.specs.Prelude.{◌≡◌, ◌+◌, true, None, OnErr, OnOk, IfOk, Some, option_map, position};
 ghost use Rattle.nor_files.specs.Files.{AllStay, AreAtRest, IsSettled, Name, OthersStay, Stays};
 ghost use Rattle.nor_files.specs.Calls.{Counts};
@@ -11,17 +11,20 @@ use std::alloc::{AllocError, Global};
 use std::io::{ErrorKind, Sink};
 use std::{io, mem};
 
-/// Files in memory, which keep the law of a `Store`. So many calls on them succeed; each one after fails, and changes
-/// nothing. A lost machine may leave of each byte what it was at the file's last sync, or any that was written there
-/// since; and a file that was made may be missing until its folder is synced.
+/// Files in memory that obey the contract of `Store`. At most a given number of calls succeed: `hold`, syncs, and calls
+/// that change or lend a file. After that many, each such call fails and changes nothing.
+///
+/// A host crash may leave each byte as it was at the last sync of the file, or as any later write or change of length
+/// made it; a file whose vault or log was borrowed since that sync may have any bytes. A file that was created may be
+/// missing until its directory is synced.
 #[derive(Drop)]
 pub struct Memory {
     alloc: Global,
     files: Vec<Stored>,
-    // The name of the file whose vault was handed out last, and not back.
+    // The name of the file whose vault was borrowed last and not yet taken back.
     lent: Option<Vec<u8>>,
     left: u64,
-    // Whether a write that takes the last call is cut off half-way, and fails.
+    // Whether `write_over` writes only half of its bytes, and fails, if it is the last call that is left.
     torn: bool,
     ghost lent_is_there: { is_lent_there files.items (option_map (λ name. name.items) lent) ≡ true },
 }
@@ -29,7 +32,7 @@ pub struct Memory {
 impl Memory {
     ghost use Rattle.nor_files.specs.Memory.{memory_state};
 
-    /// No files, on which so many calls succeed.
+    /// Returns a store without files, on which at most `left` calls succeed.
     pub fn new(alloc: Global, left: u64) -> Memory {
         Memory {
             alloc,
@@ -40,7 +43,8 @@ impl Memory {
         }
     }
 
-    /// Puts a file of this name there, with these bytes, for good.
+    /// Creates or replaces the named file, with these bytes; a host crash can leave nothing else of it. This doesn't
+    /// count as a call. Fails if memory runs out.
     pub fn put(&mut self, name: &str, bytes: &[u8]) -> Result<(), AllocError>
         ensures left { self.new.left ≡ self.old.left }
         ensures puts { OnOk result (IsSettled name.now (Some bytes.now) (memory_state self.new)) }
@@ -52,7 +56,8 @@ impl Memory {
         Ok(())
     }
 
-    /// Lets the write fail half-way that takes the last call: the first half of its bytes gets there.
+    /// Makes `write_over` write only the first half of its bytes, and fail, if it is the last call that is left. Only a
+    /// write of no bytes then succeeds.
     pub fn tear(&mut self)
         ensures left { self.new.left ≡ self.old.left }
         ensures stay { AllStay (memory_state self.old) (memory_state self.new) }
@@ -60,8 +65,8 @@ impl Memory {
         self.torn = true;
     }
 
-    /// The files that are left when the machine is lost now, on which so many calls succeed. What is seen of each is
-    /// what might be left of it, and nothing else may be left from now on.
+    /// Returns the files after an interruption now, on which at most `left` calls succeed. Each file is one that a host
+    /// crash might have left, and a later host crash can leave nothing else of it.
     pub fn lose(self, loss: Loss, left: u64) -> Memory
         ensures left { (memory_state result).left ≡ left }
         ensures at_rest { AreAtRest (memory_state result) }
@@ -85,7 +90,7 @@ impl Memory {
         }
     }
 
-    /// What a read of the file of this name gives.
+    /// Returns the bytes of the named file, or `None` if it is missing.
     pub fn bytes_of(&self, name: &str) -> Option<&[u8]>
         ensures { option_map (λ bytes. bytes.now) result ≡ (memory_state self.now).view.seen name.now }
     {
@@ -95,14 +100,14 @@ impl Memory {
         }
     }
 
-    // The place of the file of this name.
+    // Returns the index of the entry for the named file.
     fn place(&self, name: &[u8]) -> Option<usize>
         ensures { result ≡ position (is_named name.now) self.now.files.items }
     {
         self.files.iter().position(|file| file.is_named(name))
     }
 
-    // The place of the file of this name, which is there, and in nobody's hands.
+    // Returns the index of the named file. Fails with `NotFound` if it is missing, or a vault or log in it is borrowed.
     fn find(&self, name: &str) -> io::Result<usize>
         ensures { IfOk result (λ at. position (is_named name.now) self.now.files.items ≡ Some at) }
     {
@@ -112,7 +117,7 @@ impl Memory {
         }
     }
 
-    // The place of the file of this name, which is kept for it from now on.
+    // Returns the index of the entry for the named file, and appends an entry for a missing file if there is none.
     fn keep_place(&mut self, name: &str) -> Result<usize, AllocError>
         ensures at { IfOk result (λ at. position (is_named name.now) self.new.files.items ≡ Some at) }
         ensures same { (any : Name) → file_of self.new.files.items any ≡ file_of self.old.files.items any }
@@ -128,7 +133,7 @@ impl Memory {
         Ok(at)
     }
 
-    // Makes or empties the file of this name, for a vault or a log.
+    // Creates or empties the named file, for a vault or a log. If `is_new`, it must not exist.
     fn lend(&mut self, name: &str, is_new: bool) -> io::Result<()>
         ensures counts { Counts result (memory_state self.old) (memory_state self.new) }
         ensures others { OthersStay name.now (memory_state self.old) (memory_state self.new) }
@@ -144,7 +149,7 @@ impl Memory {
     }
 }
 
-// Counts a call.
+// Counts a call. Fails if none is left.
 fn spend(left: &mut u64) -> io::Result<()>
     ensures ok { OnOk result (left.old ≡ left.new + 1) }
     ensures err { OnErr result (left.new ≡ left.old) }

@@ -1,4 +1,4 @@
-//! What a run does with files.
+//! The contract of files: what each call on them does, and how it may fail.
 
 use nor_journal::Vault;
 use std::alloc::{AllocError, Global};
@@ -6,12 +6,12 @@ use std::error::Error;
 use std::io::{ErrorKind, Write};
 use std::{fmt, io};
 
-/// Why a file can't be held.
+/// Why a file can't be opened and locked by `hold` or `share`.
 #[derive(Debug, Drop)]
 pub enum HoldFault {
-    /// It can't be opened or read.
+    /// The file can't be opened or read.
     Unread(io::Error),
-    /// It is there, and can't be written over or locked: it may be read-only, or is no regular file.
+    /// The file exists, but can't be overwritten or locked: it may be read-only, or not a regular file.
     Unheld,
     /// Another process has locked it.
     Busy,
@@ -29,14 +29,14 @@ impl fmt::Display for HoldFault {
 
 impl Error for HoldFault {}
 
-/// Why a file can't be made or emptied.
+/// Why a file can't be created or truncated.
 #[derive(Debug, Drop)]
 pub enum MakeFault {
-    /// It is there already, or it is a journal, which is never emptied.
+    /// A file that must be new exists, or the file is a journal, which `Disk` never truncates.
     There,
     /// Another process has locked it.
     Busy,
-    /// It can't be made, emptied or locked, or its directory can't be synced.
+    /// The file can't be created, truncated or locked, or its directory can't be synced.
     Unmade(io::Error),
     /// The program is out of memory.
     Memory,
@@ -85,14 +85,15 @@ impl From<MakeFault> for io::Error {
 
 /// The files of a run, by their names.
 ///
-/// Contracts see them as a `FilesState`. Where that is lawful they keep the law: each call does what it says, or fails
-/// and leaves what it says of that; and at each moment the state says what a machine that is lost then may leave.
-/// A promise over every lawful store speaks of each moment at which a run can be cut off, since a call with none left
-/// fails, and changes nothing.
+/// Contracts see the files as a `FilesState`. If the state is lawful, the files obey the contract: each call has the
+/// effect that its clauses give for success or failure, and the state says what a host crash may leave at each moment.
+/// For other files, such as those of `Disk`, most clauses say nothing. A clause proved for every lawful store covers an
+/// interruption at each call, because a call fails and changes nothing if no call is left.
 ///
 /// A file may have several names. A call on a name leaves each file whose name is apart from it as it was, and
-/// `is_one_file` returns which names are apart. Nothing is promised about other names of the same file, except that a
-/// sync that succeeds does not change what a read gives of them.
+/// `is_one_file` returns which names are apart. Nothing is promised about other names of the same file, except for
+/// syncs: a read of another name returns the same after a successful `sync` or any `sync_folder`, if no vault or log in
+/// it is borrowed.
 pub trait Store: AllocGlobal {
     ghost use Rattle.std.specs.Prelude.{◌≡◌, ◌⊎◌, false, true, None, IfErr, IfOk, Ok, OnErr, OnOk, option_map};
     ghost use Rattle.nor_journal.specs.Vault.{IsFresh};
@@ -105,15 +106,15 @@ pub trait Store: AllocGlobal {
 
     ghost state: { Self → FilesState };
 
-    /// A vault in a file.
+    /// A vault whose bytes are in a file.
     type Filed: Vault + Drop;
 
-    /// A file that is written in pieces.
+    /// A file to which a run writes piece by piece.
     type Log: Write + Drop;
 
-    /// Returns whether the two names refer to one file: the same text, the same file of the system, or the same name in
-    /// the same directory if no file exists yet. If not, they are apart: on lawful files a call on one of them leaves the
-    /// other as it is. Returns the name as the error if it can't be looked at.
+    /// Returns whether the two names refer to one file. Equal names always do. If the result is false, the names are
+    /// apart: on lawful files a call on one of them leaves the other as it is. Returns as the error a name that can't
+    /// be looked up.
     fn is_one_file<'n>(&self, one: &'n str, other: &'n str) -> Result<bool, &'n str>
         ensures shared { IfOk result (λ is_one. is_one ≡ true
             → (state self.now).view.nature.fails (Shared one.now other.now) ≡ true) }
@@ -123,44 +124,51 @@ pub trait Store: AllocGlobal {
         ensures either { IfErr result (λ name. name.now ≡ one.now ⊎ name.now ≡ other.now) }
         ensures unseen { IfErr result (λ name. (state self.now).view.nature.fails (Unread name.now) ≡ true) };
 
-    /// Whether the file of this name is a regular file that the program prints to. An error is the name, if it can't
-    /// be looked at.
+    /// Returns whether the named file is a regular file to which the program prints. Returns the name as the error if
+    /// it can't be looked up.
     fn is_stream<'n>(&self, name: &'n str) -> Result<bool, &'n str>
         ensures printed { IfOk result (λ is_stream. is_stream ≡ true
             → (state self.now).view.nature.fails (Printed name.now) ≡ true) }
         ensures unseen { IfErr result (λ unseen. (unseen.now ≡ name.now)
             × ((state self.now).view.nature.fails (Unread name.now) ≡ true)) };
 
-    /// Whether there is a file of this name, or a link.
+    /// Returns whether a file of this name exists, or a link.
     fn is_there(&self, name: &str) -> bool
         ensures { result ≡ true → (state self.now).view.nature.fails (There name.now) ≡ true };
 
-    /// Whether a read of the file of this name may wait without end, as that of a FIFO or a terminal does.
+    /// Returns whether a read of the named file may block forever, as a read of a FIFO or a terminal may.
     fn is_waiting(&self, name: &str) -> bool
         ensures { result ≡ true → (state self.now).view.nature.fails (Unread name.now) ≡ true };
 
-    /// What there is of the file of this name, of which at most so many bytes are read.
+    /// Returns the bytes of the named file, but not more than the first `most`, or `None` if it is missing. The clause
+    /// `read` holds for a lawful file without a borrowed vault or log.
     fn read_named(&self, name: &str, most: u64) -> io::Result<Option<Vec<u8>>>
         ensures read { IfOk result (λ found.
             Reads name.now most (option_map (λ bytes. bytes.items) found) (state self.now).view) }
         ensures unread { OnErr result ((state self.now).view.nature.fails (Unread name.now) ≡ true) };
 
-    /// Opens the file of this name to be written over later, and holds it against other runs until the store is let go.
-    /// Answers whether it is there.
+    /// Opens and locks the named file, if it exists, so that it can be overwritten later. The lock keeps other runs off
+    /// until the store is dropped; contracts don't describe locks. Returns whether the file exists. On lawful files,
+    /// all files are as they were.
     fn hold(&mut self, name: &str) -> Result<bool, HoldFault>
         ensures nature { (state self.new).view.nature ≡ (state self.old).view.nature }
         ensures holds { is_lawful (state self.old).view ≡ true
             → Holds name.now result (state self.old) (state self.new) }
         ensures fails { IfErr result (IsHoldFault (state self.old).view.nature name.now) };
 
-    /// Locks the file of this name, if it is there, for reading: until the store is let go no other run writes it. All
-    /// files are as they were.
+    /// Locks the named file, if it exists, for reading, so that no other run overwrites it until the store is dropped;
+    /// contracts don't describe locks. All files are as they were.
     fn share(&mut self, name: &str) -> Result<(), HoldFault>
         ensures same { AreUntouched (state self.old) (state self.new) }
         ensures fails { IfErr result (IsHoldFault (state self.old).view.nature name.now) };
 
-    /// Syncs what the file of this name has: its bytes and its length. If this succeeds, a read gives the same of every
-    /// name, including the file's other names.
+    /// Syncs the bytes and the length of the named file. Contracts promise the following for lawful files without a
+    /// borrowed vault or log:
+    ///
+    /// - after success a read of each file returns the same as before, even by another name of this file
+    /// - after success a host crash leaves these bytes of this file, or no file if that was possible before
+    /// - after a failure it is unknown what a read of this file returns
+    /// - after success or failure a host crash can leave nothing that it couldn't leave before
     fn sync(&mut self, name: &str) -> io::Result<()>
         ensures nature { (state self.new).view.nature ≡ (state self.old).view.nature }
         ensures alone { is_lawful (state self.old).view ≡ true
@@ -172,7 +180,8 @@ pub trait Store: AllocGlobal {
             → Syncs name.now result (state self.old) (state self.new) }
         ensures fails { OnErr result ((state self.old).view.nature.fails (Unwritten name.now) ≡ true) };
 
-    /// Syncs the directory of the file of this name: whether the file exists. A read gives the same of every name.
+    /// Syncs the directory of the named file. For lawful files without a borrowed vault or log: a read of each file
+    /// returns the same as before, and after success a host crash can neither remove this file nor create it.
     fn sync_folder(&mut self, name: &str) -> io::Result<()>
         ensures nature { (state self.new).view.nature ≡ (state self.old).view.nature }
         ensures alone { is_lawful (state self.old).view ≡ true
@@ -182,7 +191,9 @@ pub trait Store: AllocGlobal {
             → Places name.now result (state self.old) (state self.new) }
         ensures fails { OnErr result ((state self.old).view.nature.fails (Unwritten name.now) ≡ true) };
 
-    /// Writes these bytes over the file of this name, from its front. It is never emptied.
+    /// Overwrites the named file in place with `bytes`, from its start, without truncating it. On lawful files, a
+    /// failure may have written some of the bytes; after success or failure, until the next sync, a host crash may
+    /// leave any mix of old and new bytes.
     fn write_over(&mut self, name: &str, bytes: &[u8]) -> io::Result<()>
         ensures nature { (state self.new).view.nature ≡ (state self.old).view.nature }
         ensures alone { is_lawful (state self.old).view ≡ true
@@ -191,7 +202,8 @@ pub trait Store: AllocGlobal {
             → WritesOver name.now bytes.now result (state self.old) (state self.new) }
         ensures fails { OnErr result ((state self.old).view.nature.fails (Unwritten name.now) ≡ true) };
 
-    /// Sets the length of the file of this name.
+    /// Sets the length of the named file to `len` bytes. If it grows, the added bytes are 0. On lawful files, until the
+    /// next sync a host crash may leave what it could leave before, or that with the new length.
     fn set_len(&mut self, name: &str, len: u64) -> io::Result<()>
         ensures nature { (state self.new).view.nature ≡ (state self.old).view.nature }
         ensures alone { is_lawful (state self.old).view ≡ true
@@ -200,7 +212,8 @@ pub trait Store: AllocGlobal {
             → SetsLength name.now len result (state self.old) (state self.new) }
         ensures fails { OnErr result ((state self.old).view.nature.fails (Unwritten name.now) ≡ true) };
 
-    /// Makes the file of this name, which wasn't there before, with nothing in it.
+    /// Creates the named file, which must not exist, empty. A host crash may remove it again until its directory is
+    /// synced. On lawful files, a failure leaves the file as it was.
     fn make(&mut self, name: &str) -> io::Result<()>
         ensures nature { (state self.new).view.nature ≡ (state self.old).view.nature }
         ensures alone { is_lawful (state self.old).view ≡ true
@@ -209,9 +222,9 @@ pub trait Store: AllocGlobal {
             → Makes name.now result (state self.old) (state self.new) }
         ensures fails { OnErr result ((state self.old).view.nature.fails (Unwritten name.now) ≡ true) };
 
-    /// Creates the file of this name, and returns a vault in it. A file that is there is never opened or emptied: the
-    /// error is `There`. If the directory can be synced, the new file survives a crash. Return the vault by
-    /// `hand_back`.
+    /// Creates the named file, which must not exist, and lends a vault in it; return the vault with `hand_back`. `Disk`
+    /// returns `There` for an existing file, and syncs the directory. On lawful files, after a failure a host crash can
+    /// leave nothing that it couldn't leave before, except an empty file if there was none.
     fn vault_in_new(&mut self, name: &str) -> Result<Self::Filed, MakeFault>
         ensures nature { (state self.new).view.nature ≡ (state self.old).view.nature }
         ensures fresh { IfOk result (λ vault. IsFresh (Self.Filed.state vault)) }
@@ -225,7 +238,8 @@ pub trait Store: AllocGlobal {
             → OthersStay name.now (state self.old) (state self.new) }
         ensures unmade { IfErr result (IsMakeFault (state self.old).view.nature name.now) };
 
-    /// A vault in the file of this name, which is made or emptied; a journal is never emptied. It is to be handed back.
+    /// Creates or truncates the named file, and lends a vault in it; return the vault with `hand_back`. `Disk` refuses
+    /// to truncate a journal.
     fn vault_in(&mut self, name: &str) -> Result<Self::Filed, MakeFault>
         ensures nature { (state self.new).view.nature ≡ (state self.old).view.nature }
         ensures fresh { IfOk result (λ vault. IsFresh (Self.Filed.state vault)) }
@@ -237,14 +251,15 @@ pub trait Store: AllocGlobal {
             → OthersStay name.now (state self.old) (state self.new) }
         ensures unmade { IfErr result (IsMakeFault (state self.old).view.nature name.now) };
 
-    /// Takes the vault back that was handed out last, and answers whether it is sealed.
+    /// Takes back the vault that was borrowed last, and returns whether it is sealed. On lawful files, that vault is
+    /// faithful (`telling`), the file has its bytes, and if it is sealed, a host crash can leave nothing else.
     fn hand_back(&mut self, vault: Self::Filed) -> bool
         ensures nature { (state self.new).view.nature ≡ (state self.old).view.nature }
         ensures sealed { result ≡ (Self.Filed.state vault).sealed }
         ensures takes { is_lawful (state self.old).view ≡ true → (name : Name) → (state self.old).lent ≡ Some name
             → TakesBack name (Self.Filed.state vault) (state self.old) (state self.new) };
 
-    /// The file of this name, which is made or emptied; a journal is never emptied.
+    /// Creates or truncates the named file, and lends it as a log. `Disk` refuses to truncate a journal.
     fn log_in(&mut self, name: &str) -> Result<Self::Log, MakeFault>
         ensures nature { (state self.new).view.nature ≡ (state self.old).view.nature }
         ensures alone { is_lawful (state self.old).view ≡ true
@@ -253,7 +268,7 @@ pub trait Store: AllocGlobal {
             → OnErr result (Fails (state self.old) (state self.new)) }
         ensures unmade { IfErr result (IsMakeFault (state self.old).view.nature name.now) };
 
-    // A process that is killed leaves what is seen.
+    // A host crash may leave what a read returns, on every store. A killed process leaves just that.
     ghost seen_may_stay: { (files : Self) (name : Name)
         → (state files).may_leave name ((state files).view.seen name) };
 }

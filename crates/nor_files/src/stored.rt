@@ -1,4 +1,4 @@
-//! A file in memory.
+//! A file in memory, and what a host crash may leave of it.
 ghost use Rattle.std.specs.Prelude.{◌≡◌, ◌&&◌, IfOk, is_some, not, option_map};
 ghost use Rattle.nor_files.specs.Calls.{with_length, written_over};
 ghost use Rattle.nor_files.specs.Stored.{Alters, FileForgets, FileLends, FileLoses, FileMakes, FilePlaces, FileSets};
@@ -15,47 +15,47 @@ use std::{io, mem};
 #[derive(Drop)]
 pub enum Content {
     Plain(Vec<u8>),
-    /// Those of a vault that was handed back.
+    /// The bytes of a vault that was taken back.
     Vaulted(MemVault),
 }
 
-/// What a call did to a file.
+/// The effect of a call on a file.
 #[derive(Drop)]
 pub enum Change {
-    /// These bytes were written over it.
+    /// The file was overwritten in place with these bytes, from its start.
     Written(Vec<u8>),
-    /// It was given this length.
+    /// The length was set to this.
     Cut(u64),
-    /// A vault or a log in it was handed out.
+    /// The file was emptied, and a vault or a log in it was lent.
     Lent,
 }
 
-/// A change, and what the file had before.
+/// A change, and the content of the file before it.
 #[derive(Drop)]
 pub struct Step {
     before: Option<Content>,
     change: Change,
 }
 
-/// What is lost with a machine.
+/// What an interruption destroys.
 #[derive(Clone, Copy, Debug, PartialEq, Eq)]
 pub enum Loss {
-    /// Nothing: it was the process alone that was killed.
+    /// Nothing: only the process was killed.
     Nothing,
-    /// All that wasn't synced.
+    /// All that wasn't synced: the host crashed.
     Unsynced,
 }
 
-/// A file, or the place of one that isn't there.
+/// A named file, which may be missing.
 #[derive(Drop)]
 pub struct Stored {
     name: Vec<u8>,
     content: Option<Content>,
-    // The changes since it was synced, the newest first.
+    // The changes since the last sync, newest first.
     steps: Vec<Step>,
-    // Whether its name may be lost: it was made, and its folder wasn't synced since.
+    // Whether a host crash may remove the file: it was created, and its directory wasn't synced since.
     unplaced: bool,
-    // Whether a vault or a log in it is in somebody's hands.
+    // Whether a vault or a log in the file is borrowed.
     out: bool,
 }
 
@@ -71,7 +71,7 @@ impl Content {
 }
 
 impl Stored {
-    /// The place of a file of this name, which isn't there.
+    /// Returns a missing file of this name.
     pub fn new(alloc: Global, name: Vec<u8>) -> Stored
         ensures name { result.name ≡ name }
         ensures file { file_in result ≡ missing }
@@ -91,14 +91,14 @@ impl Stored {
         self.name.as_slice() == name
     }
 
-    /// Whether it is there, and in nobody's hands.
+    /// True if the file exists and neither a vault nor a log in it is borrowed.
     pub fn is_at_hand(&self) -> bool
         ensures { result ≡ (is_some self.now.content && not self.now.out) }
     {
         self.content.is_some() && !self.out
     }
 
-    /// What a read gives.
+    /// Returns the bytes of the file, or `None` if it is missing.
     pub fn bytes(&self) -> Option<&[u8]>
         ensures { option_map (λ bytes. bytes.now) result ≡ (file_in self.now).seen }
     {
@@ -108,8 +108,8 @@ impl Stored {
         }
     }
 
-    // Puts this content in place of what the file has, and notes the change. There is room for the note before anything
-    // is changed.
+    // Replaces the content of the file, and records the change. Memory for the record is reserved first, so nothing is
+    // changed if memory runs out.
     fn change(&mut self, content: Content, change: Change) -> Result<(), AllocError>
         ensures { Alters result content change self.old self.new }
     {
@@ -119,7 +119,8 @@ impl Stored {
         Ok(())
     }
 
-    /// Writes these bytes over the file, from its front, or so many of them, and fails.
+    /// Overwrites the file in place with `bytes`, from its start. If `most` is less than their number, writes only the
+    /// first `most` bytes and returns an error. Fails with `NotFound` if the file is missing, or if memory runs out.
     pub fn write(&mut self, alloc: Global, bytes: &[u8], most: usize) -> io::Result<()>
         ensures { FileWrites bytes.now result self.old self.new }
     {
@@ -136,7 +137,8 @@ impl Stored {
         Ok(())
     }
 
-    /// Sets its length.
+    /// Sets the length of the file; added bytes are 0. Fails with `NotFound` if the file is missing, or if memory runs
+    /// out.
     pub fn set_len(&mut self, alloc: Global, len: u64) -> io::Result<()>
         ensures { FileSets len result self.old self.new }
     {
@@ -148,21 +150,21 @@ impl Stored {
         Ok(())
     }
 
-    /// What it has stays.
+    /// Syncs the file: a host crash can't undo the changes so far. It may still remove the file if it could before.
     pub fn sync(&mut self)
         ensures { FileSyncs self.old self.new }
     {
         self.steps.clear();
     }
 
-    /// Its name stays.
+    /// Syncs the directory: it is durable that the file exists, or that it doesn't.
     pub fn place(&mut self)
         ensures { FilePlaces self.old self.new }
     {
         self.unplaced = false;
     }
 
-    /// Makes it, with nothing in it.
+    /// Creates the file, empty. Fails with `AlreadyExists`, and changes nothing, if it exists.
     pub fn make(&mut self, alloc: Global) -> io::Result<()>
         ensures { FileMakes result self.old self.new }
     {
@@ -175,7 +177,8 @@ impl Stored {
         Ok(())
     }
 
-    /// Makes or empties it, for a vault or a log. Where it is to be new it is made, and its name stays.
+    /// Creates or empties the file, for a vault or a log. If `is_new`, fails with `AlreadyExists` if the file exists,
+    /// and a host crash can't remove the file that is created. Also fails if memory runs out.
     pub fn lend(&mut self, alloc: Global, is_new: bool) -> io::Result<()>
         ensures { FileLends is_new result self.old self.new }
     {
@@ -189,7 +192,7 @@ impl Stored {
         Ok(())
     }
 
-    /// Puts these bytes there, for good.
+    /// Gives the file these bytes; a host crash can leave nothing else.
     pub fn settle(&mut self, bytes: Vec<u8>)
         ensures { FileSettles bytes.items self.old self.new }
     {
@@ -199,7 +202,8 @@ impl Stored {
         self.out = false;
     }
 
-    /// Loses the machine. What may be left is what is there now, and stays.
+    /// Interrupts the process or the host, as `loss` says. The file is then what that may leave, and a later host crash
+    /// can leave nothing else.
     pub fn lose(&mut self, loss: Loss)
         ensures { FileLoses self.old self.new }
     {
@@ -211,8 +215,8 @@ impl Stored {
         self.out = false;
     }
 
-    // Puts back what the file had when it was synced, or nothing where its name may be lost. A file whose name stays
-    // can't be missing: one that was made for a vault has what that put in.
+    // Restores the content of the last sync, or removes the file if a host crash may. Any other file stays there: if it
+    // was missing at the last sync, it was created for a vault or log and keeps its present bytes.
     fn forget(&mut self)
         ensures { FileForgets self.old self.new }
     {
@@ -227,7 +231,8 @@ impl Stored {
         }
     }
 
-    /// Takes its vault back. Once that was sealed, what it has stays.
+    /// Takes back the vault in the file, whose bytes the file has from now on. If the vault is sealed, a host crash can
+    /// leave nothing else.
     pub fn take_back(&mut self, vault: MemVault)
         ensures { FileTakesBack (held_by vault) self.old self.new }
     {
@@ -240,7 +245,7 @@ impl Stored {
     }
 }
 
-/// These bytes again.
+/// Returns a copy of `bytes`. Fails if memory runs out.
 pub fn copy(alloc: Global, bytes: &[u8]) -> Result<Vec<u8>, AllocError>
     ensures { IfOk result (λ copied. copied.items ≡ bytes.now) }
 {
@@ -249,7 +254,7 @@ pub fn copy(alloc: Global, bytes: &[u8]) -> Result<Vec<u8>, AllocError>
     Ok(copied)
 }
 
-// What was there, with the bytes written over it.
+// Returns `had`, overwritten in place with `bytes` from its start.
 fn overwritten(alloc: Global, had: &[u8], bytes: &[u8]) -> Result<Vec<u8>, AllocError>
     ensures { IfOk result (λ has. has.items ≡ written_over bytes.now had.now) }
 {
@@ -260,7 +265,7 @@ fn overwritten(alloc: Global, had: &[u8], bytes: &[u8]) -> Result<Vec<u8>, Alloc
     Ok(has)
 }
 
-// What was there, with this length.
+// Returns the first `len` bytes of `had`, with zeros appended if it is shorter.
 fn with_length(alloc: Global, had: &[u8], len: usize) -> Result<Vec<u8>, AllocError>
     ensures { IfOk result (λ has. has.items ≡ with_length len had.now) }
 {
