@@ -23,7 +23,7 @@ stays_on one other = record {
 
 -- the order of the two names does not matter
 pub apart_swapped : (nature : Nature) (one other : Name) → AreApart nature one other → AreApart nature other one
-apart_swapped nature one other apart = λ lawful. let both = apart lawful in (both.1, both.0)
+apart_swapped nature one other apart = (apart.1, apart.0)
 
 -- names stay apart after calls, which keep the nature of the files
 pub apart_after : {old new : Nature} {one other : Name} → new ≡ old → AreApart old one other → AreApart new one other

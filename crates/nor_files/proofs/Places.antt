@@ -104,7 +104,7 @@ pub record IsUpdated (name : Name) (old new : List Stored) (was now : Stored) : 
 apart_differ : (name other : Name) → AreApart memory_nature name other → other ≢ name
 apart_differ name other apart same =
     let is : is_name name other ≡ true = rw same (nat_list_eq_equiv.refl name) in
-    false≢true (sym (ap not is) ∙ (apart refl).0)
+    false≢true (sym (ap not is) ∙ apart.0)
 
 other_named : (name other : Name) (stored : Stored) → is_named name stored ≡ true → other ≢ name
     → is_named other stored ≡ false

@@ -54,7 +54,7 @@ placed_stays old = record {
 
 -- names that differ are apart
 apart_of : (name any : Name) → is_name name any ≡ false → AreApart memory_nature name any
-apart_of name any differ _ = (
+apart_of name any differ = (
   ap not differ,
   ap not (false_from_ne_true (is_name any name) (λ is.
       let same : is_name name any ≡ true = rw (same_text any name (sym is)) (nat_list_eq_equiv.refl name) in

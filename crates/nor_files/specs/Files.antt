@@ -34,8 +34,9 @@ pub record Nature : Type 0 where
   pub lawful : Bool
   -- which of these a call may ever find or fail with
   pub fails : Failure → Bool
-  -- whether two names refer to different files: a call on the first leaves the second as it is. A file may have several
-  -- names (`a` and `./a`, links), so two names that differ may be names of one file
+  -- whether two names are apart. On lawful files they then refer to different files: a call on the first leaves the
+  -- second as it is. A file may have several names (`a` and `./a`, links), so two names that differ may be names of one
+  -- file. On the system's files, which aren't lawful, two names are apart if they differ
   pub apart : Name → Name → Bool
 
 -- What a read of each file returns.
@@ -61,10 +62,10 @@ pub record FilesState : Type 1 where
 abbrev pub is_lawful : View → Bool
 is_lawful view = view.nature.lawful
 
--- If the files keep the law, the two names refer to different files, whichever of them is given first.
+-- The two names are apart, whichever of them is given first. The files needn't be lawful, so a promise about names that
+-- are apart holds for the system's files, too.
 abbrev pub AreApart : Nature → (one other : Name) → Type 0
-AreApart nature one other =
-    nature.lawful ≡ true → (nature.apart one other ≡ true) × (nature.apart other one ≡ true)
+AreApart nature one other = (nature.apart one other ≡ true) × (nature.apart other one ≡ true)
 
 -- Holds if the files obey the contract, and no vault or log in that one is borrowed.
 pub record IsKnown (name : Name) (view : View) : Type 0 where
