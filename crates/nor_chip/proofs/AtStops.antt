@@ -9,11 +9,11 @@ use Rattle.nor_chip.specs.Power.{PowerLost, PowerLostWith}
 use Rattle.nor_chip.specs.Bus.{BusState, AtStop}
 use Rattle.nor_chip.specs.Sim.{TornTo, WornTo, LostTo}
 
--- a transaction of which no byte is sent leaves the chip as it is
+-- a transaction of which no byte is sent leaves the chip as it was
 pub nothing_sent : (chip : Chip) → Step chip [] [] chip
 nothing_sent chip = search arith
 
--- a loss of power with a given fill is a loss of power
+-- a power failure with a given fill is a power failure
 pub power_lost : (fill : ℕ) (old new : Chip) → PowerLostWith fill old new → PowerLost old new
 power_lost fill old new lost = grind (arith, lost.bytes)
 
@@ -57,7 +57,7 @@ stops_at (Some count) (Some fill) out old new reached steady torn lost worn = re
   still = λ is. absurd (true≢false (sym is ∙ steady));
 }
 
--- what was noted as sent does not matter
+-- the record of what was sent does not affect a stop
 pub stops_as : (out : List ℕ) (old new : BusState) (sent : Sent) → AtStop out (record old { sent = sent }) new
     → AtStop out old new
 stops_as out old new sent stop = record {

@@ -1,4 +1,4 @@
--- Which places and units of a chip are guarded: what callers need of it.
+-- Lemmas for callers about protected addresses and erase blocks of a chip.
 use Rattle.std.proofs.Common.{◌≡◌, ℕ, ◌*◌, ◌/◌, ◌<◌, ◌≤◌, inl, arith, refl, sym, ◌∙◌}
 use Rattle.std.specs.Prelude.{Bool, true, false, ◌&&◌}
 use Rattle.std.proofs.Math.Bool.{and-false}
@@ -10,7 +10,7 @@ use Rattle.nor_chip.specs.Units.{LieAtAnEnd}
 use Rattle.nor_chip.proofs.Sizes.{sized_bounds}
 use Rattle.nor_chip.proofs.GuardedPlaces.{ends_at, guarded_by-end, guarded_by-past, at_borders}
 
--- the guarded places of a chip, with or without a scheme, lie at one of its ends
+-- the protected addresses of a chip, with or without block protection, are at one of its ends
 with_scheme : (scheme : Bool) (size : ℕ) (test : ℕ → Bool) → LieAtAnEnd size test
     → LieAtAnEnd size (λ a. scheme && test a)
 with_scheme true size test ends = ends
@@ -21,7 +21,7 @@ is_guarded-end chip =
     with_scheme chip.config.scheme chip.config.size (guarded_by chip.config.size (code_of chip.kept))
     (guarded_by-end chip.config.size (code_of chip.kept) (sized_bounds chip.config))
 
--- No address of a sector that isn't guarded is guarded.
+-- No address of a sector is protected if its first and last ones aren't.
 pub is_guarded-sector : (chip : Chip) (a : ℕ) → a < chip.config.size
     → is_unit_guarded chip (4096 * (a / 4096)) 4096 ≡ false → is_guarded chip a ≡ false
 is_guarded-sector chip a below free =
@@ -31,15 +31,15 @@ is_guarded-sector chip a below free =
     (omega arith) (omega arith) (omega arith) guarded in
     let both : true ≡ false = sym there ∙ free in cc)
 
--- Nothing is guarded past the chip's end, ..
+-- Nothing is protected past the chip's end.
 pub is_guarded-past : (chip : Chip) (a : ℕ) → chip.config.size ≤ a → is_guarded chip a ≡ false
 is_guarded-past chip a past = rw (guarded_by-past chip.config.size (code_of chip.kept) a past) (and-false chip.config.scheme)
 
--- .. nor on a chip without a scheme, ..
+-- Nothing is protected on a chip without block protection.
 pub is_guarded-no_scheme : (chip : Chip) (a : ℕ) → chip.config.scheme ≡ false → is_guarded chip a ≡ false
 is_guarded-no_scheme chip a none = rw none refl
 
--- .. nor by the code 0.
+-- Nothing is protected if all protection bits are clear.
 guarded_by-zero : (size a : ℕ) → guarded_by size 0 a ≡ false
 unfolding guarded_by
 guarded_by-zero size a = grind (arith, nat_tests)
@@ -47,7 +47,7 @@ guarded_by-zero size a = grind (arith, nat_tests)
 pub is_guarded-zero : (chip : Chip) (a : ℕ) → code_of chip.kept ≡ 0 → is_guarded chip a ≡ false
 is_guarded-zero chip a zeros = rw (zeros, guarded_by-zero chip.config.size a) (and-false chip.config.scheme)
 
--- Two chips of one configuration and the same kept bits guard the same places.
+-- Two chips with the same configuration and the same non-volatile bits protect the same addresses.
 pub is_guarded-same : (old new : Chip) → new.config ≡ old.config → new.kept ≡ old.kept → (a : ℕ)
     → is_guarded new a ≡ is_guarded old a
 is_guarded-same old new config kept a = cc

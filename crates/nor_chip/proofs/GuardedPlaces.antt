@@ -1,4 +1,4 @@
--- Guarded places lie at the chip's ends and end at whole KiB.
+-- Protected addresses are at one end of the chip, and their range has whole KiB.
 use Rattle.std.proofs.Common.{◌≡◌, ℕ, zero, suc, ◌+◌, ◌-◌, ◌*◌, ◌/◌, ◌%◌, ◌^◌, ◌<◌, ◌≤◌, ◌⊎◌, inl, inr, arith, refl}
 use Rattle.std.proofs.Common.{◌∙◌}
 use Rattle.std.specs.Prelude.{Bool, true, false, not, ◌==◌, ◌&&◌, ◌||◌, ◌↔◌, nat_lt, nat_le, if◌then◌else◌}
@@ -9,13 +9,13 @@ use Rattle.nor_chip.specs.Offer.{GuardsExactly}
 use Rattle.nor_chip.specs.Guard.{guarded_by, named_length, is_undefined, is_complement, is_bottom, names_sectors, bp_of}
 use Rattle.nor_chip.specs.Units.{LieAtAnEnd, HoldsSomewhere, OnFirst, OnLast}
 
--- a number of bytes of the chip, in whole KiB, and in whole sectors where the 64th part of the chip is one
+-- a number of bytes up to the chip's size: whole KiB, and whole sectors if a 64th of the chip has these
 pub record IsPart (size n : ℕ) : Type 0 where
   pub within : n ≤ size
   pub whole : n % 1024 ≡ 0
   pub sectors : size % 262144 ≡ 0 → n % 4096 ≡ 0
 
--- what `named_length` is of each of the eight numbers that three bits make; the first clauses split the cases
+-- `named_length` for each value of the three BP bits; the first two clauses split the cases
 part_of : (size : ℕ) (sectors : Bool) (bp : ℕ) → 65536 ≤ size → size % 65536 ≡ 0 → bp < 8
     → IsPart size (if bp == 0 then 0 else if bp == 7 then size else if not sectors then size / 2 ^ (7 - bp)
     else if bp == 1 then 4096 else if bp == 2 then 8192 else if bp == 3 then 16384 else 32768)
@@ -23,14 +23,14 @@ part_of size true (suc (suc (suc (suc (suc (suc (suc zero))))))) large blocks sm
 part_of size false (suc (suc (suc (suc (suc (suc (suc zero))))))) large blocks small = omega arith
 part_of size _ _ large blocks small = omega arith
 
--- the bytes that a code names are a part of the chip, and so are all others
+-- the length of the selected range is such a number, and so is the length of the rest of the chip
 named_length-part : (size code : ℕ) → IsInBlocks size → IsPart size (named_length size code)
 named_length-part size code are = part_of size (names_sectors code) (bp_of code) are.large are.blocks (omega arith)
 
 part-rest : (size n : ℕ) → size % 65536 ≡ 0 → IsPart size n → IsPart size (size - n)
 part-rest size n blocks part = grind arith
 
--- the tests that `guarded_by` is made of
+-- the test that `guarded_by` makes
 place_test : ℕ → ℕ → Bool → Bool → Bool → ℕ → Bool
 place_test size named undefined complement bottom a =
     let is_named = if bottom then nat_lt a named else nat_le (size - named) a in
@@ -62,7 +62,7 @@ place_test-end size named false false true blocks part =
 place_test-end size named false false false blocks part =
     ends_at (size - named) (part-rest size named blocks part) (inr (λ a below. rw (lt-ltb a size below) refl))
 
--- The places that a code guards are the first ones of the chip or the last ones, up to a whole KiB.
+-- The addresses that a code protects are the first or the last ones of the chip, in whole KiB.
 pub guarded_by-end : (size code : ℕ) → IsInBlocks size → LieAtAnEnd size (guarded_by size code)
 unfolding guarded_by place_test
 guarded_by-end size code are =
@@ -74,7 +74,7 @@ pub guarded_by-past : (size code a : ℕ) → size ≤ a → guarded_by size cod
 unfolding guarded_by
 guarded_by-past size code a past = rw (le-ltb a size past) refl
 
--- a test at an end of the chip is one and the same all over a page
+-- a test that holds in a range at one end of the chip has the same value at all addresses of a page
 alike : (size : ℕ) (test : ℕ → Bool) (a b : ℕ) → LieAtAnEnd size test → a < size → b < size → a / 256 ≡ b / 256
     → test a ≡ test b
 alike size test a b ends below_a below_b page =
@@ -83,7 +83,7 @@ alike size test a b ends below_a below_b page =
       | inr last ↦ grind (arith, nat_tests, last a below_a, last b below_b)
     ]
 
--- where a test at an end of the chip holds somewhere in a stretch, it holds at its first place or its last one
+-- if such a test holds at some address of a range, it holds at the first or the last one
 pub at_borders : (size : ℕ) (test : ℕ → Bool) (start len a : ℕ) → LieAtAnEnd size test → start + len ≤ size → start ≤ a
     → a < start + len → test a ≡ true → (test start || test (start + len - 1)) ≡ true
 at_borders size test start len a ends fits from before holds = elim ends.side [
@@ -91,7 +91,7 @@ at_borders size test start len a ends fits from before holds = elim ends.side [
   | inr last ↦ grind (arith, nat_tests, last a (omega arith), last (start + len - 1) (omega arith))
 ]
 
--- A page has a guarded place exactly where any one place of it is guarded.
+-- An address of a page is protected if and only if every address of the page is.
 pub guarded_by-page_of : (size code at : ℕ) → IsInBlocks size → at < size
     → (guarded_by size code at ≡ true) ↔ HoldsSomewhere (guarded_by size code) (at / 256 * 256) 256
 guarded_by-page_of size code at are below = (
@@ -101,7 +101,7 @@ guarded_by-page_of size code at are below = (
       (omega arith) (omega arith) ∙ there.holds),
 )
 
--- the places that a defined code guards, as a start and a length
+-- the range that a defined code protects, by its start and length
 pub record ArePlaces (size named : ℕ) (complement bottom : Bool) (start len : ℕ) : Type 0 where
   pub len_is : len ≡ (if complement then size - named else named)
   pub start_is : 0 < len
@@ -114,7 +114,7 @@ unfolding place_test
 place_test-exactly size named complement bottom start len within are a =
     let long = are.len_is in let begin = are.start_is in grind (arith, nat_tests)
 
--- The places of a defined code, as a start and a length.
+-- A defined code protects exactly this range.
 pub guards_places : (size code start len : ℕ) → IsInBlocks size → is_undefined code ≡ false
     → ArePlaces size (named_length size code) (is_complement code) (is_bottom code) start len
     → GuardsExactly size code start len

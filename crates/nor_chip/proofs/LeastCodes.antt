@@ -1,4 +1,4 @@
--- Which codes guard exactly the same places.
+-- Codes that protect exactly the same range.
 use Rattle.std.proofs.Common.{◌≡◌, ℕ, ◌+◌, ◌-◌, ◌<◌, ◌⊎◌, inl, inr, arith, ap}
 use Rattle.std.specs.Prelude.{Option, None, Some, IfSome, IfNone, Bool, not, ◌||◌, ◌==◌, if◌then◌else◌}
 use Rattle.std.proofs.lemmas.Bool.{cases_order}
@@ -6,12 +6,12 @@ use Rattle.std.proofs.lemmas.Bool.Decides.{nat_tests}
 use mathlib.Core.Bool.{beq}
 use Rattle.nor_chip.specs.Offer.{GuardsExactly, IsLeastCode, IsNotOffered}
 
--- two stretches are as long and, unless empty, start alike
+-- two ranges have the same length and, unless they are empty, the same start
 pub record AreAlike (start len start' len' : ℕ) : Type 0 where
   pub as_long : len ≡ len'
   pub alike : (len' ≡ 0) ⊎ (start ≡ start')
 
--- a code that guards one stretch guards another exactly where the two are alike
+-- a code that protects exactly one range protects exactly another if and only if the two are alike
 pub guards-alike : (size code start len start' len' : ℕ) → GuardsExactly size code start len
     → AreAlike start len start' len' → GuardsExactly size code start' len'
 guards-alike size code start len start' len' guards alike a =
@@ -26,7 +26,8 @@ alike-guards size code start len start' len' guards guards' =
     let end = guards (start' + len' - 1) in let end' = guards' (start' + len' - 1) in
     grind (arith, first, first', last, last', begin, begin', end, end')
 
--- a set has one least code: that of the places of a code that is a least one is that very code
+-- a range has one least code: if `code` is the least code of some range, the least code found for the range that `code`
+-- protects is `code` itself
 pub least_found : (size code start len start' len' : ℕ) (found : Option ℕ) → IfSome found (IsLeastCode size start' len')
     → IfNone found (IsNotOffered size start' len') → GuardsExactly size code start' len'
     → IsLeastCode size start len code
@@ -41,7 +42,7 @@ least_found size code start len start' len' (Some other) least none there is_lea
       | inr (inr above) ↦ absurd (least.least code above is_least.defined there)
     ]
 
--- where the places of a code start
+-- the first address of the range that a code protects
 pub starts : (size len : ℕ) (complement bottom : Bool) → 0 < len
     → (if not (beq bottom complement) || len == 0 then 0 else size - len)
     ≡ (if complement then (if bottom then size - len else 0) else (if bottom then 0 else size - len))

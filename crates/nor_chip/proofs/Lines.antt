@@ -1,10 +1,10 @@
--- The digits of a transaction's bytes, piece by piece.
+-- The digits of a transaction's bytes are written piece by piece.
 use Rattle.std.proofs.Common.{◌≡◌, ℕ, ◌/◌, ◌%◌, List, [], ◌∷◌, ◌++◌, length, slice_index, Option, refl, sym, ap, subst, arith, ◌∙◌}
 use Rattle.std.specs.Io.KnownBytes.{Appends}
 use Rattle.std.proofs.KnownBytes.{Appends-nil, Appends-trans}
 use Rattle.hex.specs.Hex.{encode_with, encode_lower}
 
--- the digits of two pieces are the digits of the first and then those of the second
+-- the digits of two pieces are the digits of the first followed by those of the second
 encode_with-append : (t xs ys : List ℕ) → encode_with t (xs ++ ys) ≡ encode_with t xs ++ encode_with t ys
 unfolding encode_with
 encode_with-append t [] ys = refl
@@ -17,7 +17,7 @@ unfolding encode_with
 Appends-none_left known [] none = Appends-nil known
 Appends-none_left known (b ∷ rest) none = absurd (omega (arith, none))
 
--- the digits of a piece were written, and then those of what was left
+-- the digits of a piece were written, then those of the rest
 pub Appends-digits : (old mid new : Option (List ℕ)) (bytes piece later digits : List ℕ) → bytes ≡ piece ++ later → digits ≡ encode_lower piece → Appends old mid digits → Appends mid new (encode_lower later) → Appends old new (encode_lower bytes)
 Appends-digits old mid new bytes piece later digits is are first second =
     let both = Appends-trans old mid new (encode_lower piece) (encode_lower later) (subst (λ (l : List ℕ). Appends old mid l) are first) second in

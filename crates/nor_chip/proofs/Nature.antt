@@ -1,4 +1,4 @@
--- Whether a bus is honest and steady, over one transaction after another.
+-- A bus stays honest or not, and steady or not, over several transactions.
 use Rattle.std.proofs.Common.{◌∙◌, refl}
 use Rattle.nor_chip.specs.Bus.{BusState, KeepsNature}
 

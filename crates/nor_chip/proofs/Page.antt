@@ -1,4 +1,4 @@
--- Which of the bytes sent a place of a page gets, and what a program leaves.
+-- Which sent byte is programmed to each address of a page, and the effect of a program.
 use Rattle.std.proofs.Common.{◌≡◌, ◌≢◌, ℕ, suc, zero, ◌+◌, ◌-◌, ◌*◌, ◌/◌, ◌%◌, ◌<◌, ◌≤◌, min, List, [], ◌∷◌, length, refl, arith, ◌∙◌, inl, inr}
 use Rattle.std.specs.Prelude.{Bool, true, false, Option, None, Some, slice_index, bit_and, nat_le, nat_lt, ◌==◌, ◌&&◌, if◌then◌else◌}
 use Rattle.std.proofs.lemmas.Bool.Decides.{eqb_tells, nat_tests}
@@ -9,7 +9,7 @@ use Rattle.nor_chip.specs.Chip.{Chip}
 use Rattle.nor_chip.specs.Step.{last_for, lowered, byte_after}
 use Rattle.nor_chip.specs.Cells.{HasPageProgrammed}
 
--- no byte is sent for a place that none of them goes to
+-- no byte is sent for an address that none of the bytes goes to
 last_for-apart : (at : ℕ) (sent : List ℕ) (a : ℕ) → ((i : ℕ) → i < length sent → (at + i) % 256 ≢ a % 256)
     → last_for at sent a ≡ None
 unfolding last_for
@@ -18,7 +18,7 @@ last_for-apart at (byte ∷ sent) a apart =
     let later = last_for-apart (at + 1) sent a (λ i small same. apart (suc i) (omega arith) (omega arith)) in
     rw (later, ne_eqb (at % 256) (a % 256) (λ same. apart 0 (omega arith) (omega arith))) refl
 
--- a place gets the byte that goes to it, if no whole page comes after that
+-- the byte at index `i` is the last one sent for its address if at most 256 bytes follow from there
 last_for-at : (at : ℕ) (sent : List ℕ) (a i : ℕ) → i < length sent → length sent ≤ i + 256
     → (at + i) % 256 ≡ a % 256 → last_for at sent a ≡ Some (slice_index sent i)
 unfolding last_for
@@ -29,15 +29,15 @@ last_for-at at (byte ∷ sent) a zero small last here =
 last_for-at at (byte ∷ sent) a (suc i) small last here =
     rw (last_for-at (at + 1) sent a i (omega arith) (omega arith) (omega arith)) refl
 
--- so many bits that aren't set in the bytes sent are cleared, from a place on, and all else stays
+-- `done` sent bytes were ANDed into the list from index `from`; all other bytes are as they were
 pub record ClearsFrom (from done : ℕ) (sent old new : List ℕ) : Type 0 where
   pub inside : (i : ℕ) → i < done
       → slice_index new (from + i) ≡ bit_and (slice_index old (from + i)) (slice_index sent i)
   pub below : (a : ℕ) → a < from → slice_index new a ≡ slice_index old a
   pub above : (a : ℕ) → from + done ≤ a → slice_index new a ≡ slice_index old a
 
--- Of the data's last 256 bytes, skipping those before, the first ones go to the end of the page, as many as fit, and
--- the others to the page from its beginning on.
+-- Only the last 256 bytes sent count. The first of them, as many as fit, go to the end of the page, and the others to
+-- its beginning.
 pub record IsParted (at : ℕ) (sent : List ℕ) (skipped : ℕ) (front back : List ℕ) : Type 0 where
   pub skips : skipped ≡ length sent - 256
   pub front_len : length front ≡ min (length sent - skipped) (256 - (at + skipped) % 256)
@@ -49,7 +49,7 @@ module _ (at : ℕ) (sent : List ℕ) (skipped : ℕ) (front back old mid new : 
     (parted : IsParted at sent skipped front back)
     (first : ClearsFrom (at / 256 * 256 + (at + skipped) % 256) (length front) front old mid)
     (second : ClearsFrom (at / 256 * 256) (length back) back mid new) where
-  -- a place of the page after both parts
+  -- an address of the page after both parts
   in_page : (a : ℕ) → a / 256 ≡ at / 256 → slice_index new a ≡ lowered (slice_index old a) (last_for at sent a)
   in_page a here =
       let p = a % 256 in let start = (at + skipped) % 256 in
@@ -91,8 +91,8 @@ pub IsProgrammed-le : (at : ℕ) (sent old new : List ℕ) → HasPageProgrammed
 IsProgrammed-le at sent old new programmed a =
     rw (programmed a) (lowered-le (a / 256 == at / 256) (slice_index old a) (last_for at sent a))
 
--- Where the bytes sent stay inside the page, each place that was sent for has its old byte with the sent one's zeros
--- after such a program, and every other place its old byte.
+-- If the bytes sent stay inside the page, each byte that they cover is ANDed with the sent one, and every other byte is
+-- as it was.
 pub byte_after-program : (chip : Chip) (at : ℕ) (sent : List ℕ) (a : ℕ) → at % 256 + length sent ≤ 256
     → byte_after chip (Program at) sent a
     ≡ (if nat_le at a && nat_lt a (at + length sent) then bit_and (chip.bytes a) (slice_index sent (a - at))

@@ -1,4 +1,4 @@
--- Places that run round at a size.
+-- Addresses that wrap around at a size.
 use Rattle.std.proofs.Common.{◌≡◌, ℕ, List, ◌++◌, length, take, get_or, replicate, inl, inr, ◌+◌, ◌-◌, ◌*◌, ◌/◌, ◌%◌, ◌<◌, ◌≤◌, arith, ◌∙◌}
 use Rattle.std.proofs.Math.Nat.{mod-add-div, add-mul-mod_self_left, mod-eq_of_lt}
 use Rattle.std.proofs.lemmas.List.{length-take-le, get_or-append_right, get_or_append_left, get_or-take, get_or-replicate, length-replicate}
@@ -6,20 +6,20 @@ use Rattle.std.proofs.Math.ListN.{get_or-eq_default}
 use Rattle.std.proofs.lemmas.Bool.{cases_lt}
 use Rattle.std.specs.Prelude.{slice_index}
 
--- so many places behind the one that was reached, as far as the end isn't reached
+-- addresses that follow the one that was reached, before the end
 pub run_on : (at done i from n : ℕ) → (at + done) % n ≡ from → done ≤ i → from + (i - done) < n
     → (at + i) % n ≡ from + (i - done)
 run_on at done i from n place behind small =
     let split : at + i ≡ (from + (i - done)) + n * ((at + done) / n) = omega (arith, mod-add-div (at + done) n) in
     rw (split, add-mul-mod_self_left) (mod-eq_of_lt small)
 
--- at the end it goes on from the first place
+-- after the end, address 0 follows
 pub run_round : (at done from n : ℕ) → (at + done) % n ≡ from → from < n → (at + (done + (n - from))) % n ≡ 0
 run_round at done from n place within =
     let split : at + (done + (n - from)) ≡ 0 + n * ((at + done) / n + 1) = omega (arith, mod-add-div (at + done) n) in
     rw (split, add-mul-mod_self_left) (mod-eq_of_lt (omega arith))
 
--- what was written to a part of a list is found in that part, and all before it as it was
+-- a write to a part of a list: the bytes before the part are as they were, and the part holds what was written
 pub written_before : (a : ℕ) (xs ys zs : List ℕ) (i : ℕ) → a ≤ length xs → i < a
     → slice_index (take a xs ++ (ys ++ zs)) i ≡ slice_index xs i
 written_before a xs ys zs i fits before =
@@ -31,7 +31,7 @@ written_within a xs ys zs i fits behind within =
     get_or-append_right (take a xs) (ys ++ zs) a i 0 (length-take-le a xs fits) behind
     ∙ get_or_append_left ys zs 0 (i - a) (omega arith)
 
--- a list of copies read with that very default
+-- a list of copies, read with the same value as the default
 pub get_or-replicate_all : {A : Type 0} (n i : ℕ) (x : A) → get_or (replicate n x) i x ≡ x
 get_or-replicate_all n i x = elim (cases_lt i n) [
   | inl within ↦ get_or-replicate n i x x within

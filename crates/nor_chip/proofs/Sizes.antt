@@ -1,4 +1,4 @@
--- What the sizes of chips have in common.
+-- Properties that all chip sizes share.
 use Rattle.std.proofs.Common.{◌≡◌}
 use Rattle.std.specs.Prelude.{Bool, true}
 pub use Rattle.nor_count.proofs.Sizes.{IsInBlocks, is_chip_size-in_blocks, is_chip_size-from}
@@ -6,10 +6,10 @@ pub use Rattle.nor_count.proofs.Sizes.{is_chip_size-power_of_two, is_power_of_tw
 use Rattle.nor_count.proofs.Below.{same_tests}
 use Rattle.nor_chip.specs.declared.config.Config.{Config}
 
--- two tests of which each tells the other
+-- two tests that imply each other are equal
 pub alike : (one other : Bool) → (one ≡ true → other ≡ true) → (other ≡ true → one ≡ true) → one ≡ other
 alike = same_tests
 
--- that of a configuration is one
+-- the size of a configuration has these properties
 pub sized_bounds : (config : Config) → IsInBlocks config.size
 sized_bounds config = is_chip_size-in_blocks config.size config.sized

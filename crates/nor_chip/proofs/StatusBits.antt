@@ -1,18 +1,18 @@
--- Bits of the status registers as numbers.
+-- The bits of the status registers as numbers.
 use Rattle.std.proofs.Common.{◌≡◌, ℕ, ◌+◌, ◌*◌, ◌/◌, ◌%◌, ◌<◌, arith, ◌∙◌}
 use Rattle.std.specs.Prelude.{bit_and, bit_or, ◌==◌}
 use Rattle.std.proofs.lemmas.Bool.Decides.{nat_tests}
 use Rattle.std.proofs.lemmas.Nat.{and_le_r, and_mask, or_comm, or_disjoint, or_lt, or_shifted}
 use Rattle.std.proofs.lemmas.Nat.Bits.{and_high, and_pow}
 
--- to set WEL and BUSY where they are clear adds them
+-- setting WEL or BUSY in a byte in which it is clear adds its value
 pub or_latch : (n : ℕ) → n % 4 ≡ 0 → bit_or n 2 ≡ n + 2
 or_latch n clear = or_disjoint n 2 (omega (arith, and_pow n 1))
 
 pub or_busy : (n : ℕ) → n % 2 ≡ 0 → bit_or n 1 ≡ n + 1
 or_busy n clear = or_disjoint n 1 (omega (arith, and_pow n 0))
 
--- the kept bits of status 2 are the low seven
+-- the non-volatile bits of status 2 are the low seven
 pub written_lt : (old sent : ℕ) → bit_or (bit_and sent 67) (bit_or (bit_and old 60) (bit_and sent 56)) < 128
 written_lt old sent =
     or_lt 7 (bit_and sent 67) _ (omega (arith, and_le_r sent 67))
@@ -22,21 +22,21 @@ written_lt old sent =
 pub wel_set : (n : ℕ) → (bit_and n 2 == 2) ≡ (n / 2 % 2 == 1)
 wel_set n = let bit = and_pow n 1 in grind (arith, nat_tests)
 
--- the protection code: bit 6 of status 2 above bits 6 to 2 of status 1
+-- the protection bits as a number: bit 6 of status 2, then bits 6 to 2 of status 1
 pub code_bits : (one two : ℕ) → bit_or (bit_and two 64 / 2) (bit_and one 124 / 4) ≡ 32 * (two / 64 % 2) + one / 4 % 32
 code_bits one two =
     let low : bit_and one 124 / 4 ≡ one / 4 % 32 = omega (arith, and_high one 5 2) in
     let high : bit_and two 64 / 2 ≡ two / 64 % 2 * 32 = omega (arith, and_pow two 6) in
     rw (low, high) (or_shifted (two / 64 % 2) 5 (one / 4 % 32) (omega arith) ∙ omega arith)
 
--- the fixed bits: bit 7 of status 1, and the low six of status 2
+-- the bits that are never changed: bit 7 of status 1, and the low six of status 2
 pub fixed_one : (n : ℕ) → n < 256 → bit_and n 128 ≡ 128 * (n / 128)
 fixed_one n small = omega (arith, and_pow n 7)
 
 pub fixed_two : (n : ℕ) → bit_and n 63 ≡ n % 64
 fixed_two n = and_mask n 6
 
--- those with another code
+-- these bits combined with other protection bits
 pub coded_one : (fixed code : ℕ) → code < 64
     → bit_or (128 * fixed) (bit_and (code * 4 % 256) 124) ≡ 128 * fixed + 4 * (code % 32)
 coded_one fixed code small =

@@ -1,4 +1,4 @@
--- One step of the chip: what it does and leaves doesn't depend on the bytes, but for the bytes that it leaves.
+-- The command that the chip carries out at a transaction doesn't depend on the chip's bytes.
 use Rattle.std.proofs.Common.{◌≡◌, ℕ, List, refl}
 use Rattle.nor_chip.specs.declared.command.Command.{Command}
 use Rattle.nor_chip.specs.declared.command.Command.TheVariants.{Poll}
@@ -6,7 +6,8 @@ use Rattle.nor_chip.specs.Chip.{Chip}
 use Rattle.nor_chip.specs.Command.{command_of}
 use Rattle.nor_chip.specs.Step.{is_carried_out, done_of}
 
--- Two chips that agree in all but their bytes.
+-- Two chips agree in configuration, non-volatile bits, latch and `busy`; their bytes and operations in progress may
+-- differ.
 pub record Agrees (x y : Chip) : Type 0 where
   pub config : y.config ≡ x.config
   pub kept : y.kept ≡ x.kept
@@ -18,6 +19,6 @@ carried-agrees : (x y : Chip) (command : Command) → Agrees x y → is_carried_
 carried-agrees x y Poll same = refl
 carried-agrees x y _ same = cc
 
--- nor does what is done
+-- the command that the chip carries out doesn't depend on the bytes
 pub done-agrees : (x y : Chip) (out : List ℕ) (replies : ℕ) → Agrees x y → done_of y out replies ≡ done_of x out replies
 done-agrees x y out replies same = cc (carried-agrees x y (command_of y.config out replies) same)

@@ -1,4 +1,4 @@
--- What a bus keeps. Contracts see a bus as one state.
+-- The contract of a bus. Contracts see a bus as one state.
 use Rattle.std.specs.Prelude.{◌≡◌, ◌+◌, ◌⊎◌, ◌||◌, ℕ, Bool, true, false, List, [], length, take, Result, OnOk, OnErr}
 use Rattle.std.proofs.Common.{refl}
 use Rattle.nor_chip.specs.declared.running.Running.TheVariants.{Unknown}
@@ -10,40 +10,40 @@ use Rattle.nor_chip.specs.Heard.{heard_after}
 use Rattle.nor_chip.specs.declared.bus.Stopped.{Stopped}
 use Rattle.nor_chip.specs.Step.{Step, done_of, wears}
 
--- A bus, as contracts see it.
+-- The state of a bus, as contracts see it.
 pub record BusState : Type 0 where
   pub chip : Chip
-  -- how many transactions will still be carried out; no program can read it
+  -- how many more transactions the bus will carry out; code can't read this
   pub left : ℕ
-  -- the bus keeps the law
+  -- the bus obeys the contract of a bus
   pub honest : Bool
-  -- what was sent that may change a chip, or was tried
+  -- the modifying commands that were sent, or that the bus was asked to send
   pub sent : Sent
   -- the sectors that were erased
   pub worn : ℕ → Bool
-  -- a stop sends no byte of its transaction and loses no power, so it leaves the chip as it was
+  -- a stop sends no byte of its transaction and keeps the power, so it leaves the chip as it was
   pub steady : Bool
   -- the last poll that was replied to showed that the chip is ready
   pub heard : Bool
 
--- Whether a bus is honest and whether it is steady never changes.
+-- A bus stays honest or not, and steady or not.
 pub record KeepsNature (old new : BusState) : Type 0 where
   pub honest : new.honest ≡ old.honest
   pub steady : new.steady ≡ old.steady
 
--- On every bus: whether it is honest and steady never changes, and what is sent that may change a chip is noted.
+-- On every bus: it stays honest or not and steady or not, and modifying commands are recorded.
 pub record Sends (out : List ℕ) (old new : BusState) : Type 0 where
   pub nature : KeepsNature old new
   pub sent : Notes out old.sent new.sent
 
--- On every bus, what was heard by a transaction: after a stop it is as before.
+-- On every bus, the effect of a transaction on `heard`: none after a stop.
 pub record Hears (out answer : List ℕ) (outcome : Result Unit Stopped) (old new : BusState) : Type 0 where
   pub told : OnOk outcome (new.heard ≡ heard_after out answer old.heard)
   pub stopped : OnErr outcome (new.heard ≡ old.heard)
 
--- What a stop leaves. The first `count` bytes of the transaction were sent (none, some or all), and the chip made the
--- step that these ask for; no reply was read. Then the chip lost its power, or did not. On a steady bus no byte was sent
--- and no power was lost.
+-- The effect of a stop. The first `count` bytes of the transaction were sent (none, some or all), and the chip made the
+-- step that these ask for; no reply was read. Then the chip lost its power, or did not. On a steady bus no byte was
+-- sent and no power was lost.
 pub record AtStop (out : List ℕ) (old new : BusState) : Type 0 where
   pub count : ℕ
   pub reached : Chip
@@ -53,19 +53,20 @@ pub record AtStop (out : List ℕ) (old new : BusState) : Type 0 where
   pub none : old.steady ≡ true → count ≡ 0
   pub still : old.steady ≡ true → new.chip ≡ old.chip
 
--- The bus stopped: it had no transaction left to carry out.
+-- The bus stopped, because it had no transaction left to carry out.
 pub record Stops (out : List ℕ) (old new : BusState) : Type 0 where
   pub none_left : old.left ≡ 0
   pub left : new.left ≡ old.left
   pub at_stop : AtStop out old new
 
--- Carried out: the chip made one step, one transaction less is left, and an erase wore its sectors.
+-- The transaction was carried out: the chip made one step, one transaction fewer is left, and the sectors of an erase
+-- are recorded.
 pub record Carries (out answer : List ℕ) (old new : BusState) : Type 0 where
   pub left : old.left ≡ new.left + 1
   pub step : Step old.chip out answer new.chip
   pub worn : (s : ℕ) → new.worn s ≡ (old.worn s || wears (done_of old.chip out (length answer)) s)
 
--- a bus that has this many transactions left, and is as it was otherwise
+-- The effect of `allow`: this many transactions are left, if the bus is honest. Nothing else changed.
 pub record Allows (n : ℕ) (old new : BusState) : Type 0 where
   pub chip : new.chip ≡ old.chip
   pub left : old.honest ≡ true → new.left ≡ n
@@ -74,7 +75,7 @@ pub record Allows (n : ℕ) (old new : BusState) : Type 0 where
   pub heard : new.heard ≡ old.heard
   pub worn : (s : ℕ) → new.worn s ≡ old.worn s
 
--- any chip: it stands for one about which nothing is promised
+-- An arbitrary chip, for a bus about whose chip nothing is promised.
 abbrev pub unknown_chip : Chip
 unknown_chip = record {
   config = record {
@@ -93,8 +94,8 @@ unknown_chip = record {
   running = Unknown;
 }
 
--- A bus of which only is known what was sent over it and what the last poll showed, as one to a chip that isn't modelled.
--- It isn't honest, so nothing is promised about its chip.
+-- The state of a bus to a chip outside the model: only the modifying commands sent and the last poll are known. It
+-- isn't honest, so nothing is claimed about its chip.
 abbrev pub unknown_bus : Sent → Bool → BusState
 unknown_bus sent heard = record {
   chip = unknown_chip;

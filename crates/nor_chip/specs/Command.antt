@@ -8,11 +8,11 @@ use Rattle.nor_chip.specs.declared.command.Command.TheVariants.{WriteEnable, Wri
 abbrev pub address_of : Config → (x y z : ℕ) → ℕ
 address_of config x y z = (65536 * x + 256 * y + z) % config.size
 
--- an erase of the aligned unit of so many places that holds an address
+-- an erase of the aligned block of `len` bytes that holds an address
 abbrev pub aligned_erase : (len at : ℕ) → Command
 aligned_erase len at = Erase (at / len * len) len
 
--- what an opcode alone asks for, where so many replies are taken in
+-- what an opcode alone asks for, if this many reply bytes are read
 abbrev pub bare_command : Config → (opcode replies : ℕ) → Command
 bare_command config opcode replies =
     if opcode == 0x05 then Poll
@@ -32,8 +32,8 @@ addressed_command config opcode at replies =
     else if opcode == 0xD8 && replies == 0 && config.kinds.k64 then aligned_erase 65536 at
     else Ignored
 
--- What a transaction asks for, by how many bytes go out, the first of them and how many replies are taken in.
--- Every other transaction is ignored.
+-- What a transaction asks for, by the bytes that go out and the number of reply bytes that are read. Every other
+-- transaction is ignored.
 abbrev pub command_of : Config → (out : List ℕ) → (replies : ℕ) → Command
 command_of config [] replies = Ignored
 command_of config (opcode ∷ []) replies = bare_command config opcode replies

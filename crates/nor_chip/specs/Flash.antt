@@ -7,7 +7,7 @@ use Rattle.nor_chip.specs.Chip.{Chip}
 use Rattle.nor_chip.specs.Power.{is_known_running, is_in_work, kept_before}
 use Rattle.nor_chip.specs.Step.{is_operation}
 
--- the chip that it simulates
+-- the chip that is simulated
 abbrev pub chip_of : Flash → Chip
 chip_of flash = record {
   config = flash.config;
@@ -18,7 +18,8 @@ chip_of flash = record {
   running = flash.running;
 }
 
--- an operation begins: the chip is busy for so many polls, with its latch set, or not at all, and all else stays
+-- An operation begins: the chip is busy for the given number of polls. Its latch is set, unless that number is 0.
+-- Bytes, configuration and non-volatile bits are as they were.
 pub record Begins (runs : Running) (polls : ℕ) (old new : Chip) : Type 0 where
   pub config : new.config ≡ old.config
   pub bytes : (a : ℕ) → new.bytes a ≡ old.bytes a
@@ -27,14 +28,15 @@ pub record Begins (runs : Running) (polls : ℕ) (old new : Chip) : Type 0 where
   pub running : new.running ≡ runs
   pub latch : new.latch ≡ not (new.busy == 0)
 
--- what runs is cut off: each byte of it becomes this fill, and for a status write an even fill brings the old bits back
+-- The operation in progress was interrupted: each byte that it works on is `fill`. A status write was undone if `fill`
+-- is even. If the operation is unknown, nothing changed.
 pub record CutsOff (fill : ℕ) (old new : Chip) : Type 0 where
   pub config : new.config ≡ old.config
   pub bytes : (a : ℕ)
       → new.bytes a ≡ (if is_known_running old.running && is_in_work old.running a then fill else old.bytes a)
   pub kept : new.kept ≡ (if fill % 2 == 0 then kept_before old else old.kept)
 
--- how long operations take stays as it is, and after an operation the chip is busy for as long
+-- The number of polls that show BUSY after each operation stays the same, and an operation sets `busy` to it.
 pub record Paces (command : Command) (old new : Flash) : Type 0 where
   pub each : new.each ≡ old.each
   pub busy : is_operation command ≡ true → new.busy ≡ old.each

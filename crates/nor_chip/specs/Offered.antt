@@ -1,4 +1,4 @@
--- The walk over the offered sets.
+-- The iterator over the ranges that can be protected.
 use Rattle.std.specs.Prelude.{◌≡◌, ◌<◌, ◌≤◌, ◌+◌, ℕ, Option, None, Some}
 use Rattle.nor_chip.specs.declared.guard.walk.Offered.{Offered}
 use Rattle.nor_chip.specs.Offer.{IsLeastCode}
@@ -7,11 +7,11 @@ use Rattle.nor_chip.specs.Offer.{IsLeastCode}
 abbrev pub size_of : Offered → ℕ
 size_of walk = walk.size
 
--- the first code that it hasn't passed
+-- the first code that the iterator has not passed
 abbrev pub next_code : Offered → ℕ
 next_code walk = walk.next
 
--- a set, so many places from a start on, whose least code was not passed yet, and before whose code no other's lies
+-- The next range: no code between the last position and its least code is the least code of a range.
 pub record IsNextSet (old : Offered) (start len : ℕ) (new : Offered) : Type 0 where
   pub code : ℕ
   pub not_passed : next_code old ≤ code
@@ -22,18 +22,18 @@ pub record IsNextSet (old : Offered) (start len : ℕ) (new : Offered) : Type 0 
   pub passed : next_code new ≡ code + 1
   pub size : size_of new ≡ size_of old
 
--- no set is left, and none will come later
+-- No range is left, and none will come later.
 pub record IsAtEnd (old new : Offered) : Type 0 where
   pub none : (code start len : ℕ) → next_code old ≤ code → ¬ IsLeastCode (size_of old) start len code
   pub ended : next_code new ≡ 64
   pub size : size_of new ≡ size_of old
 
--- Each step gives the set with the least code that was not passed, until no set has one.
+-- Each step returns the range with the least code that was not passed, until none is left.
 abbrev pub GivesNextSet : Offered → Option (ℕ × ℕ) → Offered → Type 0
 GivesNextSet old (Some (start, len)) new = IsNextSet old start len new
 GivesNextSet old None new = IsAtEnd old new
 
--- a walk that begins, on a chip of this size
+-- the iterator at its start, for a chip of this size
 pub record IsStart (chip_size : ℕ) (walk : Offered) : Type 0 where
   pub size : size_of walk ≡ chip_size
   pub first : next_code walk ≡ 0

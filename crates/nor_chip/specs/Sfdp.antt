@@ -1,23 +1,23 @@
--- The SFDP bytes of the emulated chips. (JESD216; the bytes are this project's own, and not the vendor's.)
+-- The SFDP bytes of the emulated chips. (Laid out by JESD216; made for this project, not read from Winbond's chips.)
 use Rattle.std.specs.Prelude.{ℕ, ◌/◌, ◌%◌, List, [], ◌∷◌}
 
--- The header, one parameter header and the double words 1 to 9 of the basic flash parameter table. The chips differ in
--- the second double word, the size in bits less one, of which these are the bytes, the low one first.
+-- The header, one parameter header, and double words 1 to 9 of the basic flash parameter table. The arguments are the
+-- bytes of double word 2, low byte first: the size in bits, minus one. The chips differ only in these.
 abbrev pub sfdp_of : (size0 size1 size2 size3 : ℕ) → List ℕ
 sfdp_of size0 size1 size2 size3 =
-    -- the signature, revision 1.0, one parameter header
+    -- signature, revision 1.0, one parameter header
     0x53 ∷ 0x46 ∷ 0x44 ∷ 0x50 ∷ 0x00 ∷ 0x01 ∷ 0x00 ∷ 0xFF
-    -- the basic table of revision 1.0: nine double words, at 10h
+    -- the basic table, revision 1.0: nine double words, at 10h
     ∷ 0x00 ∷ 0x00 ∷ 0x01 ∷ 0x09 ∷ 0x10 ∷ 0x00 ∷ 0x00 ∷ 0xFF
-    -- 1: an erase of 4 KiB by 20h, pages of 64 bytes or more, three address bytes
+    -- double word 1: 4 KiB erase by 20h, pages of 64 bytes or more, three address bytes
     ∷ 0x05 ∷ 0x20 ∷ 0x00 ∷ 0x00
-    -- 2: the size; 3 to 7: nothing
+    -- double word 2: the size; 3 to 7: zero
     ∷ size0 ∷ size1 ∷ size2 ∷ size3
     ∷ 0x00 ∷ 0x00 ∷ 0x00 ∷ 0x00 ∷ 0x00 ∷ 0x00 ∷ 0x00 ∷ 0x00 ∷ 0x00 ∷ 0x00
     ∷ 0x00 ∷ 0x00 ∷ 0x00 ∷ 0x00 ∷ 0x00 ∷ 0x00 ∷ 0x00 ∷ 0x00 ∷ 0x00 ∷ 0x00
-    -- 8 and 9: erases of 2 ^ 12 bytes by 20h, of 2 ^ 15 by 52h, of 2 ^ 16 by D8h
+    -- double words 8 and 9: erases of 2 ^ 12 bytes by 20h, of 2 ^ 15 by 52h, of 2 ^ 16 by D8h
     ∷ 0x0C ∷ 0x20 ∷ 0x0F ∷ 0x52 ∷ 0x10 ∷ 0xD8 ∷ 0x00 ∷ 0x00 ∷ []
 
--- the same by the second double word
+-- the same bytes, from double word 2 as a number
 abbrev pub sfdp_with : (density : ℕ) → List ℕ
 sfdp_with density = sfdp_of (density % 256) (density / 256 % 256) (density / 65536 % 256) (density / 16777216)

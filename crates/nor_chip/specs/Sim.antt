@@ -9,7 +9,8 @@ use Rattle.nor_chip.specs.Power.{PowerLostWith}
 use Rattle.nor_chip.specs.Step.{Step, is_operation, done_of, wears}
 use Rattle.nor_chip.specs.Bus.{BusState}
 
--- an honest bus to the chip that it simulates; it is steady if neither a fill nor a tear is set
+-- The state of a simulated bus, which is always honest. It is steady if neither `lose` nor `tear` set an effect of a
+-- stop.
 abbrev pub state_of : SimBus → BusState
 state_of bus = record {
   chip = chip_of bus.flash;
@@ -21,19 +22,19 @@ state_of bus = record {
   heard = bus.heard;
 }
 
--- the fill that a loss of power leaves, where the bus isn't steady
+-- the fill that `lose` set: the effect of a power failure at a stop
 abbrev pub fill_of : SimBus → Option ℕ
 fill_of bus = bus.fill
 
--- how many bytes of its transaction a stop sends, if it sends any
+-- the number of bytes that `tear` set: a stop sends the first bytes of its transaction
 abbrev pub torn_of : SimBus → Option ℕ
 torn_of bus = bus.torn
 
--- how many polls answer BUSY after each operation
+-- how many polls show BUSY after each operation
 abbrev pub pace_of : SimBus → ℕ
 pace_of bus = bus.flash.each
 
--- The chip at a stop, before any loss of power: nothing of the transaction was sent, or its first `count` bytes.
+-- The chip at a stop, before a power failure: nothing of the transaction was sent, or its first `count` bytes.
 abbrev pub TornTo : (torn : Option ℕ) → (out : List ℕ) → (old new : Chip) → Type 0
 TornTo None out old new = new ≡ old
 TornTo (Some count) out old new = Step old (take count out) [] new
@@ -43,7 +44,8 @@ abbrev pub LostTo : (fill : Option ℕ) → (old new : Chip) → Type 0
 LostTo None old new = new ≡ old
 LostTo (Some fill) old new = PowerLostWith fill old new
 
--- A stop leaves what is set, what is left and what was noted of the bus as it was.
+-- A stop changes neither the settings of the bus, nor the number of transactions left, nor its records of what was sent
+-- and of the last poll.
 pub record KeepsBus (old new : SimBus) : Type 0 where
   pub fill : fill_of new ≡ fill_of old
   pub torn : torn_of new ≡ torn_of old
@@ -52,19 +54,19 @@ pub record KeepsBus (old new : SimBus) : Type 0 where
   pub sent : new.sent ≡ old.sent
   pub heard : new.heard ≡ old.heard
 
--- which sectors count as erased after a stop
+-- the sectors that count as erased after a stop
 abbrev pub WornTo : (torn : Option ℕ) → (out : List ℕ) → Chip → (old new : ℕ → Bool) → Type 0
 WornTo None out chip old new = (s : ℕ) → new s ≡ old s
 WornTo (Some count) out chip old new = (s : ℕ) → new s ≡ (old s || wears (done_of chip (take count out) 0) s)
 
--- A stop cuts its transaction after some bytes, or does not begin it; then the chip loses its power, or does not.
+-- A stop cut its transaction after some bytes, or did not begin it. Then the chip lost its power, or did not.
 pub record TearsOff (torn fill : Option ℕ) (out : List ℕ) (old new : Chip) : Type 0 where
   pub reached : Chip
   pub torn_off : TornTo torn out old reached
   pub lost : LostTo fill reached new
 
--- What a transaction of a simulated bus does beyond the contract of a bus: fill, tear and pace stay, an operation is
--- followed by the set number of polls that show BUSY, and a stop leaves what the tear and the fill say.
+-- The effect of a transaction of a simulated bus, in addition to the contract of a bus: the settings stay. After an
+-- operation the set number of polls show BUSY. After a stop the chip is as `tear` and `lose` set.
 pub record Simulates (out answer : List ℕ) (outcome : Result Unit Stopped) (old new : SimBus) : Type 0 where
   pub fill : fill_of new ≡ fill_of old
   pub torn : torn_of new ≡ torn_of old

@@ -1,2 +1,2 @@
--- The sizes that a chip may have, as the crates below have them too.
+-- The sizes that a chip may have, defined in nor_count.
 pub use Rattle.nor_count.specs.Size.{is_chip_size}

@@ -1,4 +1,4 @@
--- The bus that lies, as contracts see it.
+-- The faulty bus, as contracts see it.
 use Rattle.std.specs.Prelude.{◌≡◌, ◌<◌, ◌+◌, ◌-◌, ◌^◌, ◌==◌, ◌&&◌, ℕ, true, false, List, length, Option, None, Some, Result, Ok, Err, OnOk, OnErr, IsOk, IfSome, IfNone, replicate, min, nat_lt, nat_le, bit_and, bit_or, slice_index, if◌then◌else◌}
 use Rattle.nor_chip.specs.declared.spoilt.SpoiltBus.{SpoiltBus}
 use Rattle.nor_chip.specs.declared.spoilt.Spoil.{Spoil}
@@ -8,22 +8,22 @@ use Rattle.nor_chip.specs.declared.sent.Sent.{Sent}
 use Rattle.nor_chip.specs.Heard.{is_poll}
 use Rattle.nor_chip.specs.Bus.{BusState, Stops, Carries}
 
--- the bus inside, how it is spoilt, and how many transactions were carried out or answered
+-- the bus inside, the way in which it fails, and how many transactions succeeded
 abbrev pub inner_of : {B : Type 0} → SpoiltBus B → B
 inner_of bus = bus.bus
 
 abbrev pub spoil_of : {B : Type 0} → SpoiltBus B → Spoil
 spoil_of bus = bus.spoil
 
--- what was sent over it that may change a chip
+-- the modifying commands that were sent to the faulty bus
 abbrev pub noted_of : {B : Type 0} → SpoiltBus B → Sent
 noted_of bus = bus.noted
 
 abbrev pub sent_of : {B : Type 0} → SpoiltBus B → ℕ
 sent_of bus = bus.sent
 
--- it isn't honest, what is sent over it is noted also where it doesn't get there, and what is heard is what it replies;
--- all else is as the bus inside
+-- The state of a faulty bus. It isn't honest. It records what it is asked to send, even if it drops that, and the last
+-- poll by its own replies. All else is the state of the bus inside.
 abbrev pub spoilt_state : {B : Type 0} → (B → BusState) → SpoiltBus B → BusState
 spoilt_state state bus = record (state bus.bus) {
   honest = false;
@@ -31,7 +31,7 @@ spoilt_state state bus = record (state bus.bus) {
   heard = bus.heard;
 }
 
--- the one byte that a transaction replies which isn't carried out: every transaction, or the one behind so many
+-- the byte that every reply has, if the transaction after the first `sent` is dropped
 abbrev pub withheld : Spoil → ℕ → Option ℕ
 withheld (Fill byte) sent = Some byte
 withheld (BusyFrom first) sent = None
@@ -41,33 +41,33 @@ withheld (Low bit) sent = None
 abbrev pub withheld_of : {B : Type 0} → SpoiltBus B → Option ℕ
 withheld_of bus = withheld (spoil_of bus) (sent_of bus)
 
--- the byte that is replied for one of the bus inside, by the transaction behind so many
+-- the reply byte in place of `byte`, for the transaction after the first `sent`
 abbrev pub spoilt_byte : Spoil → ℕ → List ℕ → ℕ → ℕ
 spoilt_byte (Fill fill) sent out byte = byte
 spoilt_byte (BusyFrom first) sent out byte = if nat_le first (sent + 1) && is_poll out then bit_or byte 1 else byte
 spoilt_byte (Drop number) sent out byte = byte
 spoilt_byte (Low bit) sent out byte = if nat_lt bit 8 then bit_and byte (255 - 2 ^ bit) else byte
 
--- Not carried out: the bus inside stays as it is, and each reply byte is this one.
+-- The transaction was dropped: the bus inside is as it was, and each reply byte is `byte`.
 pub record IsWithheld {B : Type 0} (byte : ℕ) (asked answer : List ℕ) (outcome : Result Unit Stopped)
     (old new : B) : Type 0 where
   pub answered : IsOk outcome
   pub inner : new ≡ old
   pub replies : answer ≡ replicate (length asked) byte
 
--- Passed on: the bus inside took the transaction, and each byte that it replied is spoilt.
+-- The transaction was passed on: the bus inside carried it out, and each reply byte was changed.
 pub record IsPassedOn (byte_for : ℕ → ℕ) (out answer : List ℕ) (old new : BusState) : Type 0 where
   pub replied : List ℕ
   pub as_many : length answer ≡ length replied
   pub replies : (i : ℕ) → i < length answer → slice_index answer i ≡ byte_for (slice_index replied i)
   pub inner : old.honest ≡ true → Carries out replied old new
 
--- The bus inside took the transaction, or stopped it, and then an honest one left the reply as it was.
+-- The bus inside carried out the transaction, or it stopped. If it is honest, a stop left the reply as it was.
 abbrev pub GoesThrough : (ℕ → ℕ) → (out asked answer : List ℕ) → Result Unit Stopped → (old new : BusState) → Type 0
 GoesThrough byte_for out asked answer (Ok done) old new = IsPassedOn byte_for out answer old new
 GoesThrough byte_for out asked answer (Err stopped) old new = old.honest ≡ true → (answer ≡ asked) × Stops out old new
 
--- What a transaction of a spoilt bus does. One that the bus inside stops isn't counted.
+-- The effect of a transaction of a faulty bus. A transaction at which the bus inside stops isn't counted.
 pub record Spoils {B : Type 0} (state : B → BusState) (out asked answer : List ℕ) (outcome : Result Unit Stopped)
     (old new : SpoiltBus B) : Type 0 where
   pub spoil : spoil_of new ≡ spoil_of old

@@ -1,4 +1,4 @@
--- How a simulated bus starts, and what it shows of its chip.
+-- The start of a simulated bus, and what it shows of its chip.
 use Rattle.std.specs.Prelude.{◌≡◌, ◌<◌, ◌/◌, ◌%◌, ◌==◌, [], ◌∷◌, ℕ, List, true, false, length, slice_index}
 use Rattle.nor_chip.specs.declared.config.Config.{Config}
 use Rattle.nor_chip.specs.declared.sim.Delays.{Delays}
@@ -7,9 +7,9 @@ use Rattle.nor_chip.specs.Chip.{Chip, status1_of, status2_of, kept_in}
 use Rattle.nor_chip.specs.Sent.{IsNothing}
 use Rattle.nor_chip.specs.Bus.{BusState}
 
--- A new bus: its chip has this configuration, these bytes, the kept bits and the latch of these two status
--- bytes, and answers BUSY to so many polls, though nothing is known of what runs. No transaction is let through yet,
--- none was sent, no poll was replied to, and no sector was erased.
+-- The state of a simulated bus at its start. Its chip has this configuration, these bytes, and the non-volatile bits
+-- and latch of these two status bytes. The given number of polls show BUSY, and the operation in progress is unknown.
+-- No transaction is left, none was sent, no poll was replied to, and no sector was erased.
 pub record Starts (setup : Config) (image flags : List ℕ) (delays : Delays) (state : BusState) : Type 0 where
   pub config : state.chip.config ≡ setup
   pub bytes : (a : ℕ) → state.chip.bytes a ≡ slice_index image a
@@ -24,11 +24,11 @@ pub record Starts (setup : Config) (image flags : List ℕ) (delays : Delays) (s
   pub steady : state.steady ≡ true
   pub heard : state.heard ≡ false
 
--- the bytes of a chip as a list
+-- the list has the bytes of the chip
 pub record AreChipBytes (chip : Chip) (bytes : List ℕ) : Type 0 where
   pub len : length bytes ≡ chip.config.size
   pub at : (a : ℕ) → a < chip.config.size → slice_index bytes a ≡ chip.bytes a
 
--- what 05h and 35h would reply
+-- the two bytes that 05h and 35h would read
 abbrev pub status_of : Chip → List ℕ
 status_of chip = status1_of chip ∷ status2_of chip ∷ []

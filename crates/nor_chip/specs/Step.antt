@@ -1,6 +1,6 @@
--- One step of the chip: what a transaction that is let through replies, and what it leaves.
--- (W25Q64FV datasheet, instruction descriptions. That an effect comes at once, and `busy` after it is any
--- number, is this model's own: no program can tell it from a chip that works while it is polled.)
+-- One step of the chip: the reply to a transaction that is carried out, and its effect. (W25Q64FV datasheet,
+-- instruction descriptions.) In this model an operation has its whole effect at once, and the chip is then busy for an
+-- arbitrary number of polls. Over the bus this looks like a chip that works while it is polled.
 use Rattle.std.specs.Prelude.{◌≡◌, ◌<◌, ◌+◌, ◌-◌, ◌*◌, ◌/◌, ◌%◌, ◌==◌, ◌&&◌, ℕ, Bool, true, false, not, Option, None, Some, List, [], ◌∷◌, length, drop, slice_index, slice_index_or, bit_and, bit_or, nat_lt, nat_le, if◌then◌else◌}
 use Rattle.nor_chip.specs.declared.command.Command.{Command}
 use Rattle.nor_chip.specs.declared.command.Command.TheVariants.{WriteEnable, WriteDisable, Poll, ReadStatus2, WriteStatus, Program, Erase, ReadData, ReadId, ReadSfdp, ReadUnique, Ignored}
@@ -14,10 +14,10 @@ use Rattle.nor_chip.specs.Command.{command_of}
 abbrev pub is_idle : Chip → Bool
 is_idle chip = chip.busy == 0
 
--- A command is carried out: only the two status reads while the chip is busy, an operation only with the latch
--- set, a status write only where the status is not locked, a program or an erase only where no place that it
--- aims at is guarded. Of a program one place tells that: guarded places begin and end at whole KiB, and the places
--- of a program lie in one page of 256 bytes.
+-- The chip carries the command out. A busy chip carries out only the two status reads. An operation needs the write
+-- enable latch, a status write an unlocked status. A program or an erase is ignored if an address that it covers is
+-- protected. For a program one address is tested: protected ranges begin and end at whole KiB, and a program stays
+-- within one page of 256 bytes.
 abbrev pub is_carried_out : Chip → Command → Bool
 is_carried_out chip Poll = true
 is_carried_out chip ReadStatus2 = true
@@ -27,13 +27,13 @@ is_carried_out chip (Erase start len) = is_idle chip && chip.latch && not (is_un
 is_carried_out chip Ignored = false
 is_carried_out chip _ = is_idle chip
 
--- what the chip does at a transaction that sends `out`: what is asked for, or nothing where that is not carried out
+-- the command that the chip carries out at a transaction that sends `out`, or `Ignored` if it carries out none
 abbrev pub done_of : Chip → (out : List ℕ) → (replies : ℕ) → Command
 done_of chip out replies =
     let command = command_of chip.config out replies in if is_carried_out chip command then command else Ignored
 
--- The reply byte number i: status, data (running on over the chip's end), the ID, the SFDP or the unique ID
--- with FFh past their ends, and FFh for all else.
+-- The reply byte with index i: a status byte, data (which continue at address 0 after the chip's end), the ID, the SFDP
+-- bytes or the unique ID. Past their ends, and for all other commands, it is FFh.
 abbrev pub reply_byte : Chip → Command → (i : ℕ) → ℕ
 reply_byte chip Poll i = status1_of chip
 reply_byte chip ReadStatus2 i = status2_of chip
@@ -43,8 +43,8 @@ reply_byte chip (ReadSfdp at) i = sfdp_byte chip.config (at + i)
 reply_byte chip ReadUnique i = slice_index_or chip.config.unique i 255
 reply_byte chip _ i = 255
 
--- the last of the bytes sent that goes to the place `a` of a page: the first goes to the place `at`, and each other
--- to the next place, from the page's end on to its start
+-- the last byte that was sent for the address `a` of a page: the first byte sent goes to the address `at`, each further
+-- one to the next address, which wraps around at the end of the page
 unfoldable pub last_for : (at : ℕ) → (sent : List ℕ) → (a : ℕ) → Option ℕ
 last_for at [] a = None
 last_for at (byte ∷ sent) a = elim (last_for (at + 1) sent a) [
@@ -52,20 +52,20 @@ last_for at (byte ∷ sent) a = elim (last_for (at + 1) sent a) [
   | None ↦ (if at % 256 == a % 256 then Some byte else None)
 ]
 
--- the byte once this one is programmed, which only clears bits, or none is
+-- the byte after it was programmed with this byte, which can only clear bits; unchanged if no byte was sent for it
 abbrev pub lowered : (old : ℕ) → Option ℕ → ℕ
 lowered old None = old
 lowered old (Some byte) = bit_and old byte
 
--- The byte at the place `a` afterwards.
+-- the byte at the address `a` after the command
 abbrev pub byte_after : Chip → Command → (sent : List ℕ) → (a : ℕ) → ℕ
 byte_after chip (Program at) sent a =
     if a / 256 == at / 256 then lowered (chip.bytes a) (last_for at sent a) else chip.bytes a
 byte_after chip (Erase start len) sent a = if nat_le start a && nat_lt a (start + len) then 255 else chip.bytes a
 byte_after chip _ sent a = chip.bytes a
 
--- The kept bits afterwards. A status write sets BP, TB, SEC, SRP0, SRP1, QE and CMP as sent; an LB bit stays set once it
--- is, and the reserved bit is not written.
+-- The non-volatile status bits after the command. A status write sets BP, TB, SEC, SRP0, SRP1, QE and CMP as sent. An
+-- LB bit that is set stays set, and the reserved bit is not written.
 abbrev pub kept_after : Chip → Command → KeptBits
 kept_after chip (WriteStatus one two) = record {
   one = one / 4;
@@ -73,14 +73,14 @@ kept_after chip (WriteStatus one two) = record {
 }
 kept_after chip _ = chip.kept
 
--- the command is an operation, after which the chip is busy for a while
+-- the command is an operation: the chip may be busy after it
 abbrev pub is_operation : Command → Bool
 is_operation (WriteStatus one two) = true
 is_operation (Program at) = true
 is_operation (Erase start len) = true
 is_operation _ = false
 
--- `busy` afterwards: any number after an operation, one less after a poll
+-- `busy` after the command: any number below 65,536 after an operation, one less after a poll
 abbrev pub BusyAfter : Chip → Command → (busy : ℕ) → Type 0
 BusyAfter chip (WriteStatus one two) busy = busy < 65536
 BusyAfter chip (Program at) busy = busy < 65536
@@ -88,7 +88,8 @@ BusyAfter chip (Erase start len) busy = busy < 65536
 BusyAfter chip Poll busy = busy ≡ chip.busy - 1
 BusyAfter chip _ busy = busy ≡ chip.busy
 
--- The latch afterwards: an operation that has ended clears it, at once or with the poll that sees its last BUSY.
+-- The write enable latch after the command. An operation clears it when it ends: at once, or with the poll that shows
+-- the last BUSY.
 abbrev pub latch_after : Chip → Command → (busy : ℕ) → Bool
 latch_after chip WriteEnable busy = true
 latch_after chip WriteDisable busy = false
@@ -98,14 +99,14 @@ latch_after chip (Erase start len) busy = not (busy == 0)
 latch_after chip Poll busy = if chip.busy == 1 then false else chip.latch
 latch_after chip _ busy = chip.latch
 
--- what runs afterwards: the operation, or what ran before
+-- the operation in progress after the command: the command, if it is an operation, otherwise the one from before
 abbrev pub running_after : Chip → Command → Running
 running_after chip (WriteStatus one two) = Runs.StatusWrite chip.kept.one chip.kept.two
 running_after chip (Program at) = Runs.Program (at / 256)
 running_after chip (Erase start len) = Runs.Erase start len
 running_after chip _ = chip.running
 
--- What doing a command replies and leaves.
+-- The reply to a command that is carried out, and its effect.
 pub record Does (command : Command) (sent : List ℕ) (old : Chip) (answer : List ℕ) (new : Chip) : Type 0 where
   pub replies : (i : ℕ) → i < length answer → slice_index answer i ≡ reply_byte old command i
   pub config : new.config ≡ old.config
@@ -115,11 +116,11 @@ pub record Does (command : Command) (sent : List ℕ) (old : Chip) (answer : Lis
   pub latch : new.latch ≡ latch_after old command new.busy
   pub running : new.running ≡ running_after old command
 
--- The chip's step: `out` goes out, `answer` comes in. A program's data stand behind its three address bytes.
+-- One step of the chip: `out` was sent and `answer` received. The data of a program follow its three address bytes.
 abbrev pub Step : (old : Chip) → (out answer : List ℕ) → (new : Chip) → Type 0
 Step old out answer new = Does (done_of old out (length answer)) (drop 4 out) old answer new
 
--- a command wears a sector: it is an erase whose unit holds it
+-- the command is an erase of an erase block that holds this sector
 abbrev pub wears : Command → (sector : ℕ) → Bool
 wears (Erase start len) sector = nat_le start (4096 * sector) && nat_lt (4096 * sector) (start + len)
 wears _ sector = false

@@ -1,11 +1,11 @@
--- The bus that writes down what it carries out, as contracts see it.
+-- The bus that logs each transaction that it carries out, as contracts see it.
 use Rattle.std.specs.Prelude.{◌≡◌, ◌++◌, ◌==◌, ℕ, Bool, true, false, List, [], Option, Result, OnOk, OnErr, length, codes, decimal, nat_lt, if◌then◌else◌}
 use Rattle.std.specs.Io.KnownBytes.{Appends}
 use Rattle.hex.specs.Hex.{encode_lower}
 use Rattle.nor_chip.specs.declared.trace.TraceBus.{TraceBus}
 use Rattle.nor_chip.specs.declared.bus.Stopped.{Stopped}
 
--- the bus inside, the log, and whether a line of it is lost
+-- the bus inside, the log, and whether a line was lost
 abbrev pub traced_by : {B L : Type 0} → TraceBus B L → B
 traced_by traced = traced.bus
 
@@ -15,19 +15,19 @@ log_of traced = traced.log
 abbrev pub has_lost : {B L : Type 0} → TraceBus B L → Bool
 has_lost traced = traced.lost
 
--- what a line tells of the bytes that were taken in: their digits, or for more than three of them their number
+-- the end of a line, for the bytes received: their digits, or the number of them if there are more than three
 abbrev pub told_of : List ℕ → List ℕ
 told_of answer =
     if length answer == 0 then []
     else if nat_lt 3 (length answer) then codes " > " ++ decimal (length answer) ++ codes " bytes"
     else codes " > " ++ encode_lower answer
 
--- the line of a transaction: the digits of the bytes sent, and what it tells of those taken in
+-- the line of a transaction: the digits of the bytes sent, then the end for the bytes received
 abbrev pub traced_line : (out answer : List ℕ) → List ℕ
 traced_line out answer = encode_lower out ++ told_of answer ++ codes "\n"
 
--- Once a line is lost this stays so; a transaction that the bus inside stops has no line, and any other has its own,
--- as far as what the log holds is known.
+-- The effect of a transaction on the log. At a stop the log is as it was. If the transaction was carried out and no
+-- line was lost, its line was appended, if the log's contents are known. Once a line is lost, that stays recorded.
 pub record Traces {B L : Type 0} (contents : L → Option (List ℕ)) (out answer : List ℕ) (outcome : Result Unit Stopped)
     (old new : TraceBus B L) : Type 0 where
   pub still_lost : has_lost old ≡ true → has_lost new ≡ true

@@ -1,22 +1,22 @@
--- Which units of a chip are guarded, in the words of the datasheets' tables.
+-- The ranges of a chip that are protected, as the datasheets' tables list them.
 use Rattle.std.specs.Prelude.{◌≡◌, ◌<◌, ◌≤◌, ◌+◌, ◌%◌, ◌⊎◌, ℕ, Bool, true, nat_lt, nat_le}
 
--- a test holds at some place of a unit, that is of so many places from `start` on
+-- the test holds at some address from `start` to `start + len - 1`
 pub record HoldsSomewhere (test : ℕ → Bool) (start len : ℕ) : Type 0 where
   pub place : ℕ
   pub from : start ≤ place
   pub before : place < start + len
   pub holds : test place ≡ true
 
--- the places of a chip where a test holds are the first ones, before the border, or the last ones, from it on
+-- the test holds exactly at the addresses of the chip before the border, or exactly at those from the border on
 abbrev pub OnFirst : ℕ → (ℕ → Bool) → ℕ → Type 0
 OnFirst size test border = (a : ℕ) → a < size → test a ≡ nat_lt a border
 
 abbrev pub OnLast : ℕ → (ℕ → Bool) → ℕ → Type 0
 OnLast size test border = (a : ℕ) → a < size → test a ≡ nat_le border a
 
--- They are at one end of the chip, in whole KiB, and from 256 KiB on, where the 64th part of the chip is a sector or
--- more, in whole sectors.
+-- The test holds exactly in a range at one end of the chip. The range has whole KiB, and on a chip of at least 256 KiB,
+-- of which a 64th is at least a sector, whole sectors.
 pub record LieAtAnEnd (size : ℕ) (test : ℕ → Bool) : Type 0 where
   pub border : ℕ
   pub within : border ≤ size

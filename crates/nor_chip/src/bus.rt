@@ -1,4 +1,4 @@
-//! The bus to a chip.
+//! The traits of a bus to a chip.
 ghost use Rattle.std.specs.Prelude.{◌≡◌, true, length, OnOk, OnErr};
 ghost use Rattle.nor_chip.specs.Chip.{IsChip};
 ghost use Rattle.nor_chip.specs.Bus.{BusState, Sends, Stops, Carries, Hears, Allows};
@@ -19,11 +19,11 @@ impl std::error::Error for Stopped {}
 
 /// A bus to a chip. A transaction sends the bytes `out` and then reads as many bytes as `reply` holds.
 ///
-/// Contracts see a bus as a `BusState`. An *honest* bus stops if and only if no transaction is left; otherwise the chip
-/// makes one step. At a stop a *steady* bus sends nothing and keeps the chip's power. Any other honest bus may at a stop
-/// have sent the first bytes of the transaction (none, some or all), and the chip may then have lost its power. A faulty
-/// bus may do anything except three things: change its honesty, hide sent bytes that may modify a chip, and hide the BUSY
-/// bits that its polls replied.
+/// Contracts see a bus as a `BusState`. An *honest* (well-behaved) bus stops if and only if it has no transaction left;
+/// otherwise the chip makes one step. At a stop a *steady* bus sends nothing and keeps the chip's power. Any other
+/// honest bus may at a stop have sent the first bytes of the transaction (none, some or all), and the chip may then
+/// have lost its power. A faulty bus may do anything except three things: change its honesty or steadiness, hide sent
+/// bytes that may modify a chip, and hide the BUSY bits that its polls replied.
 pub trait Bus {
     ghost state: { Self → BusState };
 
@@ -36,13 +36,13 @@ pub trait Bus {
             → OnOk result (Carries out.now reply.new (state self.old) (state self.new)) }
         ensures hears { Hears out.now reply.new result (state self.old) (state self.new) };
 
-    /// An honest bus reaches a chip.
+    /// Proves that an honest bus reaches a chip whose status bits, bytes and polls are in range (`IsChip`).
     ghost reaches: { (bus : Self) → (state bus).honest ≡ true → IsChip (state bus).chip };
 }
 
-/// A bus that can be told to stop.
+/// A bus that can be set to stop after a given number of transactions.
 pub trait Meter: Bus {
-    /// Sets how many more transactions the bus carries out, if it is honest. All else stays.
+    /// Sets the number of transactions that the bus still carries out, if it is honest. Nothing else changes.
     fn allow(&mut self, n: u64)
         ensures { Allows n (Self.state self.old) (Self.state self.new) };
 }

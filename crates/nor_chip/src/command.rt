@@ -1,41 +1,42 @@
-//! What the bytes of a transaction ask for.
+//! Decodes the bytes of a transaction.
 ghost use Rattle.std.specs.Prelude.{◌≡◌, ◌<◌};
 ghost use Rattle.nor_chip.specs.Command.{command_of, bare_command, addressed_command, aligned_erase, address_of, begins_change, begins_quiet, is_change};
 
 use crate::{Config, SECTOR_LEN};
 
-/// What a transaction asks of the chip. (W25Q64FV datasheet, instruction set table.)
+/// The command that a transaction asks for. (W25Q64FV datasheet, instruction set table.)
 #[derive(Clone, Copy, Debug, PartialEq, Eq)]
 pub enum Command {
     /// 06h: sets the write enable latch.
     WriteEnable,
-    /// 04h: clears it.
+    /// 04h: clears the write enable latch.
     WriteDisable,
-    /// 05h: replies status 1, as often as bytes are taken in.
+    /// 05h: every reply byte is status 1.
     Poll,
-    /// 35h: replies status 2, likewise.
+    /// 35h: every reply byte is status 2.
     ReadStatus2,
     /// 01h: writes status 1 and status 2.
     WriteStatus(u8, u8),
-    /// 02h: programs the page that holds this address, from there on.
+    /// 02h: programs within one page, from this address.
     Program(u32),
-    /// 20h, 52h, D8h or C7h: erases the places from this one on, as many as the second number says.
+    /// 20h, 52h, D8h or C7h: erases from the first address, the given number of bytes.
     Erase(u32, u32),
-    /// 03h: reads from this address on.
+    /// 03h: reads from this address.
     ReadData(u32),
-    /// 9Fh: replies the ID.
+    /// 9Fh: reads the ID.
     ReadId,
-    /// 5Ah: replies the SFDP bytes from this address on.
+    /// 5Ah: reads the SFDP bytes from this address.
     ReadSfdp(u32),
-    /// 4Bh: replies the unique ID.
+    /// 4Bh: reads the unique ID.
     ReadUnique,
     /// Any other transaction.
     Ignored,
 }
 
 impl Command {
-    /// What a transaction asks of a chip with this configuration: `out` goes out, and `replies` bytes are taken
-    /// in. Addresses are taken modulo the size.
+    /// Decodes a transaction to a chip with this configuration that sends `out` and receives `replies` bytes. Addresses
+    /// are taken modulo the size. A transaction that fits no command, for example a program that receives bytes, is
+    /// `Ignored`.
     pub fn of(config: &Config, out: &[u8], replies: usize) -> Command
         ensures { result ≡ command_of config.now out.now replies }
     {
@@ -89,25 +90,22 @@ impl Command {
     }
 }
 
-// The address that three bytes name, high byte first, modulo the chip's size.
+// Returns the address that three bytes name, high byte first, modulo the chip's size.
 fn address(config: &Config, x: u8, y: u8, z: u8) -> u32
     ensures { result ≡ address_of config.now x y z }
 {
     u32::from_be_bytes([0, x, y, z]) % config.size
 }
 
-/// True if a transaction that sends `out` begins with one of the seven modifying opcodes: 06h, 01h, 02h, 20h, 52h, D8h
-/// or C7h. (W25Q64FV datasheet, instruction set table.)
+/// Returns whether a transaction that sends `out` begins with one of the seven modifying opcodes: 06h, 01h, 02h, 20h,
+/// 52h, D8h or C7h. (W25Q64FV datasheet, instruction set table.)
 pub fn is_changing(out: &[u8]) -> bool
     ensures { result ≡ begins_change out.now }
 {
-    matches!(
-        out,
-        [0x06 | 0x01 | 0x02 | 0x20 | 0x52 | 0xD8 | 0xC7, ..]
-    )
+    matches!(out, [0x06 | 0x01 | 0x02 | 0x20 | 0x52 | 0xD8 | 0xC7, ..])
 }
 
-/// True if it sends nothing, or begins with an opcode that reads (03h, 05h, 35h, 4Bh, 5Ah, 9Fh) or with write disable.
+/// Returns whether a transaction that sends `out` sends nothing, or begins with an opcode that reads (03h, 05h, 35h, 4Bh, 5Ah, 9Fh) or with write disable.
 pub(crate) fn is_quiet(out: &[u8]) -> bool
     ensures { result ≡ begins_quiet out.now }
 {
@@ -117,7 +115,7 @@ pub(crate) fn is_quiet(out: &[u8]) -> bool
     )
 }
 
-/// True if `out` has the form of a modifying command: one of the seven opcodes, and as many bytes after it as that
+/// Returns whether `out` has the form of a modifying command: one of the seven opcodes, and as many bytes after it as that
 /// command has.
 pub(crate) fn is_change(out: &[u8]) -> bool
     ensures { result ≡ is_change out.now }

@@ -1,11 +1,11 @@
-//! What never changes of a chip.
+//! The properties of a chip that never change, and those of the emulated chips.
 ghost use Rattle.std.specs.Prelude.{◌≡◌, ◌≤◌, ◌-◌, ◌*◌, ◌++◌, ◌↔◌, true, length, replicate, IsTrue, IsSome, IfSome};
 ghost use Rattle.nor_chip.specs.Size.{is_chip_size};
 ghost use Rattle.nor_chip.specs.Sfdp.{sfdp_with};
 
-/// The SFDP bytes that `TINY64` shows from address 0 on: the header, one parameter header and the double
-/// words 1 to 9 of the basic flash parameter table (JESD216). They are this project's own. The other emulated chips
-/// show the same with their size in double word 2, and not what the vendor's show.
+/// The SFDP bytes of `TINY64`, from address 0: the header, one parameter header, and double words 1 to 9 of the basic
+/// flash parameter table (JESD216). They were made for this project. The other emulated chips have the same bytes
+/// except for their size in double word 2, which are not the bytes of the real Winbond chips.
 pub const TINY64_SFDP: [u8; 52] = [
     0x53, 0x46, 0x44, 0x50, 0x00, 0x01, 0x00, 0xFF, // signature, revision 1.0, one header
     0x00, 0x00, 0x01, 0x09, 0x10, 0x00, 0x00, 0xFF, // basic table, nine double words, at 10h
@@ -17,29 +17,30 @@ pub const TINY64_SFDP: [u8; 52] = [
     0x10, 0xD8, 0x00, 0x00, // 9: erases of 64 KiB
 ];
 
-/// The bytes of a sector, the smallest unit that a chip erases.
+/// The length of a sector in bytes, the smallest erase block.
 pub const SECTOR_LEN: u32 = 4096;
 
-/// The most sectors that a chip has: three address bytes reach no further.
+/// The greatest number of sectors of a chip: three address bytes reach 16 MiB.
 pub const MOST_SECTORS: u32 = 4096;
 
-/// The erase kinds beside the sector of 4 KiB (20h) and the whole chip (C7h), which every chip has.
+/// The erase types of a chip in addition to 4 KiB (20h) and the whole chip (C7h), which every chip has.
 #[derive(Clone, Copy, Debug, PartialEq, Eq)]
 pub struct Kinds {
-    /// 52h erases 32 KiB.
+    /// True if 52h erases 32 KiB.
     pub k32: bool,
-    /// D8h erases 64 KiB.
+    /// True if D8h erases 64 KiB.
     pub k64: bool,
 }
 
-/// Every erase kind.
+/// All erase types.
 pub const ALL_KINDS: Kinds = Kinds {
     k32: true,
     k64: true,
 };
 
-/// A chip's configuration: its ID as 9Fh replies, its size in bytes, its erase kinds, whether it has block
-/// protection, the unique ID that 4Bh replies, and its SFDP bytes, FFh past their end.
+/// The properties of a chip that never change: the ID that 9Fh reads, the size in bytes, the erase types, whether the
+/// chip has block protection (`scheme`), the unique ID that 4Bh reads, and the SFDP bytes, which are FFh past their
+/// end.
 #[derive(Clone, Copy)]
 pub struct Config {
     pub id: [u8; 3],
@@ -54,8 +55,11 @@ pub struct Config {
 impl Config {
     ghost use Rattle.nor_chip.specs.Makers.{HasParts, all_kinds, IsTiny64, IsW25q64fv, IsW25q128fv};
 
-    /// A chip of one's own, whose SFDP bytes are `sfdp` from address 0 on. There is none where the size isn't a
-    /// power of two from 65,536 to 16,777,216, or the SFDP bytes are more than 256. It takes no memory.
+    /// Returns a configuration with these properties and a unique ID of zeros; `sfdp` has the SFDP bytes from address
+    /// 0. It allocates no memory.
+    ///
+    /// Returns `None` if the size is not a power of two from 65,536 to 16,777,216, or if there are more than 256 SFDP
+    /// bytes.
     pub fn new(
         id: [u8; 3],
         size: u32,
@@ -80,15 +84,15 @@ impl Config {
         })
     }
 
-    /// The emulated chip `TINY64`: 64 KiB, ID `FE 10 10`, all erase kinds, no protection, known by its SFDP
-    /// alone.
+    /// Returns the emulated chip `TINY64`: 64 KiB, ID `FE 10 10`, all erase types, no block protection, identified only
+    /// by its SFDP.
     pub fn tiny64() -> Config
         ensures { IsTiny64 result }
     {
         Self::emulated([0xFE, 0x10, 0x10], 65_536, false)
     }
 
-    /// The emulated chip `W25Q64FV`: 8 MiB, ID `EF 40 17`, all erase kinds, with block protection. (Winbond
+    /// Returns the emulated chip `W25Q64FV`: 8 MiB, ID `EF 40 17`, all erase types, with block protection. (Winbond
     /// W25Q64FV datasheet.)
     pub fn w25q64fv() -> Config
         ensures { IsW25q64fv result }
@@ -96,7 +100,7 @@ impl Config {
         Self::emulated([0xEF, 0x40, 0x17], 8_388_608, true)
     }
 
-    /// The emulated chip `W25Q128FV`: 16 MiB, ID `EF 40 18`, all erase kinds, with block protection. (Winbond
+    /// Returns the emulated chip `W25Q128FV`: 16 MiB, ID `EF 40 18`, all erase types, with block protection. (Winbond
     /// W25Q128FV datasheet.)
     pub fn w25q128fv() -> Config
         ensures { IsW25q128fv result }
@@ -104,7 +108,7 @@ impl Config {
         Self::emulated([0xEF, 0x40, 0x18], 16_777_216, true)
     }
 
-    // An emulated chip of this size, with all erase kinds.
+    // Returns an emulated chip with this size, all erase types, and a unique ID of zeros.
     fn emulated(id: [u8; 3], size: u32, scheme: bool) -> Config
         requires { IsTrue (is_chip_size size) }
         ensures { HasParts id size all_kinds scheme (sfdp_with (8 * size - 1)) result }
@@ -119,7 +123,7 @@ impl Config {
         }
     }
 
-    /// The same chip with this unique ID. (W25Q64FV datasheet, read unique ID number.)
+    /// Returns the same configuration with this unique ID. (W25Q64FV datasheet, Read Unique ID Number.)
     pub fn with_unique(self, unique: [u8; 8]) -> Config
         ensures { result ≡ record self { unique = unique } }
     {
@@ -129,14 +133,14 @@ impl Config {
     }
 }
 
-// A power of two that three address bytes reach, from 64 KiB on.
+// True if the size is a power of two from 64 KiB to 16 MiB, the most that three address bytes reach.
 fn is_chip_size(size: u32) -> bool
     ensures { result ≡ is_chip_size size }
 {
     matches!(size, 0x1_0000..=0x100_0000) && size.is_power_of_two()
 }
 
-// The SFDP bytes that an emulated chip of this size shows.
+// Returns the SFDP bytes of an emulated chip of this size.
 fn sfdp_of(size: u32) -> [u8; 52]
     requires { IsTrue (is_chip_size size) }
     ensures { result ≡ sfdp_with (8 * size - 1) }
@@ -146,7 +150,7 @@ fn sfdp_of(size: u32) -> [u8; 52]
     bytes
 }
 
-// The SFDP bytes with FFh behind them.
+// Returns the SFDP bytes, padded with FFh to 256 bytes.
 fn padded(sfdp: &[u8]) -> [u8; 256]
     requires { length sfdp.now ≤ 256 }
     ensures { result ≡ sfdp.now ++ replicate (256 - length sfdp.now) 255 }

@@ -1,4 +1,4 @@
-//! Which places the block protection bits keep from programs and erases. (W25Q64FV and W25Q128FV datasheets,
+//! The addresses that the block protection bits protect from programs and erases. (W25Q64FV and W25Q128FV datasheets,
 //! status register memory protection.)
 ghost use Rattle.std.specs.Prelude.{◌≡◌, ◌≤◌, ◌<◌, ◌+◌, ◌-◌, ◌*◌, ◌/◌, ◌%◌, ◌==◌, ◌||◌, ◌↔◌, ℕ, true, false, if◌then◌else◌, IsTrue, IfSome, IfNone, MatchOption};
 ghost use Rattle.nor_chip.specs.Chip.{kept_in};
@@ -14,45 +14,45 @@ use walk::Offered;
 
 pub(crate) mod walk;
 
-// Codes of six bits: CMP, SEC, TB, BP2, BP1, BP0 from the high end.
+// The number of protection codes. A code has six bits: CMP, SEC, TB, BP2, BP1 and BP0, the highest first.
 const CODES: u8 = 64;
 
-// Places of a chip: so many from `start` on.
+// A range of addresses: the first one, and the length in bytes.
 #[derive(Clone, Copy)]
 struct Places {
     start: u32,
     len: u32,
 }
 
-// The first places of the chip are named, not the last ones.
+// TB: the selected range is at the start of the chip, not at the end.
 fn is_bottom(code: u8) -> bool
     ensures { result ≡ is_bottom code }
 {
     code / 8 % 2 == 1
 }
 
-// BP counts sectors, not blocks.
+// SEC: BP counts sectors, not blocks.
 fn is_sector(code: u8) -> bool
     ensures { result ≡ names_sectors code }
 {
     code / 16 % 2 == 1
 }
 
-// The places that aren't named are guarded.
+// CMP: the addresses outside the selected range are protected.
 fn is_complement(code: u8) -> bool
     ensures { result ≡ is_complement code }
 {
     code / 32 % 2 == 1
 }
 
-// The datasheets don't define the code.
+// True if the datasheets don't define the code.
 pub(crate) fn is_undefined(code: u8) -> bool
     ensures { result ≡ is_undefined code }
 {
     is_sector(code) && code % 8 == 6
 }
 
-// How many bytes at an end of the chip the code names.
+// Returns the length in bytes of the range that the code selects at one end of the chip.
 fn named_length(size: u32, code: u8) -> u32
     ensures { result ≡ named_length size code }
 {
@@ -69,7 +69,7 @@ fn named_length(size: u32, code: u8) -> u32
     }
 }
 
-// The code names this place.
+// True if the address is in the range that the code selects.
 fn is_named(size: u32, code: u8, at: u32) -> bool
     requires { 65536 ≤ size }
     ensures { result ≡ is_place_named size code at }
@@ -82,7 +82,8 @@ fn is_named(size: u32, code: u8, at: u32) -> bool
     }
 }
 
-// The code guards this place of a chip of this size: where it isn't defined, every place.
+// True if the code protects this address of a chip of this size. A code that the datasheets don't define protects every
+// address.
 #[tactic(auto, unfolding(crate::specs::Guard::guarded_by))]
 pub(crate) fn is_guarded(size: u32, code: u8, at: u32) -> bool
     requires { 65536 ≤ size }
@@ -91,9 +92,11 @@ pub(crate) fn is_guarded(size: u32, code: u8, at: u32) -> bool
     at < size && (is_undefined(code) || is_named(size, code, at) != is_complement(code))
 }
 
-/// These two status bytes guard this place of a chip of this size with block protection. `size` is one that a
-/// chip may have; from there on no place is guarded. The guarded places lie at one end of the chip, and the page
-/// of a guarded one is guarded whole, so a program that begins there is ignored.
+/// Returns whether these two status bytes protect this address of a chip of this size with block protection. `size`
+/// must be one that a chip may have. An address past the end is not protected.
+///
+/// The protected addresses are at one end of the chip. If one address of a page is protected, all are, so the chip
+/// ignores a program that begins there.
 pub fn protected(status: [u8; 2], size: u32, at: u32) -> bool
     requires { IsTrue (is_chip_size size) }
     ensures value { result ≡ guarded_by size (code_of (kept_in status)) at }
@@ -104,10 +107,11 @@ pub fn protected(status: [u8; 2], size: u32, at: u32) -> bool
     is_guarded(size, Status::of(status).code(), at)
 }
 
-/// These two status bytes guard some place of a unit of a chip of this size with block protection, so an erase of
-/// it is ignored. The unit is a page, a sector, a larger block, the chip or any other places in a row, `len` of them
-/// from `start` on and inside the chip, of which `size` is one that a chip may have. Only its first and its last
-/// place are looked at, since the guarded places lie at one end of the chip.
+/// Returns whether these two status bytes protect some address from `start` to `start + len - 1`, on a chip of this
+/// size with block protection. If the range is an erase block, the chip then ignores its erase. The range must not be
+/// empty, must lie on the chip, and `size` must be one that a chip may have.
+///
+/// Only the first and the last address are tested, because the protected addresses are at one end of the chip.
 pub fn unit_protected(status: [u8; 2], size: u32, start: u32, len: u32) -> bool
     requires sized { IsTrue (is_chip_size size) }
     requires some { 0 < len }
@@ -119,7 +123,7 @@ pub fn unit_protected(status: [u8; 2], size: u32, start: u32, len: u32) -> bool
     protected(status, size, start) || protected(status, size, start + len - 1)
 }
 
-// How many places a defined code guards.
+// Returns the number of addresses that a defined code protects.
 fn guarded_length(size: u32, code: u8) -> u32
     requires { 65536 ≤ size }
     ensures { result ≡ (if is_complement code then size - named_length size code else named_length size code) }
@@ -132,7 +136,8 @@ fn guarded_length(size: u32, code: u8) -> u32
     }
 }
 
-// Where so many places start that are the first or the last ones of the chip; none start at 0.
+// Returns the first address of the range of this length at the start or at the end of the chip; an empty range starts
+// at 0.
 fn start_of(size: u32, len: u32, is_first: bool) -> u32
     requires { len ≤ size }
     ensures { result ≡ (if is_first || len == 0 then 0 else size - len) }
@@ -140,7 +145,7 @@ fn start_of(size: u32, len: u32, is_first: bool) -> u32
     if is_first || len == 0 { 0 } else { size - len }
 }
 
-// The places that a defined code guards.
+// Returns the range that a defined code protects.
 fn places_of(size: u32, code: u8) -> Places
     requires sized { IsTrue (is_chip_size size) }
     requires defined { is_undefined code ≡ false }
@@ -152,9 +157,9 @@ fn places_of(size: u32, code: u8) -> Places
     Places { start, len }
 }
 
-/// The places that this status guards on a chip of this size: the first one and how many there are from there on, or
-/// two zeros where there are none. `None` where the datasheets don't define its code, which then guards every place.
-/// `size` is one that a chip may have.
+/// Returns the range that this status protects on a chip of this size: its first address and its length, or two zeros
+/// if nothing is protected. Returns `None` if the datasheets don't define the status's protection bits; the model then
+/// protects every address. `size` must be one that a chip may have.
 pub fn guarded_range(status: Status, size: u32) -> Option<(u32, u32)>
     requires { IsTrue (is_chip_size size) }
     ensures { MatchOption result (is_undefined (code_of (kept_in (bytes_of status))) ≡ true)
@@ -168,7 +173,7 @@ pub fn guarded_range(status: Status, size: u32) -> Option<(u32, u32)>
     Some((places.start, places.len))
 }
 
-// A defined code guards exactly so many places from `start` on.
+// True if a defined code protects exactly this range.
 fn guards_exactly(size: u32, code: u8, start: u32, len: u32) -> bool
     requires sized { IsTrue (is_chip_size size) }
     requires defined { is_undefined code ≡ false }
@@ -178,9 +183,9 @@ fn guards_exactly(size: u32, code: u8, start: u32, len: u32) -> bool
     places.len == len && (len == 0 || places.start == start)
 }
 
-/// The least defined protection code that guards exactly so many places from `start` on, of a chip of this size:
-/// its bits are CMP, SEC, TB, BP2, BP1 and BP0 from the high end. None where no defined code does. `size` is one
-/// that a chip may have. It takes no memory.
+/// Returns the least defined protection code that protects exactly the range of `len` bytes from `start`, on a chip of
+/// this size. The bits of a code are CMP, SEC, TB, BP2, BP1 and BP0, the highest first. Returns `None` if no defined
+/// code protects exactly this range. `size` must be one that a chip may have. It allocates no memory.
 pub fn code_for(start: u32, len: u32, size: u32) -> Option<u8>
     requires { IsTrue (is_chip_size size) }
     ensures least { IfSome result (IsLeastCode size start len) }
@@ -194,7 +199,7 @@ pub fn code_for(start: u32, len: u32, size: u32) -> Option<u8>
     None
 }
 
-// The places that a defined code guards, where no lesser one guards the same.
+// Returns the range that a code protects, if the code is defined and no lesser defined code protects the same range.
 fn least_at(size: u32, code: u8) -> Option<Places>
     requires sized { IsTrue (is_chip_size size) }
     requires six_bits { code < 64 }
@@ -213,9 +218,9 @@ fn least_at(size: u32, code: u8) -> Option<Places>
     }
 }
 
-/// The guarded sets that some defined code gives on a chip of this size, each once, in the order of their least
-/// codes: where it starts, and how many places it has. The empty set starts at 0. `size` is one that a chip may have.
-/// It takes no memory.
+/// Returns an iterator over the ranges that defined codes protect on a chip of this size, each range once, in the order
+/// of its least code. An item is the first address and the length; the empty range starts at 0. `size` must be one that
+/// a chip may have. It allocates no memory.
 pub fn offered(size: u32) -> Offered
     requires { IsTrue (is_chip_size size) }
     ensures { IsStart size result }

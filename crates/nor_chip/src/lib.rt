@@ -1,4 +1,5 @@
-//! The modelled SPI NOR flash chip, the bus that reaches it, and a simulated bus.
+//! The model of an SPI NOR flash chip, the contract of a bus that carries transactions to it, and buses to test with: a
+//! simulated chip in memory, a bus that traces, and a faulty bus.
 //!
 //! ```rust
 //! use nor_chip::{Bus, Config, Delays, Meter, SimBus};
@@ -12,8 +13,23 @@
 //! assert_eq!(rt; id, [0xFE, 0x10, 0x10]);
 //! ```
 //!
-//! What a chip does with each transaction stands in `specs/` (`Chip`, `Guard`, `Command`, `Step`); what a
-//! bus keeps stands in `specs/Bus.antt`. All crates above speak of chips by these definitions alone.
+//! `specs/` defines what the chip does at each transaction (`Chip`, `Guard`, `Command`, `Step`) and the contract of a
+//! bus (`Bus`). The crates above describe chips only by these definitions.
+//!
+//! - `bus.rt`: the traits `Bus` and `Meter`, and the error `Stopped`
+//! - `config.rt`: the properties of a chip that never change; the three emulated chips
+//! - `status.rt`: the status registers, their bits by name
+//! - `command.rt`: decodes the bytes of a transaction
+//! - `guard.rt`: the ranges that block protection protects
+//! - `guard/walk.rt`: an iterator over the ranges that can be protected
+//! - `running.rt`: the operation that a busy chip carries out
+//! - `sent.rt`: records which modifying commands were sent over a bus
+//! - `heard.rt`: records whether the last poll showed that the chip is ready
+//! - `sim.rt`: the simulated bus
+//! - `sim/flash.rt`: the modelled chip in memory
+//! - `sim/cells.rt`: reads, programs and fills plain slices
+//! - `trace.rt`: a bus that logs each transaction that it carries out
+//! - `spoilt.rt`: a faulty bus
 #![tactic(auto)]
 
 mod bus;

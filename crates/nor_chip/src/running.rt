@@ -1,14 +1,15 @@
-//! What a busy chip is doing.
+//! The operation that a busy chip carries out.
 
-/// The operation that runs while a chip is busy. A loss of power cuts it off.
+/// The operation that runs while a chip is busy. A power failure interrupts it.
 #[derive(Clone, Copy, Debug, PartialEq, Eq)]
 pub enum Running {
-    /// A program of this page, counted in pages of 256 bytes from 0 on.
+    /// A program of the page with this number; page 0 is the first 256 bytes.
     Program(u32),
-    /// An erase of the places from the first number on, as many as the second.
+    /// An erase: its first address, and its length in bytes.
     Erase(u32, u32),
-    /// A status write. Before it these were the kept bits of status 1, from its bit 2 on, and of status 2.
+    /// A status write. The fields are the non-volatile status bits from before it: bits 2 to 7 of status 1, shifted
+    /// down by two, and bits 0 to 6 of status 2.
     StatusWrite(u8, u8),
-    /// An operation of which nothing is known.
+    /// An operation about which nothing is known.
     Unknown,
 }

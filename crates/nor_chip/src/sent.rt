@@ -68,7 +68,7 @@ impl Sent {
     }
 }
 
-// Sectors that follow one another: the first of them, and how many.
+// Consecutive sectors: the first of them, and their number.
 #[derive(Clone, Copy)]
 struct Aim {
     first: usize,
@@ -76,7 +76,7 @@ struct Aim {
 }
 
 impl Aim {
-    // The sectors that a transaction erases or programs, as far as its bytes tell.
+    // Returns the sectors that a transaction targets, by its bytes.
     fn of(out: &[u8]) -> Aim
         ensures aim { result ≡ aim_of out.now }
         ensures within { result.first + result.count ≤ 4096 }

@@ -15,7 +15,7 @@ use std::fmt;
 mod cells;
 mod flash;
 
-/// How many polls of a simulated chip show BUSY: at first (`now`), and after each operation (`each`).
+/// The numbers of polls that show BUSY: at the start (`now`) and after each operation (`each`).
 #[derive(Clone, Copy, Debug, PartialEq, Eq)]
 pub struct Delays {
     pub now: u16,
@@ -34,8 +34,8 @@ impl fmt::Display for WrongLength {
 
 impl std::error::Error for WrongLength {}
 
-/// An honest bus to a chip that is simulated in memory. It carries out as many transactions as `allow` set, and then
-/// stops.
+/// An honest bus to a chip that is simulated in memory. It carries out the number of transactions that `allow` set, and
+/// then stops.
 #[derive(Drop)]
 pub struct SimBus {
     flash: Flash,
@@ -102,10 +102,12 @@ impl SimBus {
         &self.flash.bytes
     }
 
-    /// Sets whether a stop loses the chip's power, and what is left then. With `Some(fill)` each byte that a running
-    /// program or erase works on becomes `fill`; a running status write leaves the old bits if `fill` is even, and the
-    /// new ones if it is odd; the latch is cleared, and nothing runs. If it is not known what runs, the contents and the
-    /// non-volatile status bits stay. With `None`, as after `new`, a stop keeps the power.
+    /// Sets whether a stop makes the chip lose its power, and the effect of that. With `None`, as after `new`, a stop
+    /// keeps the power.
+    ///
+    /// With `Some(fill)`, each byte that a running program or erase works on becomes `fill`. A running status write is
+    /// undone if `fill` is even, and completed if it is odd. The write enable latch is cleared, and nothing runs any
+    /// more. If the running operation is unknown, the contents and the non-volatile status bits stay.
     pub fn lose(&mut self, fill: Option<u8>)
         ensures state { ⟦<SimBus as Bus>⟧.state self.new
             ≡ record (⟦<SimBus as Bus>⟧.state self.old) { steady = is_none fill && is_none (torn_of self.old) } }
@@ -116,9 +118,9 @@ impl SimBus {
         self.fill = fill;
     }
 
-    /// Sets where a stop cuts its transaction. With `Some(count)` the first `count` bytes are sent (all of them, if there
-    /// are fewer), the chip does what these ask for, and no reply is read. With `None`, as after `new`, no byte is sent.
-    /// After the cut the chip loses its power if `lose` set that.
+    /// Sets after how many bytes a stop cuts its transaction. With `Some(count)` the first `count` bytes are sent (all
+    /// of them, if there are fewer), the chip does what these ask for, and no reply is read. With `None`, as after
+    /// `new`, no byte is sent. After the cut the chip loses its power if `lose` set that.
     pub fn tear(&mut self, count: Option<u32>)
         ensures state { ⟦<SimBus as Bus>⟧.state self.new
             ≡ record (⟦<SimBus as Bus>⟧.state self.old) { steady = is_none (fill_of self.old) && is_none count } }
@@ -136,7 +138,7 @@ impl SimBus {
         self.flash.status().bytes()
     }
 
-    // Sends the first bytes of the transaction, if a tear is set.
+    // Sends the first bytes of the transaction, if `tear` set that.
     fn tear_off(&mut self, out: &[u8])
         ensures torn { TornTo (torn_of self.old) out.now (chip_of self.old.flash) (chip_of self.new.flash) }
         ensures worn { WornTo (torn_of self.old) out.now (chip_of self.old.flash)
@@ -150,7 +152,7 @@ impl SimBus {
         }
     }
 
-    // Stops: cuts the transaction and loses the power, as far as these are set.
+    // Performs a stop: cuts the transaction and loses the chip's power, if `tear` and `lose` set that.
     fn cut(&mut self, out: &[u8])
         ensures at_stop { AtStop out.now (state_of self.old) (state_of self.new) }
         ensures torn_off { TearsOff (torn_of self.old) (fill_of self.old) out.now
@@ -214,7 +216,7 @@ impl Meter for SimBus {
     }
 }
 
-// Marks the sectors of an erase.
+// Marks the sectors that an erase covers.
 fn wear(worn: &mut [bool], command: Command)
     requires length { length worn.old ≡ 4096 }
     requires aimed { IsAimed 16777216 command }

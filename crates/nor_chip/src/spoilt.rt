@@ -1,4 +1,4 @@
-//! A bus that lies.
+//! A faulty bus, for tests.
 ghost use Rattle.std.specs.Prelude.{◌≡◌, Bool, true, false, OnOk, OnErr, MatchBool, EachIndex, slice_index, ⊤};
 ghost use Rattle.std.proofs.Common.{subst};
 ghost use Rattle.nor_chip.specs.Chip.{IsChip};
@@ -8,20 +8,21 @@ ghost use Rattle.nor_chip.specs.Spoilt.{inner_of, spoil_of, sent_of, noted_of, s
 
 use crate::{Bus, Meter, Sent, Stopped, heard_after};
 
-/// How a spoilt bus lies. Its transactions are counted from 1.
+/// The way in which a faulty bus fails. Its transactions are counted from 1.
 #[derive(Clone, Copy, Debug, PartialEq, Eq)]
 pub enum Spoil {
-    /// Nothing is carried out, and each reply byte is this one.
+    /// No transaction is carried out, and each reply byte is this one.
     Fill(u8),
-    /// From this transaction on, bit 0 of each byte that a poll replies is set.
+    /// From the transaction with this number, bit 0 (BUSY) is set in each byte that a poll replies.
     BusyFrom(u64),
-    /// This transaction isn't carried out, and each reply byte is FFh.
+    /// The transaction with this number isn't carried out, and each of its reply bytes is FFh.
     Drop(u64),
-    /// This bit is clear in each reply byte. From 8 on there is none.
+    /// The bit with this number is clear in each reply byte. A number above 7 has no effect.
     Low(u8),
 }
 
-/// A bus that isn't honest: it lies about the bus inside in one way, for tests of what callers do then.
+/// A faulty bus: it drops transactions of the bus inside or changes its replies, in one fixed way, to test how callers
+/// react.
 #[derive(Drop)]
 pub struct SpoiltBus<B> {
     bus: B,
@@ -32,7 +33,7 @@ pub struct SpoiltBus<B> {
 }
 
 impl<B: Bus> SpoiltBus<B> {
-    /// A bus that spoils this one.
+    /// Returns a bus that applies `spoil` to the transactions of `inner`.
     pub fn new(inner: B, spoil: Spoil) -> SpoiltBus<B>
         ensures inner { inner_of result ≡ inner }
         ensures spoil { spoil_of result ≡ spoil }
@@ -53,15 +54,15 @@ impl<B: Bus> SpoiltBus<B> {
         }
     }
 
-    /// How many transactions were carried out or answered so far, those that the bus inside stopped not counted. It
-    /// stays at the greatest u64.
+    /// Returns the number of transactions that succeeded so far, whether they were carried out or dropped. A
+    /// transaction at which the bus inside stops isn't counted. The number stays at the greatest `u64`.
     pub fn sent(&self) -> u64
         ensures { result ≡ sent_of self.now }
     {
         self.sent
     }
 
-    /// Gives the bus inside back as it is.
+    /// Returns the bus inside, in its present state.
     pub fn into_inner(self) -> B
         ensures { result ≡ inner_of self }
     {
@@ -117,7 +118,8 @@ impl<B: Meter> Meter for SpoiltBus<B> {
     }
 }
 
-// What each reply byte is, where the transaction behind so many is withheld from the bus inside.
+// Returns the byte that every reply has, if the next transaction is dropped; `sent` transactions were counted before
+// it.
 fn withheld(spoil: Spoil, sent: u64) -> Option<u8>
     ensures { result ≡ withheld spoil sent }
 {
@@ -128,7 +130,7 @@ fn withheld(spoil: Spoil, sent: u64) -> Option<u8>
     }
 }
 
-// The byte that comes in place of this one, as the transaction behind so many replies it.
+// Returns the reply byte in place of `byte`, for the next transaction; `sent` transactions were counted before it.
 fn spoilt_byte(spoil: Spoil, sent: u64, out: &[u8], byte: u8) -> u8
     ensures { result ≡ spoilt_byte spoil sent out.now byte }
 {

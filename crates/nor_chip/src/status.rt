@@ -1,4 +1,4 @@
-//! The status bits by their names. (W25Q64FV datasheet, status registers.)
+//! The status registers and their bits by name. (W25Q64FV datasheet, status registers.)
 ghost use Rattle.std.specs.Prelude.{⊤, ◌≡◌, ◌+◌, ◌*◌, ◌/◌, ◌%◌, ◌<◌, [], ◌∷◌, codes, bit_and, bit_or, if◌then◌else◌};
 ghost use Rattle.nor_chip.specs.Chip.{kept_in, is_locked};
 ghost use Rattle.nor_chip.specs.Guard.{is_undefined, code_of};
@@ -6,41 +6,41 @@ ghost use Rattle.nor_chip.specs.Guard.{is_undefined, code_of};
 use crate::guard;
 use bitflags::{Flag, Flags, bitflag_items};
 
-/// Status register 1, as 05h replies it.
+/// Status register 1, as 05h reads it.
 #[derive(Clone, Copy, Debug, PartialEq, Eq)]
 pub struct Status1(u8);
 
-/// Status register 2, as 35h replies it. Its bit 2 is reserved, and has no name.
+/// Status register 2, as 35h reads it. Its bit 2 is reserved and has no name.
 #[derive(Clone, Copy, Debug, PartialEq, Eq)]
 pub struct Status2(u8);
 
 bitflag_items! {
     impl Status1: u8 {
-        /// An operation is running.
+        /// Set while an operation is running.
         const BUSY = 0x01;
-        /// The write enable latch is set.
+        /// The write enable latch.
         const WEL = 0x02;
         const BP0 = 0x04;
         const BP1 = 0x08;
         const BP2 = 0x10;
-        /// The places at the chip's start are protected, not those at its end.
+        /// Set if the range that BP selects is at the start of the chip, clear if it is at the end.
         const TB = 0x20;
-        /// BP counts sectors, not blocks.
+        /// Set if BP counts sectors, clear if it counts blocks.
         const SEC = 0x40;
-        /// The status is locked.
+        /// Set if the status is locked.
         const SRP0 = 0x80;
     }
     impl Status2: u8 {
-        /// The status is locked.
+        /// Set if the status is locked.
         const SRP1 = 0x01;
-        /// Quad transfers are enabled.
+        /// Set if quad transfers are enabled.
         const QE = 0x02;
         const LB1 = 0x08;
         const LB2 = 0x10;
         const LB3 = 0x20;
-        /// All places but those named are protected.
+        /// Set if all addresses outside the selected range are protected.
         const CMP = 0x40;
-        /// An operation is suspended.
+        /// Set while an operation is suspended.
         const SUS = 0x80;
     }
 }
@@ -92,18 +92,19 @@ impl Flags for Status2 {
 }
 
 impl Status1 {
-    /// The kept bits: all but BUSY and WEL.
+    /// The non-volatile bits: all except BUSY and WEL.
     pub const KEPT: Status1 = Status1(!(Self::BUSY.0 | Self::WEL.0));
 
-    // The bits of the protection code, its low five: they stand two places higher here than in the code.
+    // The low five protection bits, BP0 to SEC. They are two positions higher here than in the number that `code`
+    // returns.
     const CODE: Status1 = Status1(
         Self::BP0.0 | Self::BP1.0 | Self::BP2.0 | Self::TB.0 | Self::SEC.0,
     );
 
-    // The kept bits that aren't of the code.
+    // The non-volatile bits that are not protection bits.
     const FIXED: Status1 = Status1(Self::KEPT.0 & !Self::CODE.0);
 
-    // These kept bits, with WEL and BUSY as told.
+    // Returns these non-volatile bits with WEL and BUSY set as given.
     #[tactic(auto, using(crate::proofs::StatusBits::or_latch, crate::proofs::StatusBits::or_busy))]
     pub(crate) fn with(self, latch: bool, busy: bool) -> Status1
         requires { self.0 % 4 ≡ 0 }
@@ -121,25 +122,25 @@ impl Status1 {
 }
 
 impl Status2 {
-    /// The kept bits: all but SUS.
+    /// The non-volatile bits: all except SUS.
     pub const KEPT: Status2 = Status2(!Self::SUS.0);
 
-    // The bit of the protection code, its highest: it stands one place higher here than in the code.
+    // The highest protection bit, CMP. It is one position higher here than in the number that `code` returns.
     const CODE: Status2 = Self::CMP;
 
-    // The kept bits that aren't of the code.
+    // The non-volatile bits that are not protection bits.
     const FIXED: Status2 = Status2(Self::KEPT.0 & !Self::CODE.0);
 
     // The bits that a status write sets as sent.
     const WRITTEN: Status2 = Status2(Self::SRP1.0 | Self::QE.0 | Self::CMP.0);
 
-    // The bits that stay set once they are.
+    // The one-time programmable bits: a status write can set them but not clear them.
     const LB: Status2 = Status2(Self::LB1.0 | Self::LB2.0 | Self::LB3.0);
 
-    // The bits that a status write doesn't clear: those and the reserved one.
+    // The bits that a status write doesn't clear: LB1 to LB3 and the reserved bit.
     const HELD: Status2 = Status2(Self::LB.0 | 0x04);
 
-    // What a status write leaves of these bits.
+    // Returns these bits after a status write of `sent`.
     fn written(self, sent: Status2) -> Status2
         ensures { result.0
             ≡ bit_or (bit_and sent.0 0b1000011) (bit_or (bit_and self.0 0b0111100) (bit_and sent.0 0b0111000)) }
@@ -160,7 +161,7 @@ pub struct Status {
 impl Status {
     ghost use Rattle.nor_chip.specs.Status.{bytes_of, bytes_with_code};
 
-    /// The registers with these bytes, status 1 first.
+    /// Returns the registers with these bytes, status 1 first.
     pub fn of(bytes: [u8; 2]) -> Status
         ensures { bytes_of result ≡ bytes }
     {
@@ -170,14 +171,14 @@ impl Status {
         }
     }
 
-    /// Their bytes, status 1 first.
+    /// Returns the bytes of the registers, status 1 first.
     pub fn bytes(self) -> [u8; 2]
         ensures { result ≡ bytes_of self }
     {
         [self.one.0, self.two.0]
     }
 
-    /// The protection code: CMP, SEC, TB, BP2, BP1 and BP0 as a number, from the high end.
+    /// Returns the protection bits as a number below 64: CMP, SEC, TB, BP2, BP1 and BP0, the highest bit first.
     #[tactic(auto, using(crate::proofs::StatusBits::code_bits))]
     pub fn code(self) -> u8
         ensures { result ≡ code_of (kept_in (bytes_of self)) }
@@ -187,7 +188,7 @@ impl Status {
         high.0 >> 1 | low.0 >> 2
     }
 
-    /// The fixed bits: all kept ones but those of the protection code.
+    /// Returns the status bits that flashnor never changes: all non-volatile bits except the protection bits.
     #[tactic(auto, using(crate::proofs::StatusBits::fixed_one, crate::proofs::StatusBits::fixed_two))]
     pub fn fixed(self) -> Status
         ensures one { result.one.0 ≡ 128 * (self.one.0 / 128) }
@@ -199,7 +200,8 @@ impl Status {
         }
     }
 
-    /// The fixed bits with another protection code, below 64, and BUSY, WEL and SUS clear.
+    /// Returns the status with these never-changed bits and the protection bits of `code`, which must be below 64.
+    /// BUSY, WEL and SUS are clear.
     #[tactic(auto, using(crate::proofs::StatusBits::coded_one, crate::proofs::StatusBits::coded_two))]
     pub fn with_code(self, code: u8) -> Status
         requires { code < 64 }
@@ -214,14 +216,14 @@ impl Status {
         }
     }
 
-    /// The datasheets don't define the protection code, and every place is guarded.
+    /// True if the datasheets don't define the protection bits. The model then protects every address.
     pub fn is_undefined(self) -> bool
         ensures { result ≡ is_undefined (code_of (kept_in (bytes_of self))) }
     {
         guard::is_undefined(self.code())
     }
 
-    /// The kept bits: all but BUSY, WEL and SUS.
+    /// Returns the non-volatile bits: all except BUSY, WEL and SUS.
     pub fn kept(self) -> Status
         ensures one { result.one.0 ≡ self.one.0 / 4 * 4 }
         ensures two { result.two.0 ≡ self.two.0 % 128 }
@@ -232,8 +234,8 @@ impl Status {
         }
     }
 
-    // What a status write leaves of these kept bits: BP, TB, SEC, SRP0, SRP1, QE and CMP are as sent, an LB bit
-    // stays set once it is, and the reserved bit stays as it is.
+    // Returns the non-volatile bits after a status write of `sent`: BP, TB, SEC, SRP0, SRP1, QE and CMP are as sent. An
+    // LB bit that is set stays set, and the reserved bit stays as it is.
     #[tactic(auto, using(crate::proofs::StatusBits::written_lt))]
     pub(crate) fn written(self, sent: Status) -> Status
         ensures one { result.one.0 ≡ sent.one.0 / 4 * 4 }
@@ -248,7 +250,7 @@ impl Status {
         }
     }
 
-    /// SRP0 or SRP1 is set, so that the status isn't written.
+    /// True if SRP0 or SRP1 is set. The model then ignores status writes.
     pub fn is_locked(self) -> bool
         ensures { result ≡ is_locked (kept_in (bytes_of self)) }
     {

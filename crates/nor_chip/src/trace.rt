@@ -1,4 +1,4 @@
-//! A bus that writes down what it carries out.
+//! A bus that logs each transaction that it carries out.
 ghost use Rattle.std.specs.Prelude.{◌≡◌, true, false, OnOk, OnErr};
 ghost use Rattle.std.specs.Io.KnownBytes.{Appends, Keeps};
 ghost use Rattle.hex.specs.Hex.{encode_lower};
@@ -8,15 +8,18 @@ ghost use Rattle.nor_chip.specs.Trace.{traced_by, log_of, has_lost, traced_line,
 use crate::{Bus, Meter, Stopped};
 use std::io::{self, Write};
 
-// How many bytes of a transaction are turned into digits at once.
+// The number of bytes that are converted to digits at a time.
 const PIECE: usize = 64;
 
-/// A bus that prints one line to a log for each transaction that the bus inside carries out: the bytes sent, as
-/// lower-case hexadecimal digits; where bytes were taken in, ` > ` and their digits, or for more than three of
-/// them their number and ` bytes`.
+/// A bus that writes one line to a log for each transaction that the bus inside carries out. A line has the bytes sent,
+/// as lower-case hexadecimal digits. If one to three bytes were received, ` > ` and their digits follow; if more were
+/// received, ` > `, their number and ` bytes`.
 ///
-/// It takes no memory and keeps no bytes back: give it a log with a buffer, as `BufWriter`, where a write costs
-/// a system call.
+/// A transaction at which the bus inside stops has no line, even if some or all of its bytes were sent to the chip
+/// before it was cut.
+///
+/// It allocates no memory and buffers nothing. If each write costs a system call, use a log with a buffer, such as
+/// `BufWriter`.
 #[derive(Drop)]
 pub struct TraceBus<B, L> {
     bus: B,
@@ -25,7 +28,7 @@ pub struct TraceBus<B, L> {
 }
 
 impl<B: Bus + Drop, L: Write + Drop> TraceBus<B, L> {
-    /// A bus that traces this one into this log.
+    /// Returns a bus that carries transactions over `bus` and logs them to `log`.
     pub fn new(bus: B, log: L) -> TraceBus<B, L>
         ensures state { ⟦<TraceBus<B, L> as Bus>⟧.state result ≡ B.state bus }
         ensures log { log_of result ≡ log }
@@ -38,14 +41,14 @@ impl<B: Bus + Drop, L: Write + Drop> TraceBus<B, L> {
         }
     }
 
-    /// A line of the log is lost. Once one is, this stays so.
+    /// Returns whether a line could not be written completely, or a flush failed. Once true, it stays true.
     pub fn lost(&self) -> bool
         ensures { result ≡ has_lost self.now }
     {
         self.lost
     }
 
-    /// Hands over to the log's own sink what the log holds back. What doesn't get there counts as lost.
+    /// Flushes the log's own buffer. If that fails, a line counts as lost.
     pub fn flush(&mut self)
         ensures state { ⟦<TraceBus<B, L> as Bus>⟧.state self.new ≡ ⟦<TraceBus<B, L> as Bus>⟧.state self.old }
         ensures log { Keeps (L.contents (log_of self.old)) (L.contents (log_of self.new)) }
@@ -56,7 +59,8 @@ impl<B: Bus + Drop, L: Write + Drop> TraceBus<B, L> {
         }
     }
 
-    /// Gives the bus back as it is. What the log holds back goes the way that the log's own end takes it.
+    /// Returns the bus inside, in its present state. The log is dropped, and its type determines whether bytes that it
+    /// still buffers are written.
     pub fn into_inner(self) -> B
         ensures { B.state result ≡ ⟦<TraceBus<B, L> as Bus>⟧.state self }
     {

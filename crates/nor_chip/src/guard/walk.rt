@@ -1,12 +1,12 @@
-//! The walk over the guarded sets that are offered.
+//! The iterator over the ranges that block protection can protect.
 ghost use Rattle.std.specs.Prelude.{◌≡◌, ◌≤◌, ◌-◌, IsTrue};
 ghost use Rattle.std.specs.Iterator.{at_most};
 ghost use Rattle.nor_chip.specs.Size.{is_chip_size};
 
 use super::{CODES, least_at};
 
-/// A walk over the guarded sets that the defined codes give, each once, in the order of their least codes. A set is
-/// the number of its first place and how many places it has.
+/// An iterator over the ranges that defined codes protect, each range once, in the order of its least code. An item is
+/// the first address and the length in bytes.
 #[derive(Drop, Debug)]
 pub struct Offered {
     size: u32,

@@ -1,11 +1,11 @@
-//! What the opcodes do to bytes, over plain slices.
+//! Reads, programs and fills plain slices.
 ghost use Rattle.std.specs.Prelude.{◌≡◌, ℕ, ◌+◌, ◌*◌, ◌/◌, ◌%◌, ◌<◌, ◌≤◌, length, slice_index, slice_index_or, bit_and};
 ghost use Rattle.nor_chip.specs.Cells.{HasPageProgrammed, IsFilled};
 
-// The bytes of a page, which a program wraps inside.
+// The length of a page in bytes. A program wraps around at the end of its page.
 pub(crate) const PAGE_LEN: usize = 256;
 
-// Clears the bits that aren't set in the bytes sent, from `from` on.
+// ANDs the sent bytes into `bytes`, from index `from`.
 fn clear_bits(bytes: &mut [u8], from: usize, sent: &[u8])
     requires { from + length sent.now ≤ length bytes.old }
     ensures inside { (i : ℕ) → i < length sent.now
@@ -18,8 +18,8 @@ fn clear_bits(bytes: &mut [u8], from: usize, sent: &[u8])
     }
 }
 
-// A page program: from `at` on, wrapping inside the page, each byte keeps the bits that are set in the last
-// byte sent for it.
+// Programs within one page: starts at `at` and wraps around at the end of the page. Each byte is ANDed with the last
+// byte that was sent for it.
 pub(crate) fn program(bytes: &mut [u8], at: usize, sent: &[u8])
     requires { at / 256 * 256 + 256 ≤ length bytes.old }
     ensures { HasPageProgrammed at sent.now bytes.old bytes.new }
@@ -33,7 +33,7 @@ pub(crate) fn program(bytes: &mut [u8], at: usize, sent: &[u8])
     clear_bits(bytes, page, back);
 }
 
-// `len` bytes from `start` on become this byte.
+// Sets `len` bytes to this byte, from index `start`.
 pub(crate) fn fill(bytes: &mut [u8], start: usize, len: usize, byte: u8)
     requires { start + len ≤ length bytes.old }
     ensures { IsFilled byte start len bytes.old bytes.new }
@@ -41,7 +41,7 @@ pub(crate) fn fill(bytes: &mut [u8], start: usize, len: usize, byte: u8)
     bytes[start..start + len].fill(byte);
 }
 
-// Reads from `at` on, and on from the first byte where the bytes end.
+// Reads from index `at`, and continues at index 0 after the last byte.
 pub(crate) fn read_round(bytes: &[u8], at: usize, reply: &mut [u8])
     requires { at < length bytes.now }
     ensures { (i : ℕ) → i < length reply.new
@@ -57,7 +57,7 @@ pub(crate) fn read_round(bytes: &[u8], at: usize, reply: &mut [u8])
     }
 }
 
-// Reads from `at` on, and FFh where the bytes end.
+// Reads from index `at`; past the end every byte reads as FFh.
 pub(crate) fn read_padded(bytes: &[u8], at: usize, reply: &mut [u8])
     ensures { (i : ℕ) → i < length reply.new → slice_index reply.new i ≡ slice_index_or bytes.now (at + i) 255 }
 {

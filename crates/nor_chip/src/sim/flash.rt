@@ -1,12 +1,12 @@
-//! The modelled chip in memory: what a transaction does to it.
+//! The modelled chip in memory, and the effect of a transaction on it.
 ghost use Rattle.std.specs.Prelude.{◌≡◌, ◌%◌, ◌<◌, ◌+◌, ◌/◌, ◌^◌, ◌==◌, ◌&&◌, ◌-◌, not, if◌then◌else◌, false, ℕ, [], length, slice_index, bit_and, bit_or};
 ghost use Rattle.nor_chip.specs.Power.{RunsInside};
 
 use super::cells;
 use crate::{Command, Config, Running, Status, guard};
 
-// A chip: its configuration, its bytes, the kept bits of its status, its latch, how many polls will
-// still answer BUSY, how many after each operation, and what runs.
+// A chip. `kept` has the non-volatile status bits, `latch` is WEL, `busy` is the number of polls that will still show
+// BUSY, `each` is that number after each operation, and `running` is the operation in progress.
 #[derive(Drop)]
 pub(crate) struct Flash {
     pub(crate) config: Config,
@@ -35,7 +35,7 @@ impl Flash {
     ghost use Rattle.nor_chip.specs.Guard.{code_of, is_guarded, is_unit_guarded};
     ghost use Rattle.nor_chip.specs.Step.{is_carried_out, done_of, reply_byte, Does, Step};
 
-    // The status registers, as 05h and 35h reply them.
+    // Returns the status registers, as 05h and 35h read them.
     pub(crate) fn status(&self) -> Status
         ensures { bytes_of result ≡ status_of (chip_of self.now) }
     {
@@ -45,7 +45,6 @@ impl Flash {
         }
     }
 
-    // The status itself is locked.
     fn is_locked(&self) -> bool
         ensures { result ≡ is_locked (chip_of self.now).kept }
     {
@@ -65,7 +64,7 @@ impl Flash {
         self.is_guarded(start) || self.is_guarded((start + len).saturating_sub(1))
     }
 
-    // The chip is idle and its latch is set.
+    // True if the chip is idle and its write enable latch is set.
     fn is_ready(&self) -> bool
         ensures { result ≡ (((chip_of self.now).busy == 0) && self.now.latch) }
     {
@@ -86,7 +85,7 @@ impl Flash {
         }
     }
 
-    // What the chip will do at a transaction: what is asked for, or nothing where that isn't carried out.
+    // Returns the command that the chip carries out at a transaction, or `Ignored` if it carries out none.
     pub(crate) fn command(&self, out: &[u8], replies: usize) -> Command
         ensures done { result ≡ done_of (chip_of self.now) out.now replies }
         ensures aimed { IsAimed self.now.config.size result }
@@ -99,7 +98,7 @@ impl Flash {
         }
     }
 
-    // Replies as the command asks.
+    // Writes the command's reply to `reply`.
     fn answer(&self, command: Command, reply: &mut [u8])
         requires { IsAimed self.now.config.size command }
         ensures { (i : ℕ) → i < length reply.new → slice_index reply.new i ≡ reply_byte (chip_of self.now) command i }
@@ -115,7 +114,7 @@ impl Flash {
         }
     }
 
-    // An operation begins; where it takes no time, it has ended.
+    // Begins an operation. If operations take no time (`each` is 0), it has ended already.
     fn begin(&mut self, running: Running)
         requires { RunsInside self.old.config.size running }
         ensures begins { Begins running self.old.each (chip_of self.old) (chip_of self.new) }
@@ -126,7 +125,7 @@ impl Flash {
         self.latch = self.each != 0;
     }
 
-    // A poll; the one that sees the last BUSY clears the latch.
+    // Counts a poll. The poll that shows the last BUSY also clears the write enable latch.
     fn tick(&mut self)
         ensures does { Does Command.Poll [] (chip_of self.old) [] (chip_of self.new) }
         ensures paces { Paces Command.Poll self.old self.new }
@@ -165,7 +164,7 @@ impl Flash {
         self.begin(Running::Erase(start, len));
     }
 
-    // Does the command, but for its reply.
+    // Carries out the command, except for its reply.
     fn change(&mut self, command: Command, sent: &[u8])
         requires { IsAimed self.old.config.size command }
         ensures does { Does command sent.now (chip_of self.old) [] (chip_of self.new) }
@@ -182,8 +181,8 @@ impl Flash {
         }
     }
 
-    // The power is lost: what runs is cut off, each byte of it becomes this fill, and a status write leaves the
-    // old bits where the fill is even.
+    // Loses the power: a running operation is interrupted, the write enable latch is cleared, and nothing runs any
+    // more. `cut` describes the effect of `fill`.
     pub(crate) fn lose_power(&mut self, fill: u8)
         ensures cut { PowerLostWith fill (chip_of self.old) (chip_of self.new) }
         ensures pace { self.new.each ≡ self.old.each }
@@ -195,7 +194,8 @@ impl Flash {
         self.busy = 0;
     }
 
-    // Cuts off what runs.
+    // Interrupts the running operation. Each byte that a program or erase works on becomes `fill`; a status write is
+    // undone if `fill` is even. An unknown operation changes nothing.
     fn cut(&mut self, fill: u8)
         ensures cut { CutsOff fill (chip_of self.old) (chip_of self.new) }
         ensures pace { self.new.each ≡ self.old.each }
@@ -216,7 +216,7 @@ impl Flash {
         }
     }
 
-    // One transaction that is let through. Gives what the chip did.
+    // Performs one transaction, and returns the command that the chip carried out.
     pub(crate) fn step(&mut self, out: &[u8], reply: &mut [u8]) -> Command
         ensures steps { Step (chip_of self.old) out.now reply.new (chip_of self.new) }
         ensures done { result ≡ done_of (chip_of self.old) out.now (length reply.new) }

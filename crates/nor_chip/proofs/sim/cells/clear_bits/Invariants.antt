@@ -1,6 +1,6 @@
 use Rattle.nor_chip.proofs.Page.{ClearsFrom}
 use Rattle.nor_chip.proofs.sim.cells.clear_bits.Given as goal
 
--- what the loop has cleared so far
+-- the bytes before the index were ANDed in
 abbrev pub invariant-loop-i : goal.invariant-loop-i
 invariant-loop-i l = ClearsFrom l.from l.i l.sent l.fn.bytes l.bytes

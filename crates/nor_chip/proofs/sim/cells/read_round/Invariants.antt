@@ -1,7 +1,7 @@
 use Rattle.std.proofs.Common.{◌≡◌, ℕ, ◌+◌, ◌-◌, ◌%◌, ◌<◌, ◌≤◌, length, slice_index, List}
 use Rattle.nor_chip.proofs.sim.cells.read_round.Given as goal
 
--- what the loop has read so far, and where it goes on
+-- `done` bytes were read, and the reading continues at `from`
 pub record IsReadTo (at from done : ℕ) (bytes reply : List ℕ) : Type 0 where
   pub read : (i : ℕ) → i < done → slice_index reply i ≡ slice_index bytes ((at + i) % length bytes)
   pub within : done ≤ length reply

@@ -3,7 +3,7 @@ use Rattle.nor_chip.specs.declared.guard.walk.Offered.{Offered}
 use Rattle.nor_chip.specs.Offer.{IsLeastCode}
 use Rattle.nor_chip.proofs.guard.walk.OfferedIterator.next.Given as goal
 
--- the walk stays, and no code from its place to this one is a least code
+-- the iterator is as it was, and no code from its position up to `code` is a least code
 pub record IsPassed (first now : Offered) (code : ℕ) : Type 0 where
   pub same : now ≡ first
   pub none : (other start len : ℕ) → first.next ≤ other → other < code → ¬ IsLeastCode first.size start len other
