@@ -71,7 +71,7 @@ take_keys() {
 
 # The chips that a source makes or knows, as `NAME ID BYTES`.
 chips_in() {
-    awk '/The emulated chip `|name: ChipName::/ { match($0, /(`|::)[A-Z0-9]+/); name = substr($0, RSTART, RLENGTH) }
+    awk '/[Tt]he emulated chip `|name: ChipName::/ { match($0, /(`|::)[A-Z0-9]+/); name = substr($0, RSTART, RLENGTH) }
         match($0, /\[0x[^]]*\]/) { id = tolower(substr($0, RSTART, RLENGTH)); gsub(/0x|[^0-9a-f]/, "", id) }
         /^ *size: [0-9]|emulated\(\[0x/ { gsub(/[`:]/, "", name); gsub(/.*\]|[^0-9]/, ""); print name, id, $0 }' "$1"
 }
