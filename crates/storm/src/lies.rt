@@ -235,14 +235,19 @@ enum Lie {
 // A bus with one of these faults.
 type Faulty = HighBus<SpoiltBus<SimBus>>;
 
-// Draws a fault of the bus: one in eight sets a bit in the replies to one opcode.
+// Draws a fault of the bus. Three in four faults of a clear bit are replaced by a set bit in the replies to one opcode,
+// half of the time that of status 2. No more is drawn for that, so other faults stay as they are for each seed.
 fn lie_for(dice: &mut Dice, count: u64) -> Lie {
-    if dice.hits(1, 8) {
-        let opcode = dice.pick(0x35, &[0x03, 0x05, 0x4B, 0x9F]);
-        let bit = u8::try_from(dice.below(8)).unwrap_or(0);
-        Lie::Sets(High { opcode, bit })
-    } else {
-        Lie::Spoilt(spoil_for(dice, count))
+    let opcodes = [0x35, 0x05, 0x35, 0x9F, 0x35, 0x03, 0x35, 0x4B];
+    let high = usize::try_from(count / 4 % 8)
+        .ok()
+        .and_then(|at| opcodes.get(at));
+    match (spoil_for(dice, count), high) {
+        (Spoil::Low(bit), Some(opcode)) if count % 4 != 0 => Lie::Sets(High {
+            opcode: *opcode,
+            bit,
+        }),
+        (spoil, _) => Lie::Spoilt(spoil),
     }
 }
 
