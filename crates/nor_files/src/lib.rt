@@ -37,8 +37,6 @@ mod making;
 mod memory;
 mod store;
 mod stored;
-#[cfg(test)]
-mod tests;
 
 pub use disk::Disk;
 pub use locks::LockFile;

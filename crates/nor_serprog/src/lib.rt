@@ -25,6 +25,3 @@ pub use link::{Failure, Link, Sync};
 pub use paced::Paced;
 pub use port::Port;
 pub use twice::ReadTwice;
-
-#[cfg(test)]
-mod tests;

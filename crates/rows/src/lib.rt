@@ -17,6 +17,8 @@ mod kernels;
 #[cfg(test)]
 mod lies;
 #[cfg(test)]
+mod losses;
+#[cfg(test)]
 mod once;
 #[cfg(test)]
 mod power;
@@ -30,6 +32,16 @@ mod rehearsed;
 mod row;
 #[cfg(test)]
 mod runs;
+#[cfg(test)]
+mod serprog_buses;
+#[cfg(test)]
+mod serprog_frames;
+#[cfg(test)]
+mod serprog_handshakes;
+#[cfg(test)]
+mod serprog_model;
+#[cfg(test)]
+mod serprog_wrappers;
 #[cfg(test)]
 mod sessions;
 #[cfg(test)]

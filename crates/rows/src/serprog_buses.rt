@@ -1,8 +1,8 @@
-//! Transactions over a port in memory, and what each fault leaves.
+//! Transactions over a serprog port in memory, and what each fault leaves.
 
-use crate::tests::model::{Fault, Model};
-use crate::{Link, Programmer, SerprogBus};
+use crate::serprog_model::{Fault, Model};
 use nor_chip::Bus;
+use nor_serprog::{Link, Programmer, SerprogBus};
 use std::alloc::Global;
 use std::test::Fail;
 

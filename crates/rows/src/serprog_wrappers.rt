@@ -1,8 +1,8 @@
-//! Pauses between polls, and readings that differ.
+//! Pauses between the polls of a bus, and readings that differ.
 
-use crate::tests::model::{Fault, Model};
-use crate::{Link, Paced, Programmer, ReadTwice, SerprogBus};
+use crate::serprog_model::{Fault, Model};
 use nor_chip::{Bus, Config, Delays, Meter, SimBus};
+use nor_serprog::{Link, Paced, Programmer, ReadTwice, SerprogBus};
 use std::cell::Cell;
 use std::io;
 use std::test::Fail;

@@ -1,7 +1,7 @@
-//! What is asked of a programmer before the first transaction.
+//! What is asked of a serprog programmer before the first transaction.
 
-use crate::tests::model::Model;
-use crate::{Link, Programmer};
+use crate::serprog_model::Model;
+use nor_serprog::{Link, Programmer};
 use std::alloc::Global;
 use std::test::Fail;
 

@@ -1,5 +1,5 @@
 //! Small changes of files in memory, cut off after each call.
-use crate::{Loss, Memory, Store};
+use nor_files::{Loss, Memory, Store};
 use nor_journal::Vault;
 use std::alloc::{AllocError, Global};
 use std::io;

@@ -1,6 +1,6 @@
-//! Frames, byte by byte.
+//! Frames of serprog, byte by byte.
 
-use crate::{Command, frame_len};
+use nor_serprog::{Command, frame_len};
 
 // Frames as flashrom 1.3 sends them, by the table of the protocol.
 #[test]

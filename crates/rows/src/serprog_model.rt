@@ -1,10 +1,10 @@
-//! A programmer in memory, in front of a simulated chip.
+//! A serprog programmer in memory, in front of a simulated chip.
 
 ghost use Rattle.nor_serprog.specs.Device.{unknown_port};
 
-use crate::{Port, frame_len};
 use arrayvec::ArrayVec;
 use nor_chip::{Bus, Config, Delays, Meter, SimBus};
+use nor_serprog::{Port, frame_len};
 use std::alloc::Global;
 use std::test::Fail;
 use std::{fmt, mem};
