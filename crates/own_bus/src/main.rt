@@ -1,6 +1,10 @@
 //! An example of a bus of your own: it probes a chip, reads it out into a file, changes it with a journal, and restores
-//! it.
-//! `docs/OWN_BUS.md` says how to replace `played` by hardware of your own.
+//! it. The chip is simulated; `docs/OWN_BUS.md` says how to replace `played` by your hardware.
+//!
+//! - `main.rt`: the steps of the example
+//! - `own.rt`: the trait `Wires`, which you implement, and the bus over it
+//! - `played.rt`: wires to a simulated chip
+//! - `fault.rt`: the errors that end the example
 #![tactic(auto)]
 
 mod fault;
@@ -76,7 +80,7 @@ fn tell(rt: &HostRuntime, what: &str, done: &Report, bus: &OwnBus<Played>) -> Re
     Ok(())
 }
 
-// Tries the same change, but the wires are cut while the chip is scanned.
+// Tries the same change, but cuts the wires after 10,000 exchanges, while the session scans the chip.
 fn cut_off(rt: &HostRuntime, bus: &mut OwnBus<Played>) -> Result<(), Fault> {
     bus.wires.left = 10_000;
     bus.wires.changing = 0;

@@ -12,7 +12,7 @@ pub trait Wires {
     /// Pulls chip select low (`true`, a transaction begins) or releases it (`false`, the transaction ends).
     fn select(&mut self, selected: bool) -> Result<(), Self::Cause>;
 
-    /// Sends a byte, and returns the byte that the chip sent meanwhile.
+    /// Sends a byte, and returns the byte that the chip sends at the same time.
     fn exchange(&mut self, byte: u8) -> Result<u8, Self::Cause>;
 }
 
@@ -67,7 +67,7 @@ fn carry<W: Wires>(wires: &mut W, out: &[u8], reply: &mut [u8]) -> Result<(), W:
     released
 }
 
-// Sends the bytes `out`, and then reads as many bytes as `reply` holds.
+// Sends the bytes `out`, and then fills `reply` with the bytes that the chip sends.
 fn exchange_all<W: Wires>(wires: &mut W, out: &[u8], reply: &mut [u8]) -> Result<(), W::Cause> {
     for byte in out {
         wires.exchange(*byte)?;

@@ -18,14 +18,15 @@ impl fmt::Display for Cut {
     }
 }
 
-/// Wires to a simulated chip, which are cut after a given number of exchanges.
+/// Wires to a simulated chip, which are cut after `left` more exchanges.
 #[derive(Drop)]
 pub struct Played {
     pub chip: SimBus,
     pub left: u64,
-    /// How many modifying commands were sent.
+    /// The number of modifying commands sent.
     pub changing: u64,
-    // the bytes of the command so far; when they are complete, the chip's reply, and how many of its bytes were read
+    // the bytes of the command so far; the chip's reply, once these are complete; the number of reply bytes already
+    // read
     sent: ArrayVec<u8, LONGEST>,
     reply: [u8; SECTOR_LEN as usize],
     taken: usize,
@@ -44,7 +45,7 @@ impl Played {
     }
 }
 
-// Returns after how many bytes the reply of a reading command begins.
+// Returns the number of bytes to send before the reply of a reading command begins; `None` for any other command.
 fn reply_begins(sent: &[u8]) -> Option<usize> {
     match sent.first()? {
         0x05 | 0x35 | 0x9F => Some(1),
