@@ -1,10 +1,10 @@
--- What the arguments of the command line ask for.
+-- The jobs that the arguments of the command line select.
 use Rattle.std.specs.Prelude.{ℕ, List, [], ◌∷◌, codes, if◌then◌else◌}
 use Rattle.std.specs.Str.{bytes_eq}
 use Rattle.bench.specs.declared.words.Request.{Request}
 use Rattle.bench.specs.declared.words.Request.TheVariants.{Usage, Chip, Plan, Journal, Session, Read, Answers, Unknown}
 
--- what an argument asks for
+-- the job that one argument selects
 abbrev pub named : List ℕ → Request
 named word =
     if bytes_eq word (codes "chip") then Chip
@@ -15,7 +15,7 @@ named word =
     else if bytes_eq word (codes "answers") then Answers
     else Unknown
 
--- without an argument the usage is printed; one argument asks for a measurement; more are an error
+-- without an argument the usage is printed; one argument selects a job; more are an error
 abbrev pub request_of : List (List ℕ) → Request
 request_of [] = Usage
 request_of (word ∷ []) = named word

@@ -8,7 +8,7 @@ use nor_driver::{Erase, EraseUnit, erase, program_page, read_sector};
 use std::alloc::{AllocError, Global};
 use std::rt::Clock;
 
-/// The size of the chip, which has the most sectors of all, and its number of pages.
+/// The size of a W25Q128FV in bytes. It has `MOST_SECTORS` sectors.
 const CHIP: usize = 16777216;
 
 const PAGES: u32 = 65536;
@@ -36,8 +36,9 @@ const PROGRAMS: Aim = Aim {
     rounds: 301,
 };
 
-/// Prints how long the simulated chip takes. The reference copies the same number of bytes sector by sector: for reads
-/// from 16 MiB of memory to one buffer, for erases and programs from one buffer into that memory.
+/// Prints the time of the simulated chip's reads, erases and programs, each as a ratio to a reference that copies the
+/// same number of bytes sector by sector. The reference for reads copies 16 MiB of memory to a buffer, the one for
+/// erases and programs a buffer to that memory. Returns a checksum of all results.
 pub fn measure<R: Clock + Print + AllocGlobal>(rt: &R) -> Result<u64, Fault> {
     let mut bus = open_bus(rt.alloc())?;
     let mut memory = erased_bytes(rt.alloc())?;
@@ -71,7 +72,7 @@ pub fn answer<R: Print + AllocGlobal>(rt: &R) -> Result<(), Fault> {
     Ok(())
 }
 
-// Returns how many of the bytes have this value.
+// Returns the number of bytes that have this value.
 fn count(bytes: &[u8], byte: u8) -> usize {
     bytes.iter().filter(|found| **found == byte).count()
 }
@@ -95,7 +96,7 @@ fn erased_bytes(alloc: Global) -> Result<Vec<u8>, AllocError>
     vec![in alloc; 0xFF; CHIP]
 }
 
-// Returns the bus to an erased W25Q128FV, which shows BUSY in one poll after each operation. The bus carries out more
+// Returns a bus to an erased W25Q128FV that shows BUSY in one poll after each operation. The bus carries out more
 // transactions than any measurement sends.
 fn open_bus(alloc: Global) -> Result<SimBus, Fault> {
     let delays = Delays { now: 0, each: 1 };

@@ -1,4 +1,4 @@
-//! What ends a measurement.
+//! The errors that end a measurement.
 
 use nor_chip::{Stopped, WrongLength};
 use nor_driver::Halt;
@@ -7,18 +7,18 @@ use nor_session::Refusal;
 use std::alloc::AllocError;
 use std::io;
 
-/// Why a measurement has no result.
+/// The reason why a measurement has no result.
 #[derive(Debug, Drop)]
 pub enum Fault {
     /// The clock can't be read, or a line can't be printed.
     System(io::Error),
     /// The program is out of memory.
     Memory,
-    /// The simulated chip can't be created, or its bus stopped.
+    /// The simulated chip can't be created, its bus stopped, or it stayed busy.
     Chip,
     /// The journal can't be written.
     Vault(VaultFault),
-    /// What was written is no journal.
+    /// The bytes that were written are no journal.
     Journal(JournalFault),
     /// A session, a restore or a reading returned an error.
     Refused(Refusal),

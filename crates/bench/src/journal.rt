@@ -11,7 +11,7 @@ use sha2::{Digest, Sha256};
 use std::alloc::Global;
 use std::rt::Clock;
 
-/// The size of the chip, which has the most sectors of all.
+/// The size of the chip in bytes. It has `MOST_SECTORS` sectors.
 const CHIP: u32 = 16777216;
 
 const WRITING: Aim = Aim {
@@ -28,7 +28,8 @@ const READING: Aim = Aim {
     rounds: 15,
 };
 
-/// Prints how long the journal takes. The reference is the digest of all its bytes.
+/// Prints the times of writing and of reading the journal, as ratios to a SHA-256 digest of all its bytes. Returns a
+/// checksum of all results.
 pub fn measure<R: Clock + Print + AllocGlobal>(rt: &R) -> Result<u64, Fault> {
     let alloc = rt.alloc();
     let mut vault = MemVault::new(alloc);
@@ -40,7 +41,7 @@ pub fn measure<R: Clock + Print + AllocGlobal>(rt: &R) -> Result<u64, Fault> {
     Ok(sum ^ compare(rt, READING, &mut Reading { bytes }, &mut digests)?)
 }
 
-/// Writes the journal and reads it once, and prints how many sectors it has.
+/// Writes the journal and reads it once, and prints the number of its sectors.
 pub fn answer<R: Print + AllocGlobal>(rt: &R) -> Result<(), Fault> {
     let mut vault = MemVault::new(rt.alloc());
     write(&mut vault)?;
@@ -50,7 +51,8 @@ pub fn answer<R: Print + AllocGlobal>(rt: &R) -> Result<(), Fault> {
     Ok(())
 }
 
-// Writes the journal of a chip whose bytes all have one value to an empty vault.
+// Writes the journal of a chip whose bytes are all 5Ah to an empty, unsealed vault. The vault is sealed if that
+// succeeds.
 fn write<V: Vault>(vault: &mut V) -> Result<(), VaultFault>
     requires { IsFresh (V.state vault.old) }
     ensures { OnOk result ((V.state vault.new).sealed ≡ true) }
@@ -87,7 +89,7 @@ impl Work for Reading<'_> {
     }
 }
 
-// The reference.
+// The reference: a digest of all bytes of the journal.
 #[derive(Drop)]
 struct Digests<'a> {
     bytes: &'a [u8],

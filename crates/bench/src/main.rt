@@ -1,5 +1,15 @@
-//! `bench` measures the parts of this project. Each line has the ratio of something's time to the time of a reference for
-//! the same number of bytes, measured in the same run, and the ratio that is wanted at most.
+//! Measures parts of this project. Each line of output has the ratio of a piece of work's time to that of a simpler
+//! reference, measured in the same run, and the greatest ratio that is acceptable.
+//!
+//! - `main.rt`: runs the measurement that the argument selects
+//! - `words.rt`: the arguments
+//! - `timing.rt`: times the work and its reference in turn, and prints their ratio
+//! - `chip.rt`: reads, erases and page programs of a simulated chip
+//! - `plan.rt`: comparisons of two sectors
+//! - `journal.rt`: a journal of all sectors of a 16 MiB chip, written and read
+//! - `session.rt`: sessions and a restore on a 16 MiB chip
+//! - `read.rt`: a 16 MiB chip, read out and verified
+//! - `fault.rt`: the errors that end a measurement
 #![tactic(auto)]
 
 mod chip;
@@ -51,7 +61,8 @@ fn main(rt: HostRuntime) -> Result<ExitCode, Fault> {
     Ok(ExitCode::SUCCESS)
 }
 
-// Does each piece of the timed work once, and prints its result.
+// Does the work of `chip`, `plan`, `journal` and `read` once, and prints the results, then two lines of `timing` for
+// fixed times. The gate compares this output with the file `stdout`.
 fn answer<R: Print + AllocGlobal>(rt: &R) -> Result<(), Fault> {
     chip::answer(rt)?;
     plan::answer(rt)?;

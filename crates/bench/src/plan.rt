@@ -1,4 +1,4 @@
-//! The comparisons of two sectors that differ only in the last byte.
+//! Comparisons of two sectors that differ only in the last byte.
 
 use crate::fault::Fault;
 use crate::timing::{Aim, Work, compare, look_at};
@@ -7,7 +7,7 @@ use nor_plan::{bounds, differs};
 use std::alloc::{AllocError, Global};
 use std::rt::Clock;
 
-/// How many sectors are compared before the clock is read again.
+/// The number of comparisons between two readings of the clock.
 const PASSES: u32 = 1000;
 
 const DIFFERS: Aim = Aim {
@@ -24,7 +24,7 @@ const BOUNDS: Aim = Aim {
     rounds: 10001,
 };
 
-/// Prints how long the comparisons take.
+/// Prints the time of each comparison as a ratio to a copy of a sector. Returns a checksum of all results.
 pub fn measure<R: Clock + Print + AllocGlobal>(rt: &R) -> Result<u64, Fault> {
     let mut copies = Copies(Sectors::new(rt.alloc())?);
     let mut work = Differs(Sectors::new(rt.alloc())?);
@@ -95,7 +95,7 @@ impl Work for Bounds {
     }
 }
 
-// The reference.
+// The reference: a copy of each sector.
 #[derive(Drop)]
 struct Copies(Sectors);
 

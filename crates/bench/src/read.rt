@@ -8,7 +8,7 @@ use nor_read::{read_out, verify};
 use std::alloc::{AllocError, Global};
 use std::rt::Clock;
 
-/// The size of the chip.
+/// The size of the chip in bytes.
 const CHIP: usize = 16777216;
 
 const READING: Aim = Aim {
@@ -25,8 +25,8 @@ const VERIFYING: Aim = Aim {
     rounds: 31,
 };
 
-/// Prints how long the two take. The reference copies the same number of bytes into newly allocated memory, as the
-/// reading does.
+/// Prints the times of reading out and of verifying, as ratios to a reference that copies the same number of bytes into
+/// newly allocated memory, as reading out does. Returns a checksum of all results.
 pub fn measure<R: Clock + Print + AllocGlobal>(rt: &R) -> Result<u64, Fault> {
     let alloc = rt.alloc();
     let image = bytes(alloc)?;
@@ -65,12 +65,12 @@ pub fn answer<R: Print + AllocGlobal>(rt: &R) -> Result<(), Fault> {
     Ok(())
 }
 
-// Returns the contents of the chip: one value everywhere.
+// Returns the contents of the chip, 5Ah everywhere.
 fn bytes(alloc: Global) -> Result<Vec<u8>, AllocError> {
     vec![in alloc; 0x5A; CHIP]
 }
 
-// Returns the bus to an idle chip. It carries out more transactions than any measurement sends.
+// Returns a bus to an idle W25Q128FV. The bus carries out more transactions than any measurement sends.
 fn open_bus(alloc: Global) -> Result<SimBus, Fault> {
     let delays = Delays { now: 0, each: 0 };
     let mut bus = SimBus::new(Config::w25q128fv(), bytes(alloc)?, [0, 0], delays)?;

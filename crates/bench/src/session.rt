@@ -11,7 +11,7 @@ use sha2::{Digest, Sha256};
 use std::alloc::Global;
 use std::rt::Clock;
 
-/// The size of the chip.
+/// The size of the chip in bytes.
 const CHIP: usize = 16_777_216;
 
 const WRITE: Request = Request {
@@ -50,7 +50,8 @@ const TOUCHING: Aim = Aim {
     rounds: 15,
 };
 
-/// Prints how long sessions and a restore take.
+/// Prints the times of three sessions and a restore, each as a ratio to a digest of the journal or a copy of the chip.
+/// Returns a checksum of all results.
 pub fn measure<R: Clock + Print + AllocGlobal>(rt: &R) -> Result<u64, Fault> {
     let alloc = rt.alloc();
     let image = scattered(alloc)?;
@@ -84,7 +85,7 @@ pub fn measure<R: Clock + Print + AllocGlobal>(rt: &R) -> Result<u64, Fault> {
     Ok(sum ^ compare(rt, TOUCHING, &mut touching, &mut copies)?)
 }
 
-// Returns pseudo-random bytes, the same in each run: the high bytes of a linear congruential generator.
+// Returns pseudo-random contents, the same in each run: the high bytes of a linear congruential generator.
 fn scattered(alloc: Global) -> Result<Vec<u8>, Fault> {
     let mut bytes = vec![in alloc; 0; CHIP]?;
     let mut state: u64 = 1;
@@ -97,7 +98,7 @@ fn scattered(alloc: Global) -> Result<Vec<u8>, Fault> {
     Ok(bytes)
 }
 
-// Returns a bus to an idle chip that never stops.
+// Returns a bus to an idle W25Q128FV. The bus carries out more transactions than any measurement sends.
 fn chip_of(bytes: Vec<u8>) -> Result<SimBus, Fault> {
     let idle = Delays { now: 0, each: 0 };
     let mut bus = SimBus::new(Config::w25q128fv(), bytes, [0x00, 0x00], idle)?;
@@ -105,7 +106,7 @@ fn chip_of(bytes: Vec<u8>) -> Result<SimBus, Fault> {
     Ok(bus)
 }
 
-// Returns the journal of a chip with these contents, written by a session that erases it.
+// Returns the journal of a session that erased a chip with these contents.
 fn saved(alloc: Global, bytes: &[u8]) -> Result<MemVault, Fault> {
     let mut bus = chip_of(bytes.to_vec(alloc)?)?;
     let mut image = vec![in alloc; 0; CHIP]?;
@@ -118,7 +119,7 @@ fn saved(alloc: Global, bytes: &[u8]) -> Result<MemVault, Fault> {
     Ok(vault)
 }
 
-// A session that writes a whole image onto an erased chip.
+// A session that writes a whole image to an erased chip. The erase is timed, too.
 #[derive(Drop)]
 struct Writing {
     alloc: Global,
@@ -139,7 +140,7 @@ impl Work for Writing {
     }
 }
 
-// A restore of all sectors onto an erased chip.
+// A restore of all sectors of a journal to an erased chip. The erase and the reading of the journal are timed, too.
 #[derive(Drop)]
 struct Restoring<'a> {
     bus: SimBus,
@@ -158,7 +159,8 @@ impl Work for Restoring<'_> {
     }
 }
 
-// A session that writes what is there, except for flipped bits in one byte.
+// A session that writes the image, after `flips` has inverted bits of one of its bytes. If `flips` is 0 and the chip
+// has the image, the session changes nothing.
 #[derive(Drop)]
 struct Touching {
     alloc: Global,
@@ -178,7 +180,7 @@ impl Work for Touching {
     }
 }
 
-// The reference for a journal.
+// The reference: a digest of all bytes of a journal.
 #[derive(Drop)]
 struct Digests<'a> {
     bytes: &'a [u8],

@@ -1,4 +1,4 @@
-//! Measures two pieces of work that are done in turn.
+//! Times a piece of work and its reference in turn, and prints their ratio.
 
 use crate::fault::Fault;
 use nor_chip::SECTOR_LEN;
@@ -6,28 +6,30 @@ use std::fmt;
 use std::rt::Clock;
 use std::time::{Duration, Instant};
 
-/// Work that is timed.
+/// A piece of work that is timed.
 pub trait Work {
-    /// Does the work once. The result depends on what was done, so that no compiler leaves the work out.
+    /// Does the work once. The result depends on what was done, so that the compiler can't remove the work.
     fn run(&mut self) -> Result<u64, Fault>;
 }
 
-/// Adds one of the bytes to a sum. The sum says which byte, so no compiler can leave out the computation of the others.
+/// Returns the sum of `sum` and one of the bytes, modulo 2^64. `sum` selects the byte, so the compiler can't omit the
+/// computation of the other bytes.
 pub fn look_at(bytes: &[u8; SECTOR_LEN as usize], sum: u64) -> u64 {
     sum.wrapping_add(u64::from(bytes[(sum % u64::from(SECTOR_LEN)) as usize]))
 }
 
-/// What is measured (`what`), the reference (`beside`), and how many times the reference's time it should take at most.
+/// A measurement: the name of the work (`what`) and of the reference (`beside`), and the greatest acceptable ratio of
+/// their times.
 #[derive(Clone, Copy)]
 pub struct Aim {
     pub what: &'static str,
     pub beside: &'static str,
     pub at_most: f64,
-    /// How often each of the two is timed.
+    /// The number of times that each of the two is timed.
     pub rounds: u32,
 }
 
-/// The least times of the work and of the reference.
+/// The shortest times of the work and of the reference.
 #[derive(Clone, Copy)]
 struct Outcome {
     aim: Aim,
@@ -56,7 +58,7 @@ impl fmt::Display for Outcome {
     }
 }
 
-/// Prints the lines for work that took 111 ms and 150 ms if the reference took 100 ms.
+/// Prints the lines for work that took 111 ms and 150 ms if the reference took 100 ms, to test their form.
 pub fn answer<R: Print>(rt: &R) -> Result<(), Fault> {
     let aim = Aim {
         what: "timing",
@@ -72,8 +74,8 @@ pub fn answer<R: Print>(rt: &R) -> Result<(), Fault> {
     Ok(())
 }
 
-/// Measures work and its reference, and prints the ratio of their least times. The two are done in turn, so that a slow
-/// moment of the machine affects both. Returns the sum of their results.
+/// Measures work and its reference, and prints the ratio of their shortest times. The two are done in turn, so that a
+/// slow moment of the machine affects both. Returns the sum of all their results, modulo 2^64.
 pub fn compare<R: Clock + Print, W: Work, P: Work>(
     rt: &R,
     aim: Aim,
@@ -94,7 +96,7 @@ pub fn compare<R: Clock + Print, W: Work, P: Work>(
     Ok(sum)
 }
 
-// Returns how long the work takes once.
+// Does the work once, adds its result to `sum`, and returns the time that it took.
 fn time<C: Clock, W: Work>(clock: &C, work: &mut W, sum: &mut u64) -> Result<Duration, Fault> {
     let start = Instant::now(clock)?;
     let answer = work.run()?;

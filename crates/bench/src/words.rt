@@ -2,10 +2,10 @@
 ghost use Rattle.std.specs.Prelude.{◌≡◌, map, string_bytes};
 ghost use Rattle.bench.specs.Words.{named, request_of};
 
-/// What the program does.
+/// The job of a run.
 #[derive(Clone, Copy, Debug, PartialEq, Eq)]
 pub enum Request {
-    /// No argument: print the usage.
+    /// No argument: print how to use the program.
     Usage,
     /// `chip`: measure the simulated chip.
     Chip,
@@ -13,17 +13,18 @@ pub enum Request {
     Plan,
     /// `journal`: measure the writing and the reading of a journal.
     Journal,
-    /// `session`: measure sessions and a restore.
+    /// `session`: measure sessions and a restore on a whole chip.
     Session,
     /// `read`: measure the reading of a whole chip.
     Read,
-    /// `answers`: do the work once, and print its results.
+    /// `answers`: do the work of `chip`, `plan`, `journal` and `read` once, untimed, and print the results.
     Answers,
-    /// Anything else.
+    /// Any other argument, or more than one: print the usage to standard error, and fail.
     Unknown,
 }
 
-/// Returns what the arguments ask for.
+/// Returns the job that the arguments `words`, without the program's name, select. More than one argument gives
+/// `Request::Unknown`.
 pub fn request_of(words: &[String]) -> Request
     ensures { result ≡ request_of (map string_bytes words.now) }
 {
@@ -34,7 +35,7 @@ pub fn request_of(words: &[String]) -> Request
     }
 }
 
-// Returns the request of this name.
+// Returns the job with this name; `Request::Unknown` if there is none.
 fn named(word: &str) -> Request
     ensures { result ≡ named word.now }
 {
