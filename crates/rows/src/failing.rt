@@ -1,35 +1,35 @@
-//! A bus that fails once, and would do rightly from then on.
+//! A bus on which one transaction fails, and all others succeed.
 ghost use Rattle.std.specs.Prelude.{false};
 ghost use Rattle.std.proofs.lemmas.Bool.{false≢true};
 
 use nor_chip::{Bus, Meter, SimBus, Stopped, heard_after};
 
-/// What goes wrong once.
+/// The way in which the transaction fails.
 #[derive(Clone, Copy)]
 pub enum Fault {
-    /// The transaction is stopped.
+    /// The bus stops at it.
     Stop,
-    /// Each bit of its reply is the other one.
+    /// Each bit of its reply is inverted.
     Spoil,
 }
 
-/// A bus on which one transaction goes wrong. From then on each is right.
+/// A bus on which at most one transaction fails. It carries out the ones after that, up to its allowance.
 #[derive(Drop)]
 pub struct OnceBus {
     pub bus: SimBus,
     fault: Fault,
-    // how many transactions go before the one that goes wrong; none where each is right
+    // the number of transactions before the one that fails; `None` if none fails
     behind: Option<u64>,
     allowed: u64,
-    /// How many transactions were asked for, with the one that went wrong.
+    /// The number of transactions requested, including the one that failed.
     pub asked: u64,
-    /// How that one began.
+    /// The first four bytes sent in the transaction that failed; if it is shorter, its first byte and zeros.
     pub met: [u8; 4],
     heard: bool,
 }
 
 impl OnceBus {
-    /// Allows so many transactions, of which the one behind so many goes wrong.
+    /// Returns a bus that carries out `allowed` transactions, except that the one after the first `behind` fails.
     pub fn new(mut bus: SimBus, allowed: u64, fault: Fault, behind: Option<u64>) -> OnceBus {
         bus.allow(allowed);
         OnceBus {

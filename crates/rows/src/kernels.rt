@@ -1,5 +1,5 @@
-//! The comparisons of two slices at lengths around those of their lanes and blocks, with the only difference in the
-//! first or the last place.
+//! nor_plan's comparisons of two slices that are equal or differ in one byte, at lengths around 32 bytes (which are
+//! compared at a time), of a page and of a sector.
 use crate::held::assert_held;
 use nor_plan::{PageSpan, bounds, differs, raises, spans};
 
@@ -9,7 +9,7 @@ const LONGEST: usize = 4096;
 
 const PAGE: usize = 256;
 
-// A slice of this length compared with itself: nothing differs.
+// True if no comparison finds a difference between a slice of this length and itself.
 fn is_same_to_itself(length: usize) -> bool {
     let bytes = [0xA5u8; LONGEST];
     match bytes.get(..length) {
@@ -23,8 +23,8 @@ fn is_same_to_itself(length: usize) -> bool {
     }
 }
 
-// Compares a slice of this length with one that differs only in the byte at this position, by one raised bit. The
-// position is found in both directions, and a bit rises in one direction only.
+// True if the comparisons find the only difference of two slices of this length, one bit of the byte at `place`. They
+// must find the position in both directions, and a raised bit in only one.
 fn differs_at(length: usize, place: usize) -> bool {
     let lower = [0xA5u8; LONGEST];
     let mut higher = [0xA5u8; LONGEST];

@@ -1,5 +1,51 @@
-//! Hostile use of the public calls, across crates: sessions and restores that are stopped at each of their
-//! transactions or lose their power there, vaults that refuse, buses that lie and texts that attack. Tests alone.
+//! Tests across crates of what the public calls do when a bus, a vault or a file fails, or when their input is
+//! malformed. The crate has no other code.
+//!
+//! Shared by the tests:
+//!
+//! - `row.rt`: the sessions that are tested (the rows), each with its chip, its image and its request
+//! - `runs.rt`: runs a row's session and its restores, each stopped after a given number of transactions
+//! - `spoilt.rt`: runs a row's session, or a restore, on a faulty bus
+//! - `failing.rt`: a bus on which one transaction fails and all others succeed
+//! - `stages.rt`: calls on that bus, with each of their transactions failing in turn
+//! - `held.rt`: an assertion whose message has a number
+//!
+//! Stops and power failures:
+//!
+//! - `cuts.rt`: sessions that are stopped after each number of transactions, and one restore after each stop
+//! - `undone.rt`: the same, but the restore is stopped, too, and a second one follows
+//! - `torn.rt`: sessions and restores that are stopped inside each of their transactions
+//! - `power.rt`: sessions and restores during which the chip loses its power
+//! - `rehearsed.rt`: rehearsals with each stop, and on faulty buses
+//! - `once.rt`: after a stop no call sends anything more
+//! - `readings.rt`: reading calls that are stopped, or whose vault refuses a piece
+//!
+//! Faulty buses, vaults and files:
+//!
+//! - `lies.rt`: the errors of sessions and restores on faulty buses, and the restores after them
+//! - `bounds.rt`: the most transactions of a call, on faulty buses and on the slowest chip
+//! - `vaults.rt`: sessions whose vault refuses a call
+//! - `files.rt`: sessions whose journal is in a file that fails once
+//! - `sinks.rt`: vaults and files that accept everything, refuse a call, write short or can't be synced
+//! - `traced.rt`: a trace whose log refuses lines
+//! - `losses.rt`: the model of files, when a call fails and the host crashes
+//!
+//! serprog (nor_serprog), over a port in memory:
+//!
+//! - `serprog_model.rt`: the port, and the programmer and chip behind it
+//! - `serprog_frames.rt`: the bytes of each command
+//! - `serprog_handshakes.rt`: how a link is synchronized, and how a programmer is identified
+//! - `serprog_buses.rt`: sessions over the bus, and failures of the port
+//! - `serprog_wrappers.rt`: paced polls, and readings that are made twice
+//!
+//! Single calls:
+//!
+//! - `probes.rt`: which chips are found, what a probe sends, and how long it waits
+//! - `sessions.rt`: sessions on chips with other erase types, and on a busy chip
+//! - `kernels.rt`: nor_plan's comparisons of two slices
+//! - `sets.rt`: sets of addresses made from spans
+//! - `texts.rt`: malformed and very long layouts and journals
+//! - `words.rt`: arguments, with enough memory
 #![tactic(auto)]
 
 #[cfg(test)]

@@ -1,4 +1,4 @@
-//! Sessions and restores on buses that lie, and restores on the honest bus behind them.
+//! Sessions and restores on faulty buses, and the restores after them on a well-behaved bus.
 use crate::held::assert_held;
 use crate::row::{Row, Start};
 use crate::runs::Runs;
@@ -13,20 +13,26 @@ const TIMEOUT: Refusal = Refusal::Timeout { address: 0 };
 
 const MISMATCH: Refusal = Refusal::Mismatch { address: 0 };
 
-// The call was refused so, after so many transactions, and a restore on the honest bus gives the chip back.
+// Asserts that the call returned this error after this number of transactions, and that the chip is as before, once a
+// restore on a well-behaved bus has followed if the vault was sealed.
 fn assert_lied(rt: &impl Abort, alloc: Global, row: Row, lied: Lied, told: (Refusal, u64)) {
     let (refusal, sent) = told;
     assert!(rt; lied.refusal == Some(refusal) && lied.sent == sent);
     lied.assert_given_back(rt, alloc, row);
 }
 
-// The opening's seven transactions and sixteen readings come first. 24 enables the erase, 25 is the erase, 26 its poll;
-// 27 enables the program, 28 is the program, 29 its poll, and 30 reads the sector again. A wait gives up behind 65,536
-// polls. An ID of zeros is that of no chip; with bit 0 clear the ID is as it was, and the SFDP's first letter isn't.
+// Each row has the session, the fault, the error, and the number of transactions sent. They are counted from 1: 1 to 7
+// identify the chip, and 8 to 23 scan it. Then the sessions send:
 //
-// Where a byte is programmed, 24 reads the sector again, 25 enables the program, 26 is the program, 27 its poll, and 28
-// reads the sector once more. Where nine sectors are erased, 25 erases sectors 0 to 7, 28 sector 8, and 30 to 38 read
-// them again: a check ends at the first difference.
+// - `ABitRises`: 24 enables the erase, 25 is the erase, 26 its poll; 27 enables the program, 28 is the program, 29 its
+//   poll; 30 reads the sector to verify it.
+// - `AByteIsProgrammed`: 24 reads the sector, 25 enables the program, 26 is the program, 27 its poll; 28 reads the
+//   sector to verify it.
+// - `NineSectorsAreErased`: 25 erases sectors 0 to 7, 28 sector 8; 30 to 38 read them to verify them, up to the first
+//   difference.
+//
+// A wait gives up after 65,536 polls. An ID of zeros means that there is no chip. Clearing bit 0 leaves a TINY64's ID
+// as it is, but changes the first letter of the SFDP signature.
 const SESSIONS: [(Row, Spoil, (Refusal, u64)); 9] = [
     (Row::ABitRises, Spoil::Fill(0xFF), (TIMEOUT, 65_536)),
     (Row::ABitRises, Spoil::Fill(0x00), (Refusal::NoChip, 2)),
@@ -63,9 +69,14 @@ fn a_session_that_changes(rt: HostRuntime) {
     }
 }
 
-// The session was stopped behind its erase. Of the restore 1 is a poll, 2 the ID, 3 to 5 the SFDP, whose parts are FFh
-// where they were dropped, 6 status 2 and 7 the unique ID; 8 and 9 read the sector, 10 enables the program, 11 is the
-// program, 12 its poll, and 13 reads the sector again.
+// Each row has the fault, the error, and the number of transactions of the restore. The session was stopped after its
+// erase. The restore's transactions are counted from 1:
+//
+// - 1 is a poll, 2 reads the ID, 3 to 5 the SFDP in three parts, 6 status 2, and 7 the unique ID.
+// - 8 and 9 read the sector, 10 enables the program, 11 is the program, 12 its poll, and 13 reads the sector to verify
+//   it.
+//
+// A dropped reading returns FFh.
 const RESTORES: [(Spoil, (Refusal, u64)); 12] = [
     (Spoil::Fill(0xFF), (TIMEOUT, 65_536)),
     (Spoil::Fill(0x00), (Refusal::NoChip, 2)),
@@ -103,7 +114,8 @@ fn a_restore_that_programs(rt: HostRuntime) {
     }
 }
 
-// A transaction that was dropped may leave bytes other than wanted; a chip that hangs is given up.
+// True if a call may return this error with this fault: a mismatch after a dropped transaction, a timeout if polls show
+// BUSY.
 fn is_fitting(spoil: Spoil, refusal: Option<Refusal>) -> bool {
     match refusal {
         None => true,
@@ -113,8 +125,8 @@ fn is_fitting(spoil: Spoil, refusal: Option<Refusal>) -> bool {
     }
 }
 
-// Drops each transaction past the seal of a row's session in turn, and shows BUSY from each of them on. Answers how
-// many runs there were.
+// Drops each transaction after the seal of a row's session in turn, and shows BUSY from each of them on. Asserts that a
+// restore on a well-behaved bus restores the chip. Returns the number of runs.
 fn lie_past_the_seal(rt: &impl Abort, alloc: Global, row: Row) -> u64 {
     let mut runs: u64 = 0;
     for n in row.sealed_at(Start::IDLE)..row.ends_at(Start::IDLE) {
@@ -129,8 +141,9 @@ fn lie_past_the_seal(rt: &impl Abort, alloc: Global, row: Row) -> u64 {
     runs
 }
 
-// Past the seal all that a session sends aims at the saved sectors or the protection bits, and what was saved was read
-// on a bus that was still honest. So the restore gives back what any one lie made of the chip.
+// Each row has the number of its runs. A session's erases and programs address only saved sectors, and its status
+// writes change only protection bits. The sectors were saved before the fault. So one restore undoes any single fault
+// after the seal.
 const PAST_THE_SEAL: [(Row, u64); 6] = [
     (Row::AByteIsProgrammed, 2 * 5),
     (Row::ABitRises, 2 * 7),
@@ -147,8 +160,8 @@ fn any_lie_past_the_seal_is_undone(rt: HostRuntime) {
     }
 }
 
-// Drops each transaction of the restore behind a stop of a row's session, and shows BUSY from each of them on. A
-// restore on the honest bus follows.
+// Stops a row's session, then drops each of the `length` transactions of the restore in turn, and shows BUSY from each
+// of them on. Asserts that a restore on a well-behaved bus then restores the chip.
 fn lie_to_restores(rt: &impl Abort, alloc: Global, row: Row, stop: u64, length: u64) {
     let runs = Runs::new(rt, alloc, row, Start::IDLE);
     let sent = runs.cut(rt, stop).restore(rt, length);
@@ -161,7 +174,8 @@ fn lie_to_restores(rt: &impl Abort, alloc: Global, row: Row, stop: u64, length: 
     }
 }
 
-// Behind stops that leave a sector erased, a byte programmed, and protection lifted or given back.
+// Each row has the number of transactions after which the session is stopped, and the length of the restore. The stops
+// leave a sector erased, a byte programmed, and protection lifted or set again.
 const BEHIND: [(Row, u64, u64); 5] = [
     (Row::ABitRises, 25, 13),
     (Row::AByteIsProgrammed, 26, 12),

@@ -1,4 +1,5 @@
-//! Probes of chips, by what SFDP bytes say (JESD216), which chips are found, what is sent and how long is waited.
+//! Probes: what SFDP bytes mean (JESD216), which chips are found, which transactions are sent, and how long a probe
+//! waits.
 use crate::held::assert_held;
 use crate::row::{Start, erased, put_run};
 use nor_chip::{ALL_KINDS, Config, Delays, Meter, SimBus, Spoil, SpoiltBus, TINY64_SFDP, TraceBus};
@@ -11,7 +12,7 @@ const SECTORS_ALONE: Kinds = Kinds {
     k64: false,
 };
 
-// What a probe finds of each emulated chip whose BP0 is set.
+// What a probe finds on each emulated chip, with BP0 set in status 1.
 const TINY64: Found = Found {
     name: ChipName::Sfdp,
     id: [0xFE, 0x10, 0x10],
@@ -39,7 +40,7 @@ const W25Q128FV: Found = Found {
     status1: 0x04,
 };
 
-// What a probe answers.
+// The result of a probe, with the number of its transactions.
 type Answer = Result<Probed, ProbeFault>;
 
 const SMALL: Answer = Ok(Probed {
@@ -57,7 +58,7 @@ const BY_SFDP: Answer = Ok(Probed {
     transactions: 5,
 });
 
-// What a probe answers on the chip of no name in the table, whose SFDP bytes say this.
+// Returns the result of a probe of a chip whose ID isn't in the table and whose SFDP bytes mean `said`.
 fn answer_of(said: Said) -> Answer {
     let (size, kinds) = match said {
         Ok(geometry) => geometry,
@@ -75,19 +76,19 @@ fn answer_of(said: Said) -> Answer {
     })
 }
 
-// A chip of 64 KiB with this ID and these SFDP bytes.
+// Returns the configuration of a chip of 64 KiB with this ID and these SFDP bytes.
 fn chip(rt: &impl Abort, id: [u8; 3], sfdp: &[u8]) -> Config {
     Config::new(id, 65_536, true, true, false, sfdp).expect(rt, "a size")
 }
 
-// A bus to an erased chip whose BP0 is set.
+// Returns a bus to an erased chip whose BP0 is set. The bus carries out `allowed` transactions.
 fn bus_to(rt: &impl Abort, alloc: Global, config: Config, delays: Delays, allowed: u64) -> SimBus {
     let mut bus = erased(rt, alloc, config, [0x04, 0x00], delays);
     bus.allow(allowed);
     bus
 }
 
-// What a probe answers on a chip of no name in the table, whose SFDP bytes are a TINY64's but for a run of them.
+// Probes a chip whose ID isn't in the table. Its SFDP bytes are a TINY64's, except for the bytes `run` from `at` on.
 fn answer_to(rt: &impl Abort, alloc: Global, at: usize, run: &[u8]) -> Answer {
     let mut sfdp = TINY64_SFDP;
     put_run(&mut sfdp, at, run);
@@ -95,15 +96,18 @@ fn answer_to(rt: &impl Abort, alloc: Global, at: usize, run: &[u8]) -> Answer {
     probe_counted(&mut bus_to(rt, alloc, config, Start::IDLE.delays, 5), None)
 }
 
-// What SFDP bytes say: a size and erase kinds, or a fault.
+// The meaning of SFDP bytes: a size and erase types, or a fault.
 type Said = Result<(u32, Kinds), SfdpFault>;
 
-// Each row changes a run of a TINY64's SFDP bytes. From 0 on they are the header, with the major revision at 5; from 8
-// on the parameter header, with its revision at 0Ah, the length at 0Bh and the pointer at 0Ch; from 10h on the table,
-// with pages and address bytes in double word 1, the size in 2 (14h) and the erase types in 8 and 9 (2Ch).
+// Each row overwrites a run of a TINY64's SFDP bytes. These bytes are:
 //
-// A table at FFFFFFh lies past the SFDP bytes, so each of its bytes is FFh; one at 0 is the header, which begins with
-// 53 46 44 50. As double word 1, both have a 2 or a 3 where they tell how many address bytes there are.
+// - from 00h on, the header, with the major revision at 05h
+// - from 08h on, the parameter header, with its revision at 0Ah, the table's length at 0Bh and its address at 0Ch
+// - from 10h on, the table, with the erase granularity and the address bytes in double word 1, the size in double word
+//   2 (14h), and the erase types in double words 8 and 9 (2Ch)
+//
+// A table at FFFFFFh lies past the SFDP bytes, so each of its bytes is FFh. A table at 0 is the header, which begins
+// with 53 46 44 50. In both, the address bytes field of double word 1 is 3 or 2, which a probe refuses.
 const SAYINGS: &[(usize, &[u8], Said)] = &[
     (0x00, &[], Ok((65_536, ALL_KINDS))),
     (0x0C, &[0xFF, 0xFF, 0xFF], Err(SfdpFault::Address)),
@@ -157,7 +161,7 @@ fn sfdp_says_a_geometry_or_its_first_fault(rt: HostRuntime) {
 const TINY64_SENT: &str = "05 > 04\n9f > fe1010\n\
     5a00000000 > 8 bytes\n5a00000800 > 8 bytes\n5a00001000 > 36 bytes\n";
 
-// Where nothing shows SFDP bytes, the pointer is FFFFFFh.
+// A chip without SFDP bytes replies FFh, so the table is read at FFFFFFh.
 const SILENT_SENT: &str = "05 > 04\n9f > aa1122\n\
     5a00000000 > 8 bytes\n5a00000800 > 8 bytes\n5affffff00 > 36 bytes\n";
 
@@ -165,15 +169,15 @@ const W25Q64FV_SENT: &str = "05 > 04\n9f > ef4017\n";
 
 const W25Q128FV_SENT: &str = "05 > 04\n9f > ef4018\n";
 
-// The chips that are probed by names.
+// A chip that a probe by a name may find.
 #[derive(Clone, Copy)]
 enum Sample {
     Small,
     Large,
     BySfdp,
-    // A chip with the ID of the small one.
+    // A chip of 64 KiB with the ID of a W25Q64FV and the SFDP bytes of a TINY64.
     Believed,
-    // A chip of no name in the table, without SFDP bytes.
+    // A chip without SFDP bytes, whose ID isn't in the table.
     Silent,
     Ones,
     Zeros,
@@ -199,7 +203,7 @@ const NONE: Answer = Err(ProbeFault::NoChip);
 
 const UNKNOWN: Answer = Err(ProbeFault::UnknownChip(SfdpFault::Signature));
 
-// What a probe by a name answers, and whether it sent just that.
+// Probes by a name. Returns the result, and whether the transactions sent are exactly those of the trace `sent`.
 fn probed(
     rt: &impl Abort,
     alloc: Global,
@@ -213,8 +217,8 @@ fn probed(
     (told, log.as_slice() == sent.as_bytes())
 }
 
-// An ID of the table is believed, whatever the chip's SFDP says; names are compared letter by letter; nothing drives a
-// bus whose ID has equal bits throughout.
+// The probe finds a chip by an ID of the table even if its SFDP bytes differ. Names are compared byte by byte. An ID of
+// three bytes 00h or three bytes FFh means that no chip drives the bus.
 const PROBES: &[(Sample, Option<&str>, Answer, &str)] = &[
     (Sample::Small, None, SMALL, W25Q64FV_SENT),
     (Sample::Small, Some("W25Q64FV"), SMALL, W25Q64FV_SENT),
@@ -267,8 +271,9 @@ const WAITED_LONG: Answer = Ok(Probed {
 
 const STOPPED: Answer = Err(ProbeFault::Stopped);
 
-// A bus that lies from the last of all transactions on is honest. No clause tells a stop from a timeout on a bus that
-// lies, so that is shown here.
+// Each row has the number of polls that show BUSY at first, the fault, the number of allowed transactions, and the
+// result. `HONEST` is a fault that never occurs. On a faulty bus no clause distinguishes a stop from a timeout; this
+// test does.
 const WAITS: [(u16, Spoil, u64, Answer); 6] = [
     (3, HONEST, 8, WAITED),
     (3, HONEST, 7, STOPPED),

@@ -1,5 +1,4 @@
-//! Rehearsals, by what they tell: under each stop of the session and each of the restore behind it, and on buses that
-//! lie.
+//! The results of rehearsals: for each stop of the session and each stop of the restore after it, and on faulty buses.
 ghost use Rattle.std.specs.Prelude.{◌≤◌, length};
 
 use crate::held::assert_held;
@@ -12,7 +11,8 @@ use nor_session::{Refusal, Rehearsal, rehearse};
 use std::alloc::Global;
 use std::process::Abort;
 
-// Rehearses under these stops. The chip is as before.
+// Rehearses with these stops, and asserts that the chip is as before. Returns the result, and whether the vault is
+// sealed.
 fn rehearsed(
     rt: &impl Abort,
     alloc: Global,
@@ -30,8 +30,8 @@ fn rehearsed(
     (told, vault.is_sealed())
 }
 
-// How many transactions a restore sends behind the session's stop: none before the seal, eight where its sector is as
-// saved, thirteen with one program.
+// Returns the number of transactions that a restore sends after the session was stopped after `stop` transactions.
+// Before the seal there is no restore; 8 suffice if the sector is as saved, and 13 include one program.
 fn restore_behind(stop: u64) -> Option<u64> {
     match stop {
         0..=22 => None,
@@ -62,14 +62,14 @@ fn each_pair_of_stops_tells_how_it_went(rt: HostRuntime) {
     }
 }
 
-// How many transactions a restore sends behind one that needs so many and was stopped behind so many of them. The
-// eleventh of thirteen is the program, and behind that the sector is as saved.
+// Returns the number of transactions of the restore after one that needs `needed` and was stopped after `sent`. The
+// eleventh of thirteen is the program; after it the sector is as saved.
 fn restore_again(needed: u64, sent: u64) -> u64 {
     if sent < 11 { needed } else { 8 }
 }
 
-// How many restores are run behind a session where the first needs so many transactions, under these two stops. The
-// third isn't stopped.
+// Returns the number of restores after a session if the first restore needs `needed` transactions, and the first two
+// are stopped after `first` and `second`. The third isn't stopped.
 fn restores_under(needed: u64, first: u64, second: u64) -> u32 {
     if first >= needed {
         1
@@ -80,7 +80,7 @@ fn restores_under(needed: u64, first: u64, second: u64) -> u32 {
     }
 }
 
-// The session is stopped as its journal is sealed, behind its erase, behind its program, or not at all.
+// The session is stopped when its journal is sealed, after its erase, after its program, or not at all.
 #[test]
 fn a_third_stop_is_the_second_restores(rt: HostRuntime) {
     let row = Row::ABitRises;
@@ -100,19 +100,20 @@ fn a_third_stop_is_the_second_restores(rt: HostRuntime) {
     }
 }
 
-// What a rehearsal tells on a bus that lies, and what it leaves.
+// The result of a rehearsal on a faulty bus, and the state that it leaves.
 #[derive(Clone, Copy, PartialEq, Eq)]
 struct Told {
     result: Result<Rehearsal, Refusal>,
-    // the vault is sealed
+    // whether the vault is sealed
     sealed: bool,
-    // the chip has the bytes that it had
+    // whether the chip has its original contents
     as_before: bool,
-    // how many transactions were sent
+    // the number of transactions sent
     sent: u64,
 }
 
-// Rehearses under so many stops, of which none comes, on a bus that lies so.
+// Rehearses on a bus with this fault, with the given number of stops. Each stop allows more transactions than a call
+// sends.
 fn rehearsed_lied(rt: &impl Abort, alloc: Global, row: Row, spoil: Spoil, stops: usize) -> Told {
     let bus = row.bus(rt, alloc, Start::IDLE);
     let mut bus = SpoiltBus::new(bus, spoil);
@@ -148,7 +149,8 @@ const TIMEOUT: Refusal = Refusal::Timeout { address: 0 };
 
 const MISMATCH: Refusal = Refusal::Mismatch { address: 0 };
 
-// It was refused so, after so many transactions. The vault is unsealed, and the chip as before.
+// Returns what is expected if this error occurs after `sent` transactions, with an unsealed vault and an unchanged
+// chip.
 fn early(refusal: Refusal, sent: u64) -> Told {
     Told {
         result: Err(refusal),
@@ -158,7 +160,7 @@ fn early(refusal: Refusal, sent: u64) -> Told {
     }
 }
 
-// It was refused so, after so many transactions. The vault is sealed, and the chip isn't as before.
+// Returns what is expected if this error occurs after `sent` transactions, with a sealed vault and a changed chip.
 fn changed(refusal: Refusal, sent: u64) -> Told {
     Told {
         result: Err(refusal),
@@ -168,14 +170,21 @@ fn changed(refusal: Refusal, sent: u64) -> Told {
     }
 }
 
-// Where a bit rises, the session ends with its 30th transaction, and a restore of thirteen gives the chip back. 1 is a
-// poll. 24 enables the erase: where it is dropped that is ignored, and a program gives no bit back; 30 reads the sector
-// again. 26 is the poll behind the erase. 31, the restore's first, is a poll too; 40 enables its program, and 43 reads
-// the sector again. A wait gives up behind 65,536 polls.
+// Transactions are counted from 1, over the session and its restore. A wait gives up after 65,536 polls.
 //
-// Where a byte of the second page is programmed, 27 is the poll behind that, and the session ends with 28. Of the
-// restore's twelve 29 to 35 are the opening, 36 reads the sector, 37 enables the erase, 38 is the erase, 39 its poll,
-// and 40 reads the sector again.
+// In `ABitRises` the session sends 30 transactions, and its restore 13:
+//
+// - 1 is a poll of the session.
+// - 24 enables the erase. If it is dropped, the chip ignores the erase, and the program doesn't raise the bit.
+// - 26 is the poll after the erase, and 30 reads the sector to verify it.
+// - 31 is the restore's first poll, 40 enables its program, and 43 reads the sector to verify it.
+//
+// In `AByteIsProgrammed` a byte of the second page is programmed. The session sends 28 transactions, and its restore
+// 12:
+//
+// - 27 is the poll after the program.
+// - 29 to 35 identify the chip for the restore, and 36 reads the sector.
+// - 37 enables the erase, 38 is the erase, and 39 the poll after it. 40 reads the sector to verify it.
 fn lies() -> [(Row, Spoil, Told); 8] {
     let unmoved = Told {
         result: Err(MISMATCH),
@@ -197,7 +206,7 @@ fn lies() -> [(Row, Spoil, Told); 8] {
     ]
 }
 
-// A refusal is told also where stops are given, and nothing more is sent.
+// The error is returned even if stops are given, and nothing is sent after it.
 #[test]
 fn a_refusal_in_a_rehearsal_is_told(rt: HostRuntime) {
     for (row, spoil, told) in lies() {

@@ -1,12 +1,12 @@
-//! The sessions that are stopped, spoilt and refused: each on its chip, with its image and its request.
+//! The sessions that are tested (the rows), each with its chip, its image and its request.
 use nor_chip::{Config, Delays, SECTOR_LEN, SimBus, TINY64_SFDP};
 use nor_layout::{Layout, Ranges};
 use nor_session::{Request, What};
 use std::alloc::Global;
 use std::process::Abort;
 
-// The bytes of a whole chip: FFh, except `count` bytes of one value from address `from` on, and a run of others from
-// one address on.
+// The contents of a whole chip: FFh, except `count` bytes `byte` from address `from` on. The bytes `run`, from address
+// `at` on, overwrite both.
 #[derive(Clone, Copy)]
 struct Bytes {
     from: usize,
@@ -28,34 +28,35 @@ impl Bytes {
     }
 }
 
-/// Puts bytes at the places from this one on.
+/// Writes the bytes `run` into `bytes` from position `at` on. Skips positions that `bytes` doesn't have.
 pub fn put_run(bytes: &mut [u8], at: usize, run: &[u8]) {
     for (n, byte) in run.iter().enumerate() {
         put(bytes, at.saturating_add(n), *byte);
     }
 }
 
-/// Puts a byte at a place, where there is that place.
+/// Sets the byte at position `place`, if there is one.
 pub fn put(bytes: &mut [u8], place: usize, byte: u8) {
     if let Some(found) = bytes.get_mut(place) {
         *found = byte;
     }
 }
 
-/// How a run begins, and what a stop does.
+/// The state of the chip at the start of a run, and the effect of a stop.
 #[derive(Clone, Copy)]
 pub struct Start {
     pub delays: Delays,
-    /// The latch is set, as after a write enable.
+    /// Whether the write enable latch is set, as after a write enable.
     pub latch: bool,
-    /// At a stop the power is lost, and what runs becomes this byte.
+    /// If this is `Some`, the chip loses its power at a stop, and this byte determines what is left of a running
+    /// operation (`SimBus::lose`).
     pub fill: Option<u8>,
-    /// How many bytes of its transaction a stop sends.
+    /// The number of bytes of its transaction that a stop sends. `None` sends none.
     pub torn: Option<u32>,
 }
 
 impl Start {
-    /// An idle chip whose operations take no time, on a bus that keeps its power.
+    /// An idle chip whose operations take no time, on a bus that keeps the chip's power at a stop.
     pub const IDLE: Start = Start {
         delays: Delays { now: 0, each: 0 },
         latch: false,
@@ -63,13 +64,13 @@ impl Start {
         torn: None,
     };
 
-    /// A chip that answers BUSY three times at first, and twice after each operation.
+    /// A chip that shows BUSY in three polls at first, and in two after each operation.
     pub const SLOW: Start = Start {
         delays: Delays { now: 3, each: 2 },
         ..Start::IDLE
     };
 
-    /// A chip that answers BUSY as often as a chip may, at first and after each operation.
+    /// A chip that shows BUSY in 65,535 polls, the most that `Delays` can hold, at first and after each operation.
     pub const SLOWEST: Start = Start {
         delays: Delays {
             now: 65_535,
@@ -78,7 +79,7 @@ impl Start {
         ..Start::IDLE
     };
 
-    /// The same with the latch set.
+    /// Returns this start with the write enable latch set.
     pub const fn latched(self) -> Start {
         Start {
             latch: true,
@@ -86,13 +87,14 @@ impl Start {
         }
     }
 
-    // The status of a chip that has these kept bits.
+    // Returns the status bytes of a chip with these non-volatile status bits.
     fn status(self, kept: [u8; 2]) -> [u8; 2] {
         let [one, two] = kept;
         if self.latch { [one | 0x02, two] } else { kept }
     }
 
-    /// An idle chip that answers BUSY twice after each operation, and loses its power at a stop.
+    /// Returns the start of an idle chip that shows BUSY in two polls after each operation, and loses its power at a
+    /// stop.
     pub const fn losing(fill: u8) -> Start {
         Start {
             delays: Delays { now: 0, each: 2 },
@@ -111,31 +113,33 @@ impl Start {
     }
 }
 
-/// The sessions, each of which writes to a chip of its own.
+/// A session that is tested. Each writes to a chip of its own.
 #[derive(Clone, Copy)]
 pub enum Row {
     /// One byte of an erased chip is programmed.
     AByteIsProgrammed,
-    /// A byte is to get a bit back, so its sector is erased.
+    /// A bit of one byte rises from 0 to 1, so the sector of that byte is erased.
     ABitRises,
-    /// A byte is to lose a bit, which takes no erase.
+    /// A bit of one byte falls from 1 to 0, which needs no erase.
     ABitFalls,
-    /// A run of bytes goes over a page's end.
+    /// Four bytes are programmed, two on each side of a page boundary.
     TwoPagesAreProgrammed,
-    /// Nine sectors are erased, by a large unit and a small one.
+    /// Nine sectors are erased, with one erase of 32 KiB and one of 4 KiB.
     NineSectorsAreErased,
-    /// The whole chip is erased.
+    /// The whole chip is erased, with one erase.
     TheChipIsErased,
-    /// One page of a cleared sector is included and becomes FFh, so the other fifteen are programmed again.
+    /// One page of a sector full of 00h is included and becomes FFh. The sector is erased, and its other fifteen pages
+    /// are programmed again.
     TheRestOfASectorStays,
-    /// The byte below the guarded places is programmed.
+    /// The last byte before the protected range is programmed.
     AByteBelowTheGuardIsProgrammed,
-    /// The first guarded byte is programmed, with protection lifted and given back.
+    /// The first byte of the protected range is programmed. The protection is lifted before that and set again
+    /// afterwards.
     AGuardedByteIsProgrammed,
-    /// All of a TINY64 with no erases but those of sectors and of the whole chip is changed: fifteen sectors are
-    /// erased, and of all sixteen each page is programmed.
+    /// Every byte of a TINY64 without erases of 32 and 64 KiB is changed. Fifteen sectors are erased, and each page of
+    /// all sixteen sectors is programmed.
     EachPageIsProgrammed,
-    /// The sectors 8 to 39 of a chip of 256 KiB are erased, with three erases of 32, 64 and 32 KiB.
+    /// Sectors 8 to 39 of a chip of 256 KiB are erased, with three erases of 32, 64 and 32 KiB.
     ThirtyTwoSectorsAreErased,
 }
 
@@ -176,7 +180,7 @@ fn sectors_alone(rt: &impl Abort) -> Config {
     Config::new([0xFE, 0x10, 0x10], 65_536, false, false, false, &sfdp).expect(rt, "a size")
 }
 
-/// Returns a chip of 256 KiB that is known by its SFDP, with or without erases of 32 and 64 KiB.
+/// Returns the configuration of a chip of 256 KiB that is known by its SFDP, with or without erases of 32 and 64 KiB.
 pub fn large(rt: &impl Abort, k32: bool, k64: bool) -> Config {
     let mut sfdp = TINY64_SFDP;
     sfdp[0x16] = 0x1F;
@@ -189,37 +193,37 @@ pub fn large(rt: &impl Abort, k32: bool, k64: bool) -> Config {
     Config::new([0xAA, 0x11, 0x22], 262_144, k32, k64, false, &sfdp).expect(rt, "a size")
 }
 
-// What a row's session writes, and what it sends where nothing stops it.
+// The chip, contents and request of a row's session, and the number of transactions that it sends if nothing stops it.
 #[derive(Clone, Copy)]
 struct Written {
     chip: Chip,
-    // the kept bits alone
+    // the non-volatile status bits
     status: [u8; 2],
     old: Bytes,
     image: Bytes,
-    // the line of a layout whose region `part` is included; without one that is the whole chip
+    // the line of a layout whose region `part` is included; `None` includes the whole chip
     part: Option<&'static [u8]>,
     unlock: bool,
-    // how many transactions go before the seal, on a chip without delays
+    // the number of transactions before the seal, on a chip without delays
     sealed: u32,
-    // how many there are in all, on a chip without delays
+    // the number of transactions of the session, on a chip without delays
     length: u32,
-    // how many of them are erases, page programs and status writes, each of which is waited for
+    // the number of these that are erases, page programs and status writes; the session waits for each of them
     operations: u32,
 }
 
 impl Row {
-    /// The chip's bytes at the start.
+    /// Returns the contents of the chip at the start.
     pub fn before(self, rt: &impl Abort, alloc: Global) -> Vec<u8> {
         self.written().old.whole(rt, alloc, self.sectors())
     }
 
-    /// The session's image.
+    /// Returns the session's image.
     pub fn wanted(self, rt: &impl Abort, alloc: Global) -> Vec<u8> {
         self.written().image.whole(rt, alloc, self.sectors())
     }
 
-    /// The session's request.
+    /// Returns the session's request. It verifies.
     pub fn request(self, rt: &impl Abort, alloc: Global) -> Request {
         let Written { part, unlock, .. } = self.written();
         Request {
@@ -231,7 +235,7 @@ impl Row {
         }
     }
 
-    /// A bus to the row's chip.
+    /// Returns a bus to the row's chip in the state `start`.
     pub fn bus(self, rt: &impl Abort, alloc: Global, start: Start) -> SimBus {
         let bytes = self.before(rt, alloc);
         let config = self.written().chip.config(rt);
@@ -245,22 +249,22 @@ impl Row {
         bus
     }
 
-    /// The kept bits alone, at the start.
+    /// Returns the non-volatile status bits at the start.
     pub fn status(self) -> [u8; 2] {
         self.written().status
     }
 
-    /// How many sectors the chip has.
+    /// Returns the number of sectors of the chip.
     pub fn sectors(self) -> u32 {
         self.written().chip.sectors()
     }
 
-    /// The fewest transactions with which the vault is sealed.
+    /// Returns the least number of allowed transactions with which the vault is sealed.
     pub fn sealed_at(self, start: Start) -> u64 {
         u64::from(self.written().sealed) + u64::from(start.delays.now)
     }
 
-    /// The fewest transactions with which the session ends.
+    /// Returns the least number of allowed transactions with which the session ends.
     pub fn ends_at(self, start: Start) -> u64 {
         let Written {
             length,
@@ -294,7 +298,7 @@ impl Row {
     }
 }
 
-/// A bus to an erased chip.
+/// Returns a bus to an erased chip.
 pub fn erased(
     rt: &impl Abort,
     alloc: Global,
@@ -306,7 +310,7 @@ pub fn erased(
     SimBus::new(config, bytes, status, delays).expect(rt, "as many bytes as the chip has")
 }
 
-/// What the region `part` of a layout includes; without a layout nothing is told of it.
+/// Returns the addresses of the region `part` of a layout; without a layout, returns `None`.
 pub fn included(rt: &impl Abort, alloc: Global, layout: Option<&[u8]>) -> Option<Ranges> {
     let layout = Layout::read(alloc, layout?).expect(rt, "a layout");
     Some(layout.include("part").expect(rt, "a region"))
@@ -320,7 +324,7 @@ const ERASED: Bytes = Bytes {
     run: &[],
 };
 
-// So many bytes of one value from address 0 on.
+// Returns contents that have `count` bytes of one value from address 0 on, and FFh elsewhere.
 const fn first(count: usize, byte: u8) -> Bytes {
     Bytes {
         count,
@@ -333,7 +337,7 @@ const fn run(at: usize, run: &'static [u8]) -> Bytes {
     Bytes { at, run, ..ERASED }
 }
 
-// A write on a TINY64. The opening has seven transactions, the scan sixteen.
+// Returns a write to a TINY64. The identification sends seven transactions, the scan sixteen.
 fn on_tiny64(old: Bytes, image: Bytes, length: u32, operations: u32) -> Written {
     Written {
         chip: Chip::Tiny64,
@@ -348,7 +352,7 @@ fn on_tiny64(old: Bytes, image: Bytes, length: u32, operations: u32) -> Written 
     }
 }
 
-// The scan has one transaction.
+// The scan sends one transaction, since only one sector holds included addresses.
 fn the_rest_of_a_sector_stays() -> Written {
     Written {
         part: Some(b"0x800:0x8ff part"),
@@ -357,7 +361,8 @@ fn the_rest_of_a_sector_stays() -> Written {
     }
 }
 
-// A write on an erased W25Q64FV whose last 128 KiB are guarded. The opening has four transactions, the scan 2,048.
+// Returns a write to an erased W25Q64FV whose last 128 KiB are protected. The identification sends four transactions,
+// the scan 2,048.
 fn on_w25q64fv(image: Bytes, unlock: bool, length: u32, operations: u32) -> Written {
     Written {
         chip: Chip::W25q64fv,
@@ -373,7 +378,8 @@ fn on_w25q64fv(image: Bytes, unlock: bool, length: u32, operations: u32) -> Writ
 }
 
 fn each_page_is_programmed() -> Written {
-    // Behind opening and scan: three for each operation, one for the sector that isn't erased, sixteen to compare.
+    // After identification and scan: three transactions for each operation, one to read the sector that isn't erased
+    // before it is programmed, and sixteen to verify.
     let operations = 15 + 16 * 16;
     let length = 23 + 3 * operations + 1 + 16;
     let old = first(61_440, 0x00);
@@ -384,7 +390,7 @@ fn each_page_is_programmed() -> Written {
     }
 }
 
-// The scan has 64 transactions, and the comparison 32.
+// The scan sends 64 transactions, and the verification 32.
 fn thirty_two_sectors_are_erased() -> Written {
     let old = Bytes {
         from: 0x8000,

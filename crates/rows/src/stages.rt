@@ -1,4 +1,4 @@
-//! Jobs whose calls are run on a bus that fails once, at each of their transactions in turn.
+//! Calls on a bus that fails once, at each of their transactions in turn.
 ghost use Rattle.nor_journal.specs.Vault.{IsFresh};
 
 use crate::failing::{Fault, OnceBus};
@@ -13,21 +13,21 @@ use nor_session::{Refusal, Report, Request, What, restore, session};
 use std::alloc::Global;
 use std::process::Abort;
 
-/// A session on a chip that is all FFh, but that a byte of each of some sectors is 00h. It is to be all FFh, but for
-/// four bytes from one address on.
+/// A session with its chip and image. The chip is erased, except that each of some sectors has one byte 00h. The image
+/// is FFh, except for four bytes.
 #[derive(Clone, Copy)]
 pub enum Job {
-    /// A chip of two blocks. A sector and a block of 64 KiB are erased, and the bytes lie in the two sectors before
-    /// them.
+    /// A chip of two blocks of 64 KiB. The session erases a sector and a block, and writes the four bytes in the two
+    /// sectors before these.
     OnTwoBlocks,
-    /// Protection of the last 128 KiB is lifted and given back. Two of the bytes lie in the first sector of these, two
-    /// in the next one, which is erased.
+    /// A W25Q64FV, whose protection of the last 128 KiB is lifted and set again. Two of the four bytes lie in the first
+    /// sector of that range, and two in the second, which is erased.
     OnW25q64fv,
 }
 
 fn two_blocks(rt: &impl Abort) -> Config {
     let mut sfdp = TINY64_SFDP;
-    // of two to the 20th bits, minus one
+    // the size in bits, minus one (JESD216): 2^20 - 1
     sfdp[0x16] = 0x0F;
     Config::new([0xFE, 0x10, 0x11], 131_072, true, true, false, &sfdp).expect(rt, "a size")
 }
@@ -47,7 +47,7 @@ impl Job {
         }
     }
 
-    // The kept bits alone.
+    // Returns the non-volatile status bits.
     fn status(self) -> [u8; 2] {
         match self {
             Job::OnTwoBlocks => [0x00, 0x00],
@@ -55,7 +55,7 @@ impl Job {
         }
     }
 
-    // Where the first of the bytes 00h is, and how many there are.
+    // Returns the address of the first byte 00h, and the number of these bytes. Each next one is a sector further.
     fn cleared(self) -> (usize, usize) {
         match self {
             Job::OnTwoBlocks => (0xF010, 17),
@@ -63,7 +63,7 @@ impl Job {
         }
     }
 
-    // Where the four bytes are.
+    // Returns the address of the first of the four bytes.
     fn written(self) -> usize {
         match self {
             Job::OnTwoBlocks => 0xDFFE,
@@ -71,7 +71,7 @@ impl Job {
         }
     }
 
-    // The line of a layout whose region `part` is included.
+    // Returns the line of a layout whose region `part` is included; `None` includes the whole chip.
     fn part(self) -> Option<&'static [u8]> {
         match self {
             Job::OnTwoBlocks => None,
@@ -110,7 +110,7 @@ impl Job {
     }
 }
 
-/// The calls that send.
+/// A call that sends transactions.
 #[derive(Clone, Copy, PartialEq, Eq)]
 pub enum Call {
     Probe,
@@ -121,7 +121,7 @@ pub enum Call {
     Restore,
 }
 
-/// A job, with what its calls take.
+/// A job, and the arguments of its calls.
 #[derive(Drop)]
 pub struct Stage {
     alloc: Global,
@@ -134,7 +134,7 @@ pub struct Stage {
 }
 
 impl Stage {
-    /// Runs the session of the job, for its journal.
+    /// Returns a stage for the job, with the journal of its session.
     pub fn new(rt: &impl Abort, alloc: Global, job: Job, delays: Delays) -> Stage {
         let mut stage = Stage {
             alloc,
@@ -149,7 +149,7 @@ impl Stage {
         stage
     }
 
-    // The journal of a session that ends.
+    // Runs the session without a failure, and asserts that the chip then has the image. Returns its journal.
     fn kept(&self, rt: &impl Abort) -> Vec<u8> {
         let mut bus = self.bus(rt, Call::Session, Fault::Stop, None);
         let mut vault = MemVault::new(self.alloc);
@@ -158,7 +158,8 @@ impl Stage {
         vault.bytes().to_vec(self.alloc).expect(rt, "memory")
     }
 
-    // A bus to the chip, which for a restore is as the session left it. It allows what a session takes at most.
+    // Returns a bus to the original chip, or for a restore to the chip that the session left. The bus allows the most
+    // transactions of a session.
     fn bus(&self, rt: &impl Abort, call: Call, fault: Fault, behind: Option<u64>) -> OnceBus {
         let bytes = if call == Call::Restore {
             &self.image
@@ -186,7 +187,7 @@ impl Stage {
         session(bus, vault, &mut image, &self.request)
     }
 
-    // What a call answers. A comparison is one with the chip's own bytes.
+    // Makes a call, and returns its error. `verify` compares the chip with its original contents.
     fn refusal(&self, rt: &impl Abort, call: Call, bus: &mut OnceBus) -> Option<Refusal> {
         let included = self.request.included.as_ref();
         let mut vault = MemVault::new(self.alloc);
@@ -203,14 +204,15 @@ impl Stage {
         }
     }
 
-    // What a call answers where nothing goes wrong, and how many transactions it sends.
+    // Returns the error of a call on a bus that doesn't fail, and the number of its transactions.
     fn right(&self, rt: &impl Abort, call: Call) -> (Option<Refusal>, u64) {
         let mut bus = self.bus(rt, call, Fault::Stop, None);
         let refusal = self.refusal(rt, call, &mut bus);
         (refusal, bus.asked)
     }
 
-    /// Stops each transaction of a call in turn. Answers how many there are.
+    /// Stops each transaction of a call in turn. Asserts that the call then returns `Stopped` and sends nothing more.
+    /// Returns the number of transactions.
     pub fn stop_at_each(&self, rt: &impl Abort, call: Call) -> u64 {
         let (right, length) = self.right(rt, call);
         for n in 0..=length {
@@ -227,8 +229,8 @@ impl Stage {
         length
     }
 
-    /// Spoils the replies of a call, each in turn, where that is a poll, or reads a sector to compare it or to give it
-    /// out. Answers how many there were.
+    /// Spoils each reply of a call in turn. Checks the result if the reply is a poll's, or a sector's that is compared
+    /// or written to the output. Returns the number of replies that were checked.
     pub fn spoil_each(&self, rt: &impl Abort, call: Call, touched: u64) -> u64 {
         let right = self.right(rt, call);
         let mut spoilt: u64 = 0;
@@ -244,8 +246,9 @@ impl Stage {
     }
 }
 
-// What a call answers, and how many transactions it asks for, where the reply of the one behind so many is spoilt,
-// which began so. Another reply than that of a poll, or of a sector that is compared or given out, isn't looked at.
+// Returns the error and the number of transactions of a call if the reply of transaction `n`, counted from 0, is
+// spoilt. `met` has the first bytes of that transaction. Returns `None` unless the reply is a poll's, or a sector's
+// that is compared or written to the output.
 fn told_of_spoilt(
     call: Call,
     touched: u64,
@@ -262,7 +265,7 @@ fn told_of_spoilt(
         // the chip seems busy, and is polled again
         (0x05, _) => Some((refusal, length.saturating_add(1))),
         (0x03, Call::ReadOut) => Some((refusal, length)),
-        // all are read before the first difference is told
+        // all sectors are read before the first difference is reported
         (0x03, Call::Verify) => Some((mismatch, length)),
         (0x03, _) if n >= length.saturating_sub(touched) => Some((mismatch, n.saturating_add(1))),
         _ => None,

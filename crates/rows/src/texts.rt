@@ -1,4 +1,4 @@
-//! Texts that attack: layouts and journals of no sense, and long ones.
+//! Malformed and very long layouts and journals.
 use crate::held::assert_held;
 use crate::row::{Row, Start};
 use crate::runs::Runs;
@@ -9,7 +9,7 @@ use std::process::Abort;
 
 const LONG: usize = 1_000_000;
 
-// A million equal bytes between two others.
+// Returns a million equal bytes between the bytes `before` and `after`.
 fn long(rt: &impl Abort, alloc: Global, before: &[u8], byte: u8, after: &[u8]) -> Vec<u8> {
     let run = [byte; 1000];
     let mut text = before.to_vec(alloc).expect(rt, "memory");
@@ -24,14 +24,14 @@ const fn in_line(line: usize, fault: LineFault) -> Option<LayoutFault> {
     Some(LayoutFault::InLine { line, fault })
 }
 
-// The fault of a line, where it has one.
+// Returns the fault of a layout's line, if there is one.
 fn fault_of(told: Option<(usize, LineFault)>) -> Option<LayoutFault> {
     let (line, fault) = told?;
     in_line(line, fault)
 }
 
-// A layout that is one line, with a million equal bytes somewhere; or as many empty lines, with another behind them or
-// none.
+// Each row has the bytes before a million equal bytes, the repeated byte, the bytes after them, and the fault with its
+// line. The layout is one line, or a million empty lines with or without another line after them.
 const LAYOUTS: &[(&[u8], u8, &[u8], Option<(usize, LineFault)>)] = &[
     (b"", b':', b"", Some((1, LineFault::Line))),
     (b"", b' ', b"", Some((1, LineFault::Line))),
@@ -55,8 +55,8 @@ fn layouts_of_a_million_bytes(rt: HostRuntime) {
     }
 }
 
-// A name has bytes from 21h to 7Eh, but no comma and no colon; a line feed ends the line, and the name is empty. An
-// address has hexadecimal digits alone; a line feed ends a line that is empty, and the next has no start.
+// A name has bytes from 21h to 7Eh, except comma and colon. A line feed ends the line, so the name is empty. An address
+// has only hexadecimal digits. If a line feed replaces it, line 1 is empty, and line 2 has no start address.
 #[test]
 fn a_name_and_an_address_of_each_byte(rt: HostRuntime) {
     for byte in 0..=255 {
@@ -79,11 +79,14 @@ fn a_name_and_an_address_of_each_byte(rt: HostRuntime) {
     }
 }
 
-// The head of a journal of format 2 of a TINY64.
+// The header of a format 2 journal of a TINY64.
 const HEAD: &[u8; 25] = b"NORUNDO2\xFE\x10\x10\0\0\0\0\0\0\0\0\0\0\0\0\x01\0";
 
-// A beginning, and a million equal bytes. Behind a head zeros are a record of sector 0, and then a record of sector 0
-// again. FFh four times is the end mark, and no digest is that long. 10h four times is the number of no sector.
+// Each row has a prefix, the byte that follows it a million times, and the fault. After a header:
+//
+// - Bytes 00h are a record of sector 0, and then a second record of sector 0.
+// - Four bytes FFh are the end mark. More bytes follow it than a digest has.
+// - Four bytes 10h are not the number of a sector.
 const JOURNALS: &[(&[u8], u8, JournalFault)] = &[
     (b"", 0x00, JournalFault::Magic),
     (b"", b'N', JournalFault::Magic),
@@ -104,8 +107,11 @@ fn journals_of_a_million_bytes(rt: HostRuntime) {
     }
 }
 
-// A session's journal of one sector: the magic, ID, unique ID and status up to 21, the size up to 25, the sector's
-// number up to 29, its bytes up to 4125, the end mark up to 4129, the digest up to 4161.
+// Returns the journal of a session that saves one sector, of 4,161 bytes:
+//
+// - from 0 on the magic, from 8 the ID, from 11 the unique ID, from 19 the status, from 21 the size
+// - from 25 on the number of the sector, from 29 its bytes
+// - from 4125 on the end mark, from 4129 the digest
 fn journal_of_a_sector(rt: &impl Abort, alloc: Global) -> Vec<u8> {
     let row = Row::ABitRises;
     let cut = Runs::new(rt, alloc, row, Start::IDLE).cut(rt, 23);
@@ -113,8 +119,9 @@ fn journal_of_a_sector(rt: &impl Abort, alloc: Global) -> Vec<u8> {
     cut.vault.bytes().to_vec(alloc).expect(rt, "memory")
 }
 
-// Sector 0 with its lowest bit changed is sector 1, which only the digest tells apart; another byte's makes it a number
-// of no sector, as with each byte of the end mark.
+// Returns the fault of that journal after the lowest bit of the byte at `place` was inverted. At 25 the number 0 of the
+// sector becomes 1, which only the digest detects. At another byte of the number, or of the end mark, it becomes a
+// number that no sector has.
 const fn fault_of_change(place: usize) -> JournalFault {
     match place {
         0..=7 => JournalFault::Magic,
@@ -124,7 +131,7 @@ const fn fault_of_change(place: usize) -> JournalFault {
     }
 }
 
-// Changes the lowest bit of a byte, or back.
+// Inverts the lowest bit of the byte at position `place`.
 fn flip(bytes: &mut [u8], place: usize) {
     if let Some(byte) = bytes.get_mut(place) {
         *byte ^= 1;

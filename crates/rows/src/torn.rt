@@ -15,8 +15,8 @@ const SHORT: [u32; 7] = [0, 1, 2, 3, 4, 5, 6];
 // the data. To try each number would take minutes.
 const LONG: [u32; 10] = [0, 1, 2, 3, 4, 5, 6, 132, 259, 260];
 
-// Two chips that keep their power, of which one is busy at first and after each operation, and chips that lose it, one
-// for each fill of `power`.
+// Two chips that keep their power, one of them busy at first and after each operation, and chips that lose it, one for
+// each fill of `power`.
 fn starts() -> [Start; 5] {
     [
         Start::IDLE,
@@ -27,13 +27,13 @@ fn starts() -> [Start; 5] {
     ]
 }
 
-// The chips of the rows with protection, which take longest. An even fill leaves the old bits of a status write, and
-// an odd fill the new bits.
+// The chips for the rows with protection, which take longest. With an even fill a loss of power leaves the old bits of
+// a running status write, with an odd fill the new bits.
 fn few_starts() -> [Start; 3] {
     [Start::IDLE, Start::losing(0x5A), Start::losing(0xFF)]
 }
 
-// How many stops kept the chip's power, and how many lost it.
+// The numbers of stops at which the chip kept its power and lost it.
 #[derive(Clone, Copy, PartialEq, Eq)]
 struct Stops {
     kept: u64,
@@ -43,7 +43,7 @@ struct Stops {
 impl Stops {
     const NONE: Stops = Stops { kept: 0, lost: 0 };
 
-    // Returns these stops with more of them, in runs with this start.
+    // Returns these stops and `more` of them, in runs with this start.
     fn with(self, start: Start, more: u64) -> Stops {
         let Stops { kept, lost } = self;
         if start.fill.is_some() {
@@ -82,7 +82,8 @@ fn stop_sessions(
     stops
 }
 
-// Stops the session at each transaction that follows the seal, and the restore after each of these stops.
+// Stops the session at each transaction that follows the seal, and the restore after each of these stops. Returns the
+// number of stopped restores.
 fn stop_restores(rt: &impl Abort, torn: &Runs, row: Row, start: Start) -> Stops {
     let mut stops = Stops::NONE;
     for n in row.sealed_at(start)..row.ends_at(start) {
@@ -91,7 +92,8 @@ fn stop_restores(rt: &impl Abort, torn: &Runs, row: Row, start: Start) -> Stops 
     stops
 }
 
-// Stops sessions and restores for each start and each number of bytes, which is the same for both stops.
+// Stops sessions and restores for each start and each number of bytes. A restore's stop sends the same number of bytes
+// as its session's stop.
 fn stop_all(rt: &impl Abort, alloc: Global, row: Row, counts: &[u32]) -> Stops {
     let mut stops = Stops::NONE;
     for start in starts() {
@@ -135,8 +137,8 @@ fn each_cut_of_a_session_that_programs_pages(rt: HostRuntime) {
     assert!(rt; stops == SESSIONS_OF_PAGES);
 }
 
-// The session sends 112 transactions on an idle chip, with three operations, and seals after 71. The first stop comes
-// three transactions before the seal.
+// The session sends 112 transactions on an idle chip, with three operations, and seals the vault after 71. The first
+// stop is three transactions before the seal.
 const SESSIONS_OF_LARGE_ERASES: Stops = Stops {
     kept: 7 * 44,
     lost: 7 * 50,
@@ -150,14 +152,14 @@ fn each_cut_of_a_session_with_large_erases(rt: HostRuntime) {
     assert!(rt; stops == SESSIONS_OF_LARGE_ERASES);
 }
 
-// Here too the first stop comes three transactions before the seal. There are 8 stops on an idle chip, and one
-// operation.
+// The first stop is three transactions before the seal. On an idle chip there are 8 stops, and one operation.
 const SESSIONS_BELOW_THE_RANGE: Stops = Stops {
     kept: 7 * 8,
     lost: 7 * 2 * 10,
 };
 
-// There are 14 stops on an idle chip, and three operations, of which two are status writes.
+// The first stop is three transactions before the seal. On an idle chip there are 14 stops, and three operations, of
+// which two are status writes.
 const SESSIONS_IN_THE_RANGE: Stops = Stops {
     kept: 7 * 14,
     lost: 7 * 2 * 20,
@@ -173,13 +175,13 @@ fn each_cut_of_a_session_on_a_protected_chip(rt: HostRuntime) {
     assert!(rt; stops == SESSIONS_IN_THE_RANGE);
 }
 
-// The restore's stop sends as many bytes as the session's stop. The numbers are the lengths of all restores. For the
-// programmed byte they were worked out too:
+// The restore's stop sends the same number of bytes as the session's stop. Each number is the sum of the lengths of all
+// restores. For the programmed byte it was also calculated by hand:
 //
 // - On an idle chip three stops that send up to four bytes leave the byte as it was, and two leave it programmed. These
 //   restores have 8 and 12 transactions. The third stop programs the byte if it sends five: 5 * 48 + 2 * 52 = 344.
-// - On a slow chip the next restore also waits for the polls that are left. A poll that was cut is no longer left:
-//   83 + 4 * 81 + 2 * 89 = 585.
+// - On a slow chip the next restore also waits for the remaining polls that show BUSY. A poll that was cut is no longer
+//   one of them: 83 + 4 * 81 + 2 * 89 = 585.
 // - On a chip that loses its power a restore has 14 transactions if it erases. 10 restores for each fill follow a loss
 //   during the page program, and erase unless the fill is FFh. The other restores have 432 transactions for each fill.
 const RESTORES: [(Row, u64, u64); 4] = [
@@ -219,8 +221,8 @@ fn each_cut_of_a_restore_after_a_part_of_a_page(rt: HostRuntime) {
     assert!(rt; stops == RESTORES_OF_TWO_PAGES);
 }
 
-// A restore has 8 transactions if the sector is as it was. Otherwise it has 10, and an operation for each page that
-// differs. Before these it waits for the polls that are left.
+// A restore has 8 transactions if the sector is as it was. Otherwise it has 10, and one operation for each page that
+// differs. Before these it waits for the remaining polls that show BUSY.
 const RESTORES_OF_PAGES: Stops = Stops {
     kept: 60_106,
     lost: 127_387,
