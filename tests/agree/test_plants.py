@@ -101,7 +101,7 @@ PLANTS = {
         PATHS, "crates/nor_read/src/lib.rt", r"`specs/Reading\.antt`", "`specs/Saving.antt`",
         "there is no specs/Saving.antt"),
     "a head's name that isn't there": (
-        PATHS, "crates/nor_read/src/lib.rt", r"`Verifying`", "`Verified_`", "there is no Verified_"),
+        PATHS, "crates/nor_read/src/lib.rt", r"`wp_status`", "`wp_state`", "there is no wp_state"),
     "a page's definitions in another crate": (
         PATHS, "docs/ARCHITECTURE.md", r"`specs/Within` says", "`specs/Guard` says", "there is no specs/Guard"),
     "an option that flashnor hasn't, beside flashrom's": (
