@@ -10,7 +10,7 @@ use Rattle.nor_driver.specs.declared.units.EraseUnit.TheVariants as Units
 use Rattle.nor_driver.specs.Operations.{is_operation_or_none, IsCommandAt, AsksForOperation}
 use Rattle.nor_driver.proofs.Erasing.{erase_bytes}
 
--- a prefix asks for nothing, or for what all bytes ask for
+-- a prefix asks for nothing, or for the same command as all bytes
 abbrev AsksAlike : Config → List ℕ → ℕ → Type 0
 AsksAlike config out count = (command_of config (take count out) 0 ≡ Ignored)
     ⊎ (command_of config (take count out) 0 ≡ command_of config out 0)

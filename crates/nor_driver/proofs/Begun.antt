@@ -1,4 +1,4 @@
--- An operation is write enable, a command and a wait: what the three leave together.
+-- An operation is write enable, a command and a wait: the effect of the three together.
 use Rattle.std.proofs.Common.{◌≡◌, ◌+◌, ◌⊎◌, ℕ, true, false, not, List, [], ◌∷◌, length, take, cond, ap, ◌∙◌, arith, inl, inr}
 use Rattle.std.specs.Prelude.{◌==◌, if◌then◌else◌}
 use Rattle.std.proofs.lemmas.Bool.Decides.{eqb_tells, nat_tests}
@@ -29,7 +29,7 @@ enabled old new [] none carries =
     grind (arith, nothing, carries.step, carries.worn)
 enabled old new (byte ∷ rest) none carries = absurd (omega arith)
 
--- what the command does then is what the operation does
+-- after write enable the command does what the operation does
 pub then_done : (out : List ℕ) (old ready : BusState) → AsksForOperation out → IsEnabled old ready
     → done_of ready.chip out 0 ≡ operation_of old.chip out
 then_done out old ready asks enabling = elim (eqb_tells old.chip.busy 0) [
@@ -37,7 +37,7 @@ then_done out old ready asks enabling = elim (eqb_tells old.chip.busy 0) [
   | inr busy ↦ grind (arith, asks.whole old.chip.config)
 ]
 
--- what a prefix of the command's bytes does: the command's operation, or nothing
+-- the effect of a prefix of the command's bytes: the command's operation, or nothing
 pub part_done : (out : List ℕ) (old ready : BusState) (count : ℕ) → AsksForOperation out → IsEnabled old ready
     → (done_of ready.chip (take count out) 0 ≡ Ignored) ⊎ (done_of ready.chip (take count out) 0 ≡ operation_of old.chip out)
 part_done out old ready count asks enabling =
@@ -47,17 +47,17 @@ part_done out old ready count asks enabling =
       | inr same ↦ inr (ap does same ∙ then_done out old ready asks enabling)
     ]
 
--- what is no operation, of what an operation may ask for, is ignored
+-- an operation that the chip does not carry out is ignored
 pub operation-ignored : (chip : Chip) (out : List ℕ) → AsksForOperation out
     → is_operation (operation_of chip out) ≡ false → operation_of chip out ≡ Ignored
 operation-ignored chip out asks none = grind (arith, asks.whole chip.config)
 
--- an operation that is done is that of an idle chip
+-- if an operation is carried out, the chip was idle
 pub idle-takes : (chip : Chip) (out : List ℕ) → AsksForOperation out → is_operation (operation_of chip out) ≡ true
     → chip.busy ≡ 0
 idle-takes chip out asks is = grind (arith, asks.whole chip.config, nat_tests)
 
--- An operation has begun: its effect is there, and the chip is busy for a while, or not at all.
+-- An operation has begun: it had its effect, and the chip is busy for some polls, or for none.
 pub record HasBegun (command : Command) (sent : List ℕ) (old new : BusState) : Type 0 where
   pub config : new.chip.config ≡ old.chip.config
   pub bytes : (a : ℕ) → new.chip.bytes a ≡ byte_after old.chip command sent a
@@ -71,24 +71,24 @@ pub operation-begins : (command : Command) (sent answer : List ℕ) (old ready n
     → Wore command ready new → HasBegun command sent old new
 operation-begins command sent answer old ready new is same does wore = grind (arith, same.same.bytes, same.worn, wore)
 
--- the bytes outside what an operation aims at stay
+-- the bytes that an operation does not work on are as they were
 outside-work : (chip : Chip) (command : Command) (sent : List ℕ) (a : ℕ)
     → is_in_work (running_after chip command) a ≡ false → is_operation command ≡ true
     → byte_after chip command sent a ≡ chip.bytes a
 outside-work chip command sent a out is = grind arith
 
--- the kept bits of an operation that is cut off
+-- the non-volatile bits after an operation was interrupted
 kept-cut : (command : Command) (old : Chip) (begun new : KeptBits) → is_operation command ≡ true
     → begun ≡ kept_after old command → KeptCut (running_after old command) begun new
     → (new ≡ old.kept) ⊎ (new ≡ kept_after old command)
 kept-cut command old begun new is kept cut = grind arith
 
--- where the operation hadn't begun
+-- the operation had not begun
 pub may-before : (command : Command) (sent : List ℕ) (old new : BusState) → old.chip.busy ≡ 0 → Stays old new
     → MayOperate command sent old new
 may-before command sent old new idle stays = grind (arith, stays.calm (inr idle))
 
--- and where it had
+-- the operation had begun
 pub may-after : (command : Command) (sent : List ℕ) (old begun new : BusState) → is_operation command ≡ true
     → begun.steady ≡ old.steady → HasBegun command sent old begun → Stays begun new → MayOperate command sent old new
 may-after command sent old begun new is steady has stays =
@@ -96,7 +96,7 @@ may-after command sent old begun new is steady has stays =
     let kept = kept-cut command old.chip begun.chip.kept new.chip.kept is has.kept in
     grind (arith, stays.calm, has.bytes, stays.bytes, outside, stays.worn, has.worn, or-false, kept)
 
--- a bus that is not steady promises no byte at the command's addresses
+-- on a bus that is not steady, `MayOperate` says nothing about the bytes that the command works on
 pub may-shaky : (command : Command) (sent part : List ℕ) (old new : BusState) → old.steady ≡ false
     → MayOperate command part old new → MayOperate command sent old new
 may-shaky command sent part old new shaky may = grind (arith, may.bytes, may.worn)
@@ -105,7 +105,7 @@ pub operated : (command : Command) (sent : List ℕ) (old begun new : BusState) 
     → HasBegun command sent old begun → HasWaited begun new waited → HasOperated command sent old new
 operated command sent old begun new waited has waits = grind (arith, nat_tests)
 
--- the latch of a chip that ignored the operation
+-- the write enable latch of a chip that ignored the operation
 pub latch-kept : (old ready begun : BusState) → IsEnabled old ready → begun.chip.latch ≡ ready.chip.latch
     → begun.chip.busy ≡ ready.chip.busy → latch_when_idle begun.chip ≡ is_idle old.chip
 latch-kept old ready begun enabling latch busy = grind (arith, nat_tests)

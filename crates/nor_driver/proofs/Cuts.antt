@@ -1,4 +1,4 @@
--- What transactions leave that only read, one after another.
+-- The effect of several transactions that only read.
 use Rattle.std.proofs.Common.{◌≡◌, arith}
 use Rattle.nor_chip.specs.declared.running.Running.{Running}
 use Rattle.nor_chip.specs.Chip.{Chip, IsSame, KeptBits}
@@ -6,11 +6,11 @@ use Rattle.nor_chip.specs.Power.{KeptCut}
 use Rattle.nor_chip.specs.Bus.{BusState}
 use Rattle.nor_driver.specs.Looks.{Unchanged, Stays}
 
--- kept bits that stayed weren't cut off
+-- non-volatile bits that are as they were satisfy `KeptCut`
 pub kept_cut-stay : (running : Running) (old new : KeptBits) → new ≡ old → KeptCut running old new
 kept_cut-stay running old new stay = grind arith
 
--- kept bits of what was cut off already
+-- the non-volatile bits after two interruptions of the same operation
 cut_again : (running : Running) (old mid new : KeptBits) → KeptCut running old mid → KeptCut running mid new
     → KeptCut running old new
 cut_again running old mid new first second = grind arith
@@ -30,7 +30,7 @@ unchanged_stays old new unchanged =
     let kept = kept_cut-stay old.chip.running old.chip.kept new.chip.kept same.kept in
     search same.bytes
 
--- where what ran was cut off, the rest is a reading of an idle chip
+-- two calls that begin no operation together begin none
 pub stays_then : (old mid new : BusState) → mid.steady ≡ old.steady → Stays old mid → Stays mid new → Stays old new
 stays_then old mid new steady first second =
     let cut = cut_again old.chip.running old.chip.kept mid.chip.kept new.chip.kept first.kept in

@@ -1,4 +1,4 @@
--- What the erase of a unit does, from what an operation does.
+-- The effect of an erase follows from the effect of an operation.
 use Rattle.std.proofs.Common.{◌≡◌, ◌<◌, ◌+◌, ◌*◌, ◌/◌, ◌&&◌, ◌∙◌, ℕ, Bool, true, false, not, cond, nat_lt, nat_le, List, [], ◌∷◌, drop, ap, sym, refl, arith}
 use Rattle.std.proofs.lemmas.Bool.{eqb-true}
 use Rattle.std.proofs.lemmas.Bool.Decides.{nat_tests}
@@ -24,7 +24,7 @@ use Rattle.nor_driver.proofs.Limits.{IsPartOf, stirs_more}
 use Rattle.nor_driver.proofs.Programming.{same_address}
 use Rattle.nor_driver.proofs.Taken.{may_taken, has_taken, may_refused, has_refused}
 
--- the bytes that are sent for an erase block: they hold no data
+-- the bytes that are sent for an erase block: no status write, and no data after an address
 abbrev pub erase_bytes : EraseUnit → ℕ → ℕ → ℕ → List ℕ
 erase_bytes Units.Chip x y z = 0xC7 ∷ []
 erase_bytes unit x y z = opcode_of unit ∷ x ∷ y ∷ z ∷ []
@@ -54,7 +54,7 @@ pub other_bytes : (unit : EraseUnit) (opcode x y z : ℕ) → opcode ≡ opcode_
     → opcode ∷ x ∷ y ∷ z ∷ [] ≡ erase_bytes unit x y z
 other_bytes unit opcode x y z same other = grind arith
 
--- they are aimed at the unit that the erase names
+-- the bytes target only the block that the erase names
 named : (unit : EraseUnit) (sector x y z : ℕ) → 65536 * x + 256 * y + z ≡ 4096 * sector → sector < 4096
     → (s : ℕ) → aims (erase_bytes unit x y z) s ≡ true
     → is_sector_named (record { unit = unit; sector = sector }) s ≡ true
@@ -63,21 +63,21 @@ named unit sector x y z names below s is =
     let first : 0 ≡ sector / 4096 * 4096 = omega (arith, below) in
     grind (arith, nat_tests)
 
--- what comes of an erase of places that the chip may have as a unit
+-- the result of an erase command, if its range is an erase block that the chip may have
 erased_where : (chip : Chip) (has : Bool) (start start' len len' : ℕ) → start ≡ start' → len ≡ len'
     → (let command = cond has (Commands.Erase start len) Commands.Ignored in
     cond (is_carried_out (record chip { latch = true }) command) command Commands.Ignored)
     ≡ cond (is_idle chip && has && not (is_unit_guarded chip start' len')) (Commands.Erase start' len') Commands.Ignored
 erased_where chip has start start' len len' same long = grind (arith, and-false)
 
--- the first address of an aligned unit
+-- the first address of an aligned block
 unit_start : (config : Config) (x y z sector len : ℕ) → 65536 * x + 256 * y + z ≡ 4096 * sector
     → 4096 * sector < config.size → 4096 * sector / len * len ≡ 4096 * sector
     → address_of config x y z / len * len ≡ 4096 * sector
 unit_start config x y z sector len names below aligned =
     rw (same_address config x y z (4096 * sector) names below) aligned
 
--- an erase at a unit's first address clears that unit, where the chip takes it
+-- an erase command with a block's first address erases that block, if the chip accepts it
 erase_command : (chip : Chip) (unit : EraseUnit) (sector x y z : ℕ) → 65536 * x + 256 * y + z ≡ 4096 * sector
     → (let erase : Erase = record { unit = unit; sector = sector } in IsOnChip erase chip
     → operation_of chip (erase_bytes unit x y z)
@@ -91,17 +91,17 @@ erase_command chip unit sector x y z names on =
     erased_where chip (has_unit chip.config unit) _ (4096 * sector) len len
     (unit_start chip.config x y z sector len names (omega arith) (omega (arith, eqb-true))) refl
 
--- a place of whole sectors lies in one of them
+-- an address in a range of whole sectors lies in one of these sectors
 in_unit : (sector n a : ℕ) → (nat_le (4096 * sector) a && nat_lt a (4096 * sector + 4096 * n))
     ≡ (nat_le sector (a / 4096) && nat_lt (a / 4096) (sector + n))
 in_unit sector n a = grind (arith, nat_tests)
 
 module _ (erase : Erase) (old new : BusState) where
-  -- the erase that the chip does is this one
+  -- the command that the chip carries out for this erase
   abbrev does : Command
   does = Commands.Erase (4096 * erase.sector) (unit_length old.chip erase)
 
-  -- a place and a sector of the unit
+  -- an address of the block, and a sector of it
   place : (a : ℕ) → (nat_le (4096 * erase.sector) a && nat_lt a (4096 * erase.sector + unit_length old.chip erase))
       ≡ is_place_in_unit erase old.chip a
   place a = in_unit erase.sector (sectors_in (sectors_of old.chip) erase.unit) a

@@ -1,4 +1,4 @@
--- Calls that look, one after another, wherever the last of them ends.
+-- Calls that only read, one after another, for every exit of the last one.
 use Rattle.std.proofs.Common.{◌≤◌, ◌+◌, ℕ, arith}
 use Rattle.nor_chip.specs.Bus.{BusState}
 use Rattle.nor_chip.proofs.Nature.{nature_refl, nature_then}
@@ -7,17 +7,17 @@ use Rattle.nor_driver.proofs.Readings.{looked_then, looked_more}
 pub use Rattle.nor_driver.proofs.Cuts.{same_then}
 use Rattle.nor_driver.proofs.Cuts.{unchanged_none, unchanged_stays}
 
--- so many readings, and so many more
+-- two calls that only read, with at most `m` and `n` transactions
 pub looks_then : (m n : ℕ) (old mid new : BusState) → Looks m old mid → Looks n mid new → Looks (m + n) old new
 looks_then m n old mid new first second =
     let nature = nature_then old mid new second.nature first.nature in
     let looked = looked_then m n old mid new first.nature.steady in
     grind (arith, nature, looked, first.looked, second.looked)
 
--- no reading
+-- no call
 pub looks_none : (state : BusState) → Looks 0 state state
 looks_none state = search (nature_refl state, unchanged_stays state state (unchanged_none state), arith)
 
--- what is bounded so is bounded by more
+-- a bound can be replaced by a greater one
 pub looks_more : (m n : ℕ) (old new : BusState) → m ≤ n → Looks m old new → Looks n old new
 looks_more m n old new fits looks = search (looked_more old new m n fits, looks.looked)

@@ -1,4 +1,4 @@
--- What the program of a part of a page does, from what an operation does.
+-- The effect of a program follows from the effect of an operation.
 use Rattle.std.proofs.Common.{◌≡◌, ◌<◌, ◌≤◌, ◌+◌, ◌*◌, ◌%◌, ℕ, cond, List, [], ◌∷◌, length, drop, refl, arith}
 use Rattle.std.proofs.Math.Nat.{mod-eq_of_lt}
 use Rattle.std.proofs.Math.Bool.{or-false, and-true}
@@ -15,12 +15,12 @@ use Rattle.nor_driver.specs.Programs.{takes_program, is_sector_of, MayProgram, H
 use Rattle.nor_driver.proofs.Limits.{IsPartOf, stirs_more}
 use Rattle.nor_driver.proofs.Taken.{may_taken, has_taken, may_refused, has_refused}
 
--- an address below the chip's size is itself
+-- the chip takes an address below its size as it is
 pub same_address : (config : Config) (x y z at : ℕ) → 65536 * x + 256 * y + z ≡ at → at < config.size
     → address_of config x y z ≡ at
 same_address config x y z at names below = rw names (mod-eq_of_lt below)
 
--- 02h at a place programs there, where the chip takes it
+-- 02h with an address programs there, if the chip accepts it
 program_command : (chip : Chip) (x y z at : ℕ) (sent : List ℕ) → 65536 * x + 256 * y + z ≡ at → at < chip.config.size
     → 0 < length sent → operation_of chip (0x02 ∷ x ∷ y ∷ z ∷ sent) ≡ cond (takes_program chip at) (Program at) Ignored
 program_command chip x y z at [] names below some = absurd (omega arith)
@@ -40,7 +40,7 @@ module _ (at : ℕ) (sent : List ℕ) (fits : at % 256 + length sent ≤ 256) (o
       let byte = λ (a : ℕ). byte_after-program old.chip at sent a fits in
       grind (arith, byte, or-false)
 
--- the command as a whole
+-- the whole command
 module _ (at : ℕ) (sent command : List ℕ) (sends : IsCommandAt 0x02 at sent command) (some : 0 < length sent)
     (fits : at % 256 + length sent ≤ 256) (old new : BusState) where
   asked : at < old.chip.config.size

@@ -1,4 +1,4 @@
--- What one transaction that reads leaves, and what it tells.
+-- The effect and the result of one transaction that reads.
 use Rattle.std.proofs.Common.{◌≡◌, ◌≤◌, ◌+◌, ℕ, true, false, List, [], ◌∷◌, length, refl, ap, arith, inl, inr}
 use Rattle.std.specs.Prelude.{Result, Ok, Err, OnOk, OnErr}
 use Rattle.std.proofs.lemmas.Bool.Decides.{eqb_tells}
@@ -16,7 +16,7 @@ use Rattle.nor_driver.proofs.Cuts.{stays_then, unchanged_none, unchanged_then, u
 pub use Rattle.nor_driver.proofs.Torn.{Wore, no_operation}
 use Rattle.nor_driver.proofs.Torn.{looked_at_stop}
 
--- what a command that changes nothing leaves
+-- the effect of a command that changes nothing
 nothing_done : (command : Command) (sent answer : List ℕ) (old new : Chip) → changes_nothing command ≡ true
     → Does command sent old answer new
     → (is_operation command ≡ false) × (new.busy ≡ old.busy) × (new.latch ≡ old.latch)
@@ -34,16 +34,16 @@ carried_reading : (out answer : List ℕ) (old new : BusState) → IsReading out
 carried_reading out answer old new is carries =
     carried_by out answer old new (grind (arith, is.reading old.chip.config (length answer))) carries
 
--- the command that is ignored leaves what a reading leaves
+-- a command that is ignored has the effect of a read
 pub carried_ignored : (out answer : List ℕ) (old new : BusState) → done_of old.chip out (length answer) ≡ Ignored
     → Carries out answer old new → HasRead old new
 carried_ignored out answer old new ignored carries = carried_by out answer old new (ap changes_nothing ignored) carries
 
--- what was only read, as what any exit leaves
+-- a read that succeeded satisfies the relation for every exit
 pub looked_by : (old new : BusState) (most : ℕ) → Rested old new → old.left ≡ new.left + most → LooksHonest most old new
 looked_by old new most rested count = search (arith, unchanged_stays old new rested.unchanged)
 
--- calls that look, one after another
+-- calls that only read, one after another
 pub looked_then : (m n : ℕ) (old mid new : BusState) → mid.steady ≡ old.steady → LooksHonest m old mid
     → LooksHonest n mid new → LooksHonest (m + n) old new
 looked_then m n old mid new steady first second =
@@ -65,7 +65,7 @@ looked_at (Ok done) out answer old new is stops carries =
     looked_by old new 1 read.rested read.count
 looked_at (Err stopped) out answer old new is stops carries = looked_at_stop out old new 1 is.quiet stops
 
--- a transaction that reads, at any exit
+-- a transaction that reads, at every exit
 pub read_leaves : {T E : Type 0} (outcome : Result T E) (out answer : List ℕ) (old new : BusState) → IsReading out
     → Sends out old new → (old.honest ≡ true → OnErr outcome (Stops out old new))
     → (old.honest ≡ true → OnOk outcome (Carries out answer old new)) → Looks 1 old new
@@ -79,7 +79,7 @@ pub read_does : {T E : Type 0} (outcome : Result T E) (out answer : List ℕ) (o
     → (old.honest ≡ true → OnOk outcome (Carries out answer old new)) → OnOk outcome (Replies out old new answer)
 read_does outcome out answer old new is carries = grind (arith, carries, carried_reading out answer old new is)
 
--- what reads is no poll
+-- a transaction that reads is no poll
 no_poll : (config : Config) (out : List ℕ) → IsReading out → is_poll out ≡ false
 no_poll config (opcode ∷ []) is = elim (eqb_tells opcode 5) [
   | inl five ↦ absurd (let off = is.reading config 0 in cc)
@@ -87,7 +87,7 @@ no_poll config (opcode ∷ []) is = elim (eqb_tells opcode 5) [
 ]
 no_poll config _ is = refl
 
--- so what was heard before is what is heard
+-- a transaction that reads leaves `heard` as it was
 pub read_heard : (outcome : Result Unit Stopped) (out answer : List ℕ) (old new : BusState) → IsReading out
     → Hears out answer outcome old new → new.heard ≡ old.heard
 read_heard outcome out answer old new is hears =

@@ -1,4 +1,4 @@
--- Readings that follow one another and succeed, and the one that stops behind them.
+-- Reads that succeed one after another, and a stop after them.
 use Rattle.std.proofs.Common.{◌≡◌, ◌<◌, ◌≤◌, ◌+◌, ℕ, true, arith}
 use Rattle.nor_chip.specs.Bus.{BusState, KeepsNature}
 use Rattle.nor_chip.proofs.Nature.{nature_refl, nature_then}
@@ -9,7 +9,7 @@ use Rattle.nor_driver.proofs.LooksInTurn.{looks_then, looks_more}
 use Rattle.nor_driver.proofs.Readings.{looked_by}
 pub use Rattle.nor_driver.proofs.Readings.{rested_none, rested_then}
 
--- Readings succeeded, so many; whatever the bus, what nothing changes is as it was.
+-- This many reads succeeded. On every bus, reads leave the record of modifying commands as it was.
 pub record HasLooked (reads : ℕ) (old new : BusState) : Type 0 where
   pub nature : KeepsNature old new
   pub same_sent : new.sent ≡ old.sent
@@ -20,20 +20,20 @@ pub record HasLooked (reads : ℕ) (old new : BusState) : Type 0 where
 pub has_looked-none : (state : BusState) → HasLooked 0 state state
 has_looked-none state = search (arith, nature_refl state, rested_none state)
 
--- what succeeded is bounded by what it took
+-- reads that succeeded satisfy the relation for every exit
 has_looked-looks : (reads : ℕ) (old new : BusState) → HasLooked reads old new → Looks reads old new
 has_looked-looks reads old new has = search (looked_by old new reads, has.rested, has.sent)
 
--- a reading more, which may stop
+-- further reads, which may stop
 pub looks_after : (reads more most : ℕ) (old mid new : BusState) → reads + more ≤ most → HasLooked reads old mid → Looks more mid new → Looks most old new
 looks_after reads more most old mid new few has looks =
     looks_more (reads + more) most old new few (looks_then reads more old mid new (has_looked-looks reads old mid has) looks)
 
--- the next one stopped
+-- the next read stopped
 pub runs_out : (reads most : ℕ) (old mid new : BusState) → reads < most → HasLooked reads old mid → RanOutIfHonest 1 mid new → RanOutIfHonest most old new
 runs_out reads most old mid new few has out = grind (arith, has.sent, has.nature.honest, out)
 
--- the next one succeeded too
+-- the next read succeeded, too
 pub has_looked-more : (reads : ℕ) (old mid new : BusState) → HasLooked reads old mid → Looks 1 mid new → (mid.honest ≡ true → HasRead mid new) → StaysReady mid new → HasLooked (reads + 1) old new
 has_looked-more reads old mid new has looks read heard =
     grind (arith, nature_then old mid new looks.nature has.nature, rested_then old mid new)

@@ -1,4 +1,4 @@
--- What a status write does that sends the fixed bits as they are, from what an operation does.
+-- The effect of a status write that leaves the bits that are never changed follows from the effect of an operation.
 use Rattle.std.proofs.Common.{◌≡◌, ◌<◌, ◌+◌, ◌*◌, ◌/◌, ◌%◌, ◌∙◌, ℕ, Bool, true, cond, List, [], ◌∷◌, length, slice_index, ap, sym, refl, arith}
 use Rattle.std.specs.Prelude.{◌==◌, bit_and, bit_or}
 use Rattle.std.specs.List.{list_all, range_with_len}
@@ -21,23 +21,23 @@ use Rattle.nor_driver.specs.StatusWrites.{fixed_of, with_code, has_code, takes_s
 use Rattle.nor_driver.proofs.Limits.{IsPartOf, stirs_more, in_none}
 use Rattle.nor_driver.proofs.Taken.{may_taken, has_taken, may_refused, has_refused}
 
--- what a status write leaves of the kept bits of status 2
+-- the non-volatile bits of status 2 after a status write
 abbrev written : ℕ → ℕ → ℕ
 written kept sent = bit_or (bit_and sent 0b1000011) (bit_or (bit_and kept 0b0111100) (bit_and sent 0b0111000))
 
--- of the bits that are kept, only those are read in which what is sent is alike
+-- the bits that a status write does not clear depend only on the low six bits, in which the sent byte agrees
 held_as : (kept sent : ℕ) → kept % 64 ≡ sent % 64 → bit_and kept 60 ≡ bit_and sent 60
 held_as kept sent same =
     sym (and_assoc 60 kept 63) ∙ rw (and_mask kept 6, same, ← and_mask sent 6) (and_assoc 60 sent 63)
 
--- a test that is true of so many numbers is true of each
+-- a test that is true for all numbers below `n` is true for each of them
 every : (test : ℕ → Bool) (n i : ℕ) → list_all test (range_with_len 0 n) ≡ true → i < n → test i ≡ true
 every test n i all small =
     let at = get_or-range_with_len 0 n i 0 small in
     let below : i < length (range_with_len 0 n) = omega (arith, length-range_with_len 0 n) in
     ap test (omega (arith, at)) ∙ AllPass-from_list_all test (range_with_len 0 n) all i 0 below
 
--- so the write leaves what is sent: of all seven bits, one by one
+-- if the low six bits agree, the write leaves the sent bits; checked for all 128 values of the seven bits
 written_as : (kept sent : ℕ) → sent < 128 → kept % 64 ≡ sent % 64 → written kept sent ≡ sent
 written_as kept sent small same =
     rw (held_as kept sent same)
@@ -50,7 +50,7 @@ module _ (status : Status) (code : ℕ) (below : code < 64) where
   abbrev two : ℕ
   two = status.two.0 % 64 + 64 * (code / 32)
 
-  -- 01h writes the status, where the chip takes it
+  -- 01h writes the status, if the chip accepts it
   asked : (chip : Chip)
       → operation_of chip (1 ∷ one ∷ two ∷ []) ≡ cond (takes_status chip) (WriteStatus one two) Ignored
   asked chip = rw (and-true (is_idle chip)) refl
@@ -60,7 +60,7 @@ module _ (status : Status) (code : ℕ) (below : code < 64) where
 
   module _ (old new : BusState) where
     module _ (fixed : fixed_of old.chip.kept ≡ fixed_of (kept_in (bytes_of status))) where
-      -- the kept bits afterwards
+      -- the non-volatile bits afterwards
       code_there : new.chip.kept ≡ record { one = one / 4; two = written old.chip.kept.two two }
           → new.chip.kept ≡ with_code code old.chip.kept
       code_there kept =

@@ -1,4 +1,4 @@
--- An operation that the chip takes where one test holds, and ignores elsewhere: what it leaves, in either case.
+-- An operation that the chip carries out if one test holds, and otherwise ignores: its effect in both cases.
 use Rattle.std.proofs.Common.{◌≡◌, ◌∙◌, ℕ, Bool, true, false, cond, List, drop, ap, subst}
 use Rattle.nor_chip.specs.declared.command.Command.{Command}
 use Rattle.nor_chip.specs.declared.command.Command.TheVariants.{Ignored}

@@ -1,4 +1,4 @@
--- What the replies of an idle chip are: its ID, its number, its SFDP and the bytes of a sector.
+-- The replies of an idle chip: its ID, unique ID, SFDP bytes and the bytes of a sector.
 use Rattle.std.proofs.Common.{◌≡◌, ◌<◌, ◌≤◌, ◌+◌, ◌*◌, ◌%◌, ◌∙◌, ℕ, List, [], ◌∷◌, length, slice_index, refl, ap, sym, arith}
 use Rattle.std.specs.Prelude.{map, slice_index_or}
 use Rattle.std.specs.List.{range_with_len}
@@ -10,7 +10,7 @@ use Rattle.nor_chip.specs.Chip.{sfdp_byte}
 use Rattle.nor_chip.specs.Bus.{BusState}
 use Rattle.nor_driver.specs.Reads.{Replies, unique_of, shown, ReadsUnique, ReadsSfdp, ReadsSector}
 
--- bytes that are those of each address in turn are what is shown
+-- bytes that equal the SFDP byte at each address in turn are `shown`
 reply_shown : (config : Config) (at len : ℕ) (bytes : List ℕ) → length bytes ≡ len
     → ((i : ℕ) → i < length bytes → slice_index bytes i ≡ sfdp_byte config (at % config.size + i))
     → bytes ≡ shown config at len
@@ -29,7 +29,7 @@ reads_sfdp old new x y z at len answer names long replies = record {
       (λ i below. replies.told honest i below ∙ rw (idle, names) refl);
 }
 
--- a place of a sector on the chip
+-- an address of a sector on the chip
 place_in : (size at sector i : ℕ) → at ≡ 4096 * sector → 4096 * (sector + 1) ≤ size → i < 4096
     → (at % size + i) % size ≡ 4096 * sector + i
 place_in size at sector i names inside small =

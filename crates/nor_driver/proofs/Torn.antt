@@ -1,4 +1,4 @@
--- What a stop leaves if it may cut its transaction.
+-- The effect of a stop that may cut its transaction.
 use Rattle.std.proofs.Common.{◌≡◌, ◌∙◌, ◌⊎◌, ◌||◌, ℕ, zero, suc, Bool, true, false, true≢false, List, [], ◌∷◌, take, refl, sym, ap, arith, inl, inr}
 use Rattle.std.proofs.Math.Seq.{take-nil}
 use Rattle.std.proofs.Math.Bool.{or-false}
@@ -18,18 +18,18 @@ use Rattle.nor_driver.proofs.Cuts.{kept_cut-stay, stays_after}
 abbrev pub Wore : Command → BusState → BusState → Type 0
 Wore command old new = (s : ℕ) → new.worn s ≡ (old.worn s || wears command s)
 
--- a command that is no operation changes nothing
+-- a command that is no operation leaves the chip as it was, except for the write enable latch and `busy`
 pub no_operation : (command : Command) (sent answer : List ℕ) (old new : BusState) → is_operation command ≡ false
     → Does command sent old.chip answer new.chip → Wore command old new → Unchanged old new
 no_operation command sent answer old new is does wore = grind (arith, wore, or-false)
 
--- ---- a stop that changed nothing, or lost the power
+-- ---- a stop that changed nothing, or made the chip lose its power
 
 pub record StandsStill (old new : BusState) : Type 0 where
   pub chip : new.chip ≡ old.chip
   pub worn : (s : ℕ) → new.worn s ≡ old.worn s
 
--- a steady bus changes nothing
+-- on a steady bus a stop changes nothing
 pub still_or_torn : (out : List ℕ) (old new : BusState) → AtStop out old new
     → StandsStill old new ⊎ ((old.steady ≡ false) × AtStop out old new)
 still_or_torn out old new stop = elim (cases_Bool old.steady) [
@@ -49,7 +49,7 @@ lost_stays old new shaky lost worn = grind (arith, lost.bytes, worn)
 
 -- ---- a transaction that was cut
 
--- the bus after the sent bytes were carried out, before any loss of power
+-- the bus after the sent bytes were carried out, before a power failure
 abbrev pub reached : (out : List ℕ) (old new : BusState) → AtStop out old new → BusState
 reached out old new cut = record old { chip = cut.reached; worn = new.worn }
 
@@ -81,7 +81,7 @@ enable_stays old new stops = elim (still_or_torn _ old new stops.at_stop) [
 
 -- ---- a reading
 
--- a command that begins no operation and does not set the latch
+-- a command that begins no operation and does not set the write enable latch
 abbrev pub is_quiet : Command → Bool
 is_quiet WriteEnable = false
 is_quiet (WriteStatus one two) = false
@@ -108,7 +108,7 @@ quiet_done : (chip : Chip) (count : ℕ) (out : List ℕ) → begins_quiet out �
     → is_quiet (done_of chip (take count out) 0) ≡ true
 quiet_done chip count out quiet = grind (arith, quiet_part chip.config count out quiet)
 
--- a quiet command is no operation, and sets no latch
+-- a quiet command is no operation, and does not set the write enable latch
 quiet_is_none : (command : Command) → is_quiet command ≡ true → is_operation command ≡ false
 quiet_is_none command quiet = grind arith
 

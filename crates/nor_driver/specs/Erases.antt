@@ -1,4 +1,4 @@
--- What the erase of a unit leaves.
+-- The effect of an erase.
 use Rattle.std.specs.Prelude.{◌≡◌, ◌≢◌, ◌≤◌, ◌+◌, ◌*◌, ◌/◌, ◌&&◌, ◌||◌, ℕ, Bool, true, false, not, if◌then◌else◌}
 use Rattle.nor_chip.specs.declared.running.Running.TheVariants as Runs
 use Rattle.nor_chip.specs.Chip.{Chip}
@@ -12,45 +12,45 @@ use Rattle.nor_driver.specs.Looks.{Stays, Falls}
 use Rattle.nor_driver.specs.Limits.{erasing, Stirs, SendsExactly}
 use Rattle.nor_driver.specs.Operations.{ChangesOnly, EndsWaiting, HasIgnored, most_operation}
 
--- how many sectors the chip has
+-- the number of the chip's sectors
 abbrev pub sectors_of : Chip → ℕ
 sectors_of chip = chip.config.size / 4096
 
--- how many bytes the unit has
+-- the length of the erase block in bytes
 abbrev pub unit_length : Chip → Erase → ℕ
 unit_length chip erase = 4096 * sectors_in (sectors_of chip) erase.unit
 
--- An aligned unit that lies on the chip.
+-- The erase block is aligned and lies on the chip.
 pub record IsOnChip (erase : Erase) (chip : Chip) : Type 0 where
   pub aligned : is_aligned erase.unit erase.sector ≡ true
   pub within : erase.sector + sectors_in (sectors_of chip) erase.unit ≤ sectors_of chip
 
--- The chip is idle and has this unit, and no place of it is guarded.
+-- The chip is idle, has this erase block and its erase type, and protects no address of it.
 pub record CanErase (erase : Erase) (chip : Chip) : Type 0 where
   pub on_chip : IsOnChip erase chip
   pub idle : chip.busy ≡ 0
   pub offered : has_unit chip.config erase.unit ≡ true
   pub free : is_unit_guarded chip (4096 * erase.sector) (unit_length chip erase) ≡ false
 
--- the chip carries this erase out
+-- an idle chip carries out this erase
 abbrev pub takes_erase : Chip → Erase → Bool
 takes_erase chip erase =
     is_idle chip && has_unit chip.config erase.unit
     && not (is_unit_guarded chip (4096 * erase.sector) (unit_length chip erase))
 
--- a sector of the unit, and a place of it
+-- the sector `s` is in the erase block; the address `a` is in it
 abbrev pub is_sector_in_unit : Erase → Chip → ℕ → Bool
 is_sector_in_unit erase chip s = erases_sector (sectors_of chip) s erase
 
 abbrev pub is_place_in_unit : Erase → Chip → ℕ → Bool
 is_place_in_unit erase chip a = is_sector_in_unit erase chip (a / 4096)
 
--- a sector of the aligned unit that the erase names, of all that 24 bits can name
+-- the sector is in the aligned block that the erase command names, on a chip of the largest size, 16 MiB
 abbrev pub is_sector_named : Erase → ℕ → Bool
 is_sector_named erase s = is_in_aim (aim_unit (sectors_in 4096 erase.unit) erase.sector) s
 
--- On an honest bus, at every exit: bytes and worn sectors outside the unit are as they were, and all kept bits. In
--- the unit a byte is as it was or FFh, or if the power went any.
+-- On an honest bus, at every exit: bytes and erased sectors outside the erase block, and the non-volatile bits, are as
+-- they were. In the block each byte is as it was or FFh; if the bus isn't steady, it may be anything.
 pub record MayErase (erase : Erase) (old new : BusState) : Type 0 where
   pub config : new.chip.config ≡ old.chip.config
   pub bytes : ChangesOnly old.steady (is_place_in_unit erase old.chip) (λ _. 255) old.chip.bytes new.chip.bytes
@@ -58,7 +58,8 @@ pub record MayErase (erase : Erase) (old new : BusState) : Type 0 where
   pub runs : new.chip.busy ≢ 0 → new.chip.running ≡ Runs.Erase (4096 * erase.sector) (unit_length old.chip erase)
   pub worn : (s : ℕ) → is_sector_in_unit erase old.chip s ≡ false → new.worn s ≡ old.worn s
 
--- On an honest bus, the unit was erased, and nothing else changed.
+-- On an honest bus, the block was erased and the write enable latch is clear. All other bytes, the non-volatile bits
+-- and the record of other erased sectors are as they were.
 pub record HasErased (erase : Erase) (old new : BusState) : Type 0 where
   pub config : new.chip.config ≡ old.chip.config
   pub bytes : (a : ℕ) → new.chip.bytes a ≡ (if is_place_in_unit erase old.chip a then 255 else old.chip.bytes a)
@@ -66,14 +67,14 @@ pub record HasErased (erase : Erase) (old new : BusState) : Type 0 where
   pub worn : (s : ℕ) → new.worn s ≡ (old.worn s || is_sector_in_unit erase old.chip s)
   pub latch : new.chip.latch ≡ false
 
--- What an erase leaves at every exit, by whether the chip can carry it out or ignores it.
+-- The effect of an erase at every exit, depending on whether the chip can carry it out or ignores it.
 pub record LeavesErase (erase : Erase) (old new : BusState) : Type 0 where
   pub stirs : Stirs (erasing (is_sector_named erase) 1) old new
   pub falls : old.honest ≡ true → Falls most_operation old new
   pub reached : old.honest ≡ true → CanErase erase old.chip → MayErase erase old new
   pub ignored : old.honest ≡ true → IsOnChip erase old.chip → takes_erase old.chip erase ≡ false → Stays old new
 
--- What an erase that succeeded leaves, likewise.
+-- The effect of an erase that succeeded, depending on whether the chip can carry it out or ignores it.
 pub record Erases (erase : Erase) (old new : BusState) (sent : ℕ) : Type 0 where
   pub ends : EndsWaiting old new sent
   pub sends : SendsExactly 1 0 0 old new

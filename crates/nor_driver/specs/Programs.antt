@@ -1,4 +1,4 @@
--- What the program of a part of a page leaves.
+-- The effect of a program within one page.
 use Rattle.std.specs.Prelude.{◌≡◌, ◌≢◌, ◌≤◌, ◌<◌, ◌+◌, ◌-◌, ◌/◌, ◌==◌, ◌&&◌, ℕ, Bool, true, false, not, nat_le, nat_lt, List, length, slice_index, bit_and, if◌then◌else◌}
 use Rattle.nor_chip.specs.declared.running.Running.TheVariants as Runs
 use Rattle.nor_chip.specs.Chip.{Chip}
@@ -10,31 +10,31 @@ use Rattle.nor_driver.specs.Looks.{Stays, Falls}
 use Rattle.nor_driver.specs.Limits.{programming, Stirs, SendsExactly}
 use Rattle.nor_driver.specs.Operations.{ChangesOnly, EndsWaiting, HasIgnored, most_operation}
 
--- The chip is idle, and a part of a page of it free to program.
+-- The chip is idle, has these addresses, and does not protect the first one.
 pub record CanProgram (at len : ℕ) (chip : Chip) : Type 0 where
   pub idle : chip.busy ≡ 0
   pub inside : at + len ≤ chip.config.size
   pub free : is_guarded chip at ≡ false
 
--- the chip carries a program at this address out
+-- an idle chip carries out a program at this address
 abbrev pub takes_program : Chip → ℕ → Bool
 takes_program chip at = is_idle chip && not (is_guarded chip at)
 
--- the byte at a place once bytes were programmed from an address on: bits that are clear in them are clear in it
+-- the byte at `a` after `sent` was programmed from `at`: ANDed with the byte that was sent for it, if any
 abbrev pub programmed : ℕ → List ℕ → (ℕ → ℕ) → ℕ → ℕ
 programmed at sent old a =
     if nat_le at a && nat_lt a (at + length sent) then bit_and (old a) (slice_index sent (a - at)) else old a
 
--- the sector that holds an address
+-- the sector `s` holds the address `at`
 abbrev pub is_sector_of : (at s : ℕ) → Bool
 is_sector_of at s = is_in_aim (aim_unit 1 (at / 4096)) s
 
--- a place of the page that holds an address
+-- the address `a` is in the page that holds `at`
 abbrev pub is_in_page : (at a : ℕ) → Bool
 is_in_page at a = a / 256 == at / 256
 
--- On an honest bus, at every exit: bytes outside the page are as they were, and all kept bits and worn sectors. In
--- the page a byte is as it was or as programmed, or if the power went any.
+-- On an honest bus, at every exit: bytes outside the page, non-volatile bits and erased sectors are as they were. In
+-- the page each byte is as it was or as programmed; if the bus isn't steady, it may be anything.
 pub record MayProgram (at : ℕ) (sent : List ℕ) (old new : BusState) : Type 0 where
   pub config : new.chip.config ≡ old.chip.config
   pub bytes : ChangesOnly old.steady (is_in_page at) (programmed at sent old.chip.bytes) old.chip.bytes new.chip.bytes
@@ -42,7 +42,8 @@ pub record MayProgram (at : ℕ) (sent : List ℕ) (old new : BusState) : Type 0
   pub runs : new.chip.busy ≢ 0 → new.chip.running ≡ Runs.Program (at / 256)
   pub worn : (s : ℕ) → new.worn s ≡ old.worn s
 
--- On an honest bus, bytes were programmed from an address on, and nothing else changed.
+-- On an honest bus, the bytes were programmed and the write enable latch is clear. All other bytes, the non-volatile
+-- bits and the erased sectors are as they were.
 pub record HasProgrammed (at : ℕ) (sent : List ℕ) (old new : BusState) : Type 0 where
   pub config : new.chip.config ≡ old.chip.config
   pub bytes : (a : ℕ) → new.chip.bytes a ≡ programmed at sent old.chip.bytes a
@@ -50,14 +51,14 @@ pub record HasProgrammed (at : ℕ) (sent : List ℕ) (old new : BusState) : Typ
   pub worn : (s : ℕ) → new.worn s ≡ old.worn s
   pub latch : new.chip.latch ≡ false
 
--- What a program leaves at every exit, by whether the chip can carry it out or ignores it.
+-- The effect of a program at every exit, depending on whether the chip can carry it out or ignores it.
 pub record LeavesProgram (at : ℕ) (sent : List ℕ) (old new : BusState) : Type 0 where
   pub stirs : Stirs (programming (is_sector_of at) 1) old new
   pub falls : old.honest ≡ true → Falls most_operation old new
   pub reached : old.honest ≡ true → CanProgram at (length sent) old.chip → MayProgram at sent old new
   pub ignored : old.honest ≡ true → at < old.chip.config.size → takes_program old.chip at ≡ false → Stays old new
 
--- What a program that succeeded leaves, likewise.
+-- The effect of a program that succeeded, depending on whether the chip can carry it out or ignores it.
 pub record Programs (at : ℕ) (bytes : List ℕ) (old new : BusState) (sent : ℕ) : Type 0 where
   pub ends : EndsWaiting old new sent
   pub sends : SendsExactly 0 1 0 old new

@@ -1,4 +1,4 @@
--- What readings tell.
+-- The results of commands that only read.
 use Rattle.std.specs.Prelude.{◌≡◌, ◌≤◌, ◌<◌, ◌+◌, ◌*◌, ◌%◌, ℕ, Bool, true, false, List, [], ◌∷◌, length, map, slice_index, slice_index_or}
 use Rattle.std.specs.List.{range_with_len}
 use Rattle.nor_chip.specs.declared.config.Config.{Config}
@@ -10,7 +10,7 @@ use Rattle.nor_chip.specs.Step.{done_of, reply_byte}
 use Rattle.nor_chip.specs.Bus.{BusState}
 use Rattle.nor_driver.specs.Looks.{Rested}
 
--- a command that changes nothing at all
+-- a command that changes nothing, not even the write enable latch or `busy`
 abbrev pub changes_nothing : Command → Bool
 changes_nothing ReadStatus2 = true
 changes_nothing (ReadData at) = true
@@ -20,42 +20,42 @@ changes_nothing ReadUnique = true
 changes_nothing Ignored = true
 changes_nothing _ = false
 
--- These bytes ask no chip for anything but a reading.
+-- These bytes ask every chip only for a read, or for nothing.
 pub record IsReading (out : List ℕ) : Type 0 where
   pub quiet : begins_quiet out ≡ true
   pub reading : (config : Config) (replies : ℕ) → changes_nothing (command_of config out replies) ≡ true
 
--- On an honest bus, one transaction read: nothing changed, neither latch nor `busy`.
+-- On an honest bus, one transaction read. Nothing changed, neither the write enable latch nor `busy`.
 pub record HasRead (old new : BusState) : Type 0 where
   pub rested : Rested old new
   pub busy : new.chip.busy ≡ old.chip.busy
   pub latch : new.chip.latch ≡ old.chip.latch
   pub count : old.left ≡ new.left + 1
 
--- A transaction that reads succeeded.
+-- A transaction that reads succeeded. On an honest bus the reply is the chip's.
 pub record Replies (out : List ℕ) (old new : BusState) (reply : List ℕ) : Type 0 where
   pub read : old.honest ≡ true → HasRead old new
   pub told : old.honest ≡ true → (i : ℕ) → i < length reply
       → slice_index reply i ≡ reply_byte old.chip (done_of old.chip out (length reply)) i
 
--- the ID: the three bytes that 9Fh replies first (W25Q64FV datasheet, Read JEDEC ID)
+-- the ID: the first three bytes that 9Fh reads (W25Q64FV datasheet, Read JEDEC ID)
 abbrev pub id_of : Config → List ℕ
 id_of config = slice_index_or config.id 0 255 ∷ slice_index_or config.id 1 255 ∷ slice_index_or config.id 2 255 ∷ []
 
--- the chip's own number: the eight bytes that 4Bh replies first (W25Q64FV datasheet, Read Unique ID Number)
+-- the unique ID: the first eight bytes that 4Bh reads (W25Q64FV datasheet, Read Unique ID Number)
 abbrev pub unique_of : Config → List ℕ
 unique_of config = map (λ (i : ℕ). slice_index_or config.unique i 255) (0 ∷ 1 ∷ 2 ∷ 3 ∷ 4 ∷ 5 ∷ 6 ∷ 7 ∷ [])
 
--- so many SFDP bytes as 5Ah shows them, from the address `at` on, which is taken modulo the chip's size
+-- `len` SFDP bytes as 5Ah reads them, from the address `at` modulo the chip's size
 unfoldable pub shown : Config → (at len : ℕ) → List ℕ
 shown config at len = map (sfdp_byte config) (range_with_len (at % config.size) len)
 
--- these are the bytes of a sector
+-- the bytes of this sector
 pub record IsSectorOf (content : ℕ → ℕ) (sector : ℕ) (bytes : List ℕ) : Type 0 where
   pub byte : (i : ℕ) → i < 4096 → slice_index bytes i ≡ content (4096 * sector + i)
 
--- The readings: what each leaves on an honest bus, and what it tells of an idle chip. (Status 2 is told by a busy
--- chip too.)
+-- The reads: on an honest bus each leaves the chip as it was, and returns the contents of an idle chip. Status 2 is
+-- also returned for a busy chip.
 pub record ReadsId (old new : BusState) (id : List ℕ) : Type 0 where
   pub read : old.honest ≡ true → HasRead old new
   pub told : old.honest ≡ true → old.chip.busy ≡ 0 → id ≡ id_of old.chip.config
@@ -72,7 +72,7 @@ pub record ReadsSfdp (at len : ℕ) (old new : BusState) (bytes : List ℕ) : Ty
   pub read : old.honest ≡ true → HasRead old new
   pub told : old.honest ≡ true → old.chip.busy ≡ 0 → bytes ≡ shown old.chip.config at len
 
--- a sector that lies on the chip
+-- The read of a sector. What it returns is stated only for a sector that lies on the chip.
 pub record ReadsSector (sector : ℕ) (old new : BusState) (bytes : List ℕ) : Type 0 where
   pub read : old.honest ≡ true → HasRead old new
   pub told : old.honest ≡ true → old.chip.busy ≡ 0 → 4096 * (sector + 1) ≤ old.chip.config.size

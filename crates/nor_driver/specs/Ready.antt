@@ -1,7 +1,7 @@
--- What a call leaves of what polls told.
+-- The effect of a call on `heard`, the record of the last poll.
 use Rattle.std.specs.Prelude.{◌≡◌, true}
 use Rattle.nor_chip.specs.Bus.{BusState}
 
--- whatever the bus: where its last poll had shown that the chip is ready, the last one does now
+-- on every bus: if the last poll before the call showed that the chip is ready, so does the last poll after it
 abbrev pub StaysReady : (old new : BusState) → Type 0
 StaysReady old new = old.heard ≡ true → new.heard ≡ true

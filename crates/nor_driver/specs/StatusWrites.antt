@@ -1,4 +1,4 @@
--- What a status write leaves that sends the fixed bits as they were read, and another protection code.
+-- The effect of a status write that sends other protection bits and leaves the bits that are never changed.
 use Rattle.std.specs.Prelude.{◌≡◌, ◌≢◌, ◌+◌, ◌*◌, ◌/◌, ◌%◌, ◌==◌, ◌&&◌, ◌⊎◌, ℕ, Bool, true, false, not}
 use Rattle.nor_chip.specs.declared.running.Running.TheVariants as Runs
 use Rattle.nor_chip.specs.declared.status.Status.{Status}
@@ -10,32 +10,33 @@ use Rattle.nor_driver.specs.Looks.{Stays, Falls}
 use Rattle.nor_driver.specs.Limits.{writing, Stirs, SendsExactly}
 use Rattle.nor_driver.specs.Operations.{EndsWaiting, HasIgnored, most_operation}
 
--- the fixed bits, all kept ones but those of the protection code: SRP0; SRP1, QE, the reserved bit and the LB bits
+-- the bits that are never changed, which are the non-volatile bits except the protection bits: SRP0; SRP1, QE, the
+-- reserved bit and LB1 to LB3
 abbrev pub fixed_of : KeptBits → ℕ × ℕ
 fixed_of kept = (kept.one / 32, kept.two % 64)
 
--- the same kept bits but for their protection code, which is this one
+-- the same non-volatile bits, with the protection bits of `code`
 abbrev pub with_code : (code : ℕ) → KeptBits → KeptBits
 with_code code kept = record { one = 32 * (kept.one / 32) + code % 32; two = 64 * (code / 32) + kept.two % 64 }
 
--- these two bytes of a status write are the status that was read with another protection code: the bits that flashnor
--- never changes as they were read, and BUSY, WEL and SUS clear
+-- these two bytes of a status write are the status that was read with other protection bits: the bits that flashnor never
+-- changes as they were read, and BUSY, WEL and SUS clear
 abbrev pub has_code : Status → (code one two : ℕ) → Bool
 has_code status code one two =
     one == 128 * (status.one.0 / 128) + 4 * (code % 32) && two == status.two.0 % 64 + 64 * (code / 32)
 
--- The chip is idle, and its status, of these fixed bits, isn't locked.
+-- The chip is idle, its status isn't locked, and its bits that are never changed are those of `status`.
 pub record CanWriteStatus (status : Status) (chip : Chip) : Type 0 where
   pub idle : chip.busy ≡ 0
   pub open_to : is_locked chip.kept ≡ false
   pub fixed : fixed_of chip.kept ≡ fixed_of (kept_in (bytes_of status))
 
--- the chip carries a status write out
+-- an idle chip carries out a status write
 abbrev pub takes_status : Chip → Bool
 takes_status chip = is_idle chip && not (is_locked chip.kept)
 
--- On an honest bus, at every exit: bytes and worn sectors are as they were, and the kept bits too, or they have the new
--- code.
+-- On an honest bus, at every exit: bytes and erased sectors are as they were. The non-volatile bits are as they were,
+-- or have the protection bits of `code`.
 pub record MayWriteStatus (code : ℕ) (old new : BusState) : Type 0 where
   pub config : new.chip.config ≡ old.chip.config
   pub bytes : (a : ℕ) → new.chip.bytes a ≡ old.chip.bytes a
@@ -43,7 +44,8 @@ pub record MayWriteStatus (code : ℕ) (old new : BusState) : Type 0 where
   pub runs : new.chip.busy ≢ 0 → new.chip.running ≡ Runs.StatusWrite old.chip.kept.one old.chip.kept.two
   pub worn : (s : ℕ) → new.worn s ≡ old.worn s
 
--- On an honest bus, the code was written, and nothing else changed.
+-- On an honest bus, the protection bits were written and the write enable latch is clear. The other non-volatile bits,
+-- the bytes and the erased sectors are as they were.
 pub record HasWrittenStatus (code : ℕ) (old new : BusState) : Type 0 where
   pub config : new.chip.config ≡ old.chip.config
   pub bytes : (a : ℕ) → new.chip.bytes a ≡ old.chip.bytes a
@@ -51,14 +53,14 @@ pub record HasWrittenStatus (code : ℕ) (old new : BusState) : Type 0 where
   pub worn : (s : ℕ) → new.worn s ≡ old.worn s
   pub latch : new.chip.latch ≡ false
 
--- What a status write leaves at every exit, by whether the chip can carry it out or ignores it.
+-- The effect of a status write at every exit, depending on whether the chip can carry it out or ignores it.
 pub record LeavesStatusWrite (status : Status) (code : ℕ) (old new : BusState) : Type 0 where
   pub stirs : Stirs (writing (has_code status code) 1) old new
   pub falls : old.honest ≡ true → Falls most_operation old new
   pub reached : old.honest ≡ true → CanWriteStatus status old.chip → MayWriteStatus code old new
   pub ignored : old.honest ≡ true → takes_status old.chip ≡ false → Stays old new
 
--- What a status write that succeeded leaves, likewise.
+-- The effect of a status write that succeeded, depending on whether the chip can carry it out or ignores it.
 pub record WritesStatus (status : Status) (code : ℕ) (old new : BusState) (sent : ℕ) : Type 0 where
   pub ends : EndsWaiting old new sent
   pub sends : SendsExactly 0 0 1 old new

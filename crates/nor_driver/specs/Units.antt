@@ -1,39 +1,39 @@
--- The units that an erase clears. `total` is the number of the chip's sectors, of 4 KiB each.
+-- Erase blocks. `total` is the number of the chip's sectors, of 4 KiB each.
 use Rattle.std.specs.Prelude.{◌==◌, ◌+◌, ◌%◌, ◌&&◌, ℕ, Bool, true, nat_le, nat_lt}
 use Rattle.nor_chip.specs.declared.config.Config.{Config}
 use Rattle.nor_driver.specs.declared.units.Erase.{Erase}
 use Rattle.nor_driver.specs.declared.units.EraseUnit.{EraseUnit}
 use Rattle.nor_driver.specs.declared.units.EraseUnit.TheVariants.{Sector, Block32, Block64, Chip}
 
--- the opcode that erases a unit (W25Q64FV datasheet, instruction set table)
+-- the opcode that erases the block (W25Q64FV datasheet, instruction set table)
 abbrev pub opcode_of : EraseUnit → ℕ
 opcode_of Sector = 0x20
 opcode_of Block32 = 0x52
 opcode_of Block64 = 0xD8
 opcode_of Chip = 0xC7
 
--- how many sectors a unit has, on a chip of so many
+-- how many sectors the block has, on a chip of `total` sectors
 abbrev pub sectors_in : (total : ℕ) → EraseUnit → ℕ
 sectors_in total Sector = 1
 sectors_in total Block32 = 8
 sectors_in total Block64 = 16
 sectors_in total Chip = total
 
--- a chip of this configuration has the unit
+-- a chip with this configuration has this erase type
 abbrev pub has_unit : Config → EraseUnit → Bool
 has_unit config Sector = true
 has_unit config Block32 = config.kinds.k32
 has_unit config Block64 = config.kinds.k64
 has_unit config Chip = true
 
--- a unit may begin at this sector: a block at multiples of its size, the chip at 0
+-- the block may begin at this sector: a 32 or 64 KiB block at a multiple of its size, the chip at 0
 abbrev pub is_aligned : EraseUnit → (sector : ℕ) → Bool
 is_aligned Sector sector = true
 is_aligned Block32 sector = sector % 8 == 0
 is_aligned Block64 sector = sector % 16 == 0
 is_aligned Chip sector = sector == 0
 
--- on a chip of so many sectors the erase sets this one to FFh
+-- on a chip of `total` sectors the erase sets this sector to FFh
 abbrev pub erases_sector : (total sector : ℕ) → Erase → Bool
 erases_sector total sector erase =
     nat_le erase.sector sector && nat_lt sector (erase.sector + sectors_in total erase.unit)

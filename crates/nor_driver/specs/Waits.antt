@@ -1,4 +1,4 @@
--- What polls and waits tell, and how they end.
+-- The results of polls and waits.
 use Rattle.std.specs.Prelude.{◌≡◌, ◌≤◌, ◌<◌, ◌+◌, ◌-◌, ◌%◌, ◌==◌, ℕ, Bool, true, false, if◌then◌else◌, ⊤}
 use Rattle.nor_chip.specs.Chip.{Chip, status1_of}
 use Rattle.nor_chip.specs.Bus.{BusState}
@@ -7,7 +7,8 @@ use Rattle.nor_driver.specs.declared.waits.Halt.TheVariants.{Stopped, Timeout}
 use Rattle.nor_driver.specs.declared.waits.Waited.{Waited}
 use Rattle.nor_driver.specs.Looks.{Rested, RanOut}
 
--- On an honest bus, one poll replied the status, and the chip is busy for one poll less; the last one clears the latch.
+-- On an honest bus, one poll read status 1. A busy chip is then busy for one poll fewer, and the poll that shows the
+-- last BUSY clears the write enable latch.
 pub record HasPolled (old new : BusState) (status : ℕ) : Type 0 where
   pub rested : Rested old new
   pub status1 : status ≡ status1_of old.chip
@@ -19,7 +20,7 @@ pub record HasPolled (old new : BusState) (status : ℕ) : Type 0 where
 abbrev pub Polls : (old new : BusState) → ℕ → Type 0
 Polls old new status = old.honest ≡ true → HasPolled old new status
 
--- the latch of a chip once it is idle: an operation that was running has ended and cleared it
+-- the write enable latch of a chip after a wait: an operation that was running has ended and cleared it
 abbrev pub latch_when_idle : Chip → Bool
 latch_when_idle chip = if chip.busy == 0 then chip.latch else false
 
@@ -32,7 +33,7 @@ pub record HasWaited (old new : BusState) (waited : Waited) : Type 0 where
   pub polls : waited.polls ≡ old.chip.busy + 1
   pub count : old.left ≡ new.left + waited.polls
 
--- A wait succeeded: whatever the bus, its last poll showed no BUSY.
+-- A wait succeeded. On every bus its last poll showed that the chip is ready.
 pub record Waits (old new : BusState) (waited : Waited) : Type 0 where
   pub some : 1 ≤ waited.polls
   pub few : waited.polls ≤ 65536
@@ -40,17 +41,18 @@ pub record Waits (old new : BusState) (waited : Waited) : Type 0 where
   pub heard : new.heard ≡ true
   pub done : old.honest ≡ true → HasWaited old new waited
 
--- whatever the bus, a timeout names this address
+-- on every bus, a timeout names this address
 abbrev pub NamesTimeout : ℕ → Halt → Type 0
 NamesTimeout at Stopped = ⊤
 NamesTimeout at (Timeout address) = address ≡ at
 
--- A call that waits halted. On an honest bus that is a stop, and there were fewer transactions than this.
+-- A call that waits returned an error. On an honest bus that is a stop, and fewer transactions were left than `needed`.
 pub record Halts (needed : ℕ) (old new : BusState) (halt : Halt) : Type 0 where
   pub stopped : old.honest ≡ true → halt ≡ Stopped
   pub ran_out : old.honest ≡ true → RanOut needed old new
 
--- A wait halted: there were fewer transactions than it needed, which are never more than 65,536.
+-- A wait returned an error. On an honest bus that is a stop, and fewer transactions were left than the wait needed,
+-- which is never more than 65,536.
 pub record WaitHalts (at : ℕ) (old new : BusState) (halt : Halt) : Type 0 where
   pub told : NamesTimeout at halt
   pub halts : Halts 65536 old new halt

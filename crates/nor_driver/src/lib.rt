@@ -1,4 +1,5 @@
-//! The commands that a flash chip takes, each as one function over any bus. Opcodes are sent from here alone.
+//! The commands to a flash chip, one function per command, over any bus. The other crates of the engine send no
+//! opcodes.
 //!
 //! ```rust
 //! use nor_chip::{Config, Delays, Meter, SimBus};
@@ -17,8 +18,13 @@
 //! assert_eq!(rt; sector[0x100], 0xA5);
 //! ```
 //!
-//! What a reading leaves stands in `specs/Looks.antt`, and what it tells in `Waits` and `Reads`; what an operation
-//! leaves in `Programs`, `Erases` and `StatusWrites`.
+//! `specs/Looks.antt` defines the effect of functions that only read, and `Waits` and `Reads` what they return.
+//! `Programs`, `Erases` and `StatusWrites` define the effect of operations.
+//!
+//! - `waits.rt`: polls, and waits until the chip is ready
+//! - `reads.rt`: reads the ID, status 2, the unique ID, SFDP bytes and sectors
+//! - `operations.rt`: programs, erases and status writes
+//! - `units.rt`: erase blocks, and erases of them
 #![tactic(auto)]
 
 mod operations;

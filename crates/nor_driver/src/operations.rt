@@ -1,4 +1,4 @@
-//! Operations: write enable, a command that changes the chip, and a wait.
+//! Operations: write enable, a command that modifies the chip, and a wait.
 
 ghost use Rattle.std.specs.Prelude.{◌≡◌, ◌<◌, ◌≤◌, ◌+◌, ◌*◌, ◌%◌, ◌^◌, true, length, IfOk, IfErr};
 ghost use Rattle.nor_driver.specs.Waits.{Halts, NamesTimeout};
@@ -12,14 +12,21 @@ use crate::{Erase, EraseUnit, Halt, wait};
 use arrayvec::ArrayVec;
 use nor_chip::{Bus, Status};
 
-// The opcodes of what changes a chip; those of erases stand with their units.
+// The opcodes of modifying commands. The opcodes of erases are in `units.rt`.
 const WRITE_STATUS: u8 = 0x01;
 
 const PAGE_PROGRAM: u8 = 0x02;
 
 const WRITE_ENABLE: u8 = 0x06;
 
-/// Programs a part of a page, from an address on (02h). Answers the number of transactions.
+/// Programs `bytes` from `address` (02h), and waits until the chip is ready. Returns the number of transactions.
+///
+/// There must be at least one byte, the bytes must lie in one page of 256 bytes, and the address must fit in three
+/// bytes. On an honest bus, a chip that is busy or protects the address ignores the program; unless the bus stops, this
+/// function succeeds even then.
+///
+/// Returns `Stopped` if the bus stopped, and `Timeout` with this address after 65,536 polls that showed BUSY. On an
+/// honest bus there is no timeout. (W25Q64FV datasheet, Page Program.)
 pub fn program_page<B: Bus>(bus: &mut B, address: u32, bytes: &[u8]) -> Result<u32, Halt>
     requires reachable { address < 2 ^ 24 }
     requires some { 0 < length bytes.now }
@@ -33,7 +40,13 @@ pub fn program_page<B: Bus>(bus: &mut B, address: u32, bytes: &[u8]) -> Result<u
     operation(bus, &command, address)
 }
 
-/// Erases an aligned unit (20h, 52h, D8h or C7h). Answers the number of transactions.
+/// Erases an erase block (20h, 52h, D8h or C7h), and waits until the chip is ready. Returns the number of transactions.
+///
+/// The sector must be below 4,096 and aligned to the block. On an honest bus, a chip that is busy, lacks this erase
+/// type or protects an address of the block ignores the erase; unless the bus stops, this function succeeds even then.
+///
+/// Returns `Stopped` if the bus stopped, and `Timeout` with the block's first address after 65,536 polls that showed
+/// BUSY. On an honest bus there is no timeout. (W25Q64FV datasheet, erase instructions.)
 pub fn erase<B: Bus>(bus: &mut B, erase: Erase) -> Result<u32, Halt>
     requires reachable { erase.sector < 4096 }
     requires aligned { is_aligned erase.unit erase.sector ≡ true }
@@ -51,8 +64,15 @@ pub fn erase<B: Bus>(bus: &mut B, erase: Erase) -> Result<u32, Halt>
     }
 }
 
-/// Writes the status (01h): another protection code, below 64, and the fixed bits of `status` as they were read.
-/// BUSY, WEL and SUS are sent clear. Answers the number of transactions.
+/// Writes the status registers (01h), and waits until the chip is ready. It sends the protection bits of `code`, which
+/// must be below 64, and all other non-volatile bits as in `status`. BUSY, WEL and SUS are sent clear. Returns the
+/// number of transactions.
+///
+/// On an honest bus, a chip that is busy or has SRP0 or SRP1 set ignores the write; unless the bus stops, this function
+/// succeeds even then.
+///
+/// Returns `Stopped` if the bus stopped, and `Timeout` with address 0 after 65,536 polls that showed BUSY. On an honest
+/// bus there is no timeout. (W25Q64FV datasheet, Write Status Register.)
 pub fn write_status<B: Bus>(bus: &mut B, status: Status, code: u8) -> Result<u32, Halt>
     requires { code < 64 }
     ensures leaves { LeavesStatusWrite status code (B.state bus.old) (B.state bus.new) }
@@ -64,7 +84,8 @@ pub fn write_status<B: Bus>(bus: &mut B, status: Status, code: u8) -> Result<u32
     operation(bus, &[WRITE_STATUS, one, two], 0)
 }
 
-// One operation: write enable, the command, a wait. Answers the number of transactions.
+// Performs one operation: write enable, the command, a wait. Returns the number of transactions. A timeout names
+// `address`.
 fn operation<B: Bus>(bus: &mut B, command: &[u8], address: u32) -> Result<u32, Halt>
     requires { AsksForOperation command.now }
     ensures leaves { LeavesOperation command.now (B.state bus.old) (B.state bus.new) }
@@ -78,7 +99,7 @@ fn operation<B: Bus>(bus: &mut B, command: &[u8], address: u32) -> Result<u32, H
     Ok(waited.polls + 2)
 }
 
-// The three bytes of an address, high byte first.
+// Returns the three bytes of an address, high byte first.
 pub(crate) fn address_bytes(address: u32) -> [u8; 3]
     requires { address < 2 ^ 24 }
     ensures { BytesNameAddress address result }
@@ -87,7 +108,7 @@ pub(crate) fn address_bytes(address: u32) -> [u8; 3]
     [high, middle, low]
 }
 
-// The bytes of a page program: the opcode, three address bytes and the data.
+// Returns the bytes of a page program: the opcode, three address bytes and the data.
 fn program_command(address: u32, bytes: &[u8]) -> ArrayVec<u8, 260>
     requires reachable { address < 2 ^ 24 }
     requires short { length bytes.now ≤ 256 }

@@ -1,4 +1,4 @@
-//! What a chip tells of itself and its bytes.
+//! Commands that read from the chip and modify nothing.
 
 ghost use Rattle.std.specs.Prelude.{◌≡◌, ◌<◌, ◌^◌, true, length, IfOk, OnOk, OnErr};
 ghost use Rattle.nor_driver.specs.Looks.{Looks, RanOutIfHonest};
@@ -7,7 +7,7 @@ ghost use Rattle.nor_driver.specs.Reads.{IsReading, Replies, ReadsId, ReadsStatu
 use crate::operations::address_bytes;
 use nor_chip::{Bus, SECTOR_LEN, Stopped};
 
-// The opcodes of what only tells.
+// The opcodes of these commands.
 const READ_DATA: u8 = 0x03;
 
 const READ_STATUS2: u8 = 0x35;
@@ -18,7 +18,8 @@ const READ_SFDP: u8 = 0x5A;
 
 const READ_ID: u8 = 0x9F;
 
-/// The ID: three bytes (9Fh; W25Q64FV datasheet, Read JEDEC ID).
+/// Reads the three bytes of the ID (9Fh; W25Q64FV datasheet, Read JEDEC ID). On an honest bus they are the chip's if
+/// the chip is idle. Returns `Stopped` if the bus stopped.
 pub fn read_id<B: Bus>(bus: &mut B) -> Result<[u8; 3], Stopped>
     ensures leaves { Looks 1 (B.state bus.old) (B.state bus.new) }
     ensures does { IfOk result (ReadsId (B.state bus.old) (B.state bus.new)) }
@@ -30,7 +31,8 @@ pub fn read_id<B: Bus>(bus: &mut B) -> Result<[u8; 3], Stopped>
     Ok(id)
 }
 
-/// Status 2 (35h), which a busy chip replies too.
+/// Reads status 2 (35h; W25Q64FV datasheet, Read Status Register-2). On an honest bus a busy chip replies it, too.
+/// Returns `Stopped` if the bus stopped.
 pub fn read_status2<B: Bus>(bus: &mut B) -> Result<u8, Stopped>
     ensures leaves { Looks 1 (B.state bus.old) (B.state bus.new) }
     ensures does { IfOk result (ReadsStatus2 (B.state bus.old) (B.state bus.new)) }
@@ -42,7 +44,8 @@ pub fn read_status2<B: Bus>(bus: &mut B) -> Result<u8, Stopped>
     Ok(reply[0])
 }
 
-/// The chip's own number: eight bytes (4Bh; W25Q64FV datasheet, Read Unique ID Number).
+/// Reads the eight bytes of the unique ID (4Bh; W25Q64FV datasheet, Read Unique ID Number). On an honest bus they are
+/// the chip's if the chip is idle. Returns `Stopped` if the bus stopped.
 pub fn read_unique<B: Bus>(bus: &mut B) -> Result<[u8; 8], Stopped>
     ensures leaves { Looks 1 (B.state bus.old) (B.state bus.new) }
     ensures does { IfOk result (ReadsUnique (B.state bus.old) (B.state bus.new)) }
@@ -54,8 +57,10 @@ pub fn read_unique<B: Bus>(bus: &mut B) -> Result<[u8; 8], Stopped>
     Ok(unique)
 }
 
-/// SFDP bytes from an address on, as many as `bytes` takes (5Ah; JESD216). On an honest bus a stop leaves `bytes` as
-/// they were.
+/// Fills `bytes` with SFDP bytes from `address` (5Ah; JESD216). The address must fit in three bytes. On an honest bus
+/// the bytes are the chip's if the chip is idle; the chip takes the address modulo its size.
+///
+/// Returns `Stopped` if the bus stopped. An honest bus then leaves `bytes` as they were.
 pub fn read_parameters<B: Bus>(bus: &mut B, address: u32, bytes: &mut [u8]) -> Result<(), Stopped>
     requires { address < 2 ^ 24 }
     ensures leaves { Looks 1 (B.state bus.old) (B.state bus.new) }
@@ -68,7 +73,10 @@ pub fn read_parameters<B: Bus>(bus: &mut B, address: u32, bytes: &mut [u8]) -> R
     read(bus, &[READ_SFDP, high, middle, low, 0], bytes)
 }
 
-/// The 4,096 bytes of a sector (03h). On an honest bus a stop leaves `bytes` as they were.
+/// Reads the 4,096 bytes of a sector (03h; W25Q64FV datasheet, Read Data). The sector must be below 4,096. On an honest
+/// bus the bytes are the chip's if the chip is idle and has the sector.
+///
+/// Returns `Stopped` if the bus stopped. An honest bus then leaves `bytes` as they were.
 pub fn read_sector<B: Bus>(bus: &mut B, sector: u32, bytes: &mut [u8]) -> Result<(), Stopped>
     requires reachable { sector < 4096 }
     requires whole { length bytes.old ≡ 4096 }
@@ -82,7 +90,7 @@ pub fn read_sector<B: Bus>(bus: &mut B, sector: u32, bytes: &mut [u8]) -> Result
     read(bus, &[READ_DATA, high, middle, low], bytes)
 }
 
-// One transaction that changes nothing.
+// Performs one transaction that only reads.
 fn read<B: Bus>(bus: &mut B, out: &[u8], reply: &mut [u8]) -> Result<(), Stopped>
     requires { IsReading out.now }
     ensures leaves { Looks 1 (B.state bus.old) (B.state bus.new) }

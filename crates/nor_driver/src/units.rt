@@ -1,11 +1,11 @@
-//! What an erase aims at.
+//! Erase blocks, and erases of them.
 
 ghost use Rattle.std.specs.Prelude.{◌≡◌, ◌*◌};
 ghost use Rattle.nor_driver.specs.Units.{opcode_of, is_aligned};
 
 use nor_chip::SECTOR_LEN;
 
-/// What one erase sets to FFh.
+/// The block that one erase command sets to FFh.
 #[derive(Clone, Copy, Debug, PartialEq, Eq)]
 pub enum EraseUnit {
     /// A sector of 4 KiB (20h).
@@ -19,7 +19,7 @@ pub enum EraseUnit {
 }
 
 impl EraseUnit {
-    // The opcode that erases it.
+    // Returns the opcode that erases the block.
     pub(crate) fn opcode(self) -> u8
         ensures { result ≡ opcode_of self }
     {
@@ -32,7 +32,7 @@ impl EraseUnit {
     }
 }
 
-/// An erase: a unit, and the number of its first sector.
+/// An erase: a block, and the number of its first sector.
 #[derive(Clone, Copy, Debug, PartialEq, Eq)]
 pub struct Erase {
     pub unit: EraseUnit,
@@ -40,14 +40,15 @@ pub struct Erase {
 }
 
 impl Erase {
-    /// The first address of the unit.
+    /// Returns the first address of the block.
     pub fn address(self) -> u32
         ensures { result ≡ 4096 * self.sector }
     {
         SECTOR_LEN * u32::from(self.sector)
     }
 
-    /// Whether the unit may begin at its sector: a block at multiples of its size, the chip at 0.
+    /// Returns whether the block may begin at its sector: a 32 or 64 KiB block at a multiple of its size, the chip at
+    /// 0.
     pub fn is_aligned(self) -> bool
         ensures { result ≡ is_aligned self.unit self.sector }
     {

@@ -1,4 +1,4 @@
-//! Polls, and waits for a chip to be idle.
+//! Polls, and waits until the chip is ready.
 
 ghost use Rattle.std.specs.Prelude.{◌≡◌, ◌%◌, ◌==◌, IfOk, IfErr, OnErr};
 ghost use Rattle.nor_driver.specs.declared.waits.Halt.TheVariants as Halts;
@@ -12,10 +12,11 @@ use thiserror::Error;
 // The opcode of a poll.
 const READ_STATUS1: u8 = 0x05;
 
-// The most polls that a wait sends.
+// The greatest number of polls of one wait.
 const MOST_POLLS: u32 = 65536;
 
-/// Status 1, by one poll (05h).
+/// Reads status 1 with one poll (05h; W25Q64FV datasheet, Read Status Register-1). Returns `Stopped` if the bus
+/// stopped.
 pub fn poll<B: Bus>(bus: &mut B) -> Result<u8, Stopped>
     ensures leaves { Looks 1 (B.state bus.old) (B.state bus.new) }
     ensures does { IfOk result (Polls (B.state bus.old) (B.state bus.new)) }
@@ -27,7 +28,7 @@ pub fn poll<B: Bus>(bus: &mut B) -> Result<u8, Stopped>
     Ok(reply[0])
 }
 
-/// Why a command wasn't seen to its end.
+/// The reason why a command and its wait did not complete.
 #[derive(Clone, Copy, Debug, PartialEq, Eq, Error)]
 pub enum Halt {
     /// The bus stopped.
@@ -46,17 +47,19 @@ impl From<Stopped> for Halt {
     }
 }
 
-/// The end of a wait.
+/// The result of a wait.
 #[derive(Clone, Copy, Debug, PartialEq, Eq)]
 pub struct Waited {
-    /// Status 1, as the last poll replied it.
+    /// Status 1, as the last poll read it.
     pub status1: u8,
-    /// How many polls there were.
+    /// The number of polls.
     pub polls: u32,
 }
 
-/// Polls until the chip is idle, at most 65,536 times. A timeout names the address of the command that is waited
-/// for.
+/// Polls until a reply shows that the chip is ready, at most 65,536 times.
+///
+/// Returns `Stopped` if the bus stopped, and `Timeout` with `address`, the address of the command that is waited for,
+/// if all 65,536 polls showed BUSY. On an honest bus there is no timeout.
 pub fn wait<B: Bus>(bus: &mut B, address: u32) -> Result<Waited, Halt>
     ensures leaves { Looks 65536 (B.state bus.old) (B.state bus.new) }
     ensures does { IfOk result (Waits (B.state bus.old) (B.state bus.new)) }
