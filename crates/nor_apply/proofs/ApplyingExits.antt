@@ -1,4 +1,4 @@
--- What applying changes leaves at each exit, how many transactions it takes, and what it comes to at its end.
+-- The effect of all changes at each exit, the transactions that they take, and their result.
 use Rattle.std.proofs.Common.{ℕ, zero, suc, ◌≡◌, ◌<◌, ◌≤◌, ◌+◌, ◌*◌, ◌/◌, ◌∙◌, Bool, true, false, refl, sym, ap, arith, true≢false}
 use Rattle.std.specs.Prelude.{◌&&◌, ◌||◌, if◌then◌else◌}
 use Rattle.std.proofs.lemmas.Bool.{or_left, or_right}
@@ -54,7 +54,7 @@ abbrev pub code_limits : Changes → (needed : Bool) → (code : ℕ) → Limits
 code_limits changes needed code =
     writing (λ one two. needed && has_code changes.status code one two) (if needed then 1 else 0)
 
--- ---- a part of the changes, after others
+-- ---- some of the changes, after others
 
 -- How many erases, page programs and status writes were sent.
 pub record Numbers : Type 0 where
@@ -65,8 +65,8 @@ pub record Numbers : Type 0 where
 abbrev pub sending_these : Changes → Numbers → Limits
 sending_these changes n = sending changes n.erases n.programs n.status_writes
 
--- The changes have come so far, to these bytes, worn sectors and this code, with these numbers of operations and
--- readings and no more transactions than were to be spent.
+-- The changes so far led to these bytes, erased sectors and protection bits, with these numbers of operations and reads.
+-- At most `spent` transactions were sent.
 pub record SoFar (changes : Changes) (wanted bytes : ℕ → ℕ) (worn : ℕ → Bool) (code : ℕ) (numbers : Numbers)
     (readings spent : ℕ) (old now : BusState) (tally : Tally) : Type 0 where
   pub ran : Ran (sending_these changes numbers) readings old now tally
@@ -75,15 +75,15 @@ pub record SoFar (changes : Changes) (wanted bytes : ℕ → ℕ) (worn : ℕ �
       → MayChange (touched_in changes) (raised_in changes) wanted old now
   pub stands : old.honest ≡ true → CanApply changes wanted old.chip → Stands bytes worn code old now
 
--- What a part leaves at every exit.
+-- The effect of one part at every exit.
 pub record Leaves (changes : Changes) (wanted : ℕ → ℕ) (most : ℕ) (limits : Limits) (old mid new : BusState) : Type 0
-    where
-  pub spends : Spends most mid new
-  pub sends : SendsWithin limits mid new
-  pub may : old.honest ≡ true → CanApply changes wanted old.chip
-      → MayChange (touched_in changes) (raised_in changes) wanted mid new
+  where
+    pub spends : Spends most mid new
+    pub sends : SendsWithin limits mid new
+    pub may : old.honest ≡ true → CanApply changes wanted old.chip
+        → MayChange (touched_in changes) (raised_in changes) wanted mid new
 
--- What all of it leaves where a part halts.
+-- The effect of all changes if one part returns an error.
 abbrev pub Halted : (changes : Changes) (wanted : ℕ → ℕ) (old new : BusState) → Halt → Type 0
 Halted changes wanted old new halt =
     LeavesApply changes wanted old new × Halts (most_applied (sector_count (touched_in changes))) old new halt
@@ -159,7 +159,7 @@ module _ {changes : Changes} {wanted bytes : ℕ → ℕ} {worn : ℕ → Bool} 
         (λ honest can.
         stands_code can (λ writes. writable writes can) (so.stands honest can) (now_honest honest) leaves does)
 
--- what a timeout names: 0, where the status is written, or an address in a sector
+-- a timeout names 0 for a status write, or an address in a touched sector
 names_writing : (changes : Changes) (needed : Bool) (halt : Halt) → (needed ≡ true → 1 ≤ status_writes changes)
     → HaltsWriting needed halt → NamesChange changes halt
 names_writing changes needed halt counts told = grind arith
@@ -179,7 +179,7 @@ abbrev pub and_more : Numbers → (erases programs : ℕ) → Numbers
 and_more n erases programs =
     record { erases = n.erases + erases; programs = n.programs + programs; status_writes = n.status_writes }
 
--- Protection was lifted where that was asked.
+-- The protection bits were cleared, if that was requested.
 abbrev pub Lifted : Changes → (ℕ → ℕ) → (old now : BusState) → Tally → Type 0
 Lifted changes wanted old now tally =
     SoFar changes wanted old.chip.bytes old.worn (code_once changes) (lifting changes) 0 most_operation old now tally
@@ -209,7 +209,7 @@ lifted changes {old} wanted leaves does =
       status_writes = omega arith;
     }) (omega arith) (omega arith) (omega arith)
 
--- The raised sectors were erased too.
+-- The raised sectors were erased, in addition.
 abbrev pub Erased : Changes → (ℕ → ℕ) → (erases : ℕ) → (old now : BusState) → Tally → Type 0
 Erased changes wanted erases old now tally =
     SoFar changes wanted (once_erased (raised_in changes) old.chip.bytes) (λ s. old.worn s || raised_in changes s)
@@ -280,7 +280,7 @@ module _ {changes : Changes} {wanted : ℕ → ℕ} {old mid new : BusState} {do
       (λ honest can.
       let is = so.stands honest can in stands_changed is (does.done (now_honest so honest) (can_erase_all can is)))
 
--- The touched ones were programmed too.
+-- The touched sectors were programmed, in addition.
 abbrev pub Programmed : Changes → (ℕ → ℕ) → (erases programs : ℕ) → (old now : BusState) → Tally → Type 0
 Programmed changes wanted erases programs old now tally =
     SoFar changes wanted
@@ -351,7 +351,7 @@ module _ {changes : Changes} {wanted : ℕ → ℕ} (erases : ℕ) {old mid new 
 
 -- ---- the end
 
--- Protection was lifted, the raised sectors were erased and the touched ones programmed, as asked.
+-- The protection bits were cleared, the raised sectors erased and the touched ones programmed, as requested.
 pub record Parts (changes : Changes) (wanted : ℕ → ℕ) (old free mid made : BusState) (sent : ℕ)
     (erases programs : Tally) : Type 0 where
   pub inside : (s : ℕ) → raised_in changes s ≡ true → touched_in changes s ≡ true
@@ -375,7 +375,7 @@ module _ {changes : Changes} {wanted : ℕ → ℕ} {old free mid made : BusStat
       })
   third = programmed erases.count second parts.programs_leave parts.program
 
-  -- the sum fits
+  -- the sum fits in 64 bits
   pub few_sent : sent + erases.transactions + programs.transactions < 18446744073709486078
   few_sent = omega (arith, third.few, count_below-most 4096 (touched_in changes))
 

@@ -1,4 +1,4 @@
--- How the parts of a change follow one another: the relations of every exit and of the end compose.
+-- The parts of a change compose: the relations for every exit, and those for success.
 use Rattle.std.proofs.Common.{◌≡◌, ℕ, ◌/◌, ◌⊎◌, inl, true, false, true≢false, arith, ◌∙◌, sym, ap}
 use Rattle.std.specs.Prelude.{Bool, ◌||◌, if◌then◌else◌}
 use Rattle.std.proofs.lemmas.Bool.{false_from_ne_true}
@@ -33,7 +33,7 @@ within_then p first mid new before after =
           };
     }
 
--- what holds in a wider set's terms fails in a narrower one's
+-- an element outside a set is outside every subset
 pub narrower : {b c : Bool} → (b ≡ true → c ≡ true) → c ≡ false → b ≡ false
 narrower {b} wider out = false_from_ne_true b (λ is. true≢false (sym (wider is) ∙ out))
 
@@ -48,7 +48,8 @@ within_wider p q first state wider within = record {
       let runs = within.runs loses works in search (runs.inside, runs.status);
 }
 
--- an idle chip, and so the same one, is within another
+-- an idle chip with the same configuration and non-volatile bits, and with the same bytes outside a set of addresses,
+-- is within that set
 pub idle_within : {p : ℕ → Bool} {first : Chip} {state : BusState} → state.chip.config ≡ first.config
     → ((a : ℕ) → p a ≡ false → state.chip.bytes a ≡ first.bytes a) → state.chip.kept ≡ first.kept → state.chip.busy ≡ 0
     → IsWithin p first state
@@ -60,7 +61,7 @@ same_within p first state same idle = idle_within same.config (λ a out. same.by
 
 -- ---- what can be changed
 
--- a part of the sectors can be changed where all of them can, as long as all but bytes stays
+-- some of the sectors can be changed if all of them can, as long as configuration and non-volatile bits stay
 pub can_after : {t t' : ℕ → Bool} {old : Chip} (new : Chip) → ((s : ℕ) → t' s ≡ true → t s ≡ true) → CanChange t old
     → new.config ≡ old.config → new.kept ≡ old.kept → new.busy ≡ 0 → CanChange t' new
 can_after {old} new within can config kept idle =
@@ -68,7 +69,7 @@ can_after {old} new within can config kept idle =
 
 -- ---- every exit
 
--- where the chip is as it was, idle, nothing is changed
+-- if the chip is as it was and idle, nothing changed
 pub same_change : {t r : ℕ → Bool} {w : ℕ → ℕ} {old new : BusState} → IsSame old.chip new.chip → new.chip.busy ≡ 0
     → ((s : ℕ) → new.worn s ≡ old.worn s) → MayChange t r w old new
 same_change {t} {old} {new} same idle worn =
@@ -81,7 +82,8 @@ change_then {t} {old} {mid} {new} steadily before after =
     let within = within_then (places_of t) old.chip mid new before.within after.within in
     grind (arith, within, before.gentle, after.gentle, before.worn, after.worn)
 
--- a part of the sectors may change where all of them may, to bytes that are the same where they can be told
+-- a change of some sectors is a change of a larger set, if the target bytes agree at touched addresses outside the
+-- raised sectors
 pub change_as : {t r t' r' : ℕ → Bool} {w w' : ℕ → ℕ} {old new : BusState} → ((s : ℕ) → t s ≡ true → t' s ≡ true)
     → ((s : ℕ) → r s ≡ true → r' s ≡ true) → ((a : ℕ) → r' (a / 4096) ≡ false → t (a / 4096) ≡ true → w a ≡ w' a)
     → MayChange t r w old new → MayChange t' r' w' old new
@@ -89,7 +91,7 @@ change_as {t} {t' = t'} {old} {new} more raised wanted change =
     let within = within_wider (places_of t) (places_of t') old.chip new (λ a. more (a / 4096)) change.within in
     grind (arith, within, raised, wanted, change.gentle, change.within.bytes, change.worn)
 
--- a status write of a chip whose status may be written
+-- a status write, to a chip whose status can be written
 pub status_change : {t r : ℕ → Bool} {w : ℕ → ℕ} {code : ℕ} {old new : BusState} → is_writable old.chip ≡ true
     → MayWriteStatus code old new → MayChange t r w old new
 status_change {code = code} {old = old} writable wrote =
@@ -97,8 +99,8 @@ status_change {code = code} {old = old} writable wrote =
 
 -- ---- the end
 
--- Some places have the wanted bytes, and some sectors were erased; all else is as it was, the chip is idle, and its
--- latch is set only where it was.
+-- Some addresses have the target bytes, and some sectors were erased. All else is as it was, the chip is idle, and its
+-- write enable latch is set only if it was set before.
 pub record HasMade (places : ℕ → Bool) (wanted : ℕ → ℕ) (erased : ℕ → Bool) (old new : BusState) : Type 0 where
   pub config : new.chip.config ≡ old.chip.config
   pub bytes : (a : ℕ) → new.chip.bytes a ≡ (if places a then wanted a else old.chip.bytes a)
@@ -107,7 +109,7 @@ pub record HasMade (places : ℕ → Bool) (wanted : ℕ → ℕ) (erased : ℕ 
   pub idle : new.chip.busy ≡ 0
   pub latch : new.chip.latch ≡ true → old.chip.latch ≡ true
 
--- the places of whole sectors
+-- the addresses of whole sectors
 pub made_of : {t e : ℕ → Bool} {w : ℕ → ℕ} {old new : BusState} → HasChanged t w e old new
     → HasMade (places_of t) w e old new
 made_of has = assumption
@@ -116,7 +118,7 @@ pub changed_of : {t e : ℕ → Bool} {w : ℕ → ℕ} {old new : BusState} →
     → HasChanged t w e old new
 changed_of has = assumption
 
--- what has ended may stand at an exit too
+-- a state after success is also allowed at an exit
 pub either_byte : (b : Bool) {x old wanted : ℕ} → x ≡ (if b then wanted else old) → (x ≡ old) ⊎ (x ≡ wanted)
 either_byte b is = grind arith
 
@@ -132,7 +134,7 @@ pub made_none : {p e : ℕ → Bool} {w : ℕ → ℕ} (state : BusState) → ((
     → state.chip.busy ≡ 0 → HasMade p w e state state
 made_none state none spared idle = grind (arith, none, spared, or-false)
 
--- tests that agree
+-- equal tests can replace each other
 pub made_same : {p p' e e' : ℕ → Bool} {w : ℕ → ℕ} {old new : BusState} → ((a : ℕ) → p a ≡ p' a)
     → ((s : ℕ) → e s ≡ e' s) → HasMade p w e old new → HasMade p' w e' old new
 made_same {w = w} {old = old} same spared has =
@@ -140,7 +142,7 @@ made_same {w = w} {old = old} same spared has =
     let worn = λ (s : ℕ). has.worn s ∙ ap (λ (b : Bool). old.worn s || b) (spared s) in
     assumption
 
--- one part after another, where the later one's bytes are the wanted ones
+-- one part after another, if the later part's bytes are the target ones
 pub made_then : {p q t e f g : ℕ → Bool} {v w : ℕ → ℕ} {old mid new : BusState} → ((a : ℕ) → t a ≡ (p a || q a))
     → ((s : ℕ) → g s ≡ (e s || f s)) → ((a : ℕ) → q a ≡ true → v a ≡ w a)
     → HasMade p w e old mid → HasMade q v f mid new → HasMade t w g old new

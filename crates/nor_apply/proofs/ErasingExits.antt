@@ -1,4 +1,4 @@
--- The erases of a set: one erase of the plan after others, what holds on the way, and what follows at each exit.
+-- The erases of a set, one after another: what holds between them, and what follows at each exit.
 use Rattle.std.proofs.Common.{ℕ, ◌≡◌, ◌<◌, ◌≤◌, ◌+◌, ◌*◌, ◌/◌, ◌-◌, ◌∙◌, ◌||◌, Bool, true, false, List, [], ◌∷◌, ◌++◌, length, inl, inr, refl, sym, ap, arith}
 use Rattle.std.proofs.lemmas.Bool.{cases_lt, false_from_ne_true, and_from, le-leb, lt-ltb}
 use Rattle.std.proofs.lemmas.Bool.Decides.{nat_tests}
@@ -31,7 +31,7 @@ use Rattle.nor_apply.proofs.InTurn.{Listed, listed_none, listed_halted, listed_m
 use Rattle.nor_apply.proofs.Changing.{can_after, change_then, HasMade, changed_of, made_may, made_none, made_same, made_then}
 use Rattle.nor_apply.proofs.Aiming.{unit_aims}
 
--- An erase of a chip of so many sectors that lies in a set, and begins at a sector of it.
+-- An erase that lies in a set of sectors and covers at least one, on a chip of `total` sectors.
 record IsOfPlan (kinds : Kinds) (total : ℕ) (set : ℕ → Bool) (unit : Erase) : Type 0 where
   pub is : IsErase kinds total unit
   pub some : 1 ≤ sectors_in total unit.unit
@@ -42,7 +42,7 @@ record IsOfPlan (kinds : Kinds) (total : ℕ) (set : ℕ → Bool) (unit : Erase
 some_sectors : (total : ℕ) (unit : EraseUnit) → 1 ≤ total → 1 ≤ sectors_in total unit
 some_sectors total unit some = grind arith
 
--- no place of a unit is guarded whose sectors have none
+-- an erase block has no protected address if none of its sectors has one
 free_unit : (chip : Chip) (from n : ℕ) → 1 ≤ n
     → ((a : ℕ) → from ≤ a / 4096 → a / 4096 < from + n → is_guarded chip a ≡ false)
     → is_unit_guarded chip (4096 * from) (4096 * n) ≡ false
@@ -62,7 +62,7 @@ module _ {kinds : Kinds} {size : ℕ} {set done : ℕ → Bool} {unit : Erase} {
   sectors_same : sectors_of mid.chip ≡ size / 4096
   sectors_same = rw (has.config, can.sized.same) refl
 
-  -- an erase of the plan can be carried out on the chip that the erases before it left
+  -- an erase of the plan can be carried out after the erases before it
   can_erase : CanErase unit mid.chip
   can_erase =
       let able = can_after mid.chip (λ s is. is) can.can has.config has.kept has.idle in
@@ -73,7 +73,7 @@ module _ {kinds : Kinds} {size : ℕ} {set done : ℕ → Bool} {unit : Erase} {
       let is = plan.is in
       grind arith
 
-  -- ---- what it leaves at every exit, and at its end
+  -- ---- the effect of one erase, at every exit and on success
 
   erases_of_plan : (s : ℕ) → is_sector_in_unit unit mid.chip s ≡ true → set s ≡ true
   erases_of_plan s erased = plan.inside s (rw sectors_same at erased)
@@ -89,7 +89,7 @@ module _ {kinds : Kinds} {size : ℕ} {set done : ℕ → Bool} {unit : Erase} {
 
 -- ---- one erase after another
 
--- These erases of a set's plan have succeeded, and those are left.
+-- These erases of the plan for a set have succeeded, and those are left.
 pub record ErasesSoFar (kinds : Kinds) (size : ℕ) (set : ℕ → Bool) (units left : List Erase) (old new : BusState)
     (tally : Tally) : Type 0 where
   pub below : (s : ℕ) → set s ≡ true → s < size / 4096
@@ -115,7 +115,7 @@ none_so_far state below same covers few all = record {
 
 module _ {kinds : Kinds} {size : ℕ} {set : ℕ → Bool} {units left : List Erase} {old mid : BusState} {tally : Tally}
     (so : ErasesSoFar kinds size set units left old mid tally) where
-  -- those that are done lie in the set
+  -- the completed erases lie in the set
   erased_inside : (s : ℕ) → erased_by (size / 4096) units s ≡ true → set s ≡ true
   erased_inside s erased =
       sym (so.covers.union s)
@@ -154,7 +154,7 @@ module _ {kinds : Kinds} {size : ℕ} {set : ℕ → Bool} {units left : List Er
       reached = λ honest can. made_may (λ a. erased_inside (a / 4096)) erased_inside (so.done honest can);
     }
 
-  -- the next one
+  -- the next erase
   module _ {unit : Erase} {rest : List Erase} (next : left ≡ unit ∷ rest) where
     pub few_units : tally.count < 4096
     few_units = omega (arith, come_fewer so.listed next, so.few, count_below-most 4096 set)
@@ -184,7 +184,7 @@ module _ {kinds : Kinds} {size : ℕ} {set : ℕ → Bool} {units left : List Er
         unit_aims unit.unit unit.sector size set s of_plan.is.aligned
         (λ k low high. of_plan.inside k (in_unit (size / 4096) k unit low high))
 
-    -- a timeout names its first sector
+    -- a timeout names the block's first address, which is in the set
     names_unit : (halt : Halt) → NamesTimeout (4096 * unit.sector) halt → NamesTimeoutIn set halt
     names_unit halt told =
         let inside = of_plan.inside unit.sector in

@@ -1,4 +1,4 @@
--- Parts of a change one after another, whatever the bus: where they aim, and how many transactions they take.
+-- Parts of a change one after another, on every bus: which sectors they target, and how many transactions they take.
 use Rattle.std.proofs.Common.{◌≡◌, ◌≤◌, ◌+◌, ◌*◌, ◌∙◌, ℕ, true, List, [], ◌∷◌, ◌++◌, length, sym, ap, refl, arith}
 use Rattle.std.proofs.lemmas.List.{length-append, length_push, append_assoc, append-nil}
 use Rattle.std.specs.List.{All}
@@ -16,7 +16,7 @@ use Rattle.nor_apply.specs.Spending.{Spends, Tallies}
 
 -- ---- parts that ran
 
--- A part ran to its end. It sent as many erases, page programs and status writes as these limits say.
+-- A part succeeded.
 pub record Ran (limits : Limits) (readings : ℕ) (old new : BusState) (tally : Tally) : Type 0 where
   pub nature : KeepsNature old new
   pub sends : SendsWithin limits old new
@@ -86,7 +86,7 @@ module _ {limits : Limits} {r : ℕ} {old mid : BusState} {done : Tally} (ran : 
 
 -- ---- an operation for each of a list
 
--- These operations have run, and those are left. The limits grow with their number.
+-- The operations for `done` succeeded, and those for `left` are left.
 pub record Listed {A : Type 0} (all done left : List A) (limits : ℕ → Limits) (old new : BusState)
     (tally : Tally) : Type 0 where
   pub split : done ++ left ≡ all
@@ -117,7 +117,7 @@ module _ {A : Type 0} {all done left : List A} {limits : ℕ → Limits} {old mi
     come_fewer = omega (arith, ap length come_before, length-append done (x ∷ rest), listed.count)
 
     module _ {one : Limits} {new : BusState} (stirs : Stirs one mid new) where
-      -- the next one halted
+      -- the next operation returned an error
       pub listed_halted : {halt : Halt} (most : ℕ) → AreParts (limits tally.count) one (limits (length all))
           → (mid.honest ≡ true → Falls most_operation mid new)
           → Halts most_operation mid new halt → most_operation * length all ≤ most
@@ -128,7 +128,7 @@ module _ {A : Type 0} {all done left : List A} {limits : ℕ → Limits} {old mi
         halts_after listed.ran halts (omega (arith, come_fewer)),
       )
 
-      -- it ran too
+      -- the next operation succeeded, too
       pub listed_more : {sent : ℕ} {more : Tally} → IsSum (limits tally.count) one (limits more.count)
           → SendsExactly one.erases one.programs one.status_writes mid new → EndsWaiting mid new sent
           → more.count ≡ tally.count + 1

@@ -1,4 +1,4 @@
--- Kept bits, their fixed ones and their code, on the way from one chip to another.
+-- Non-volatile status bits on the way from one chip to another: those that are never changed, and the protection bits.
 use Rattle.std.proofs.Common.{◌≡◌, ◌+◌, ◌*◌, ◌/◌, ◌%◌, ℕ, List, slice_index, arith, ◌∙◌, ap, refl}
 use Rattle.std.specs.Prelude.{◌||◌, ◌==◌}
 use Rattle.nor_chip.specs.Chip.{Chip, KeptBits, is_locked, kept_in}
@@ -20,11 +20,12 @@ coded_again code later kept =
     let high : (64 * (code / 32) + kept.two % 64) % 64 ≡ kept.two % 64 = omega arith in
     rw (low, high) refl
 
--- the code 0 is in none of the bits of another
+-- all protection bits are clear after code 0 was written
 pub code_cleared : (kept : KeptBits) → code_of (with_code 0 kept) ≡ 0
 code_cleared kept = omega arith
 
--- bits of the same fixed ones have the code that two status bytes tell where they are those
+-- if the never-changed bits agree with two status bytes, writing the protection bits of these bytes gives all their
+-- non-volatile bits
 pub told_coded : (status : List ℕ) (kept : KeptBits) → fixed_of kept ≡ fixed_of (kept_in status)
     → with_code (code_of (kept_in status)) kept ≡ kept_in status
 told_coded status kept fixed =
@@ -35,7 +36,7 @@ told_coded status kept fixed =
 
 -- ---- the lock
 
--- the lock bits are fixed bits
+-- the lock bits are among the bits that are never changed
 pub locked_same : (x y : KeptBits) → fixed_of y ≡ fixed_of x → is_locked y ≡ is_locked x
 locked_same x y fixed =
     let two = ap (λ (f : ℕ × ℕ). f.1) fixed in

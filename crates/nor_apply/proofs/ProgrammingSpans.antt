@@ -1,4 +1,4 @@
--- The spans of a sector: what their programs leave in turn, how many there are, and what follows at each exit.
+-- The spans of a sector: the effect of their programs one after another, their number, and what follows at each exit.
 use Rattle.std.proofs.Common.{◌≡◌, ◌<◌, ◌≤◌, ◌+◌, ◌-◌, ◌*◌, ◌/◌, ◌⊎◌, inl, inr, ◌∙◌, ℕ, Bool, true, List, [], ◌∷◌, ◌++◌, length, take, drop, slice_index, refl, ap, sym, arith, length-take, length-drop, ◌||◌, zero, suc}
 use Rattle.std.specs.Prelude.{◌&&◌, ◌||◌, nat_le, nat_lt, bit_and, if◌then◌else◌, ◌==◌, not, min, count_by}
 use Rattle.std.specs.Int.Bits.{and_self}
@@ -35,7 +35,7 @@ use Rattle.nor_apply.specs.Spending.{NamesTimeoutIn}
 use Rattle.nor_apply.proofs.InTurn.{Listed, listed_none, listed_halted, listed_more, come_all, come_next, come_fewer, spends_ended}
 use Rattle.nor_apply.proofs.Aiming.{named_in}
 
--- the places of some spans of a sector
+-- the addresses of some spans of a sector
 abbrev pub in_spans : ℕ → List PageSpan → ℕ → Bool
 in_spans sector spans a = spanned_by spans (a - 4096 * sector) && only sector (a / 4096)
 
@@ -48,19 +48,19 @@ HasFilled sector wanted spans old new = HasMade (in_spans sector spans) (byte_of
 abbrev part : List ℕ → PageSpan → List ℕ
 part wanted span = take (span.last + 1 - span.first) (drop span.first wanted)
 
--- a span's program lets bits fall to the wanted ones, where they stand already too
+-- a byte that is the old or the target one, ANDed with the target byte, is the target byte
 fallen : {now old wanted : ℕ} → (now ≡ old) ⊎ (now ≡ wanted) → bit_and wanted old ≡ wanted → bit_and now wanted ≡ wanted
 fallen {old} {wanted} (inl same) falls = rw (same, and_comm old wanted) falls
 fallen {wanted} (inr made) falls = rw made (and_self wanted)
 
--- ---- one span more
+-- ---- one more span
 
 -- a page lies in one sector
 page_inside : (sector first a : ℕ) → first < 4096 → is_in_page (4096 * sector + first) a ≡ true
     → only sector (a / 4096) ≡ true
 page_inside sector first a below page = grind (arith, nat_tests)
 
--- a program that may have been cut short, of bytes that stay or are made the wanted ones
+-- a program that may have been interrupted, if each programmed byte is as it was or the target one
 span_change : (sector at : ℕ) (sent : List ℕ) (wanted : ℕ → ℕ) (now new : BusState)
     → ((a : ℕ) → is_in_page at a ≡ true → only sector (a / 4096) ≡ true)
     → ((a : ℕ) → (programmed at sent now.chip.bytes a ≡ now.chip.bytes a)
@@ -81,7 +81,7 @@ module _ {sector : ℕ} {old wanted : List ℕ} {span : PageSpan} (spanned : Spa
   length-part : length (part wanted span) ≡ span.last + 1 - span.first
   length-part = omega (arith, length-take {A = ℕ}, length-drop {A = ℕ}, below_end)
 
-  -- the places to which the bytes are sent are the span's
+  -- the addresses to which the bytes are sent are those of the span
   sent_places : (a : ℕ) → (nat_le (4096 * sector + span.first) a
       && nat_lt a (4096 * sector + span.first + length (part wanted span))) ≡ in_spans sector (span ∷ []) a
   sent_places a =
@@ -91,7 +91,7 @@ module _ {sector : ℕ} {old wanted : List ℕ} {span : PageSpan} (spanned : Spa
 
   module _ (spans : List PageSpan) {first now : BusState} (can : CanProgramSpans sector old wanted first.chip)
       (filled : HasFilled sector wanted spans first now) where
-    -- the span's place is free
+    -- the chip can program the span
     can_span : CanProgram (4096 * sector + span.first) (length (part wanted span)) now.chip
     can_span =
         let able = can_after now.chip (λ s is. is) can.can filled.config filled.kept filled.idle in
@@ -101,7 +101,7 @@ module _ {sector : ℕ} {old wanted : List ℕ} {span : PageSpan} (spanned : Spa
         let long = length-part in
         grind (arith, spanned.is.order, nat_tests)
 
-    -- in the span each byte falls to the wanted one
+    -- in the span each byte, ANDed with the sent one, is the target one
     span_falls : (a : ℕ) → in_spans sector (span ∷ []) a ≡ true
         → bit_and (now.chip.bytes a) (slice_index (part wanted span) (a - (4096 * sector + span.first)))
         ≡ byte_of sector wanted a
@@ -121,7 +121,7 @@ module _ {sector : ℕ} {old wanted : List ℕ} {span : PageSpan} (spanned : Spa
         (can.falls (a - 4096 * sector) (omega arith)) in
         rw sent (fallen (either_byte (in_spans sector spans a) (filled.bytes a)) falls)
 
-    -- so the program makes the span's places the wanted ones
+    -- the program gives the span's addresses the target bytes
     span_bytes : (a : ℕ) → programmed (4096 * sector + span.first) (part wanted span) now.chip.bytes a
         ≡ (if in_spans sector (span ∷ []) a then byte_of sector wanted a else now.chip.bytes a)
     span_bytes a = rw (sent_places a) (elim (cases_Bool (in_spans sector (span ∷ []) a)) [
@@ -142,7 +142,7 @@ module _ {sector : ℕ} {old wanted : List ℕ} {span : PageSpan} (spanned : Spa
           ∙ and-or_distrib_right (spanned_by spans (a - 4096 * sector)) _ _ in
           made_then joined (λ s. refl) (λ a is. refl) filled made
 
-      -- a program that was cut short, after some spans
+      -- a program that was interrupted, after some spans
       span_may : now.steady ≡ first.steady → MayProgram (4096 * sector + span.first) (part wanted span) now new
           → MayChange (only sector) none (byte_of sector wanted) first new
       span_may steadily may =
@@ -151,7 +151,7 @@ module _ {sector : ℕ} {old wanted : List ℕ} {span : PageSpan} (spanned : Spa
           (λ a. page_inside sector span.first a (omega (arith, below_end, spanned.is.order)))
           (λ a. either_byte (in_spans sector (span ∷ []) a) (span_bytes a)) may)
 
--- what lies in no span needs no program
+-- bytes outside all spans need no program
 filled_all : {sector : ℕ} {old wanted : List ℕ} {spans : List PageSpan} {first new : BusState} → length old ≡ 4096
     → AreSpans old wanted spans → CanProgramSpans sector old wanted first.chip → HasFilled sector wanted spans first new
     → HasChanged (only sector) (byte_of sector wanted) none first new
@@ -170,9 +170,9 @@ filled_all {sector} {old} {wanted} {spans} {first} {new} whole are can filled =
     ] in
     assumption
 
--- ---- how many there are
+-- ---- the number of spans
 
--- the numbers of a range, behind those that were tested before
+-- the numbers of a range, after those that were tested before
 any_of_range : (test : ℕ → Bool) (from m n at all : ℕ) → at ≡ from + m → all ≡ m + n
     → (any_below m (λ i. test (from + i)) || list_any test (range_with_len at n)) ≡ any_below all (λ i. test (from + i))
 any_of_range test from m zero at all place sum =
@@ -183,7 +183,7 @@ any_of_range test from m (suc n) at all place sum =
     sym (or_assoc (any_below m (λ i. test (from + i))) (test at) (list_any test (range_with_len (at + 1) n)))
     ∙ rw (← one_more) (any_of_range test from (m + 1) n (at + 1) all (omega arith) (omega arith))
 
--- the pages that differ in the sector's bytes are those that differ on the chip
+-- the pages in which the sector's bytes differ are those in which the chip's differ
 page_same : (content : ℕ → ℕ) (sector : ℕ) (old wanted : List ℕ) → length old ≡ 4096 → IsSectorOf content sector old
     → (page : ℕ) → page < 16 → page_differs old wanted page
     ≡ is_page_other content (byte_of sector wanted) (16 * sector + page)
@@ -226,7 +226,7 @@ pages_other content sector old wanted whole shown =
 
 -- ---- one span after another
 
--- These spans of a sector were programmed, and nothing else was sent; and those are left.
+-- The programs of these spans of a sector succeeded, and nothing else was sent. The spans `left` are left.
 pub record SpansSoFar (sector : ℕ) (old wanted : List ℕ) (spans left : List PageSpan) (first now : BusState)
     (tally : Tally) : Type 0 where
   pub whole : length old ≡ 4096
@@ -280,7 +280,7 @@ module _ {sector : ℕ} {old wanted : List ℕ} {spans left : List PageSpan} {fi
       reached = λ honest can. changed_may (does_ended.done honest can);
     }
 
-  -- the next one
+  -- the next span
   module _ {span : PageSpan} {rest : List PageSpan} (next : left ≡ span ∷ rest) where
     spanned : Spanned sector old wanted span
     spanned = record {
@@ -289,7 +289,7 @@ module _ {sector : ℕ} {old wanted : List ℕ} {spans left : List PageSpan} {fi
       is = come_next so.listed next (IsSpan old wanted) so.are.each;
     }
 
-    -- fewer than 16 were programmed
+    -- fewer than 16 spans were programmed
     pub few_spans : (tally.count ≤ 15) × (tally.transactions ≤ 983070)
     few_spans = omega (arith, come_fewer so.listed next, so.are.count, pages_most old wanted so.whole)
 
@@ -329,7 +329,7 @@ module _ {sector : ℕ} {old wanted : List ℕ} {spans left : List PageSpan} {fi
           status_writes = omega arith;
         }
 
-    -- a timeout names a place of the sector
+    -- a timeout names an address in the sector
     names_place : (halt : Halt) → NamesTimeout (4096 * sector + span.first) halt → NamesTimeoutIn (only sector) halt
     names_place halt told =
         let last = below_end spanned in

@@ -1,4 +1,4 @@
--- A sector that is read, unless it was erased, and programmed; and the loop over all sectors: what holds after those
+-- A sector that is read, unless it was erased, and then programmed. The loop over all sectors: what holds after those
 -- below a number, and what follows at each exit.
 use Rattle.std.proofs.Common.{◌≡◌, ◌<◌, ◌≤◌, ◌+◌, ◌*◌, ◌/◌, ◌∙◌, ℕ, Bool, true, false, List, slice_index, refl, ap, sym, arith, inl, inr, Ok, true≢false}
 use Rattle.std.specs.Prelude.{◌&&◌, ◌||◌, nat_lt}
@@ -56,7 +56,7 @@ module _ {sector : ℕ} {erased : Bool} {bytes bytes' : List ℕ} {reads : ℕ} 
 
   module _ {wanted : List ℕ} (blank : (i : ℕ) → i < 4096 → slice_index bytes i ≡ 255) (honest : first.honest ≡ true)
       (can : CanProgramSector sector wanted erased first.chip) where
-    -- its bytes are known, and the chip is as it was
+    -- the bytes of the sector are known, and the chip is as it was
     has_loaded : HasMade (λ a. false) (byte_of sector wanted) none first mid × IsSectorOf mid.chip.bytes sector bytes'
     has_loaded = elim (cases_Bool erased) [
       | inl is ↦
@@ -155,7 +155,7 @@ sectors_none {touched} {wanted = wanted} state = record {
   counted = λ honest can. sym (count_below-zero (is_programmed touched state.chip.bytes wanted));
 }
 
--- the pages of one sector more, which is touched or isn't
+-- the pages with one more sector, which may be touched or not
 pages_more : (touched : ℕ → Bool) (content wanted : ℕ → ℕ) (n : ℕ) (is : Bool) → touched n ≡ is
     → count_below (16 * (n + 1)) (is_programmed touched content wanted)
     ≡ count_below (16 * n) (is_programmed touched content wanted)
@@ -168,7 +168,7 @@ pages_more touched content wanted n is same =
     (λ page. is && is_page_other content wanted (16 * n + page))
     (λ page small. let sector : (16 * n + page) / 16 ≡ n = omega arith in rw (sector, same) refl))
 
--- a page differs alike where its bytes are the same
+-- if the bytes of a page are the same, it differs in the same way
 page_same : (page : ℕ) {now before wanted wanted' : ℕ → ℕ} → ((a : ℕ) → a / 256 ≡ page → now a ≡ before a)
     → ((a : ℕ) → a / 256 ≡ page → wanted a ≡ wanted' a)
     → is_page_other now wanted page ≡ is_page_other before wanted' page
@@ -178,11 +178,11 @@ page_same page {now} {before} {wanted} {wanted'} same same_wanted =
     any_below-same 256 (λ i. is_other (now (at i)) (wanted (at i))) (λ i. is_other (before (at i)) (wanted' (at i)))
     (λ i below. rw (same (at i) (omega arith), same_wanted (at i) (omega arith)) refl)
 
--- a sector that is touched and comes next counts among all
+-- the next touched sector counts among all touched sectors
 pub room : (touched : ℕ → Bool) (n : ℕ) → n < 4096 → touched n ≡ true → count_below n touched + 1 ≤ sector_count touched
 room touched n below is = count_below-next 4096 n touched below is
 
--- a touched sector, whose wanted bytes are these
+-- a touched sector with these target bytes
 pub record IsTouched (touched : ℕ → Bool) (wanted : ℕ → ℕ) (n : ℕ) (bytes : List ℕ) : Type 0 where
   pub is : touched n ≡ true
   pub below : n < 4096
@@ -193,7 +193,7 @@ module _ {touched raised : ℕ → Bool} {wanted : ℕ → ℕ} {n : ℕ} {first
   pub few_sectors : n < 4096 → (tally.count ≤ 65520) × (tally.transactions ≤ 4294053855)
   few_sectors below = omega (arith, count_below-most n touched)
 
-  -- one that isn't touched is passed over
+  -- a sector that isn't touched is skipped
   pub sectors_skip : touched n ≡ false → SectorsSoFar touched raised wanted (n + 1) first now tally
   sectors_skip free =
       let count = count_below-without n touched free in
@@ -220,7 +220,7 @@ module _ {touched raised : ℕ → Bool} {wanted : ℕ → ℕ} {n : ℕ} {first
 
     module _ {erased : Bool} {new : BusState} (erased_is : erased ≡ raised n)
         (leaves : LeavesSector n bytes erased now new) where
-      -- its bytes are still the old ones
+      -- the bytes of the sector are still the old ones
       module _ (honest : first.honest ≡ true) (can : CanProgramAll touched raised wanted first.chip) where
         still_old : (a : ℕ) → only n (a / 4096) ≡ true → now.chip.bytes a ≡ first.chip.bytes a
         still_old a here =

@@ -1,4 +1,4 @@
--- What the whole of the changes of a session or restore leaves: unlock, erases, programs, the status.
+-- The effect of all changes of a session or restore together: unlock, erases, programs, status write.
 use Rattle.std.specs.Prelude.{◌≡◌, ◌≤◌, ◌<◌, ◌+◌, ◌*◌, ◌/◌, ◌&&◌, ◌||◌, ◌⊎◌, ◌==◌, ℕ, Bool, true, false, not, length, bit_and, if◌then◌else◌, ⊤}
 use Rattle.nor_chip.specs.Status.{bytes_of}
 use Rattle.nor_chip.specs.Chip.{Chip, kept_in}
@@ -21,24 +21,24 @@ use Rattle.nor_apply.specs.Within.{is_writable}
 use Rattle.nor_apply.specs.Change.{IsSized, MayChange}
 use Rattle.nor_apply.specs.Spending.{Spends, may_aim_at}
 
--- the touched sectors, and the raised ones
+-- the touched sectors, and the raised sectors
 abbrev pub touched_in : Changes → ℕ → Bool
 touched_in changes = has changes.touched
 
 abbrev pub raised_in : Changes → ℕ → Bool
 raised_in changes = has changes.raised
 
--- the status is written at the end: the code bits of the status that was read, none where protection was lifted,
--- aren't the wanted ones
+-- the status is written at the end: the protection bits of the status that was read, or 0 after an unlock, are not the
+-- target ones
 abbrev pub writes_code : Changes → Bool
 writes_code changes = not ((if changes.unlock then 0 else code_of (kept_in (bytes_of changes.status))) == changes.code)
 
--- how many status writes there are
+-- the number of status writes
 abbrev pub status_writes : Changes → ℕ
 status_writes changes = (if changes.unlock then 1 else 0) + (if writes_code changes then 1 else 0)
 
--- these two bytes are a status write that the changes ask for: the status that was read, without protection bits where
--- protection is lifted, or with the wanted ones where these are written at the end
+-- these two bytes are those of a status write of these changes: the status that was read, without protection bits if
+-- protection is lifted first, or with the target's if these are written at the end
 abbrev pub is_status_asked : Changes → (one two : ℕ) → Bool
 is_status_asked changes one two =
     (changes.unlock && has_code changes.status 0 one two)
@@ -60,10 +60,10 @@ abbrev pub most_sent : Changes → Limits
 most_sent changes =
     sending changes (sector_count (raised_in changes)) (16 * sector_count (touched_in changes)) (status_writes changes)
 
--- The changes can be made: the chip is idle, of this size and these erase kinds, and has the status that was read;
--- the touched sectors lie inside it, and hold a guarded place only where protection is lifted first; the status is
--- written only where it can be; what is wanted are bytes; in a touched
--- sector that isn't raised no bit has to rise.
+-- The changes can be made. The chip is idle, and has this size, these erase types and the status that was read. The
+-- touched sectors lie on it, and have a protected address only if all protection bits are cleared first. A status write
+-- is needed only if the status can be written. The target values are bytes. In a touched sector that isn't raised no
+-- bit must go from 0 to 1.
 pub record CanApply (changes : Changes) (wanted : ℕ → ℕ) (chip : Chip) : Type 0 where
   pub idle : chip.busy ≡ 0
   pub sized : IsSized changes.size changes.kinds chip
@@ -76,8 +76,9 @@ pub record CanApply (changes : Changes) (wanted : ℕ → ℕ) (chip : Chip) : T
   pub falls : (a : ℕ) → touched_in changes (a / 4096) ≡ true → raised_in changes (a / 4096) ≡ false
       → bit_and (wanted a) (chip.bytes a) ≡ wanted a
 
--- At the end: the touched sectors have the wanted bytes, the code is the wanted one, the raised sectors are worn, all
--- else is as it was, the chip is idle, and its latch is set only where it was.
+-- On success, the touched sectors have the target bytes, the protection bits are the target ones, and the raised
+-- sectors were erased. All else is as it was, the chip is idle, and its write enable latch is set only if it was set
+-- before.
 pub record HasApplied (changes : Changes) (wanted : ℕ → ℕ) (old new : BusState) : Type 0 where
   pub config : new.chip.config ≡ old.chip.config
   pub bytes : (a : ℕ) → new.chip.bytes a ≡ (if touched_in changes (a / 4096) then wanted a else old.chip.bytes a)
@@ -86,20 +87,21 @@ pub record HasApplied (changes : Changes) (wanted : ℕ → ℕ) (old new : BusS
   pub idle : new.chip.busy ≡ 0
   pub latch : new.chip.latch ≡ true → old.chip.latch ≡ true
 
--- The most transactions: each touched sector is read once for its programs, it is erased once and has sixteen pages,
--- and the status is written twice.
+-- the greatest number of transactions: at most one read, one erase and sixteen programs for each touched sector, and
+-- two status writes
 abbrev pub most_applied : ℕ → ℕ
 most_applied touched = touched + most_operation * (17 * touched + 2)
 
--- At every exit. On every bus only touched sectors are targeted, no more is sent than the changes may send, and the
--- status is written only as the changes ask.
+-- At every exit. On every bus, erases and programs target only touched sectors, or if these are the whole chip, sectors
+-- past its end, too. At most the needed status writes were sent.
 pub record LeavesApply (changes : Changes) (wanted : ℕ → ℕ) (old new : BusState) : Type 0 where
   pub spends : Spends (most_applied (sector_count (touched_in changes))) old new
   pub sends : SendsWithin (most_sent changes) old new
   pub reached : old.honest ≡ true → CanApply changes wanted old.chip
       → MayChange (touched_in changes) (raised_in changes) wanted old new
 
--- At the end, with what the work came to; where there is nothing to change, nothing changing was sent.
+-- On success, with the counts of `work`. If no sector is touched and no status write needed, the record of modifying
+-- commands is as it was.
 pub record DoesApply (changes : Changes) (wanted : ℕ → ℕ) (old new : BusState) (work : Work) : Type 0 where
   pub erases : work.erases ≡ length (planned changes.kinds (changes.size / 4096) (raised_in changes))
   pub fewer_erases : work.erases ≤ sector_count (raised_in changes)
@@ -116,7 +118,7 @@ pub record DoesApply (changes : Changes) (wanted : ℕ → ℕ) (old new : BusSt
       → work.programs ≡ count_below 65536
       (is_programmed (touched_in changes) (once_erased (raised_in changes) old.chip.bytes) wanted)
 
--- whatever the bus, a timeout names 0, where the status is written, or an address in a touched sector
+-- on every bus, a timeout names 0 if a status write was needed, or an address in a touched sector
 abbrev pub NamesChange : Changes → Halt → Type 0
 NamesChange changes Stopped = ⊤
 NamesChange changes (Timeout address) =

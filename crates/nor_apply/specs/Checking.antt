@@ -1,4 +1,4 @@
--- What a check tells of touched sectors.
+-- The results of a verification of touched sectors.
 use Rattle.std.specs.Prelude.{◌≡◌, ◌≢◌, ◌≤◌, ◌<◌, ◌+◌, ◌*◌, ◌/◌, ℕ, Bool, true, ⊤}
 use Rattle.nor_chip.specs.Chip.{Chip}
 use Rattle.nor_chip.specs.Bus.{BusState}
@@ -10,18 +10,19 @@ use Rattle.nor_apply.specs.declared.checks.CheckFault.{CheckFault}
 use Rattle.nor_apply.specs.declared.checks.CheckFault.TheVariants.{Stopped, Mismatch}
 use Rattle.nor_count.specs.Counts.{sector_count}
 
--- The chip is idle, and the sectors lie inside it.
+-- The chip is idle, and the sectors lie on it.
 pub record CanCheck (sectors : ℕ → Bool) (chip : Chip) : Type 0 where
   pub idle : chip.busy ≡ 0
   pub inside : (s : ℕ) → sectors s ≡ true → 4096 * s + 4096 ≤ chip.config.size
 
--- the first address in these sectors at which a byte isn't the wanted one
+-- the first address in these sectors at which a byte isn't the target one
 pub record IsFirstMismatch (sectors : ℕ → Bool) (wanted content : ℕ → ℕ) (address : ℕ) : Type 0 where
   pub in_sector : sectors (address / 4096) ≡ true
   pub differs : content address ≢ wanted address
   pub before : (a : ℕ) → a < address → sectors (a / 4096) ≡ true → content a ≡ wanted a
 
--- A check was passed: each sector was read once, nothing changed, and each byte is the wanted one.
+-- The verification succeeded. Each sector was read once. On an honest bus nothing changed, and if `CanCheck` holds,
+-- each byte is the target one.
 pub record DoesChecks (sectors : ℕ → Bool) (wanted : ℕ → ℕ) (old new : BusState) (sent : ℕ) : Type 0 where
   pub reads : sent ≡ sector_count sectors
   pub heard : StaysReady old new
@@ -30,18 +31,19 @@ pub record DoesChecks (sectors : ℕ → Bool) (wanted : ℕ → ℕ) (old new :
   pub same : old.honest ≡ true → CanCheck sectors old.chip
       → (a : ℕ) → sectors (a / 4096) ≡ true → old.chip.bytes a ≡ wanted a
 
--- A check wasn't passed: the bus stopped, with fewer transactions than sectors, or this is the first difference.
+-- The verification failed. The bus stopped, on an honest bus because fewer transactions were left than there are
+-- sectors. Or, on an honest bus and if `CanCheck` holds, this is the first difference.
 abbrev pub CheckTells : (ℕ → Bool) → (ℕ → ℕ) → (old new : BusState) → CheckFault → Type 0
 CheckTells sectors wanted old new Stopped = RanOutIfHonest (sector_count sectors) old new
 CheckTells sectors wanted old new (Mismatch address) =
     old.honest ≡ true → CanCheck sectors old.chip → IsFirstMismatch sectors wanted old.chip.bytes address
 
--- whatever the bus, a difference lies in one of these sectors
+-- on every bus, the address of a difference is in one of these sectors
 abbrev pub NamesDifference : (ℕ → Bool) → CheckFault → Type 0
 NamesDifference sectors Stopped = ⊤
 NamesDifference sectors (Mismatch address) = sectors (address / 4096) ≡ true
 
--- the refusal that a fault of a check is
+-- the error of a session or restore for a failed verification
 abbrev pub of_check : CheckFault → Refusal
 of_check Stopped = Refusals.Stopped
 of_check (Mismatch address) = Refusals.Mismatch address

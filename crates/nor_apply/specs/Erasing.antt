@@ -1,4 +1,4 @@
--- What the erases of a set of sectors leave.
+-- The effect of the erases of a set of sectors.
 use Rattle.std.specs.Prelude.{◌≡◌, ◌≤◌, ◌*◌, ◌/◌, ℕ, Bool, true, length}
 use Rattle.nor_chip.specs.Chip.{Chip}
 use Rattle.nor_chip.specs.Bus.{BusState}
@@ -11,20 +11,20 @@ use Rattle.nor_count.specs.Counts.{sector_count}
 use Rattle.nor_apply.specs.Change.{CanChange, IsSized, MayChange, HasChanged, blank}
 use Rattle.nor_apply.specs.Spending.{Spends, Tallies, may_aim_at}
 
--- The sectors can be changed, on a chip of this size and of these erase kinds.
+-- The sectors can be changed, on a chip with this size and these erase types.
 pub record CanEraseAll (sectors : ℕ → Bool) (kinds : Kinds) (size : ℕ) (chip : Chip) : Type 0 where
   pub can : CanChange sectors chip
   pub sized : IsSized size kinds chip
 
--- At every exit, on the way to sectors that are all FFh. On every bus no erase targets another sector, and no more
--- erases are sent than there are sectors.
+-- At every exit, bytes of the sectors are on their way to FFh. On every bus, erases target only these sectors, or if
+-- they are the whole chip, sectors past its end, too.
 pub record LeavesErases (sectors : ℕ → Bool) (kinds : Kinds) (size : ℕ) (old new : BusState) : Type 0 where
   pub spends : Spends (most_operation * sector_count sectors) old new
   pub sends : SendsWithin (erasing (may_aim_at sectors size) (sector_count sectors)) old new
   pub reached : old.honest ≡ true → CanEraseAll sectors kinds size old.chip → MayChange sectors sectors blank old new
 
--- At the end. There were as many erases as the planner's list has, which is the shortest that covers the set; where
--- there was none, nothing changing was sent.
+-- On success, there were as many erases as in the planned list, which is the shortest that covers the set. If there was
+-- none, the record of modifying commands is as it was.
 pub record DoesErases (sectors : ℕ → Bool) (kinds : Kinds) (size : ℕ) (old new : BusState)
     (tally : Tally) : Type 0 where
   pub count : tally.count ≡ length (planned kinds (size / 4096) sectors)

@@ -1,4 +1,4 @@
--- What page programs leave: of a sector's spans, of a sector, of a set of sectors.
+-- The effect of page programs: of a sector's spans, of a sector, of a set of sectors.
 use Rattle.std.specs.Prelude.{◌≡◌, ◌≤◌, ◌<◌, ◌+◌, ◌*◌, ◌/◌, ℕ, Bool, true, false, Result, Ok, Err, List, slice_index, bit_and, if◌then◌else◌}
 use Rattle.nor_chip.specs.declared.bus.Stopped.{Stopped}
 use Rattle.nor_chip.specs.Chip.{Chip}
@@ -16,15 +16,15 @@ use Rattle.nor_apply.specs.Spending.{Spends, Tallies}
 
 -- ---- the spans of a sector
 
--- the same with the reading before it
+-- the greatest number of transactions for a sector, including its read
 abbrev pub most_sector : ℕ
 most_sector = 1048609
 
--- the most transactions by which a sector is programmed: an operation for each of its sixteen pages
+-- the greatest number of transactions of a sector's programs: one operation for each of its sixteen pages
 abbrev pub most_pages : ℕ
 most_pages = 1048608
 
--- A sector that can be changed holds `old`, and no bit of it has to rise.
+-- A sector that can be changed holds `old`, and no bit of it must go from 0 to 1.
 pub record CanProgramSpans (sector : ℕ) (old wanted : List ℕ) (chip : Chip) : Type 0 where
   pub can : CanChange (only sector) chip
   pub shown : IsSectorOf chip.bytes sector old
@@ -36,7 +36,7 @@ pub record LeavesSpans (sector : ℕ) (bytes wanted : List ℕ) (old new : BusSt
   pub reached : old.honest ≡ true → CanProgramSpans sector bytes wanted old.chip
       → MayChange (only sector) none (byte_of sector wanted) old new
 
--- At the end: a program for each page of the sector that isn't as wanted.
+-- On success, there was one program for each page of the sector that didn't have its target bytes.
 pub record DoesSpans (sector : ℕ) (bytes wanted : List ℕ) (old new : BusState) (tally : Tally) : Type 0 where
   pub fewer : tally.count ≤ 16
   pub exactly : SendsExactly 0 tally.count 0 old new
@@ -48,13 +48,13 @@ pub record DoesSpans (sector : ℕ) (bytes wanted : List ℕ) (old new : BusStat
 
 -- ---- a sector
 
--- A sector that can be changed is blank where it was erased, and no bit of it has to rise.
+-- A sector can be changed, is blank if it was erased, and no bit of it must go from 0 to 1.
 pub record CanProgramSector (sector : ℕ) (wanted : List ℕ) (erased : Bool) (chip : Chip) : Type 0 where
   pub can : CanChange (only sector) chip
   pub blank : erased ≡ true → (a : ℕ) → a / 4096 ≡ sector → chip.bytes a ≡ 255
   pub falls : OnlyFalls (only sector) (byte_of sector wanted) chip.bytes
 
--- its bytes are read, or where it was erased known
+-- the sector was read into `bytes`; if it was erased, `bytes` are as they were, and nothing was sent
 pub record LoadsOk (sector : ℕ) (erased : Bool) (bytes bytes' : List ℕ) (reads : ℕ) (old new : BusState) : Type 0 where
   pub reads_once : reads ≡ (if erased then 0 else 1)
   pub heard : new.heard ≡ old.heard
@@ -89,21 +89,20 @@ pub record DoesSector (sector : ℕ) (wanted : List ℕ) (erased : Bool) (old ne
 
 -- ---- all touched sectors
 
--- The touched sectors can be changed, those that were erased are blank, and no bit has to rise.
+-- The touched sectors can be changed, those that were erased are blank, and no bit must go from 0 to 1.
 pub record CanProgramAll (touched raised : ℕ → Bool) (wanted : ℕ → ℕ) (chip : Chip) : Type 0 where
   pub can : CanChange touched chip
   pub blank : (a : ℕ) → touched (a / 4096) ≡ true → raised (a / 4096) ≡ true → chip.bytes a ≡ 255
   pub falls : OnlyFalls touched wanted chip.bytes
 
--- At every exit, on the way to the wanted bytes. On every bus no page program targets another sector, and there are at
--- most sixteen for each of these.
+-- At every exit, bytes are on their way to the target. On every bus, programs target only the touched sectors.
 pub record LeavesPrograms (touched raised : ℕ → Bool) (wanted : ℕ → ℕ) (old new : BusState) : Type 0 where
   pub spends : Spends (most_sector * sector_count touched) old new
   pub sends : SendsWithin (programming touched (16 * sector_count touched)) old new
   pub reached : old.honest ≡ true → CanProgramAll touched raised wanted old.chip → MayChange touched none wanted old new
 
--- At the end: a program for each page of the touched sectors that wasn't as wanted; nothing changing was sent where no
--- sector is touched.
+-- On success, there was one program for each page of the touched sectors that didn't have its target bytes. If no
+-- sector is touched, the record of modifying commands is as it was.
 pub record DoesPrograms (touched raised : ℕ → Bool) (wanted : ℕ → ℕ) (old new : BusState) (tally : Tally) : Type 0 where
   pub fewer : tally.count ≤ 16 * sector_count touched
   pub exactly : SendsExactly 0 tally.count 0 old new

@@ -1,4 +1,4 @@
--- What a status write leaves that is sent only where it is needed.
+-- The effect of a status write that is sent only if it is needed.
 use Rattle.std.specs.Prelude.{◌≡◌, ◌≤◌, ◌+◌, ◌&&◌, ℕ, Bool, true, false, if◌then◌else◌}
 use Rattle.nor_chip.specs.declared.status.Status.{Status}
 use Rattle.nor_chip.specs.Bus.{BusState}
@@ -25,7 +25,7 @@ pub record DoesCode (status : Status) (code : ℕ) (needed : Bool) (old new : Bu
   pub idle : needed ≡ true → old.honest ≡ true → new.chip.busy ≡ 0
   pub done : needed ≡ true → old.honest ≡ true → CanWriteStatus status old.chip → HasWrittenStatus code old new
 
--- Whatever the bus, it halts only where the status is to be written, and a timeout names 0.
+-- On every bus, an error occurs only if the status write is needed, and a timeout names address 0.
 pub record HaltsWriting (needed : Bool) (halt : Halt) : Type 0 where
   pub is : needed ≡ true
   pub names : NamesTimeout 0 halt

@@ -1,4 +1,4 @@
-//! The changes of a session or restore, as one.
+//! All changes of a session or restore, in order.
 ghost use Rattle.std.specs.Prelude.{◌≡◌, ◌<◌, ◌≤◌, ◌/◌, ℕ, true, IfOk, IfErr};
 ghost use Rattle.nor_plan.specs.SectorSet.{has, LiesBelow};
 ghost use Rattle.nor_count.specs.Counts.{sector_count};
@@ -14,27 +14,28 @@ use nor_driver::Halt;
 use nor_plan::SectorSet;
 use nor_probe::Kinds;
 
-/// What is to be changed of a chip.
+/// The changes to make to a chip.
 #[derive(Clone, Copy)]
 pub struct Changes {
-    /// The sectors in which a byte isn't the wanted one.
+    /// The touched sectors, in which some byte will change.
     pub touched: SectorSet,
-    /// Those of them that have to be erased.
+    /// The raised sectors: touched sectors that have to be erased.
     pub raised: SectorSet,
-    /// The chip's erase kinds beside 4 KiB.
+    /// The chip's erase types in addition to 4 KiB and the whole chip.
     pub kinds: Kinds,
     /// The chip's size in bytes.
     pub size: u32,
-    /// The status registers, as they were read.
+    /// The status registers, as they were read from the chip.
     pub status: Status,
-    /// Protection is lifted first.
+    /// True if all protection bits are cleared first.
     pub unlock: bool,
-    /// The protection code at the end, below 64.
+    /// The target protection bits as a number, which must be below 64.
     pub code: u8,
 }
 
 impl Changes {
-    /// The code bits at the end, none where protection was lifted, aren't the wanted ones.
+    /// Returns whether the protection bits must be written at the end: those of `status`, or 0 after an unlock, are not
+    /// the target ones.
     fn writes_code(&self) -> bool
         ensures { result ≡ writes_code self.now }
     {
@@ -43,7 +44,7 @@ impl Changes {
     }
 }
 
-/// What the changes came to.
+/// The numbers of erases, programs and transactions that the changes took.
 #[derive(Clone, Copy, Debug, PartialEq, Eq)]
 pub struct Work {
     pub erases: u32,
@@ -51,8 +52,18 @@ pub struct Work {
     pub transactions: u64,
 }
 
-/// Makes the touched sectors what the source has of them and the protection code the wanted one: lifts protection
-/// where that is asked, erases, programs, and writes the status where its code bits differ then.
+/// Changes the touched sectors to the bytes of `source` and the protection bits to `changes.code`. It clears the
+/// protection bits if `changes.unlock` is set, erases the raised sectors with the fewest erases, and programs the
+/// touched sectors. Then it writes the protection bits if they are not the target ones.
+///
+/// The touched sectors must lie below `changes.size`, which is at most 16 MiB. Every raised sector must be touched, and
+/// `source` must have every touched sector. On any bus, erases and programs target only touched sectors; if these are
+/// the whole chip, they may target addresses past its end, too. On an honest bus the changes are proved complete if
+/// `CanApply` holds for the chip: it is idle, has this size, these erase types and this status, and protects no touched
+/// address unless `unlock` is set.
+///
+/// Returns `Stopped` if the bus stopped. Returns `Timeout` with an address in a touched sector, or 0 for a status
+/// write, if the chip stayed busy for 65,536 polls. On an honest bus there is no timeout.
 pub fn apply<B: Bus, S: Source>(bus: &mut B, source: &S, changes: &Changes) -> Result<Work, Halt>
     requires inside { LiesBelow changes.now.touched (changes.now.size / 4096) }
     requires raised { (s : ℕ) → has changes.now.raised s ≡ true → has changes.now.touched s ≡ true }

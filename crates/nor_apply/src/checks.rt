@@ -1,4 +1,4 @@
-//! The check at the end of a session or restore.
+//! Verifies the changed sectors at the end of a session or restore.
 ghost use Rattle.std.specs.Prelude.{◌≡◌, ◌<◌, ℕ, true, length, IfOk, IfErr, OnOk};
 ghost use Rattle.nor_driver.specs.Looks.{Looks};
 ghost use Rattle.nor_plan.specs.SectorSet.{has};
@@ -14,13 +14,13 @@ use nor_driver::read_sector;
 use nor_plan::{SectorSet, bounds};
 use thiserror::Error;
 
-/// Why a check wasn't passed.
+/// The reason why a verification failed.
 #[derive(Clone, Copy, Debug, PartialEq, Eq, Error)]
 pub enum CheckFault {
     /// The bus stopped.
     #[error("the bus stopped")]
     Stopped,
-    /// A byte that was read back isn't the wanted one, first at this address.
+    /// A byte that was read back isn't the target byte. The address is that of the first difference.
     #[error("the bytes differ from the wanted ones, first at address 0x{address:06x}")]
     Mismatch { address: u32 },
 }
@@ -44,8 +44,12 @@ impl From<CheckFault> for Refusal {
     }
 }
 
-/// Reads the touched sectors, rising, and compares them with what is wanted of them. Answers the number of
-/// transactions.
+/// Reads the touched sectors, in ascending order, and compares them with the bytes of `source`, which must have every
+/// touched sector. Returns the number of transactions.
+///
+/// Returns `Stopped` if the bus stopped, and `Mismatch` if a byte differs. On any bus its address is in a touched
+/// sector. On an honest bus, if the chip is idle and has the touched sectors, it is the first address in these at which
+/// the chip differs.
 pub fn check_all<B: Bus, S: Source>(
     bus: &mut B,
     source: &S,
@@ -70,7 +74,7 @@ pub fn check_all<B: Bus, S: Source>(
     Ok(sent)
 }
 
-// Reads a sector and compares it with what is wanted of it.
+// Reads a sector and compares it with its target bytes.
 fn check_sector<B: Bus>(
     bus: &mut B,
     sector: u32,

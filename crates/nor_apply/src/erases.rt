@@ -1,4 +1,4 @@
-//! The erases of a session or restore.
+//! Erases of a set of sectors.
 ghost use Rattle.std.specs.Prelude.{◌≤◌, ◌*◌, ◌/◌, IfOk, IfErr};
 ghost use Rattle.nor_driver.specs.Operations.{most_operation};
 ghost use Rattle.nor_plan.specs.SectorSet.{has, LiesBelow};
@@ -13,7 +13,12 @@ use nor_driver::{Halt, erase};
 use nor_plan::{SectorSet, erases};
 use nor_probe::Kinds;
 
-/// Erases the sectors of a set, on a chip of `size` bytes with these erase kinds, by the fewest erases.
+/// Erases the raised sectors of a chip of `size` bytes that has these erase types, with the fewest erases. Returns the
+/// numbers of erases and transactions. On an honest bus, the sectors are proved to be FFh afterwards if the chip has
+/// this size and these erase types, is idle, and protects none of them.
+///
+/// The sectors must lie below `size`, which is at most 16 MiB. Returns `Stopped` if the bus stopped, and `Timeout` with
+/// an address in the set if the chip stayed busy for 65,536 polls. On an honest bus there is no timeout.
 pub fn erase_all<B: Bus>(
     bus: &mut B,
     raised: &SectorSet,

@@ -1,4 +1,5 @@
-//! Makes sectors of a flash chip what is wanted of them: erases, programs, checks, and the protection code.
+//! Changes sectors and protection bits of a flash chip to the target, and verifies them: unlock, erases, programs,
+//! status write. Sessions and restores use it.
 //!
 //! ```rust
 //! ghost use Rattle.std.specs.Prelude.{◌%◌, true, slice_index};
@@ -33,8 +34,16 @@
 //! assert_eq!(rt; told, Err(CheckFault::Mismatch { address: 0x3210 }));
 //! ```
 //!
-//! What is wanted comes from a `Source`, sector by sector. What `apply` may leave at every exit, and what it leaves
-//! at its end, stands in `specs/Applying.antt`, and what `check_all` tells in `Checking`.
+//! The target bytes come from a `Source`, sector by sector. `specs/Applying.antt` defines the effect of `apply`, at
+//! every exit and on success, and `Checking` that of `check_all`.
+//!
+//! - `changes.rt`: all changes of a session or restore, in order
+//! - `protection.rt`: status writes that change the protection bits
+//! - `erases.rt`: erases of a set of sectors
+//! - `programs.rt`: page programs of a set of sectors
+//! - `checks.rt`: verifies the changed sectors
+//! - `source.rt`: the trait `Source` of the target bytes
+//! - `tally.rt`: counts operations and transactions
 #![tactic(auto)]
 
 mod changes;

@@ -1,4 +1,4 @@
-//! The page programs of a session or restore.
+//! Page programs of a set of sectors.
 ghost use Rattle.std.specs.Prelude.{◌≡◌, ◌<◌, ◌*◌, ℕ, true, length, IfOk, IfErr};
 ghost use Rattle.nor_plan.specs.SectorSet.{has};
 ghost use Rattle.nor_count.specs.Counts.{sector_count};
@@ -13,8 +13,12 @@ use nor_chip::{Bus, MOST_SECTORS, SECTOR_LEN, Stopped};
 use nor_driver::{Halt, program_page, read_sector};
 use nor_plan::{SectorSet, spans};
 
-/// Programs the touched sectors, rising, with the bytes that are wanted of them. A raised sector was erased, and is
-/// not read again.
+/// Programs the touched sectors, in ascending order, with the bytes of `source`, which must have every touched sector.
+/// A raised sector counts as blank, because it was erased, and is not read. Returns the numbers of programs and
+/// transactions.
+///
+/// Returns `Stopped` if the bus stopped, and `Timeout` with an address in a touched sector if the chip stayed busy for
+/// 65,536 polls. On an honest bus there is no timeout.
 pub fn program_all<B: Bus, S: Source>(
     bus: &mut B,
     source: &S,
@@ -42,7 +46,7 @@ pub fn program_all<B: Bus, S: Source>(
     Ok(tally)
 }
 
-// Programs what differs from the wanted bytes of a sector, which is blank where it was erased.
+// Programs the bytes of a sector that differ from the target bytes. A sector that was erased counts as blank.
 fn program_sector<B: Bus>(
     bus: &mut B,
     sector: u32,
@@ -65,7 +69,7 @@ fn program_sector<B: Bus>(
     })
 }
 
-// Reads a sector, unless it was erased. Answers the number of transactions.
+// Reads a sector into `bytes`, unless it was erased. Returns the number of transactions.
 fn load<B: Bus>(bus: &mut B, sector: u32, erased: bool, bytes: &mut [u8]) -> Result<u64, Stopped>
     requires reachable { sector < 4096 }
     requires whole { length bytes.old ≡ 4096 }
@@ -78,7 +82,7 @@ fn load<B: Bus>(bus: &mut B, sector: u32, erased: bool, bytes: &mut [u8]) -> Res
     Ok(1)
 }
 
-// Programs the spans in which a sector's bytes differ from the wanted ones, page by page.
+// Programs the spans in which the bytes `old` of a sector differ from the target bytes, one program per page.
 fn program_spans<B: Bus>(bus: &mut B, sector: u32, old: &[u8], wanted: &[u8]) -> Result<Tally, Halt>
     requires reachable { sector < 4096 }
     requires whole { length old.now ≡ 4096 }

@@ -1,4 +1,4 @@
-//! Protection that is lifted and given back.
+//! Status writes that change the protection bits.
 ghost use Rattle.std.specs.Prelude.{◌<◌, IfOk, IfErr};
 ghost use Rattle.nor_driver.specs.Operations.{most_operation};
 ghost use Rattle.nor_apply.specs.Protecting.{LeavesCode, DoesCode, HaltsWriting};
@@ -7,8 +7,11 @@ ghost use Rattle.nor_driver.specs.Waits.{Halts};
 use nor_chip::{Bus, Status};
 use nor_driver::{Halt, write_status};
 
-/// Writes the status with another protection code, below 64, and the fixed bits of `status` as they were read, where
-/// that is needed. Answers the number of transactions.
+/// Writes the protection bits of `code`, which must be below 64, if `needed` is set. The other non-volatile bits are
+/// sent as in `status`. Returns the number of transactions, 0 if `needed` is not set.
+///
+/// Returns `Stopped` if the bus stopped, and `Timeout` with address 0 if the chip stayed busy for 65,536 polls. On an
+/// honest bus there is no timeout.
 pub fn write_code<B: Bus>(bus: &mut B, status: Status, code: u8, needed: bool) -> Result<u64, Halt>
     requires { code < 64 }
     ensures leaves { LeavesCode status code needed (B.state bus.old) (B.state bus.new) }

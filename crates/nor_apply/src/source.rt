@@ -1,16 +1,16 @@
-//! Where the wanted bytes come from.
+//! The source of the target bytes.
 ghost use Rattle.std.specs.Prelude.{◌≡◌, ◌<◌, ◌+◌, ◌*◌, ℕ, Bool, true, length, slice_index};
 
-/// The wanted bytes of some sectors: an image, or the records of a journal. A sector has 4,096 bytes; contracts see
-/// the bytes by their addresses.
+/// The target bytes of some sectors: an image, or the records of a journal. A sector has 4,096 bytes. Contracts see the
+/// bytes by address.
 pub trait Source {
-    // The sectors that it has the bytes of.
+    // The sectors whose bytes the source has.
     ghost has: { Self → ℕ → Bool };
 
-    // The wanted byte at an address of such a sector.
+    // The target byte at an address in such a sector.
     ghost wanted: { Self → ℕ → ℕ };
 
-    /// The wanted bytes of a sector that it has.
+    /// Returns the 4,096 target bytes of a sector that the source has.
     fn sector(&self, sector: u32) -> &[u8]
         requires { has self.now sector ≡ true }
         ensures whole { length result.now ≡ 4096 }

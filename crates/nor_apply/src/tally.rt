@@ -1,6 +1,6 @@
-//! What a part of a session came to.
+//! Counts of operations and transactions.
 
-/// How many operations there were, and how many transactions in all.
+/// The number of operations, and the number of transactions of them and of reads.
 #[derive(Clone, Copy, Debug, PartialEq, Eq)]
 pub struct Tally {
     pub count: u32,
@@ -8,7 +8,7 @@ pub struct Tally {
 }
 
 impl Tally {
-    /// Nothing was done yet.
+    /// The counts before the first operation.
     pub const NONE: Tally = Tally {
         count: 0,
         transactions: 0,
