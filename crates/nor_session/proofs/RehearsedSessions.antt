@@ -78,9 +78,11 @@ module _ {n : ℕ} {old mid : BusState} (allows : Allows n old mid) where
       still = search arith;
       sends = λ sealed.
           let (journal, sent) = always.sends sealed telling in
-          let IsCode = IsWrittenCode request.what journal.content in
-          (journal, sends_then IsCode 0 1 journal.content old mid new
-          (none_sent IsCode 0 journal.content old mid allows.sent) sent);
+          let IsCode = IsWrittenCode request.what journal.content in (
+            journal,
+            sends_then IsCode 0 1 journal.content old mid new
+                (none_sent IsCode 0 journal.content old mid allows.sent) sent,
+          );
       writes = search arith;
     }
 
@@ -141,9 +143,11 @@ pub session_sends : {request : Request} {image : List ℕ} {old new : BusState} 
     × SendsSaved (IsRehearsedCode request.what journal.content) (1 + max 1 (length stops)) journal.content old new
 session_sends {request = request} {old = old} {new = new} stops leaves sealed =
     let (journal, sent) = leaves.sends sealed in
-    let c = journal.content in
-    (journal, sends_most (IsRehearsedCode request.what c) 1 (1 + max 1 (length stops)) c old new (omega arith)
-    (sends_wider (IsWrittenCode request.what c) (IsRehearsedCode request.what c) 1 c old new (λ code is. inl is) sent))
+    let c = journal.content in (
+      journal,
+      sends_most (IsRehearsedCode request.what c) 1 (1 + max 1 (length stops)) c old new (omega arith)
+          (sends_wider (IsWrittenCode request.what c) (IsRehearsedCode request.what c) 1 c old new (λ code is. inl is) sent),
+    )
 
 -- a session that sealed its vault, and the restores from its bytes
 module _ {request : Request} {image text later : List ℕ} {old mid new : BusState} {vault : VaultState}
@@ -170,9 +174,11 @@ module _ {request : Request} {image text later : List ℕ} {old mid new : BusSta
       let then = sends_wider (IsSavedCode c) (IsRehearsedCode request.what c) (length later + 1) c mid new
       (λ code is. inr is) restores in
       let count : length later + 1 ≡ max 1 (length stops)
-      = ap (λ (l : List ℕ). length l + 1) behind ∙ behind_first stops in
-      (journal, sends_then (IsRehearsedCode request.what c) 1 (max 1 (length stops)) c old mid new first
-      (rw count at then))
+      = ap (λ (l : List ℕ). length l + 1) behind ∙ behind_first stops in (
+        journal,
+        sends_then (IsRehearsedCode request.what c) 1 (max 1 (length stops)) c old mid new first
+            (rw count at then),
+      )
 
   -- each restore writes the status at most twice
   pub both_write : (stops : List ℕ) → later ≡ drop 1 stops

@@ -1,4 +1,4 @@
-//! No call sends more transactions than it says: on a bus that lies, and on the slowest chip.
+//! No call sends more transactions than its bound, on faulty buses and on the slowest chip.
 ghost use Rattle.std.specs.Prelude.{◌≡◌, false};
 
 use crate::held::assert_held;
@@ -12,7 +12,7 @@ use nor_read::{read_out, verify, wp_status};
 use std::alloc::Global;
 use std::process::Abort;
 
-// The calls that read alone.
+// A call that only reads the chip.
 #[derive(Clone, Copy)]
 enum Reading {
     Probe,
@@ -29,7 +29,8 @@ const READINGS: [Reading; 4] = [
 ];
 
 impl Reading {
-    // The most transactions on a chip of so many sectors: a probe's 65,540, and what is read behind it.
+    // Returns the most transactions of the call on a chip of `sectors` sectors: 65,540 to find the chip, and the
+    // readings after that.
     fn most(self, sectors: u32) -> u64 {
         match self {
             Reading::Probe => 65_540,
@@ -38,7 +39,7 @@ impl Reading {
         }
     }
 
-    // Reads, and answers whether it ended. That is left open.
+    // Makes the call, and returns whether it succeeded. The tests accept either.
     fn ends(self, bus: &mut SpoiltBus<SimBus>, out: &mut MemVault, image: &[u8]) -> bool
         requires { (⟦<MemVault as Vault>⟧.state out.old).sealed ≡ false }
     {
@@ -50,7 +51,7 @@ impl Reading {
         }
     }
 
-    // How many transactions it sends on a bus that lies.
+    // Returns the number of transactions of the call on a bus with this fault.
     fn sent(self, rt: &impl Abort, alloc: Global, row: Row, spoil: Spoil) -> u64 {
         let mut bus = spoilt(row.bus(rt, alloc, Start::IDLE), spoil);
         let mut out = MemVault::new(alloc);
@@ -60,7 +61,7 @@ impl Reading {
     }
 }
 
-// Each reading keeps its bound on this bus. Answers how many there are.
+// Asserts that each call keeps its bound on a bus with this fault. Returns the number of calls.
 fn read_each(rt: &impl Abort, alloc: Global, row: Row, spoil: Spoil) -> u64 {
     let mut runs: u64 = 0;
     for reading in READINGS {
@@ -71,7 +72,7 @@ fn read_each(rt: &impl Abort, alloc: Global, row: Row, spoil: Spoil) -> u64 {
     runs
 }
 
-// A reading of the whole chip sends 21 transactions.
+// Without a fault, `read_out` and `verify` send 21 transactions.
 #[test]
 fn readings_on_buses_that_lie(rt: HostRuntime) {
     let row = Row::ABitRises;
@@ -84,7 +85,8 @@ fn readings_on_buses_that_lie(rt: HostRuntime) {
     assert!(rt; runs == 23 * 4 * 4);
 }
 
-// The row's session keeps its bound on each bus that lies with this number. Answers how many there are.
+// Runs the row's session on each bus with a fault of the number `n`. `Lied` asserts the bound. Returns the number of
+// runs.
 fn session_each(rt: &impl Abort, alloc: Global, row: Row, n: u8) -> u64 {
     let mut runs: u64 = 0;
     for spoil in lies(n) {
@@ -94,7 +96,7 @@ fn session_each(rt: &impl Abort, alloc: Global, row: Row, n: u8) -> u64 {
     runs
 }
 
-// The sessions send 30 and 57 transactions. Each run compares what it sent with its bound.
+// Without a fault, the sessions send 30 and 57 transactions.
 #[test]
 fn sessions_on_buses_that_lie(rt: HostRuntime) {
     let mut runs: u64 = 0;
@@ -106,8 +108,8 @@ fn sessions_on_buses_that_lie(rt: HostRuntime) {
     assert!(rt; runs == 2 * 59 * 4);
 }
 
-// The restore behind the session's tenth transaction keeps its bound on each bus that lies with this number. Answers
-// how many there are.
+// Runs the restore on each bus with a fault of the number `n`, after a session that was stopped after ten transactions.
+// `Lied` asserts the bound. Returns the number of runs.
 fn restore_each(rt: &impl Abort, stopped: &Runs, n: u8) -> u64 {
     let mut runs: u64 = 0;
     for spoil in lies(n) {
@@ -117,7 +119,7 @@ fn restore_each(rt: &impl Abort, stopped: &Runs, n: u8) -> u64 {
     runs
 }
 
-// The session was stopped behind its erase, so that the restore sends 58 transactions.
+// The session was stopped after its erase, so that the restore sends 58 transactions without a fault.
 #[test]
 fn restores_on_buses_that_lie(rt: HostRuntime) {
     let row = Row::TheRestOfASectorStays;
@@ -129,15 +131,15 @@ fn restores_on_buses_that_lie(rt: HostRuntime) {
     assert!(rt; runs == 60 * 4);
 }
 
-// The chip has the bytes that the row's session was to write.
+// Asserts that the chip has the row's image.
 fn assert_written(rt: &impl Abort, alloc: Global, row: Row, bus: &SimBus) {
     let wanted = row.wanted(rt, alloc);
     assert!(rt; bus.bytes() == wanted.as_slice());
 }
 
-// Both come near their bound: 271 and 241 of the 274 operations that it allows are sent, each with its 65,536 polls.
-// The restore opens with seven transactions, reads sixteen sectors, fifteen of them again before their programs, and
-// all of them at its end; it erases the last sector and programs the 240 pages of the others.
+// The session and the restore nearly reach their bound: they send 271 and 241 of its 274 operations, each with 65,536
+// polls. The restore identifies the chip with seven transactions, reads sixteen sectors, fifteen of them again before
+// it programs them, and all sixteen to verify them. It erases the last sector and programs the 240 pages of the others.
 #[test]
 fn the_slowest_session_and_its_restore(rt: HostRuntime) {
     let row = Row::EachPageIsProgrammed;

@@ -1,10 +1,11 @@
-//! Sessions that are stopped at each of their transactions, and a restore behind each stop. Those of `undone`, whose
-//! restores are stopped too, aren't run here again.
+//! Sessions that are stopped after each number of transactions, and one restore after each stop. The rows of `undone`,
+//! whose restores are stopped too, aren't repeated here.
 use crate::row::{Row, Start};
 use crate::runs::Runs;
 
-// One run for no transaction at all, and one for each number of them up to the session's own. On the large chip from
-// three transactions before the seal on: those before these read the chip, as they do on the small one.
+// Each row has the first number of allowed transactions, and the number of runs: one for each number up to the
+// session's length. The large chip starts three transactions before the seal. All transactions before these only read
+// the chip, as on the small ones.
 const ROWS: [(Row, u64, u64); 4] = [
     (Row::ABitFalls, 0, 29),
     (Row::NineSectorsAreErased, 0, 39),

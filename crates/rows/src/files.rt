@@ -1,4 +1,5 @@
-//! Vaults over files that fail once, and would take all from then on: no failure is hidden, and no call is tried again.
+//! Vaults over files on which one call fails and all others succeed. The vault reports each failure, and repeats no
+//! call.
 ghost use Rattle.std.specs.Prelude.{None};
 
 use crate::held::assert_held;
@@ -11,29 +12,29 @@ use std::alloc::Global;
 use std::io;
 use std::process::Abort;
 
-// What fails once.
+// The call that fails.
 #[derive(Clone, Copy, PartialEq, Eq)]
 enum Failure {
-    // The write behind so many is an error.
+    // The write after this number of others returns an error.
     Write(usize),
-    // The write behind so many takes no bytes.
+    // The write after this number of others accepts no bytes.
     Nothing(usize),
-    // The first sync is an error.
+    // The first sync returns an error.
     Sync,
 }
 
-// A file in memory. It keeps how long it was at each write, also at one that failed, and at its syncs.
+// A file in memory. It records its length at each write, even if the write fails, and at its last sync.
 #[derive(Drop)]
 struct OnceFile {
     failure: Option<Failure>,
-    // the most bytes that a write takes
+    // the most bytes that a write accepts
     most: usize,
     bytes: Vec<u8>,
     writes: Vec<usize>,
     syncs: Syncs,
 }
 
-// How many syncs there were, and how long the file was at the last.
+// The number of syncs, and the length of the file at the last one.
 #[derive(Clone, Copy, PartialEq, Eq)]
 struct Syncs {
     count: usize,
@@ -62,12 +63,13 @@ impl OnceFile {
         }
     }
 
-    // It got these calls, and has these bytes.
+    // True if the file received these writes and syncs, and has these bytes.
     fn has(&self, writes: &[usize], syncs: Syncs, bytes: &[u8]) -> bool {
         self.writes.as_slice() == writes && self.syncs == syncs && self.bytes.as_slice() == bytes
     }
 
-    // It got so many writes, and one sync, of the so many bytes of a journal.
+    // True if the file received `writes` writes and one sync, the sync after all bytes were written, and holds a
+    // journal of `length` bytes.
     fn is_whole(&self, writes: usize, length: usize) -> bool {
         let lengths = (self.writes.len(), self.bytes.len());
         lengths == (writes, length)
@@ -75,7 +77,8 @@ impl OnceFile {
             && Journal::read(&self.bytes).is_ok()
     }
 
-    // It got the calls of the right file up to the write behind so many, and has what that had before it.
+    // True if the file received the same writes as `right` up to write `n`, counted from 0, and no sync, and has the
+    // bytes that `right` had before that write.
     fn ends_before(&self, right: &OnceFile, n: usize) -> bool {
         let (Some(writes), Some(before)) = (
             right.writes.get(0..n.saturating_add(1)),
@@ -120,8 +123,8 @@ impl VaultFile for OnceFile {
     }
 }
 
-// Runs a row's session whose vault is in a file that takes at most so many bytes a write. Answers the refusal, at which
-// the chip is as before, and the file.
+// Runs a row's session whose vault is in a file that accepts at most `most` bytes per write. Asserts that the chip is
+// unchanged if the session returns an error. Returns the error, and the file.
 fn keep(
     rt: &impl Abort,
     alloc: Global,
@@ -139,14 +142,15 @@ fn keep(
     (refusal, vault.into_inner())
 }
 
-// Lets a write or the sync fail. The session is refused.
+// Makes a write or the sync fail. Asserts that the session returns error 11, and returns the file.
 fn fail(rt: &impl Abort, alloc: Global, row: Row, most: usize, failure: Failure) -> OnceFile {
     let (refusal, file) = keep(rt, alloc, row, most, Some(failure));
     assert!(rt; refusal == Some(Refusal::Vault));
     file
 }
 
-// Lets the write behind so many fail. It was the last call, and what the file has is the journal's beginning up to it.
+// Makes write `n`, counted from 0, return an error, and then accept no bytes. Asserts that it was the last call of the
+// file, which holds the journal's bytes from before that write.
 fn fail_write(rt: &impl Abort, alloc: Global, row: Row, right: &OnceFile, n: usize) {
     for failure in [Failure::Write(n), Failure::Nothing(n)] {
         let file = fail(rt, alloc, row, right.most, failure);
@@ -154,8 +158,9 @@ fn fail_write(rt: &impl Abort, alloc: Global, row: Row, right: &OnceFile, n: usi
     }
 }
 
-// Lets each write fail in turn, and the sync, which isn't tried again: all was written before it. Where nothing fails
-// there are so many writes, and one sync, of all that was written.
+// Runs the session on a file that doesn't fail, and asserts the number of writes and the length of the journal. Then
+// makes each write fail in turn, and the sync. Asserts that all bytes were written before the sync, and that it isn't
+// repeated.
 fn fail_at_each(rt: &impl Abort, alloc: Global, row: Row, most: usize, counted: (usize, usize)) {
     let (writes, length) = counted;
     let (refusal, right) = keep(rt, alloc, row, most, None);
@@ -167,7 +172,8 @@ fn fail_at_each(rt: &impl Abort, alloc: Global, row: Row, most: usize, counted: 
     assert!(rt; file.has(&right.writes, right.syncs, &right.bytes));
 }
 
-// The head is one piece of 25 bytes, a record is one of 4,100, and the end has two, of 4 and 32.
+// Each row has the most bytes per write, and the numbers of writes and of bytes. The header is one piece of 25 bytes,
+// each record is one of 4,100, and the end has two, of 4 and 32.
 const ROWS: [(Row, usize, (usize, usize)); 3] = [
     (Row::ABitRises, 5000, (1 + 1 + 2, 61 + 4100)),
     (Row::ABitRises, 1000, (1 + 5 + 2, 61 + 4100)),
@@ -185,8 +191,8 @@ fn a_file_that_fails_once_ends_the_session(rt: HostRuntime) {
     }
 }
 
-// Puts five bytes into a file that takes two a write and fails at the second. What went in before is told, and nothing
-// is written or synced again.
+// Puts five bytes into a file that accepts two per write and fails at the second write. Asserts that the error contains
+// the number of bytes accepted before, and that nothing is written or synced again.
 fn put_half(rt: &impl Abort, alloc: Global, failure: Failure) {
     let mut vault = FileVault::new(OnceFile::new(alloc, 2, Some(failure)));
     let told = vault.put(b"piece");
@@ -195,7 +201,7 @@ fn put_half(rt: &impl Abort, alloc: Global, failure: Failure) {
     assert!(rt; file.has(&[0, 2], Syncs::NONE, b"pi"));
 }
 
-// Puts five bytes into a file, and lets its sync fail.
+// Puts five bytes into a file, and makes its sync fail. Asserts that nothing is written or synced again.
 fn put_all(rt: &impl Abort, alloc: Global) {
     let mut vault = FileVault::new(OnceFile::new(alloc, 5, Some(Failure::Sync)));
     let told = [vault.put(b"piece"), vault.seal()];

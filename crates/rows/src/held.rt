@@ -1,7 +1,8 @@
-//! How a test ends where something doesn't hold.
+//! An assertion for runs that are numbered.
 use std::process::Abort;
 
-/// It holds in the run of this number, or under so many transactions; else the test ends, and tells the number.
+/// Ends the test with a message that contains `number`, if `holds` is false. `number` identifies the run, for example
+/// by its allowed transactions.
 pub fn assert_held(rt: &impl Abort, holds: bool, number: u64) {
     assert!(rt; holds, "it doesn't hold at {number}");
 }

@@ -1,5 +1,5 @@
-//! nor_plan's comparisons of two slices that are equal or differ in one byte, at lengths around 32 bytes (which are
-//! compared at a time), of a page and of a sector.
+//! nor_plan's comparisons of two slices that are equal or differ in one byte. The lengths are those of a page and a
+//! sector, and some around 0 and around 32, the number of bytes that are compared at a time.
 use crate::held::assert_held;
 use nor_plan::{PageSpan, bounds, differs, raises, spans};
 

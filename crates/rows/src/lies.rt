@@ -13,8 +13,8 @@ const TIMEOUT: Refusal = Refusal::Timeout { address: 0 };
 
 const MISMATCH: Refusal = Refusal::Mismatch { address: 0 };
 
-// Asserts that the call returned this error after this number of transactions, and that the chip is as before, once a
-// restore on a well-behaved bus has followed if the vault was sealed.
+// Asserts that the call returned this error after this number of transactions. Restores on a well-behaved bus if the
+// vault is sealed, and asserts that the chip is then as before.
 fn assert_lied(rt: &impl Abort, alloc: Global, row: Row, lied: Lied, told: (Refusal, u64)) {
     let (refusal, sent) = told;
     assert!(rt; lied.refusal == Some(refusal) && lied.sent == sent);
@@ -114,8 +114,8 @@ fn a_restore_that_programs(rt: HostRuntime) {
     }
 }
 
-// True if a call may return this error with this fault: a mismatch after a dropped transaction, a timeout if polls show
-// BUSY.
+// True if the call succeeded, or its error fits the fault: a mismatch after a dropped transaction, a timeout if polls
+// show BUSY.
 fn is_fitting(spoil: Spoil, refusal: Option<Refusal>) -> bool {
     match refusal {
         None => true,

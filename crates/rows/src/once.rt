@@ -1,5 +1,5 @@
-//! After a stop nothing more is sent: each call ends with it, on a bus that would go on rightly. And nothing is read
-//! again that was spoilt once.
+//! After a stop each call ends and sends nothing more, even though the bus would carry it out. A spoilt reply isn't
+//! read again.
 use crate::failing::{Fault, OnceBus};
 use crate::held::assert_held;
 use crate::row::{Row, Start, erased};
@@ -15,7 +15,7 @@ use nor_session::{Refusal, Rehearsal, rehearse};
 use std::alloc::Global;
 use std::process::Abort;
 
-// What nor_driver sends.
+// An operation of nor_driver that sends transactions.
 #[derive(Clone, Copy)]
 enum Command {
     Poll,
@@ -31,7 +31,7 @@ enum Command {
 }
 
 impl Command {
-    // Sends it, and tells whether the answer is that the bus stopped.
+    // Carries out the operation. True if it returns that the bus stopped.
     fn is_stopped(self, bus: &mut OnceBus) -> bool {
         match self {
             Command::Poll => poll(bus) == Err(Stopped),
@@ -49,7 +49,8 @@ impl Command {
         }
     }
 
-    // Stops each of so many transactions in turn, on a chip with these delays; and none.
+    // Stops each of the operation's `length` transactions in turn, and then none, on a chip with these delays. Asserts
+    // that the operation then returns the stop and sends nothing more.
     fn stop_at_each(self, rt: &impl Abort, alloc: Global, delays: Delays, length: u64) {
         for n in 0..=length {
             let bus = erased(rt, alloc, Config::tiny64(), [0x00, 0x00], delays);
@@ -61,8 +62,9 @@ impl Command {
     }
 }
 
-// The chip answers BUSY twice, at first or, where it is operated, after each operation. So a wait has three polls, and
-// an operation five transactions.
+// Each operation with the number of its transactions. The chip shows BUSY in two polls: after an erase, a program or a
+// status write, otherwise at first. So a wait has three polls, and an erase, a program or a status write has five
+// transactions.
 const COMMANDS: [(Command, u64); 13] = [
     (Command::Poll, 1),
     (Command::Wait, 3),
@@ -87,14 +89,21 @@ fn a_stop_ends_each_command(rt: HostRuntime) {
     }
 }
 
-// The chip answers BUSY once, at first and after each operation. So the opening has eight transactions where the chip
-// is known by its SFDP and five where it is in the table, with the two that a reading doesn't have, of which a look at
-// the protection has one; and an operation has four.
+// The chip shows BUSY in one poll, at first and after each operation. So an operation has four transactions. A session
+// or restore identifies the chip with eight transactions if the chip is known by its SFDP, and with five if it is in
+// the table. Two of these (status 2 and the unique ID) aren't part of a probe; `wp_status` sends one of the two.
 //
-// On the two blocks the session scans 32 sectors, has two erases and two programs, reads two sectors to program them,
-// and 19 to compare; the restore scans these, has two erases and 17 programs, and reads 17 and 19. On the W25Q64FV
-// both scan two sectors, and read them to compare: the session has two status writes, an erase and two programs, and
-// reads one sector to program it; the restore two status writes, two erases and a program.
+// On the two blocks:
+//
+// - The session scans 32 sectors, sends two erases and two programs, reads two sectors before it programs them, and
+//   reads 19 to verify them.
+// - The restore scans 19 sectors, sends two erases and 17 programs, reads 17 sectors before it programs them, and reads
+//   19 to verify them.
+//
+// On the W25Q64FV both scan two sectors, and read them to verify them:
+//
+// - The session sends two status writes, an erase and two programs, and reads one sector before it programs it.
+// - The restore sends two status writes, two erases and a program.
 const ON_TWO_BLOCKS: [(Call, u64); 6] = [
     (Call::Probe, 6),
     (Call::Protection, 6 + 1),
@@ -113,7 +122,7 @@ const ON_W25Q64FV: [(Call, u64); 6] = [
     (Call::Restore, 5 + 2 + 4 * 5 + 2),
 ];
 
-// Each call of the job has so many transactions, and ends with a stop of any of them.
+// Asserts the number of transactions of each call of the job, and that a stop at any of them ends the call.
 fn stop_each_call(rt: &impl Abort, alloc: Global, job: Job, lengths: [(Call, u64); 6]) {
     let stage = Stage::new(rt, alloc, job, Delays { now: 1, each: 1 });
     for (call, length) in lengths {
@@ -127,9 +136,10 @@ fn a_stop_ends_each_call(rt: HostRuntime) {
     stop_each_call(&rt, rt.alloc(), Job::OnW25q64fv, ON_W25Q64FV);
 }
 
-// An idle chip's polls show BUSY clear, so a spoilt one is followed by another, and nothing else changes. What was read
-// to be compared is told as another byte at the sector's first address, or given out as it was read: it isn't read
-// again. Each operation has a poll, and so has the opening.
+// Each call with the number of replies that are checked. On an idle chip a spoilt poll shows BUSY, so another poll
+// follows, and nothing else changes. A spoilt sector isn't read again: a comparison returns a mismatch at the sector's
+// first address, and `read_out` writes the spoilt bytes to the output. Each operation has a poll, and so has the
+// identification.
 const REPLIES: [(Call, u64); 4] = [
     (Call::ReadOut, 1 + 2),
     (Call::Verify, 1 + 2),
@@ -145,8 +155,8 @@ fn a_spoilt_reply_is_taken_as_it_is(rt: HostRuntime) {
     }
 }
 
-// How many transactions a restore sends behind a session, or behind a session and a restore, that sent so many: none
-// before the seal, eight where the sector is as saved, thirteen where a byte has to be programmed.
+// Returns the number of transactions of a restore after a session, or a session and a restore, that sent `sent`
+// transactions. Before the seal there is no restore; 8 suffice if the sector is as saved, and 13 include one program.
 fn restore_behind(sent: u64) -> Option<u64> {
     match sent {
         0..=22 => None,
@@ -155,11 +165,12 @@ fn restore_behind(sent: u64) -> Option<u64> {
     }
 }
 
-// What a rehearsal tells, and how many transactions were asked for in all.
+// The result of a rehearsal, and the number of transactions requested in all.
 type Rehearsed = (Result<Rehearsal, Refusal>, u64);
 
-// What a rehearsal tells where so many transactions go before a stop, and how many were asked for in all. A stop ends
-// the last call that is allowed; else a restore follows, and nothing else.
+// Returns the expected result of a rehearsal with the given number of stops, on a bus that stops once, after `behind`
+// transactions. If the rehearsal has no given stop for the call in which that occurs, it returns `Stopped`. Otherwise a
+// restore follows if the vault is sealed.
 fn rehearsed(behind: u64, stops: usize) -> Rehearsed {
     let asked = behind.saturating_add(1);
     let ended = behind >= 30;
@@ -175,8 +186,8 @@ fn rehearsed(behind: u64, stops: usize) -> Rehearsed {
     (Ok(told), asked.saturating_add(needed.unwrap_or(0)))
 }
 
-// Rehearses under so many stops, of which none comes, on a bus with so many transactions before the one that is
-// stopped. Answers what that told, and how many were asked for.
+// Rehearses with the given number of stops, each of which allows more transactions than a call sends. The bus stops
+// once, after `behind` transactions. Returns the result, and the number of transactions requested.
 fn rehearse_behind(rt: &impl Abort, alloc: Global, behind: u64, stops: usize) -> Rehearsed {
     let row = Row::ABitRises;
     let mut bus = OnceBus::new(
@@ -194,7 +205,7 @@ fn rehearse_behind(rt: &impl Abort, alloc: Global, behind: u64, stops: usize) ->
     (told, bus.asked)
 }
 
-// The session sends 30 transactions, and the restore behind it thirteen, of which the eleventh programs the byte.
+// The session sends 30 transactions, and the restore after it thirteen. The eleventh of these programs the byte.
 #[test]
 fn a_stop_in_a_rehearsal(rt: HostRuntime) {
     for n in 0..30 + 13 {

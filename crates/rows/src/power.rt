@@ -1,16 +1,19 @@
-//! Sessions and restores that lose their power at each of their transactions, with chips that answer BUSY twice after
-//! each operation, and what is cut off left as 00h, 5Ah or FFh.
+//! Sessions and restores during which the chip loses its power, at each of their transactions. The chips show BUSY in
+//! two polls after each operation. An interrupted erase or program leaves 00h, 5Ah or FFh in the bytes that it works
+//! on.
 //!
-//! Each test counts its runs, as those of restores that are stopped do. Each operation takes two polls more, and where
-//! the power was lost the chip is idle: an opening has one poll. So a restore that only reads the sector has 8
-//! transactions; else it has 9, five for each operation, and one more where it reads the sector again, unerased.
+//! Each test counts its runs: one for a stop before the seal, and after any other stop one more than the restore has
+//! transactions. An operation takes five transactions. After a loss of power the chip is idle, so the identification
+//! has one poll. A restore that only reads the sector has 8 transactions. Any other has 9 and five for each operation,
+//! and one more if it programs the sector without an erase, since it then reads it again.
 use crate::held::assert_held;
 use crate::row::{Row, Start};
 use crate::runs::Runs;
 use std::alloc::Global;
 use std::process::Abort;
 
-// Runs a row with each of the fills. There are so many runs with each, and the others behind what was cut off.
+// Runs a row with each of the fills. Asserts the number of runs: `runs` with every fill, and those after an interrupted
+// operation, in `cut_off` for each fill.
 fn lose_at_each(rt: &impl Abort, alloc: Global, row: Row, runs: u64, cut_off: [u64; 3]) {
     let [zeros, others, ones] = cut_off;
     for (fill, more) in [(0x00, zeros), (0x5A, others), (0xFF, ones)] {
@@ -20,9 +23,9 @@ fn lose_at_each(rt: &impl Abort, alloc: Global, row: Row, runs: u64, cut_off: [u
     }
 }
 
-// 23 stops before the seal, three that leave the byte as it was: 8 transactions. Two come while its page is programmed,
-// which leaves it full of the fill: with FFh it is as it was, else its sector is erased, as behind the last three
-// stops: 14.
+// 23 stops are before the seal. Three leave the byte as it was, and the restore has 8 transactions. Two interrupt the
+// page program, which fills the page. With FFh the byte is then as it was. With another fill, and after the last three
+// stops, the sector is erased, with 14 transactions.
 #[test]
 fn each_loss_behind_a_programmed_byte(rt: HostRuntime) {
     let runs = 23 + 3 * 9 + 3 * 15;
@@ -35,9 +38,10 @@ fn each_loss_behind_a_programmed_byte(rt: HostRuntime) {
     );
 }
 
-// 23 stops before the seal, two that leave the byte as it was: 8 transactions. Two come while the sector is erased and
-// two while its page is programmed: with FFh one program gives the byte back, else the sector is erased before it. So
-// does one program behind the six other stops. One program: 15 transactions, with an erase: 19.
+// 23 stops are before the seal. Two leave the byte as it was, and the restore has 8 transactions. After the six stops
+// that interrupt no operation, one program restores the byte, with 15 transactions. Two stops interrupt the erase, and
+// two the page program. With FFh one program is then enough, too. With another fill the sector is also erased, with 19
+// transactions.
 #[test]
 fn each_loss_behind_a_bit_that_rises(rt: HostRuntime) {
     let runs = 23 + 2 * 9 + 6 * 16;
@@ -50,8 +54,9 @@ fn each_loss_behind_a_bit_that_rises(rt: HostRuntime) {
     );
 }
 
-// 23 stops before the seal, three that leave the bytes as they were: 8 transactions. Two come while the first page is
-// programmed: with FFh it is as it was, else the sector is erased, as behind the eight last stops: 14.
+// 23 stops are before the seal. Three leave the bytes as they were, and the restore has 8 transactions. Two interrupt
+// the first page program, which fills the page. With FFh the bytes are then as they were. With another fill, and after
+// the last eight stops, the sector is erased, with 14 transactions.
 #[test]
 fn each_loss_behind_two_pages(rt: HostRuntime) {
     let runs = 23 + 3 * 9 + 8 * 15;
@@ -64,13 +69,13 @@ fn each_loss_behind_two_pages(rt: HostRuntime) {
     );
 }
 
-// 8 stops before the seal, two that leave the sector as it was, three behind its erase: 90 transactions, ten and five
-// for each of its 16 pages. Then three stops behind each page and two while it is programmed, with 15, 14, .. 1 pages
-// left to program.
+// 8 stops are before the seal, and two leave the sector as it was. Three after the erase leave 16 pages to program,
+// with 90 transactions: ten, and five for each page. Then three stops after each page program, and two during it, leave
+// 15, 14, .. 1 pages to program.
 //
-// Two stops come while the sector is erased, and of the two while a page is programmed that page has to be programmed
-// again. But the old sector is full of 00h: with that fill there is nothing to do behind an erase that was cut off, and
-// one page less behind a page that was.
+// Two stops interrupt the erase, so that all pages have to be programmed. Two interrupt each page program, so that its
+// page has to be programmed again. The original sector is full of 00h. So with that fill nothing remains to be done
+// after an interrupted erase, and an interrupted page program leaves its page as it was.
 #[test]
 fn each_loss_behind_a_sector_that_mostly_stays(rt: HostRuntime) {
     let runs = 8 + 2 * 9 + 3 * 91 + 5 * (15 * 11 + 5 * 15 * 16 / 2);

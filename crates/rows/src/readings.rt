@@ -8,7 +8,8 @@ use nor_read::{Protection, read_out, verify, wp_status};
 use nor_session::{Refusal, Report};
 use std::alloc::Global;
 
-// The chip's sixteen sectors are one piece, so that there is no second call. The refused piece is kept up to some byte.
+// Each row has the number of the refused call, the number of bytes that it keeps, the error, and the number of bytes in
+// the vault. The chip's sixteen sectors are one piece, so there is no second call.
 const CASES: [(u64, usize, Option<Refusal>, usize); 4] = [
     (1, 0, Some(Refusal::Output { written: 0 }), 0),
     (1, 5000, Some(Refusal::Output { written: 5000 }), 5000),
@@ -32,12 +33,13 @@ fn a_vault_that_refuses_ends_the_reading(rt: HostRuntime) {
 
 type Sent = Result<u64, Refusal>;
 
-// How many transactions a reading sent.
+// Returns the number of transactions of a reading, or its error.
 fn sent(answer: Result<Report, Refusal>) -> Sent {
     Ok(answer?.transactions)
 }
 
-// Reads and verifies a TINY64 under so many transactions each. Answers what they sent.
+// Reads out and verifies a TINY64, each with `left` transactions allowed. Returns the number of transactions of each,
+// or its error.
 fn read_under(alloc: Global, bus: &mut SimBus, before: &[u8], left: u64) -> [Sent; 2] {
     bus.allow(left);
     let mut out = MemVault::new(alloc);
@@ -46,7 +48,7 @@ fn read_under(alloc: Global, bus: &mut SimBus, before: &[u8], left: u64) -> [Sen
     [read, sent(verify(bus, before, None, None))]
 }
 
-// A reading of a TINY64 sends 21 transactions.
+// Reading out or verifying a TINY64 sends 21 transactions.
 #[test]
 fn any_stop_is_told(rt: HostRuntime) {
     let row = Row::ABitRises;
@@ -64,7 +66,7 @@ fn any_stop_is_told(rt: HostRuntime) {
     }
 }
 
-// The protection of a TINY64 is asked for with 6 transactions, that of a W25Q64FV with 3.
+// `wp_status` sends 6 transactions on a TINY64, and 3 on a W25Q64FV.
 #[test]
 fn any_stop_of_a_look_at_the_protection_is_told(rt: HostRuntime) {
     let protection = Protection {

@@ -1,4 +1,4 @@
-//! Runs of a row: its session, stopped after so many transactions, and the restores behind it.
+//! Runs of a row: its session, stopped after a given number of transactions, and the restores after it.
 ghost use Rattle.nor_journal.specs.Vault.{IsFresh};
 
 use crate::held::assert_held;
@@ -12,7 +12,7 @@ use std::process::Abort;
 /// More transactions than a restore of any row sends.
 pub const AMPLE: u64 = 10_000;
 
-/// Runs a row's session on a bus to its chip.
+/// Runs a row's session on a bus to its chip, and returns its result.
 pub fn keep<B: Bus, V: Vault>(
     rt: &impl Abort,
     alloc: Global,
@@ -27,7 +27,7 @@ pub fn keep<B: Bus, V: Vault>(
     session(bus, vault, &mut image, &request)
 }
 
-/// A chip and a vault that a session left.
+/// The chip and the vault that a session left.
 #[derive(Drop)]
 pub struct Cut {
     pub bus: SimBus,
@@ -35,8 +35,8 @@ pub struct Cut {
 }
 
 impl Cut {
-    /// Restores from the vault's journal, with so many transactions allowed. Answers how many were sent, where it
-    /// ended.
+    /// Restores from the vault's journal, with `allowed` transactions. Returns the number of transactions sent if the
+    /// restore ends, and `None` if it was stopped.
     pub fn restore(&mut self, rt: &impl Abort, allowed: u64) -> Option<u64> {
         let journal = Journal::read(self.vault.bytes()).expect(rt, "a journal");
         self.bus.allow(allowed);
@@ -44,7 +44,8 @@ impl Cut {
     }
 }
 
-// How many transactions a call sent that ended; none where it was stopped. There is no other refusal.
+// Returns the number of transactions of a call that ended, and `None` if it was stopped. Asserts that there is no other
+// error.
 fn ended(rt: &impl Abort, answer: Result<Report, Refusal>) -> Option<u64> {
     match answer {
         Ok(report) => Some(report.transactions),
@@ -55,14 +56,14 @@ fn ended(rt: &impl Abort, answer: Result<Report, Refusal>) -> Option<u64> {
     }
 }
 
-/// The runs of a row that begin in one way.
+/// The runs of a row from one start.
 #[derive(Drop)]
 pub struct Runs {
     alloc: Global,
     row: Row,
     start: Start,
     before: Vec<u8>,
-    // how many bytes of its transaction a restore's stop sends
+    // the number of bytes of its transaction that a restore's stop sends
     torn: Option<u32>,
 }
 
@@ -85,8 +86,8 @@ impl Runs {
         }
     }
 
-    /// Runs the session on a new chip, with so many transactions allowed: it has to end, and its vault to be sealed,
-    /// from the row's counts on and not before.
+    /// Runs the session on a new chip, with `allowed` transactions. Asserts that it ends, and that its vault is sealed,
+    /// if and only if the row's numbers say so.
     pub fn cut(&self, rt: &impl Abort, allowed: u64) -> Cut {
         let mut bus = self.row.bus(rt, self.alloc, self.start);
         bus.allow(allowed);
@@ -97,8 +98,8 @@ impl Runs {
         Cut { bus, vault }
     }
 
-    // What the session tells with so many transactions allowed: how many it sent, where it ends, and whether its vault
-    // is sealed.
+    // Returns what is expected of the session with `allowed` transactions: the number that it sends if it ends, and
+    // whether its vault is sealed.
     fn told_at(&self, allowed: u64) -> (Option<u64>, bool) {
         let length = self.row.ends_at(self.start);
         let sealed = allowed >= self.row.sealed_at(self.start);
@@ -110,15 +111,15 @@ impl Runs {
         (sent, sealed)
     }
 
-    /// The chip has the bytes and the kept bits that it had before the session.
+    /// Asserts that the chip has the contents and the non-volatile status bits from before the session.
     pub fn assert_as_before(&self, rt: &impl Abort, bus: &SimBus) {
         let [one, two] = bus.status();
         assert!(rt; bus.bytes() == self.before.as_slice());
         assert!(rt; [one & 0xFC, two & 0x7F] == self.row.status());
     }
 
-    /// Stops the session after each number of transactions from `first` up to that with which it ends, and restores
-    /// where its vault is sealed. Each run leaves the chip as before. Answers how many there were.
+    /// Runs the session with each number of allowed transactions from `first` up to its length, and restores if its
+    /// vault is sealed. Asserts that each run leaves the chip as before. Returns the number of runs.
     pub fn stop_at_each(&self, rt: &impl Abort, first: u64) -> u64 {
         let mut runs: u64 = 0;
         for n in first..=self.row.ends_at(self.start) {
@@ -132,8 +133,9 @@ impl Runs {
         runs
     }
 
-    /// The same, with the restore stopped after each number of transactions too, and a second one behind it. Answers
-    /// how many runs there were; a session that leaves its vault unsealed is one.
+    /// Runs the session with each number of allowed transactions from `first` up to its length. If its vault is sealed,
+    /// stops the restore after each number of its transactions, and restores again. Asserts that each run leaves the
+    /// chip as before. Returns the number of runs; a session that leaves its vault unsealed is one run.
     pub fn stop_restores_at_each(&self, rt: &impl Abort, first: u64) -> u64 {
         let mut runs: u64 = 0;
         for n in first..=self.row.ends_at(self.start) {
@@ -142,9 +144,9 @@ impl Runs {
         runs
     }
 
-    /// Stops the session after each number of transactions from `first` up to the last one that is too small for it,
-    /// and restores if its vault is sealed. If the vault isn't sealed, the session sent no write enable. Each run
-    /// leaves the chip as before. Returns how many sessions were stopped.
+    /// Stops the session after each number of transactions from `first` up to one less than its length, and restores if
+    /// its vault is sealed. If it isn't, asserts that the write enable latch is clear. Asserts that each run leaves the
+    /// chip as before. Returns the number of stopped sessions.
     pub fn stop_sessions(&self, rt: &impl Abort, first: u64) -> u64 {
         let mut stops: u64 = 0;
         for n in first..self.row.ends_at(self.start) {
@@ -160,14 +162,15 @@ impl Runs {
         stops
     }
 
-    /// Stops the session after `n` transactions, and the restore after each number of transactions that is too small
-    /// for it, with a second restore after each of these stops. Each run leaves the chip as before. Returns how many
-    /// restores were stopped.
+    /// Stops the session after `n` transactions. Stops the restore after each number of transactions that is too small
+    /// for it, and restores again. Asserts that each run leaves the chip as before. Returns the number of stopped
+    /// restores.
     pub fn stop_restores(&self, rt: &impl Abort, n: u64) -> u64 {
         self.stop_restores_behind(rt, n).saturating_sub(1)
     }
 
-    // Stops the restore behind one stop of the session, after each number of transactions until it ends.
+    // Stops the session after `n` transactions, and the restore after 0, 1, .. transactions until it ends. Asserts that
+    // each run leaves the chip as before. Returns the number of runs.
     fn stop_restores_behind(&self, rt: &impl Abort, n: u64) -> u64 {
         for m in 0..AMPLE {
             let mut cut = self.cut(rt, n);
@@ -182,7 +185,8 @@ impl Runs {
     }
 }
 
-// Restores under so many transactions, and where that is stopped under ample ones. Answers whether it wasn't.
+// Restores with `allowed` transactions, and again with `AMPLE` if that was stopped. Returns whether the first restore
+// ended. If the vault isn't sealed, returns true and restores nothing.
 fn ends_within(rt: &impl Abort, cut: &mut Cut, allowed: u64) -> bool {
     if !cut.vault.is_sealed() {
         return true;
@@ -196,7 +200,8 @@ fn ends_within(rt: &impl Abort, cut: &mut Cut, allowed: u64) -> bool {
     true
 }
 
-/// The chip is as a row's session found it, with its latch clear: no write enable was sent.
+/// Asserts that the chip is as a row's session found it, with the write enable latch clear, as it is if no write enable
+/// was sent.
 pub fn assert_untouched(rt: &impl Abort, alloc: Global, row: Row, bus: &SimBus) {
     Runs::new(rt, alloc, row, Start::IDLE).assert_as_before(rt, bus);
     assert!(rt; bus.status() == row.status());

@@ -1,4 +1,4 @@
-//! Sessions on chips that no file of a chip gives.
+//! Sessions on chips of 256 KiB with different erase types, and on a chip that is busy for long.
 use crate::held::assert_held;
 use crate::row::{Row, Start, large};
 use nor_chip::{Config, Delays, Meter, SimBus};
@@ -7,7 +7,8 @@ use nor_session::{Report, session};
 use std::alloc::Global;
 use std::process::Abort;
 
-// A session that writes FFh everywhere. The chip has FFh, but 00h in so many bytes from 8000h on.
+// Runs a session that writes FFh everywhere. The chip is full of FFh, except for `cleared` bytes 00h from 8000h on.
+// Returns the report.
 fn blank(
     rt: &impl Abort,
     alloc: Global,
@@ -28,7 +29,8 @@ fn blank(
     session(&mut bus, &mut vault, &mut image, &request).expect(rt, "the session ends")
 }
 
-// Sectors 8 to 39. Beside the erases' three each, seven transactions open, 64 scan and 32 check.
+// Each row has whether the chip has erases of 32 and 64 KiB, the number of erases of sectors 8 to 39, and the number of
+// transactions: three for each erase, seven to identify the chip, 64 to scan it, and 32 to verify the sectors.
 const UNITS: [(bool, bool, u32, u64); 4] = [
     (false, true, 17, 154),
     (true, false, 4, 115),
@@ -48,8 +50,8 @@ fn sectors_are_erased_by_the_largest_units(rt: HostRuntime) {
     }
 }
 
-// A session on a TINY64 that has nothing to change sends 23 transactions. The latch of the operation that runs at first
-// is clear behind it.
+// A session on an idle TINY64 that has nothing to change sends 23 transactions. Here it also sends 65,535 polls that
+// show BUSY. The write enable latch is set while the operation runs, and clear after it.
 #[test]
 fn a_busy_chip_is_waited_for(rt: HostRuntime) {
     let busy = Delays {

@@ -1,8 +1,9 @@
-//! Sets of addresses that are made of spans: in any order, touching, overlapping, and too many.
+//! Sets of addresses made from spans: in any order, adjacent, overlapping, and too many.
 use crate::held::assert_held;
 use nor_layout::{Ranges, Span};
 
-// The first and the last address of each span, and of each of their set, where they make one.
+// Each row has the first and the last address of each span, and those of each span of their set; `None` if they make
+// none.
 const SETS: &[(&[(u32, u32)], Option<&[(u32, u32)]>)] = &[
     (&[], Some(&[])),
     (&[(7, 7)], Some(&[(7, 7)])),
@@ -22,7 +23,7 @@ const SETS: &[(&[(u32, u32)], Option<&[(u32, u32)]>)] = &[
     (&[(1, u32::MAX), (0, 0)], Some(&[(0, u32::MAX)])),
 ];
 
-// The set of at most eight spans.
+// Returns the set of at most eight spans.
 fn set_of(ends: &[(u32, u32)]) -> Option<Ranges> {
     let mut spans = [Span::default(); 8];
     for (slot, (first, last)) in spans.iter_mut().zip(ends) {
@@ -50,8 +51,8 @@ fn spans_make_their_set(rt: HostRuntime) {
     }
 }
 
-// How many spans a set has that is made of each second address from 2 on, from the highest to the lowest, and of one
-// more span.
+// Returns the number of spans of a set of single addresses and the span `more`. The addresses are the first `addresses`
+// even numbers from 2 on, in falling order.
 fn count_of(addresses: u32, more: Span) -> Option<usize> {
     let mut spans = [more; 66];
     for (slot, above) in spans.iter_mut().zip(0..addresses) {

@@ -1,4 +1,4 @@
-//! Vaults and files that take all of a journal, refuse a call, write short or can't be synced.
+//! Vaults and files that accept a whole journal, refuse a call, write short or can't be synced.
 ghost use Rattle.std.specs.Prelude.{take, Some};
 ghost use Rattle.nor_journal.specs.Vault.{IsFresh};
 
@@ -14,7 +14,7 @@ use std::io;
 use std::io::Write;
 use std::process::Abort;
 
-/// The journal of a TINY64, whose unique ID is zeros, that saves no sector. The digest is that of `sha256sum`.
+/// The journal of a TINY64 whose unique ID is zeros. It saves no sector. Its digest was computed with `sha256sum`.
 const EMPTY: [u8; 61] = [
     0x4E, 0x4F, 0x52, 0x55, 0x4E, 0x44, 0x4F, 0x32, 0xFE, 0x10, 0x10, 0x00, 0x00, 0x00, 0x00, 0x00,
     0x00, 0x00, 0x00, 0x00, 0x00, 0x00, 0x00, 0x01, 0x00, 0xFF, 0xFF, 0xFF, 0xFF, 0x5E, 0x7F, 0x67,
@@ -22,13 +22,14 @@ const EMPTY: [u8; 61] = [
     0x49, 0x14, 0x8D, 0x80, 0x5E, 0xBA, 0x45, 0xE9, 0x65, 0x9B, 0xB9, 0xB3, 0xB8,
 ];
 
-/// The digest of the journal of that chip whose sector 0, all FFh, is saved, by `sha256sum`.
+/// The digest of the journal that `save` writes for a TINY64, computed with `sha256sum`. Sector 0, all FFh, is saved,
+/// and the unique ID is zeros.
 const DIGEST: [u8; 32] = [
     0xD3, 0xCE, 0x40, 0xC1, 0xB1, 0xE6, 0x74, 0x4A, 0x9B, 0xAC, 0x95, 0x55, 0x42, 0xB9, 0xCC, 0xC9,
     0x83, 0xD5, 0xFA, 0x75, 0xB9, 0xC2, 0x79, 0x2D, 0x91, 0x66, 0x46, 0xFB, 0x18, 0x8C, 0x93, 0x13,
 ];
 
-/// Writes the journal of the chip that a journal tells of, whose sector 0, all FFh, is saved.
+/// Writes a journal of the chip that `chip` describes, with the unique ID zero. It saves sector 0, all FFh.
 fn save<V: Vault>(vault: &mut V, chip: &Journal<'_>) -> Result<(), VaultFault>
     requires { IsFresh (V.state vault.old) }
 {
@@ -37,12 +38,12 @@ fn save<V: Vault>(vault: &mut V, chip: &Journal<'_>) -> Result<(), VaultFault>
     writer.end()
 }
 
-/// Whether the bytes are that journal.
+/// True if the bytes are a journal that has the length and the digest of the one that `save` writes for a TINY64.
 fn is_whole(bytes: &[u8]) -> bool {
     bytes.len() == 4161 && bytes.ends_with(&DIGEST) && Journal::read(bytes).is_ok()
 }
 
-/// With ample memory it doesn't: a vault that always refuses fails here.
+/// With enough memory, a vault in memory refuses no call. A vault that always refuses would fail this test.
 #[test]
 fn mem_vault_refuses(rt: HostRuntime) {
     let mut vault = MemVault::new(rt.alloc());
@@ -58,8 +59,8 @@ fn mem_vault_refuses(rt: HostRuntime) {
     assert!(rt; vault.bytes() == b"journal".as_slice());
 }
 
-// The five calls that make the journal: one puts the head, one the record, two the end mark and the digest, and the
-// last one seals. Each has its number, how many bytes stand before its piece, and how many the piece has.
+// The five calls that write the journal: one each for the header, the record, the end mark and the digest, and the
+// seal. Each has its number, the number of bytes before its piece, and the length of its piece.
 const CALLS: [(u64, usize, usize); 5] = [
     (1, 0, 25),
     (2, 25, 4100),
@@ -68,8 +69,8 @@ const CALLS: [(u64, usize, usize); 5] = [
     (5, 4161, 0),
 ];
 
-// Writes the journal into a vault that refuses one call, after so many bytes of its piece. It refuses as told, as often
-// as told and is then sealed or not; it holds the beginning of the right journal up to some byte.
+// Writes the journal into a vault that refuses one call, after some bytes of its piece. Asserts the result, the number
+// of refusals, whether the vault is sealed, and the bytes that it holds.
 fn assert_broken(
     rt: &impl Abort,
     alloc: Global,
@@ -87,7 +88,8 @@ fn assert_broken(
     assert_held(rt, holds, nth);
 }
 
-// Refuses each call, after so many bytes of its piece. What the vault holds is a beginning of the right journal.
+// Refuses each call in turn, after `kept` bytes of its piece. Asserts that the error contains the number of bytes kept,
+// and that the vault holds the prefix of the right journal that ends there.
 fn refuse_each(rt: &impl Abort, alloc: Global, right: &[u8], kept: usize) {
     for (nth, before, piece) in CALLS {
         let put = piece.min(kept);
@@ -97,8 +99,8 @@ fn refuse_each(rt: &impl Abort, alloc: Global, right: &[u8], kept: usize) {
     }
 }
 
-// Of the piece of a refused call the vault keeps a beginning, and the refusal tells how much: what it holds is a
-// beginning of the one journal. A call that doesn't come refuses nothing.
+// The vault keeps a prefix of a refused piece, and the error contains its length. So the vault holds a prefix of the
+// journal. Nothing is refused if the call to be refused isn't made.
 #[test]
 fn each_call_of_a_writer_is_refused(rt: HostRuntime) {
     let chip = Journal::read(&EMPTY).expect(&rt, "a journal");
@@ -114,8 +116,8 @@ fn each_call_of_a_writer_is_refused(rt: HostRuntime) {
     assert_broken(&rt, rt.alloc(), (6, 0), told, Some(right));
 }
 
-/// A file in memory that takes at most `most` bytes a write, and fails after `writes` of them. One of `sync_all` and
-/// `sync_data` succeeds.
+/// A file in memory that accepts at most `most` bytes per write, and fails after `writes` writes. If `syncs` is true,
+/// only `sync_all` succeeds, otherwise only `sync_data`.
 #[derive(Drop)]
 struct SmallFile {
     bytes: Vec<u8>,
@@ -180,25 +182,26 @@ impl OpenFile for SmallFile {
     }
 }
 
-// The most bytes of a write, how many writes there are, whether a sync succeeds; the answer, the bytes in the file.
+// Each row has the most bytes per write, the number of writes that succeed, whether `sync_all` succeeds, the result,
+// and the number of bytes in the file.
 const FILES: [(usize, u32, bool, Result<(), VaultFault>, usize); 9] = [
     (1, u32::MAX, true, Ok(()), 4161),
     (4096, u32::MAX, true, Ok(()), 4161),
     (usize::MAX, 4, true, Ok(()), 4161),
-    // no write, and a write of nothing
+    // no write succeeds; each write accepts no bytes
     (2, 0, true, Err(VaultFault { kept: 0 }), 0),
     (0, u32::MAX, true, Err(VaultFault { kept: 0 }), 0),
-    // the second write of the first piece
+    // the second write of the first piece fails
     (2, 1, true, Err(VaultFault { kept: 2 }), 2),
-    // one write is the head, and the second is half of the record
+    // the first write is the header, the second is half of the record, and the third fails
     (2050, 2, true, Err(VaultFault { kept: 2050 }), 2075),
-    // the digest, and the sync
+    // the write of the digest fails; the sync fails
     (usize::MAX, 3, true, Err(VaultFault { kept: 0 }), 4129),
     (usize::MAX, 4, false, Err(VaultFault { kept: 0 }), 4161),
 ];
 
-// Saves the journal of the chip in the file. Answers what the vault told, how many bytes the file has, whether they are
-// that journal, and whether it was resized.
+// Writes the journal into the file. Returns the result, the length of the file, whether its bytes are that journal, and
+// whether the file was resized.
 fn saved(chip: &Journal<'_>, file: SmallFile) -> (Result<(), VaultFault>, usize, bool, bool) {
     let mut vault = FileVault::new(file);
     let told = save(&mut vault, chip);
@@ -211,7 +214,7 @@ fn saved(chip: &Journal<'_>, file: SmallFile) -> (Result<(), VaultFault>, usize,
     )
 }
 
-// A write that takes nothing is a refusal too, and a sync that fails keeps nothing.
+// A write that accepts no bytes is an error, too. After a failed sync the error contains 0 bytes kept.
 #[test]
 fn files_that_refuse(rt: HostRuntime) {
     let chip = Journal::read(&EMPTY).expect(&rt, "a journal");
@@ -223,7 +226,7 @@ fn files_that_refuse(rt: HostRuntime) {
     }
 }
 
-/// A file in memory that knows how many of its bytes it was synced with.
+/// A file in memory that records its length at the last sync.
 #[derive(Drop)]
 struct KnownFile {
     bytes: Vec<u8>,
@@ -252,7 +255,8 @@ impl VaultFile for KnownFile {
     }
 }
 
-// A vault in memory and one in a file take a piece of this length, and the file is synced with it.
+// Asserts that a vault in memory and a vault in a file accept a piece of this length, and that the file is then synced
+// with it.
 fn assert_taken(rt: &impl Abort, alloc: Global, length: usize) {
     let piece = vec![in alloc; 0x5A; length].expect(rt, "memory");
     let mut memory = MemVault::new(alloc);

@@ -1,4 +1,4 @@
-//! Sessions and restores on a bus that lies in one way, and what may be asked of them all the same.
+//! Sessions and restores on a faulty bus, and what must hold for them nevertheless.
 use crate::held::assert_held;
 use crate::row::{Row, Start};
 use crate::runs::{AMPLE, Cut, Runs, keep};
@@ -8,15 +8,19 @@ use nor_session::{Refusal, restore};
 use std::alloc::Global;
 use std::process::Abort;
 
-/// The most transactions of a session on a chip of so many sectors, and of a restore that so many are saved for: an
-/// opening of 65,542, three readings of each sector, and for each sector an erase and sixteen programs, and two status
-/// writes, each of them a write enable, the command and at most 65,536 polls.
+/// Returns the most transactions of a session on a chip of `sectors` sectors, or of a restore of that number of saved
+/// sectors:
+///
+/// - 65,542 to identify the chip
+/// - three readings of each sector
+/// - for each sector an erase and sixteen programs, and two status writes; each of these is a write enable, the command
+///   and at most 65,536 polls
 pub fn most(sectors: u32) -> u64 {
     let sectors = u64::from(sectors);
     65_542 + 3 * sectors + 65_538 * (17 * sectors + 2)
 }
 
-/// The four ways to lie, with this number.
+/// Returns the four kinds of fault, each with the number `n`.
 pub fn lies(n: u8) -> [Spoil; 4] {
     let first = u64::from(n);
     [
@@ -27,13 +31,13 @@ pub fn lies(n: u8) -> [Spoil; 4] {
     ]
 }
 
-/// The bus, spoilt, under any number of transactions.
+/// Returns a bus that spoils `bus` and allows `u64::MAX` transactions.
 pub fn spoilt(mut bus: SimBus, spoil: Spoil) -> SpoiltBus<SimBus> {
     bus.allow(u64::MAX);
     SpoiltBus::new(bus, spoil)
 }
 
-/// What a call came to on a bus that lies, how many transactions it sent, and what it left.
+/// The error of a call on a faulty bus, the number of transactions that it sent, and the chip and vault that it left.
 #[derive(Drop)]
 pub struct Lied {
     pub refusal: Option<Refusal>,
@@ -42,7 +46,7 @@ pub struct Lied {
 }
 
 impl Lied {
-    /// The row's session, which keeps its bound.
+    /// Runs the row's session on a bus with this fault. Asserts that it keeps its bound.
     pub fn session(rt: &impl Abort, alloc: Global, row: Row, spoil: Spoil) -> Lied {
         let mut bus = spoilt(row.bus(rt, alloc, Start::IDLE), spoil);
         let mut vault = MemVault::new(alloc);
@@ -54,7 +58,8 @@ impl Lied {
         Lied { refusal, sent, cut }
     }
 
-    /// The restore behind a session that was stopped on the honest bus. It keeps its bound.
+    /// Runs a restore on a bus with this fault, after a session that was stopped on the well-behaved bus. Asserts that
+    /// the restore keeps its bound.
     pub fn restore(rt: &impl Abort, cut: Cut, spoil: Spoil) -> Lied {
         let Cut { bus, vault } = cut;
         let mut bus = spoilt(bus, spoil);
@@ -68,7 +73,7 @@ impl Lied {
         Lied { refusal, sent, cut }
     }
 
-    /// Restores on the honest bus, where the vault was sealed. The chip is as before.
+    /// Restores on the well-behaved bus if the vault is sealed. Asserts that the chip is then as before the session.
     pub fn assert_given_back(self, rt: &impl Abort, alloc: Global, row: Row) {
         let Lied { mut cut, .. } = self;
         if cut.vault.is_sealed() {

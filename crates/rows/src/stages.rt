@@ -55,7 +55,7 @@ impl Job {
         }
     }
 
-    // Returns the address of the first byte 00h, and the number of these bytes. Each next one is a sector further.
+    // Returns the address of the first byte 00h, and the number of sectors that have one, at the same position.
     fn cleared(self) -> (usize, usize) {
         match self {
             Job::OnTwoBlocks => (0xF010, 17),

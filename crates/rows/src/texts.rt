@@ -119,9 +119,9 @@ fn journal_of_a_sector(rt: &impl Abort, alloc: Global) -> Vec<u8> {
     cut.vault.bytes().to_vec(alloc).expect(rt, "memory")
 }
 
-// Returns the fault of that journal after the lowest bit of the byte at `place` was inverted. At 25 the number 0 of the
-// sector becomes 1, which only the digest detects. At another byte of the number, or of the end mark, it becomes a
-// number that no sector has.
+// Returns the fault of the journal of `journal_of_a_sector` after the lowest bit of the byte at `place` was inverted.
+// At 25 the sector's number 0 becomes 1, which only the digest detects. At another byte of the number, or of the end
+// mark, it becomes a number that no sector has.
 const fn fault_of_change(place: usize) -> JournalFault {
     match place {
         0..=7 => JournalFault::Magic,

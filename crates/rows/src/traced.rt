@@ -1,4 +1,5 @@
-//! What a trace tells of the lines that its log refuses. That nothing else changes by them is a clause.
+//! Which lines a trace reports as lost if its log refuses them. By the clauses of `TraceBus` nothing else depends on
+//! that.
 use crate::held::assert_held;
 use crate::row::{Start, erased};
 use nor_chip::{Bus, Config, Meter, SimBus, TraceBus};
@@ -6,7 +7,7 @@ use std::alloc::Global;
 use std::io::{self, BufWriter, ErrorKind, Write};
 use std::process::Abort;
 
-// A log that takes so many writes, then refuses one in two, and takes flushes or refuses them.
+// A log that accepts `good` writes, then refuses every other one. It accepts flushes if `flushes` is true.
 #[derive(Drop)]
 struct Failing<'a> {
     lines: &'a mut Vec<u8>,
@@ -33,7 +34,7 @@ impl Write for Failing<'_> {
     }
 }
 
-// A bus to an erased TINY64 that lets one transaction through.
+// Returns a bus to an erased TINY64 that carries out one transaction.
 fn bus(rt: &impl Abort, alloc: Global) -> SimBus {
     let idle = Start::IDLE.delays;
     let mut bus = erased(rt, alloc, Config::tiny64(), [0x00, 0x00], idle);
@@ -41,7 +42,7 @@ fn bus(rt: &impl Abort, alloc: Global) -> SimBus {
     bus
 }
 
-// A transaction, what comes in, and its line.
+// A transaction, its reply, and its line in the trace.
 #[derive(Clone, Copy)]
 struct Form {
     out: &'static [u8],
@@ -67,7 +68,7 @@ const FORMS: [Form; 3] = [
     },
 ];
 
-// Sends a transaction, with a log that takes so many writes. Answers whether its line is lost.
+// Sends a transaction, with a log that accepts `good` writes before it refuses one. Returns whether the line is lost.
 fn loses(
     rt: &impl Abort,
     alloc: Global,
@@ -87,7 +88,8 @@ fn loses(
     bus.lost()
 }
 
-// Sends a transaction of this form. Answers whether its line is lost, and whether the log has the whole of it.
+// Sends a transaction of this form, and asserts its reply. Returns whether its line is lost, and whether the log has
+// exactly that line.
 fn sent(rt: &impl Abort, alloc: Global, form: Form, good: u8) -> (bool, bool) {
     let mut lines = Vec::new(alloc);
     let mut reply = vec![in alloc; 0xAA; form.reply.len()].expect(rt, "memory");
@@ -96,7 +98,8 @@ fn sent(rt: &impl Abort, alloc: Global, form: Form, good: u8) -> (bool, bool) {
     (is_lost, lines.as_slice() == form.line)
 }
 
-// Whichever write of it fails, a line is lost exactly where it isn't whole. What comes in is the same.
+// A line is reported as lost if and only if the log doesn't have all of it. It is lost if the log accepts at most one
+// write, and isn't lost if it accepts seven. The reply is the same in either case.
 #[test]
 fn a_line_is_lost_exactly_where_it_is_not_whole(rt: HostRuntime) {
     for form in FORMS {
@@ -108,8 +111,8 @@ fn a_line_is_lost_exactly_where_it_is_not_whole(rt: HostRuntime) {
     }
 }
 
-// Sends a transaction, with a log whose sink takes one write, and flushes or refuses to. Answers whether its line is
-// lost before a flush of the bus, and behind it.
+// Sends a transaction, with a buffered log over a sink that accepts one write, and flushes if `flushes` is true.
+// Returns whether the line is lost before a flush of the bus, and after it.
 fn flushed(rt: &impl Abort, alloc: Global, lines: &mut Vec<u8>, flushes: bool) -> (bool, bool) {
     let sink = Failing {
         lines,
@@ -124,7 +127,8 @@ fn flushed(rt: &impl Abort, alloc: Global, lines: &mut Vec<u8>, flushes: bool) -
     (before, bus.lost())
 }
 
-// What a log with a buffer keeps back is lost at the latest by a flush, and nothing is where nothing fails.
+// A line in the log's buffer is reported as lost if a flush of the bus fails, even if the sink has received the line.
+// It isn't if the flush succeeds.
 #[test]
 fn what_the_sink_refuses_is_lost_at_the_latest_by_a_flush(rt: HostRuntime) {
     for flushes in [true, false] {

@@ -1,35 +1,41 @@
-//! Sessions that are stopped at each of their transactions, the restore behind each stop stopped at each of its own,
-//! and a second restore behind that.
+//! Sessions that are stopped after each number of transactions. The restore after each stop is stopped after each
+//! number of its own transactions, and a second restore follows.
 //!
-//! Each test counts its runs: one for a stop before the seal, and else one more than the restore sends that ends, as
-//! it is stopped after 0, 1, .. transactions. A restore opens with seven transactions on a TINY64, with four on a
-//! W25Q64FV, and reads the one saved sector. Where that is as saved it ends; else it reads the sector again where it
-//! isn't erased, sends its operations, each with a write enable and a poll, and reads the sector to compare.
+//! Each test counts its runs. A stop before the seal is one run. After any other stop, a restore is run with 0, 1, ..
+//! transactions allowed until it ends, so there is one run more than it has transactions.
+//!
+//! A restore identifies the chip, with seven transactions on a TINY64 and four on a W25Q64FV, and reads the one saved
+//! sector. If the sector and the protection are as saved, it ends. Otherwise it sends its operations, each with a write
+//! enable and a poll. If it programs the sector without an erase, it reads it again first. If it changes the sector, it
+//! reads it at the end to verify it.
 use crate::row::{Row, Start};
 use crate::runs::Runs;
 
-// Behind a programmed byte: 23 stops before the seal. Three leave the byte as it was: 8 transactions. Three leave it
-// programmed, and its sector is erased: 12.
+// A byte is programmed: 23 stops are before the seal. Three leave the byte as it was, and the restore has 8
+// transactions. Three leave it programmed, so its sector is erased, with 12 transactions.
 const BYTE: u64 = 23 + 3 * 9 + 3 * 13;
 
-// On a slow chip each operation takes two polls more. Three stops leave the byte as it was. Behind the program one
-// leaves two polls for the next opening, one a single one, three none: 16, 15 and 14 transactions.
+// A byte is programmed on a slow chip, where each operation takes two more polls: 26 stops are before the seal, and
+// three leave the byte as it was. After the program, one stop leaves two polls that show BUSY to the next
+// identification, one leaves one, and three leave none. These restores have 16, 15 and 14 transactions.
 const SLOW_BYTE: u64 = 26 + 3 * 9 + 17 + 16 + 3 * 15;
 
-// Behind a bit that rises: 23 stops before the seal. Two leave the byte as it was: 8 transactions. Three leave it
-// erased and three with its new value, which both have the bits of the old one: 13, with one program.
+// A bit rises: 23 stops are before the seal. Two leave the byte as it was, and the restore has 8 transactions. Three
+// leave it erased, and three with its target value. Neither value lacks a bit of the original one, so one program is
+// enough, and the restore has 13 transactions.
 const BIT: u64 = 23 + 2 * 9 + 6 * 14;
 
-// On a slow chip, behind the erase, and likewise behind the program, one stop leaves two polls for the next opening,
-// one a single one, three none: 17, 16 and 15 transactions.
+// A bit rises on a slow chip. After the erase, and likewise after the program, one stop leaves two polls that show BUSY
+// to the next identification, one leaves one, and three leave none. These restores have 17, 16 and 15 transactions.
 const SLOW_BIT: u64 = 26 + 2 * 9 + 2 * (18 + 17 + 3 * 16);
 
-// Behind two pages: 23 stops before the seal. Three leave the bytes as they were: 8 transactions. Six leave some
-// programmed, and their sector is erased: 12.
+// Two pages are programmed: 23 stops are before the seal. Three leave the bytes as they were, and the restore has 8
+// transactions. Six leave some programmed, so their sector is erased, with 12 transactions.
 const TWO_PAGES: u64 = 23 + 3 * 9 + 6 * 13;
 
-// Behind a sector that mostly stays: 8 stops before the seal. Two leave the sector as it was: 8 transactions. Then
-// three stops each leave 16, 15, .. 1 pages to be programmed again: 10 transactions, and three for each page.
+// A sector is erased, and all of its pages except one are programmed again: 8 stops are before the seal. Two leave the
+// sector as it was, and the restore has 8 transactions. Then three stops each leave 16, 15, .. 1 pages to be
+// programmed. These restores have 10 transactions, and three for each page.
 const MOST_OF_A_SECTOR: u64 = 8 + 2 * 9 + 3 * (16 * 11 + 3 * 16 * 17 / 2);
 
 const SMALL: [(Row, Start, u64); 6] = [
@@ -64,8 +70,8 @@ fn each_stop_on_a_chip_with_its_latch_set(rt: HostRuntime) {
     }
 }
 
-// 3 stops before the seal. Then two leave the chip as it was, four without its protection, three with the byte
-// programmed too, and three with protection given back: 5, 8, 12 and 15 transactions.
+// Three stops are before the seal. Then two leave the chip as it was, four without its protection, three also with the
+// byte programmed, and three with the protection set again. The restores have 5, 8, 12 and 15 transactions.
 #[test]
 fn each_stop_behind_a_guarded_byte(rt: HostRuntime) {
     let row = Row::AGuardedByteIsProgrammed;

@@ -8,8 +8,9 @@ use nor_session::Refusal;
 use std::alloc::Global;
 use std::process::Abort;
 
-// Runs a row's session whose vault refuses the call with this number, after so many bytes of the piece. Answers the
-// refusal, how often the vault refused, whether it is sealed, and whether it holds a journal.
+// Runs a row's session whose vault refuses call `nth`, after `kept` bytes of the piece. Asserts that the chip is
+// unchanged if the session returns an error, and has the image otherwise. Returns the error, the number of refusals,
+// whether the vault is sealed, and whether it holds a journal.
 fn refuse(
     rt: &impl Abort,
     alloc: Global,
@@ -31,7 +32,8 @@ fn refuse(
     (refusal, vault.failures(), held.is_sealed(), holds_journal)
 }
 
-// Refuses each of so many calls, and one more that doesn't come. From some call on the journal is whole already.
+// Refuses each of the session's `calls` calls of the vault in turn, and then the one after the last, which isn't made.
+// If the refused call is `whole_from` or a later one, the vault holds a whole journal.
 fn refuse_each(rt: &impl Abort, alloc: Global, row: Row, calls: u64, kept: usize, whole_from: u64) {
     for nth in 1..=calls {
         let left = refuse(rt, alloc, row, nth, kept);
@@ -42,8 +44,8 @@ fn refuse_each(rt: &impl Abort, alloc: Global, row: Row, calls: u64, kept: usize
     assert!(rt; left == (None, 0, true, true));
 }
 
-// The head is one piece, each record is one, the end has two; the last call is the seal. The piece before it is
-// shorter than 4,095 bytes, so where so many are kept of it the journal is whole already.
+// Each row has the number of calls: one for the header, one for each record, two for the end mark and the digest, and
+// the seal. The digest is shorter than 4,095 bytes. So if a refused call keeps 4,095 bytes of it, the journal is whole.
 const ROWS: [(Row, u64); 2] = [
     (Row::ABitRises, 1 + 1 + 2 + 1),
     (Row::NineSectorsAreErased, 1 + 9 + 2 + 1),

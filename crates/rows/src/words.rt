@@ -1,7 +1,8 @@
-//! Words of the command line, where memory is ample.
+//! Arguments of the command line, with enough memory.
 use nor_words::request_of;
 
-// A want of memory may be the answer to any words, so no clause refuses a body that always tells it.
+// The contract of `request_of` lets it return out of memory for any arguments, so it doesn't exclude a body that always
+// does. This test does.
 #[test]
 fn words_memory(rt: HostRuntime) {
     let mut words = Vec::new(rt.alloc());
