@@ -90,15 +90,14 @@ pub record WritesOnly (IsCode : (code : ℕ) → Type 0) (journal : Content) (on
 -- that had been targeted before, or that the journal saves, or it lies past the end of a chip that the journal saves
 -- whole. Each call sent at most one erase for each saved sector, and sixteen page programs. Each status write has bytes
 -- that had been written before, or such as this. Nothing was sent that the model does not know.
-pub record SendsSaved (IsCode : (code : ℕ) → Type 0) (calls : ℕ) (journal : Content) (old new : BusState) : Type 0
-  where
-    pub aimed : (s : ℕ) → (is_aimed_at new.sent s ≡ is_aimed_at old.sent s)
-        ⊎ ((is_saved journal s ≡ true) ⊎ IsBehindWhole journal s)
-    pub written : (one two : ℕ) → (has_written new.sent one two ≡ has_written old.sent one two)
-        ⊎ WritesOnly IsCode journal one two
-    pub erases : erases_of new.sent ≤ erases_of old.sent + calls * sector_count (is_saved journal)
-    pub programs : programs_of new.sent ≤ programs_of old.sent + calls * (16 * sector_count (is_saved journal))
-    pub strange : is_strange new.sent ≡ is_strange old.sent
+pub record SendsSaved (IsCode : ℕ → Type 0) (calls : ℕ) (journal : Content) (old new : BusState) : Type 0 where
+  pub aimed : (s : ℕ) → (is_aimed_at new.sent s ≡ is_aimed_at old.sent s)
+      ⊎ ((is_saved journal s ≡ true) ⊎ IsBehindWhole journal s)
+  pub written : (one two : ℕ) → (has_written new.sent one two ≡ has_written old.sent one two)
+      ⊎ WritesOnly IsCode journal one two
+  pub erases : erases_of new.sent ≤ erases_of old.sent + calls * sector_count (is_saved journal)
+  pub programs : programs_of new.sent ≤ programs_of old.sent + calls * (16 * sector_count (is_saved journal))
+  pub strange : is_strange new.sent ≡ is_strange old.sent
 
 -- No more erases and page programs were sent than the largest chip has sectors and pages, and nothing that the model
 -- does not know.
@@ -132,13 +131,13 @@ pub record IsWithinBound (scanned writes : ℕ) (verify : Bool) (report : Report
 
 -- The session ended: the vault is sealed and did not fail, and the report is within its bounds and counts the erases and
 -- page programs that were sent.
-pub record EndsSealed (request : Request) (old new : BusState) (vault vault' : VaultState) (report : Report) : Type 0
-  where
-    pub sealed : vault'.sealed ≡ true
-    pub failures : vault'.failures ≡ vault.failures
-    pub sent : SendsCounted report.erases report.programs old new
-    pub bounded : IsWithinBound (scanned_sectors request report.found.size)
-        (most_status_writes request.what request.unlock) request.verify report
+pub record EndsSealed (request : Request) (old new : BusState) (vault vault' : VaultState)
+    (report : Report) : Type 0 where
+  pub sealed : vault'.sealed ≡ true
+  pub failures : vault'.failures ≡ vault.failures
+  pub sent : SendsCounted report.erases report.programs old new
+  pub bounded : IsWithinBound (scanned_sectors request report.found.size)
+      (most_status_writes request.what request.unlock) request.verify report
 
 -- ---- on an honest bus
 
