@@ -1,4 +1,4 @@
--- What a session or a restore sends that may modify a chip, on every bus.
+-- Commands that a session or a restore sends and that may modify a chip, on every bus.
 use Rattle.std.proofs.Common.{◌≡◌, ◌≤◌, ◌<◌, ◌+◌, ◌-◌, ◌*◌, ◌/◌, ◌%◌, ◌∙◌, ◌⊎◌, ℕ, Bool, true, [], ◌∷◌, inl, inr, ap, arith}
 use Rattle.std.specs.Prelude.{◌&&◌, ◌||◌}
 use Rattle.std.proofs.Math.Nat.{add-mul}
@@ -63,7 +63,7 @@ sends_then IsCode m n journal old mid new before after = record {
   strange = after.strange ∙ before.strange;
 }
 
--- at most this many calls
+-- a bound for `n` calls is a bound for more calls
 pub sends_most : (IsCode : ℕ → Type 0) (n most : ℕ) (journal : Content) (old new : BusState) → n ≤ most
     → SendsSaved IsCode n journal old new → SendsSaved IsCode most journal old new
 sends_most IsCode n most journal old new few sends = record {
@@ -82,7 +82,7 @@ sends_most IsCode n most journal old new few sends = record {
         let sum : most * k ≡ n * k + (most - n) * k = ap (λ (m : ℕ). m * k) split ∙ add-mul n (most - n) k in
         omega (arith, sum)
 
--- more protection bits may be written
+-- a wider set of protection bits keeps the bound
 pub sends_wider : (IsCode IsWider : ℕ → Type 0) (calls : ℕ) (journal : Content) (old new : BusState)
     → ((code : ℕ) → IsCode code → IsWider code) → SendsSaved IsCode calls journal old new
     → SendsSaved IsWider calls journal old new
@@ -104,7 +104,7 @@ sends_wider IsCode IsWider calls journal old new wider sends = record {
 
 -- ---- the bytes of a status write
 
--- the status that was read with other protection bits
+-- A status write of the status that was read, with the protection bits `code`, is one that the journal allows.
 pub coded_only : (IsCode : ℕ → Type 0) (journal : Content) (status : Status) (code one two : ℕ) → code < 64
     → fixed_of (kept_in (bytes_of status)) ≡ fixed_of (kept_in journal.status) → IsCode code
     → has_code status code one two ≡ true → WritesOnly IsCode journal one two
@@ -121,9 +121,10 @@ coded_only IsCode journal status code one two small fixed is written =
       clear2 = omega (arith, second);
     }
 
--- ---- after what only looked
+-- ---- changes after calls that only read
 
--- The changes are those of sectors that a journal saves, and the status that was read fits the journal.
+-- The changes touch only sectors that a journal saves, the bits that are never changed were read as in the journal, and
+-- the protection bits to write may be written.
 pub record AreOfJournal (IsCode : ℕ → Type 0) (journal : Content) (changes : Changes) : Type 0 where
   pub sized : journal.size ≡ changes.size
   pub saved : (s : ℕ) → touched_in changes s ≡ true → is_saved journal s ≡ true

@@ -1,4 +1,4 @@
--- What a restore knows before it changes anything.
+-- Facts that a restore has shown before it changes anything.
 use Rattle.std.proofs.Common.{◌≡◌, ◌<◌, ◌+◌, ◌/◌, ◌∙◌, ◌||◌, ℕ, Bool, true, length, ap, sym, refl, arith, rules, inl, inr}
 use Rattle.std.specs.Prelude.{None}
 use Rattle.std.proofs.lemmas.Bool.{cases_Bool, both_ways, true_from_ne_false}
@@ -37,7 +37,7 @@ use Rattle.nor_session.proofs.ReadyChip.{told_idle, opening_of}
 use Rattle.nor_session.proofs.Rescanned.{restored_saved}
 use Rattle.nor_session.proofs.RestoredBytes.{unraised_byte}
 
--- What the identification and the scan of a restore showed.
+-- The result of the identification and the scan of a restore.
 pub record AreRead (journal : Content) (opening : Opening) (scanned : Scanned) (old mid new : BusState) : Type 0 where
   pub looks : Looks most_opening old mid
   pub opens : Opens None old mid opening

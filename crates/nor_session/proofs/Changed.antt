@@ -18,7 +18,7 @@ use Rattle.nor_apply.specs.Applying.{touched_in, raised_in, status_writes, write
 use Rattle.nor_apply.proofs.ApplyingExits.{raised_few}
 use Rattle.nor_session.specs.Changing.{touched_count, DoesCheck, DoesChange}
 
--- ---- how much they take
+-- ---- the number of transactions and erases
 
 pub two_writes : (changes : Changes) → status_writes changes ≤ 2
 two_writes changes = grind (arith, nat_tests)
@@ -52,7 +52,7 @@ fewest_at config sectors count below is =
     let most = (sized_bounds config).small in
     subst (IsLeastLength config.kinds (config.size / 4096) sectors) (sym is) (fewest_least config.kinds (config.size / 4096) sectors (omega arith) below)
 
--- ---- what they and their check leave
+-- ---- the result of the changes and of their check
 
 -- readings keep the result of the changes
 rest_applied : (changes : Changes) (wanted : ℕ → ℕ) (old mid new : BusState) → HasApplied changes wanted old mid → Rested mid new → HasApplied changes wanted old new

@@ -93,7 +93,7 @@ lost_within p first old new known lost within =
           search (arith, narrower)
     ]
 
--- ---- guarded places are whole sectors
+-- ---- protected ranges are whole sectors
 
 -- the size of a chip in the table is a multiple of 256 KiB
 scheme_size_at : (config : Config) (row : Option Part) → part_with_id (id_of config) ≡ row → IsGenuine config → config.scheme ≡ true → config.size % 262144 ≡ 0
@@ -113,14 +113,14 @@ guarded_same : (chip : Chip) (a b : ℕ) → IsGenuine chip.config → a / 4096 
 guarded_same chip a b genuine sector =
     search (arith, cases_Bool, cases_lt, guarded_within, is_guarded-no_scheme, is_guarded-past, sized_bounds)
 
--- ---- a touched sector may differ from the first chip
+-- ---- a touched sector may differ from the original chip
 
 pub touched_open : (journal : Content) (first chip : Chip) (a : ℕ) → IsKnown first.config → SavesChip journal first → ((b : ℕ) → open_places journal first b ≡ false → chip.bytes b ≡ first.bytes b)
     → is_touched chip.bytes (restored journal chip.bytes) (a / 4096) ≡ true → open_places journal first a ≡ true
 touched_open journal first chip a known saves same touched =
     search (arith, guarded_same, saved_byte-is, touched_byte, touched_saved)
 
--- changes of such sectors change a chip only within the open addresses
+-- changes of the touched sectors change a chip only at addresses at which it may differ from the original one
 pub change_within : (journal : Content) (first : Chip) (touched raised : ℕ → Bool) (wanted : ℕ → ℕ) (old mid new : BusState) → CanGiveBack journal first old → IsWithin (open_places journal first) first mid
     → ((s : ℕ) → touched s ≡ is_touched old.chip.bytes (restored journal old.chip.bytes) s) → MayChange touched raised wanted mid new → IsWithin (open_places journal first) first new
 change_within journal first touched raised wanted old mid new can within right change =
@@ -128,7 +128,7 @@ change_within journal first touched raised wanted old mid new can within right c
     (within_wider (places_of touched) (open_places journal first) mid.chip new
     (λ a hit. touched_open journal first old.chip a can.known can.saves can.within.bytes (sym (right (a / 4096)) ∙ hit)) change.within)
 
--- ---- the end gives it back
+-- ---- a restore that ends leaves the original chip
 
 pub given_back : (journal : Content) (first old new : Chip) → SavesChip journal first → old.config ≡ first.config
     → ((a : ℕ) → open_places journal first a ≡ false → old.bytes a ≡ first.bytes a) → new.config ≡ old.config
@@ -137,7 +137,7 @@ given_back journal first old new saves config within config_now bytes kept =
     let same = kept ∙ sym saves.bits in
     search (arith, and_left, cases_Bool, restored_other, restored_saved, saved_byte-is)
 
--- ---- such a chip is never refused
+-- ---- a restorable chip is never refused
 
 -- the non-volatile status bits fit the journal
 fixed_told : (journal : Content) (first chip : Chip) → first.kept ≡ kept_in journal.status → chip.config ≡ first.config

@@ -42,7 +42,7 @@ saved_free saved first text state a leads is = false_from_ne_true _ (λ both.
     let inside = leads.inside (a / 4096) is in let blocks = (sized_bounds first.config).blocks in
     both_ways _ (is_guarded-sector first a (omega arith) (rw is at (leads.free locked (a / 4096)))) guarded)
 
--- The journal that was read can restore the first chip.
+-- The journal that was read can restore the original chip.
 pub can_give_back : (saved : ℕ → Bool) (first : Chip) (text : List ℕ) (state : BusState) (journal : Content) → LeadsBack saved first text state
     → SameHead (head_of first) journal × Saves first.bytes saved journal → CanGiveBack journal first state
 can_give_back saved first text state journal leads read = record {
@@ -55,7 +55,7 @@ can_give_back saved first text state journal leads read = record {
       leads.within;
 }
 
--- The vault that a session sealed can restore the first chip.
+-- The bytes of a vault that a session sealed can restore the original chip.
 pub leads_back : (request : Request) (image : List ℕ) (old new : BusState) (vault : VaultState) → IsChip old.chip → IsGenuine old.chip.config → vault.telling ≡ true
     → CanBeUndone request image old new vault → LeadsBack (is_touched old.chip.bytes (wanted request image old.chip)) old.chip vault.bytes new
 leads_back request image old new vault is genuine telling undone = record {

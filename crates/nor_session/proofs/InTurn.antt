@@ -1,4 +1,4 @@
--- What sessions and restores that follow one another result in.
+-- The result of sessions and restores that follow one another.
 use Rattle.std.proofs.Common.{◌≡◌, ◌/◌, ◌∙◌, ◌⊎◌, ℕ, Bool, false, List, [], ap, sym, arith, inl, inr}
 use Rattle.std.proofs.lemmas.Bool.{and_left, and_parts, both_ways}
 use Rattle.nor_chip.specs.Chip.{Chip, IsSame}
@@ -19,9 +19,9 @@ use Rattle.nor_session.specs.InTurn.{LeavesJournal, LosesPower, MayLosePower, Is
 use Rattle.nor_session.proofs.GivenBack.{given_back, lost_within}
 use Rattle.nor_session.proofs.WrittenBack.{read_back, session_over}
 
--- ---- a chip that is the saved one already
+-- ---- a chip that is already equal to the saved one
 
--- each byte is as wanted
+-- each byte is already the one that a restore writes
 as_saved : (journal : Content) (first chip : Chip) (a : ℕ) → SavesChip journal first → IsSame first chip → restored journal chip.bytes a ≡ chip.bytes a
 as_saved journal first chip a saves same = search (arith, saved_byte-is)
 
@@ -58,7 +58,8 @@ changes_nothing journal first old new report saves same done =
 
 -- ---- one session after the other
 
--- The journal can make a chip the first one again, whatever runs on it: it saves that one, and all else agrees.
+-- The journal can turn a chip into the original one, even if an operation is in progress on it. The journal saves the
+-- original chip, and the two chips agree at all addresses that a restore can't write.
 record LeadsTo (journal : Content) (first chip : Chip) : Type 0 where
   saves : SavesChip journal first
   config : chip.config ≡ first.config
@@ -67,11 +68,11 @@ record LeadsTo (journal : Content) (first chip : Chip) : Type 0 where
 leads_to : (journal : Content) (first : Chip) (state : BusState) → CanGiveBack journal first state → LeadsTo journal first state.chip
 leads_to journal first state can = record { saves = can.saves; config = can.within.config; bytes = can.within.bytes }
 
--- it can from the same chip
+-- if the journal can turn a chip into the original one, it can do so for the same chip on another bus
 leads_same : (journal : Content) (first new taken : Chip) → LeadsTo journal first new → IsSame new taken → LeadsTo journal first taken
 leads_same journal first new taken leads same = search arith
 
--- a loss of power leaves what the journal can restore
+-- a journal that can restore a chip before a loss of power can do so after it
 pub lost_back : (journal : Content) (first : Chip) (old new : BusState) → CanGiveBack journal first old → LosesPower old new → CanGiveBack journal first new
 lost_back journal first old new can loses = record {
   known = can.known;
@@ -79,12 +80,13 @@ lost_back journal first old new can loses = record {
   within = lost_within (open_places journal first) first old new loses.known loses.lost can.within;
 }
 
--- a chip that may have lost its power since
+-- a chip that a journal can restore can be restored even if it then loses its power
 leads_kept : (journal : Content) (first : Chip) (new taken : BusState) → CanGiveBack journal first new → MayLosePower new taken → LeadsTo journal first taken.chip
 leads_kept journal first new taken can (inl same) = leads_same journal first new.chip taken.chip (leads_to journal first new can) same
 leads_kept journal first new taken can (inr loses) = leads_to journal first taken (lost_back journal first new taken can loses)
 
--- what a session left, if another run takes it up
+-- the journal of a session can restore the original chip from the chip that the session left, and from the chip that
+-- the next run starts with
 left_back : (request : Request) (image : List ℕ) (old new : BusState) (journal : Content) → LeavesJournal request image old new journal → CanGiveBack journal old.chip new
 left_back request image old new journal left = search (arith, read_back)
 
@@ -94,19 +96,19 @@ left_taken request image old new taken journal left (inl kept) =
     leads_kept journal old.chip new taken (left_back request image old new journal left) kept
 left_taken request image old new taken journal left (inr over) = search (arith, leads_to, session_over)
 
--- even after restores that were stopped
+-- the journal of a session can turn the chip into the original one even after stopped restores
 left_reached : (request : Request) (image : List ℕ) (old new taken : BusState) (journal : Content) → LeavesJournal request image old new journal
     → IsTakenUp old new taken ⊎ CanGiveBack journal old.chip taken → LeadsTo journal old.chip taken.chip
 left_reached request image old new taken journal left (inl up) = left_taken request image old new taken journal left up
 left_reached request image old new taken journal left (inr can) = leads_to journal old.chip taken can
 
--- a restore that ends has restored the first chip
+-- a restore that ends leaves the original chip
 led_back : (journal : Content) (first : Chip) (old new : BusState) (report : Report) → LeadsTo journal first old.chip → IsRestored journal old new report → IsSame first new.chip
 led_back journal first old new report leads done = search (arith, given_back)
 
 -- ---- two sessions
 
--- the same chip, once nothing runs on it, is within the same places
+-- if a chip differs from the original one only at some addresses, so does the same chip when it is idle
 idle_again : (p : ℕ → Bool) (first : Chip) (old new : BusState) → IsWithin p first old → IsSame old.chip new.chip → new.chip.busy ≡ 0 → IsWithin p first new
 idle_again p first old new within same idle =
     let fixed = ap fixed_of same.kept ∙ within.fixed in

@@ -1,4 +1,4 @@
--- What follows for the chip from an accepted request.
+-- Consequences of an accepted request for its chip.
 use Rattle.std.proofs.Common.{◌≡◌, ◌≢◌, ◌<◌, ◌*◌, ◌⊎◌, ℕ, Bool, true, false, List, Option, None, Some, Result, Ok, Err, zero, suc, refl, arith, inl, inr}
 use Rattle.std.specs.Prelude.{if◌then◌else◌}
 use Rattle.std.proofs.lemmas.Bool.{cases_Bool, false_from_ne_true, and_parts}
@@ -24,9 +24,9 @@ use Rattle.nor_save.proofs.OneVerdict.{touched_data}
 use Rattle.nor_save.specs.Saving.{NeedsStatus, NoneHeld, SomeHeld, is_held}
 use Rattle.nor_save.specs.Verdict.{IsNamed, IsAccepted}
 
--- ---- the part
+-- ---- the chip type
 
--- a chip that is identified neither as missing nor as unknown is identified as a part
+-- a chip that is identified neither as missing nor as unknown has a chip type
 part_shown : (undriven : Bool) (listed : Option Part) (with_id : List ℕ) (says : Result Geometry SfdpFault)
     (shown : Result Part ProbeFault)
     → shown ≡ (if undriven then Err Probes.NoChip else listed_or (part_by_sfdp with_id says) listed)
@@ -37,12 +37,12 @@ part_shown false (Some part) with_id says shown is there known = (part, is)
 part_shown false None with_id (Ok geometry) shown is there known = (_, is)
 part_shown false None with_id (Err fault) shown is there known = absurd (known fault is)
 
--- a name is given, or it isn't
+-- a name is the requested one, or it isn't
 wanted_or_other : (named : Option ChipName) (name : ChipName) → IsWanted named name ⊎ (¬ IsWanted named name)
 wanted_or_other None name = inl tt
 wanted_or_other (Some wanted) name = grind arith
 
--- its chip has the given name
+-- the chip of an accepted request has the requested name
 pub accepted_named : (request : Request) (image : List ℕ) (chip : Chip) → IsAccepted request image chip
     → IsNamed request.named chip.config
 accepted_named request image chip accepted =

@@ -1,4 +1,4 @@
--- What the status check of a restore shows.
+-- The result of the status check of a restore.
 use Rattle.std.proofs.Common.{◌≡◌, ◌<◌, ◌+◌, ◌-◌, ◌*◌, ◌/◌, ◌∙◌, ◌⊎◌, ℕ, Bool, true, false, ap, refl, inl, inr}
 use Rattle.std.specs.Prelude.{not, Option, Some, None, MatchOption}
 use Rattle.std.specs.Option.{is_some}
@@ -29,7 +29,7 @@ none_needed journal touched chip None held is code (inl differs) = differs code
 none_needed journal touched chip None held is code (inr some) =
     both_ways (is_held touched chip some.sector) (held some.sector) some.held
 
--- a chip with a held sector has block protection
+-- a chip with a protected sector has block protection
 pub held_scheme : (touched : ℕ → Bool) (chip : Chip) → SomeHeld touched chip → chip.config.scheme ≡ true
 held_scheme touched chip some = true_from_ne_false chip.config.scheme (λ none.
     let s = some.sector in

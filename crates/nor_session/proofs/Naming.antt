@@ -17,14 +17,14 @@ use Rattle.nor_session.specs.Changing.{NamesTouchedSector}
 use Rattle.nor_session.specs.Session.{SavesSector, NamesSector, NamesAddress}
 use Rattle.nor_session.specs.Prepare.{PrepareTells}
 
--- a scan waits for nothing
+-- a scan waits for no operation, so it returns neither a timeout nor a mismatch
 pub save_names : (request : Request) (opening : Opening) (code : ℕ) (image : List ℕ) (old new : BusState) (refusal : Refusal)
     → SaveTells request opening code image old new refusal → NamesSector (λ sector. ⊥) refusal
 save_names request opening code image old new (Timeout address) tells = absurd tells
 save_names request opening code image old new (Mismatch address) tells = absurd tells
 save_names request opening code image old new _ tells = tt
 
--- its errors come from the checks of the touched sectors, from the vault, or from a stop
+-- the errors of a scan are those of the checks of the touched sectors (9, 10), of the vault (11), or a stop (12)
 pub save_number : (request : Request) (opening : Opening) (code : ℕ) (image : List ℕ) (old new : BusState) (refusal : Refusal)
     → SaveTells request opening code image old new refusal → (9 ≤ number_of refusal) × (number_of refusal ≤ 12)
 save_number request opening code image old new StatusLocked tells = (omega arith, omega arith)
@@ -33,13 +33,13 @@ save_number request opening code image old new Vault tells = (omega arith, omega
 save_number request opening code image old new Stopped tells = (omega arith, omega arith)
 save_number request opening code image old new _ tells = absurd tells
 
--- its checks need no bus
+-- the checks after the identification send no transaction, so they return neither a timeout nor a mismatch
 pub judged_names : (refusal : Refusal) → IsOpeningRefusal refusal → NamesSector (λ sector. ⊥) refusal
 judged_names (Timeout address) is = absurd is
 judged_names (Mismatch address) is = absurd is
 judged_names _ is = tt
 
--- if this holds for each touched sector, it holds for the one at which the changes ended
+-- a property of all touched sectors holds for the sector that an error of the changes names
 pub change_names : {IsSuch : ℕ → Type 0} (changes : Changes) (refusal : Refusal)
     → ((s : ℕ) → touched_in changes s ≡ true → IsSuch s) → NamesTouchedSector changes refusal
     → NamesSector IsSuch refusal
@@ -48,7 +48,7 @@ change_names changes (Timeout address) such (inr touched) = inr (such (address /
 change_names changes (Mismatch address) such touched = such (address / 4096) touched
 change_names changes _ such names = tt
 
--- only saved sectors are changed, so a sealed vault has them
+-- only saved sectors are changed, so an error that names a sector names one that the journal of the sealed vault saves
 pub work_names : (changes : Changes) (head : Content) (vault : VaultState) (refusal : Refusal) → vault.sealed ≡ true
     → (vault.telling ≡ true → IsJournalOf head (touched_in changes) vault.bytes)
     → NamesTouchedSector changes refusal → NamesAddress vault refusal

@@ -101,7 +101,7 @@ restore_of_journal is = record {
 
 -- ---- the report
 
--- what the work counts was sent since the start
+-- the work counts the erases and page programs that were sent since the start
 pub counted : {changes : _} {wanted : ℕ → ℕ} {verify : Bool} (old : BusState) {mid new : BusState} {work : Work}
     → mid.sent ≡ old.sent → DoesChange changes wanted verify mid new work
     → SendsCounted work.erases work.programs old new

@@ -1,4 +1,4 @@
--- What holds on every bus after the touched sectors are saved, and how many transactions follow.
+-- The state of a session after the touched sectors are saved, on every bus, and the number of transactions that follow.
 use Rattle.std.proofs.Common.{◌≡◌, ◌≤◌, ◌+◌, ◌/◌, ◌∙◌, ℕ, Bool, true, false, List, ap, sym, refl, arith, rules}
 use Rattle.std.specs.Prelude.{if◌then◌else◌}
 use Rattle.std.proofs.lemmas.Bool.{true_from_ne_false, false_from_ne_true}
@@ -36,7 +36,7 @@ use Rattle.nor_session.specs.Changing.{read_back, most_changed, DoesChange}
 use Rattle.nor_session.specs.Session.{most_status_writes, IsWithinBound}
 use Rattle.nor_session.proofs.Changed.{two_writes, write_once}
 
--- the changes of a chip with this identification, after this was saved
+-- the changes of a chip with this identification, after this scan saved the touched sectors
 abbrev pub changes_of : Opening → SavedScan → Status → ℕ → Changes
 changes_of opening kept status code =
     record {
@@ -61,7 +61,7 @@ pub record Ready (request : Request) (opening : Opening) (status : Status) (code
   pub is_status : bytes_of status ≡ status_read opening
   pub same_code : is_data request.what ≡ true → code ≡ code_of (kept_in (status_read opening))
 
--- ---- the opening, and what is read after it
+-- ---- the identification, and the readings after it
 
 pub has_opened : {named : _} {opening : Opening} {old mid : BusState} → Looks most_opening old mid
     → Opens named old mid opening → HasLooked opening.transactions old mid
@@ -78,7 +78,7 @@ ready {opening = opening} {kept = kept} {old = old} {mid = mid} {new = new} look
     = grind (arith, nature_then old mid new more.nature looks.nature, rested_then old mid new) in
     search rules
 
--- ---- how many sectors there are
+-- ---- the number of sectors
 
 pub scanned_most : (request : Request) (size : ℕ) → scanned_sectors request size ≤ size / 4096
 scanned_most request size =
@@ -88,7 +88,7 @@ scanned_most request size =
 pub scanned_few : (request : Request) (size : ℕ) → size ≤ 16777216 → scanned_sectors request size ≤ 4096
 scanned_few request size small = let most = scanned_most request size in omega arith
 
--- ---- how many transactions there are
+-- ---- the number of transactions
 
 pub spends_more : {m n : ℕ} {old new : BusState} → m ≤ n → Spends m old new → Spends n old new
 spends_more fits spends =
@@ -98,7 +98,7 @@ pub spends_looks : {m n : ℕ} {old new : BusState} → m ≤ n → Looks m old 
 spends_looks fits looks =
     spends_more fits (record { nature = looks.nature; falls = λ honest. (looks.looked honest).falls })
 
--- ---- how often the status is written
+-- ---- the number of status writes
 
 -- touched sectors were scanned, so the request is for data
 pub touched_data : (request : Request) (size : ℕ) {scanned : Scanned} (s : ℕ) → size ≤ 16777216
@@ -150,7 +150,7 @@ module _ {request : Request} {opening : Opening} {status : Status} {code : ℕ} 
 
 -- ---- the report
 
--- if the status is written at most this often
+-- the report is within the bound for at most `most` status writes
 pub bounded_by : (request : Request) (opening : Opening) (status : Status) (code : ℕ) (kept : SavedScan) (old mid new : BusState) (wanted : ℕ → ℕ) (verify : Bool) (work : Work) (sent most : ℕ) → sent ≡ kept.scanned.reads
     → Ready request opening status code kept old mid → status_writes (changes_of opening kept status code) ≤ most
     → DoesChange (changes_of opening kept status code) wanted verify mid new work

@@ -1,4 +1,4 @@
--- What holds for a genuine chip after its touched sectors are saved.
+-- The state of a genuine chip after its touched sectors are saved.
 use Rattle.std.proofs.Common.{◌≡◌, ◌<◌, ◌≤◌, ◌/◌, ◌∙◌, ℕ, true, List, ap, refl, arith, rules, inr}
 use Rattle.std.specs.Prelude.{Option, Err}
 use Rattle.std.proofs.lemmas.Bool.Decides.{nat_tests}
@@ -29,7 +29,7 @@ use Rattle.nor_session.specs.Session.{SessionTells, HonestTells}
 use Rattle.nor_save.proofs.OneVerdict.{first_of}
 use Rattle.nor_session.proofs.Ready.{scanned_most, scanned_few}
 
--- ---- the opening tells the starting chip
+-- ---- the identification shows the chip from before it
 
 pub opening_of : {named : Option ChipName} {opening : Opening} {old mid : BusState} → IsModelled old
     → Opens named old mid opening → IsOpening old.chip opening
@@ -46,7 +46,7 @@ pub is_opening : (request : Request) (opening : Opening) (old mid : BusState) �
     → Opens request.named old mid opening → IsOpening old.chip opening
 is_opening request opening old mid = opening_of
 
--- status 1 of an idle chip is reported as it was, with the latch
+-- status 1 of a chip that was idle is reported as it was, with the write enable latch
 pub told_idle : (named : Option ChipName) (opening : Opening) (old mid : BusState) → old.honest ≡ true → Opens named old mid opening → old.chip.busy ≡ 0 → opening.found.status1 ≡ status1_of old.chip
 told_idle named opening old mid honest opens idle =
     let rested = opens.rested honest in let latch = rested.idle_latch idle in
@@ -56,7 +56,7 @@ pub shows : (request : Request) (opening : Opening) (old mid : BusState) → IsM
 shows request opening old mid is looks opens =
     let rested = opens.rested is.honest in let idle = opens.idle is.honest in search rules
 
--- the status byte that was read is one that a chip can have
+-- the non-volatile bits of status 2 are in range before the identification if they are in range after it
 pub small_first : {named : Option ChipName} {opening : Opening} {old mid : BusState} → old.honest ≡ true
     → Opens named old mid opening → mid.chip.kept.two < 128 → old.chip.kept.two < 128
 small_first honest opens small =
@@ -71,7 +71,7 @@ pub most_sized : (request : Request) {config : Config} {found : Found} → IsCon
 most_sized request {found = found} is =
     let most = scanned_most request found.size in let size = is.size in omega arith
 
--- ---- what a refusal of the scan tells
+-- ---- the errors of the scan
 
 pub save_gives_up : (request : Request) (image : List ℕ) (opening : Opening) (code few : ℕ) (old mid new : BusState)
     (refusal : Refusal) → old.honest ≡ true → Looks most_opening old mid → Opens request.named old mid opening
@@ -106,7 +106,7 @@ save_tells request image opening code old mid new vault vault' (Protected addres
     tells old.chip (opening_of is opens) (shows request opening old mid is looks opens) accepts
 save_tells request image opening code old mid new vault vault' _ is looks opens accepts rose tells = absurd tells
 
--- ---- where the opening refuses
+-- ---- the errors of the identification
 
 pub open_tells : (request : Request) (image : List ℕ) (old new : BusState) (vault vault' : VaultState) (refusal : Refusal) → IsModelled old
     → OpeningTells most_opening request.named old new refusal → SessionTells request image old new vault vault' refusal
@@ -120,7 +120,7 @@ open_tells request image old new vault vault' Stopped is tells = let ran = tells
 open_tells request image old new vault vault' (Timeout address) is tells = absurd (tells.1 is.honest)
 open_tells request image old new vault vault' _ is tells = absurd tells
 
--- the same after a failed check
+-- the verdict of the checks after the identification is a possible error of the session
 pub judge_tells : (request : Request) (image : List ℕ) (old new : BusState) (vault vault' : VaultState)
     (refusal : Refusal) → IsVerdict request image old.chip refusal
     → SessionTells request image old new vault vault' refusal

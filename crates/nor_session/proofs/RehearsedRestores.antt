@@ -1,4 +1,4 @@
--- What one restore with a stop leaves, restores in turn, and restores from bytes.
+-- The state that is left by one restore with a stop, by restores in turn, and by restores from bytes.
 use Rattle.std.proofs.Common.{◌≡◌, ◌<◌, ◌≤◌, ◌+◌, ◌∙◌, ℕ, Bool, List, length, slice_index, true, false, refl, sym, arith, inl, inr}
 use Rattle.std.specs.Prelude.{Ok, Err, Result}
 use Rattle.std.proofs.lemmas.Bool.{cases_eq}
@@ -46,14 +46,14 @@ restores_then journal m n most old mid new fits before after =
     let sends = sends_most (IsSavedCode journal) (m + n) most journal old new fits both in
     search (arith, nature_then)
 
--- it returned another error than a stop
+-- on an honest bus, an error other than a stop isn't a timeout either
 pub no_halt : (most : ℕ) (IsEarly : Refusal → Type 0) (old new : BusState) (refusal : Refusal) → (refusal ≡ Stopped → ⊥)
     → HonestTells most IsEarly old new refusal → IsNoHalt refusal
 no_halt most IsEarly old new Stopped never tells = absurd (never refl)
 no_halt most IsEarly old new (Timeout address) never tells = absurd tells
 no_halt most IsEarly old new _ never tells = refl
 
--- a restore that may use this many transactions
+-- a restore that is allowed `n` transactions
 module _ {n : ℕ} {journal : Content} {old mid new : BusState} (allows : Allows n old mid) where
   pub under_leaves : {result : Result Report Refusal} → (IsModelled mid → GivesBack journal mid new result)
       → RestoreAlways journal mid new result → (IsModelled mid → RestoreModelled journal mid new result)
@@ -62,13 +62,13 @@ module _ {n : ℕ} {journal : Content} {old mid new : BusState} (allows : Allows
       restores_then journal 0 1 1 old mid new (omega arith) (allow_leaves journal old mid allows)
       (search (arith, modelled_at, unraised_other))
 
-  -- it ended
+  -- the restore ended
   pub under_ends : (report : Report) → (IsModelled mid → GivesBack journal mid new (Ok report))
       → RestoreAlways journal mid new (Ok report)
       → (mid.honest ≡ true → RestoreHonest journal mid new (Ok report)) → ShowsRestore journal n old new true
   under_ends report gives always told = let leaves = allow_leaves journal old mid allows in search arith
 
-  -- it returned an error
+  -- the restore returned an error other than a stop
   pub under_refuses : (refusal : Refusal) → (IsModelled mid → GivesBack journal mid new (Err refusal))
       → RestoreAlways journal mid new (Err refusal)
       → (mid.honest ≡ true → RestoreHonest journal mid new (Err refusal)) → (refusal ≡ Stopped → ⊥)
@@ -85,7 +85,7 @@ pub record AreStopped (journal : Content) (stops : List ℕ) (old now : BusState
 
 module _ {journal : Content} {stops : List ℕ} {old now : BusState} {n : ℕ} (before : AreStopped journal stops old now n)
     (new : BusState) where
-  -- one more
+  -- one more restore was run
   pub leaves_more : {most : ℕ} → n + 1 ≤ most → LeavesRestores journal 1 now new → LeavesRestores journal most old new
   leaves_more fits leaves = restores_then journal n 1 _ old now new fits before.leaves leaves
 
@@ -99,7 +99,7 @@ module _ {journal : Content} {stops : List ℕ} {old now : BusState} {n : ℕ} (
     ];
   }
 
-  -- the next one ended
+  -- the next restore ended
   pub ended_at : (restores : ℕ) → restores ≡ n + 1 → n < length stops
       → ShowsRestore journal (slice_index stops n) now new true → ShowsRestores journal stops old new restores
   ended_at restores is inside shows = search arith
@@ -114,7 +114,7 @@ pub last_ends : {journal : Content} {now new : BusState} {most : ℕ} → most �
     → ShowsRestore journal most now new false → StopsRestores journal now Stopped
 last_ends {journal = journal} is shows = search (arith, saved_room)
 
--- ---- restores from a text
+-- ---- restores from bytes
 
 -- the bytes are this journal, and it was read
 module _ {bytes : List ℕ} {journal : Content} (is : IsContent journal) (same : bytes ≡ text journal)

@@ -1,4 +1,4 @@
--- What a session with a stop leaves, and the restores after it.
+-- The state that a session with a stop leaves, and the restores after it.
 use Rattle.std.proofs.Common.{◌≡◌, ◌≤◌, ◌+◌, ◌*◌, ◌∙◌, ℕ, List, [], ◌∷◌, length, drop, true, false, refl, ap, sym, arith, inl, inr}
 use Rattle.std.specs.Prelude.{max, Ok, Err, Result}
 use Rattle.std.proofs.lemmas.Bool.{true≢false, cases_Bool}
@@ -37,7 +37,7 @@ told request image old new before after Vault never tells = tells
 told request image old new before after Stopped never tells = absurd (never refl)
 told request image old new before after _ never tells = tells
 
--- it is one that leaves the chip as it was and the vault unsealed
+-- an error of the session that ends the rehearsal is one of 1 to 11, and after it the chip is as it was
 early : (request : Request) (image : List ℕ) (old new : BusState) (before after : VaultState) (refusal : Refusal) → RehearsalTells request image old.chip before after refusal
     → (number_of refusal ≤ 11) × (HonestTells (most_of 4096) (λ refusal. number_of refusal ≤ 11) old new refusal → IsSame old.chip new.chip)
 early request image old new before after Vault tells = (omega arith, λ same. same (omega arith))
@@ -52,7 +52,7 @@ can_end request image n chip accepted erases fewest enough =
 wanted_bits : (request : Request) (image : List ℕ) (mid new : BusState) (report : Report) → IsDone request image mid new report → HasWantedBits request.what mid.chip new.chip
 wanted_bits request image mid new report done = record { code = done.code; is_wanted = done.is_wanted; kept = done.kept }
 
--- a session that may use this many transactions, and what it leaves
+-- a session that is allowed `n` transactions, and the state that it leaves
 module _ {n : ℕ} {old mid : BusState} (allows : Allows n old mid) where
   modelled_mid : IsModelled old → IsModelled mid
   modelled_mid = modelled_at old mid allows.nature.honest (ap (λ (chip : Chip). chip.config) allows.chip)
@@ -118,26 +118,27 @@ module _ {n : ℕ} {old mid : BusState} (allows : Allows n old mid) where
           };
         }
 
-    -- it returned an error: not a stop, unless it might use as many transactions as any call needs
+    -- The session returned an error. If that is a stop, the session was allowed the most transactions that any call
+    -- needs.
     pub session_refuses : (refusal : Refusal) → SessionAlways request mid new before after (Err refusal)
         → (mid.honest ≡ true → SessionHonest mid new (Err refusal))
         → (IsModelled mid → SessionModelled request image mid new before after (Err refusal))
         → (refusal ≡ Stopped → n ≡ most_of 4096) → RefusesSession request image old new before after refusal
     session_refuses refusal always told_of promise all = search (arith, early, no_halt, told)
 
--- without stops a call may use as many transactions as any call needs
+-- without stops a call is allowed the most transactions that any call needs
 pub unlimited : (stops : List ℕ) → length stops ≡ 0 → first_allowance stops ≡ most_of 4096
 unlimited [] none = refl
 unlimited (first ∷ later) none = absurd (omega arith)
 
 -- ---- both
 
--- the stops after the first are one fewer
+-- one more than the number of stops after the first is the number of stops, or 1 without stops
 behind_first : (stops : List ℕ) → length (drop 1 stops) + 1 ≡ max 1 (length stops)
 behind_first [] = refl
 behind_first (first ∷ later) = omega arith
 
--- a session alone sends no more than a rehearsal may
+-- a session without restores sends no more than a rehearsal may send
 pub session_sends : {request : Request} {image : List ℕ} {old new : BusState} {vault : VaultState} (stops : List ℕ)
     → LeavesSession request image old new vault → vault.sealed ≡ true → (journal : IsJournal vault.bytes)
     × SendsSaved (IsRehearsedCode request.what journal.content) (1 + max 1 (length stops)) journal.content old new
@@ -157,12 +158,12 @@ module _ {request : Request} {image text later : List ℕ} {old mid new : BusSta
   pub led : IsModelled old → IsModelled mid × LeadsBack (is_touched old.chip.bytes (wanted request image old.chip)) old.chip text mid
   led modelled = search (arith, modelled_at)
 
-  -- both erase only sectors that the session touches
+  -- the session and the restores erase only sectors that the session touches
   pub both_wear : IsModelled old → (s : ℕ) → is_touched old.chip.bytes (wanted request image old.chip) s ≡ false → new.worn s ≡ old.worn s
   both_wear modelled s other =
       let (still, leads) = led modelled in undone.wears still _ _ leads s other ∙ session.wears modelled s other
 
-  -- both target only sectors that the journal saves
+  -- the session and the restores target only sectors that the journal saves
   pub both_send : (stops : List ℕ) → later ≡ drop 1 stops → (journal : IsJournal vault.bytes)
       × SendsSaved (IsRehearsedCode request.what journal.content) (1 + max 1 (length stops)) journal.content old new
   both_send stops behind =
@@ -188,7 +189,7 @@ module _ {request : Request} {image text later : List ℕ} {old mid new : BusSta
       let before = session.writes in let after = undone.writes in
       omega (arith, count, one, before, after)
 
-  -- their errors are those of restores, and name sectors that the sealed journal saves
+  -- the errors of these restores are those of `restore`, and name sectors that the sealed journal saves
   pub undo_refused : (had : VaultState) (refusal : Refusal) → RefusesUndo text mid refusal
       → IsRehearsalRefusal had vault refusal × NamesAddress vault refusal
   undo_refused had refusal refuses = (

@@ -1,4 +1,4 @@
--- What the identification of a restore shows.
+-- The result of the identification of a restore.
 use Rattle.std.proofs.Common.{◌≡◌, ◌∙◌, ℕ, true, List, refl, arith}
 use Rattle.std.specs.Prelude.{◌≢◌, Result, Ok, Err, Some, None, IsOk}
 use Rattle.nor_chip.specs.declared.config.Config.{Config}
@@ -28,11 +28,11 @@ named_by : (chip : Chip) (outcome : Result Part ProbeFault) → shown_as chip.co
 named_by chip (Ok part) is ok = record { part = part; shown = is; wanted = tt }
 named_by chip (Err fault) is ok = absurd cc
 
--- a known chip has some name
+-- a known chip has a name
 pub named_known : (chip : Chip) → IsKnown chip.config → IsNamed None chip.config
 named_known chip known = named_by chip (shown_as chip.config) refl known.shown
 
--- ---- its unit
+-- ---- the device (unique ID)
 
 pub other_unit : (journal : Content) (config : Config) (unique : List ℕ) → journal.unique ≡ Some unique → unique ≢ unique_of config → IsOfOtherUnit journal config
 other_unit journal config unique is other = rw is other
@@ -43,7 +43,7 @@ no_unit journal config is other = rw is at other
 pub same_unit : (journal : Content) (config : Config) (unique : List ℕ) → journal.unique ≡ Some unique → unique ≡ unique_of config → ¬ IsOfOtherUnit journal config
 same_unit journal config unique is same other = (rw is at other) same
 
--- ---- refusals
+-- ---- errors
 
 -- the errors of the probe
 pub probe_tells : (journal : Content) (old new : BusState) (fault : ProbeFault) → BlamesName None fault → (old.honest ≡ true → Tells None old new fault) → PrepareTells journal most_opening old new (of_probe fault)

@@ -1,4 +1,4 @@
--- What a restore has scanned so far.
+-- The sectors that a restore has scanned so far.
 use Rattle.std.proofs.Common.{◌≡◌, ◌<◌, ◌≤◌, ◌+◌, ◌*◌, ◌/◌, ◌&&◌, ◌||◌, ◌∙◌, ℕ, Bool, true, false, List, [], length, take, slice_index, refl, ap, sym, subst, arith}
 use Rattle.std.specs.Prelude.{◌==◌, Option, Some, slice_get}
 use Rattle.std.specs.Option.{is_some, unwrap_or}
@@ -38,14 +38,14 @@ pub record HasRescanned (journal : Content) (i : ℕ) (old new : BusState) (scan
   pub touched : IsOpen journal.size old → (s : ℕ) → has scanned.touched s ≡ (saved_before journal i s && is_touched old.chip.bytes (restored journal old.chip.bytes) s)
   pub raised : IsOpen journal.size old → (s : ℕ) → has scanned.raised s ≡ (saved_before journal i s && is_raised old.chip.bytes (restored journal old.chip.bytes) s)
 
--- ---- before the first
+-- ---- before the first sector
 
 pub nothing_rescanned : {journal : Content} {state : BusState} {scanned : Scanned} → IsBlank scanned
     → HasRescanned journal 0 state state scanned
 nothing_rescanned {journal = journal} {state = state} {scanned = scanned} blank =
     search (arith, and_left, both_ways, count_below-none, has_looked-none, saved_in-nil)
 
--- ---- one more
+-- ---- one more sector
 
 later_marks : {m n : ℕ} {scanned : Scanned} → m ≤ n → AreMarks m scanned → AreMarks n scanned
 later_marks later are = search (are.below, arith)
@@ -73,7 +73,7 @@ restored_other journal content a is = rw is refl
 restored_at : (journal : Content) (content : ℕ → ℕ) (s : ℕ) (saved : List ℕ) (i : ℕ) → saved_in journal.saved s ≡ Some saved → i < 4096 → slice_index saved i ≡ restored journal content (4096 * s + i)
 restored_at journal content s saved i is below = search (arith, byte_at, is_saved-some, restored_saved, sector_at)
 
--- what the plan of a sector says
+-- the plan of a sector says whether the sector is touched, and whether it is raised
 planned_from : (journal : Content) (s : ℕ) (saved bytes : List ℕ) (old mid new : BusState) (plan : SectorPlan) (i : ℕ) → saved_in journal.saved s ≡ Some saved → s < journal.size / 4096
     → length saved ≡ 4096 → IsOpen journal.size old → HasLooked i old mid → PlansSaved s saved bytes mid new plan
     → (plan.touched ≡ is_touched old.chip.bytes (restored journal old.chip.bytes) s) × (plan.raised ≡ is_raised old.chip.bytes (restored journal old.chip.bytes) s)
@@ -128,7 +128,7 @@ rescanned_more {journal = journal} {i = i} {s = s} {saved = saved} {bytes = byte
 
 -- ---- the end
 
--- a sector that isn't saved is as wanted
+-- a sector that isn't saved isn't changed, so it is neither touched nor raised
 pub untouched_other : (journal : Content) (content : ℕ → ℕ) (s : ℕ) → is_saved journal s ≡ false → is_touched content (restored journal content) s ≡ false
 untouched_other journal content s none = search (arith, restored_other, sector_at, untouched)
 

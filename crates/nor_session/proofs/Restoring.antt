@@ -36,7 +36,7 @@ use Rattle.nor_session.proofs.Rescanned.{restored_saved}
 use Rattle.nor_session.proofs.RestoredBytes.{touched_saved, written_restored, pages_same}
 use Rattle.nor_session.proofs.GivenBack.{looked_within, change_within, given_back}
 
--- ---- what a refusal before any change tells
+-- ---- the errors before any change
 
 pub looks_spend : (few most : ℕ) (old new : BusState) → few ≤ most → Looks few old new → Spends most old new
 looks_spend few most old new fits looks = search (arith, looks_most)
@@ -65,14 +65,14 @@ module _ (journal : Content) (most : ℕ) (old new : BusState) where
   looks_leave looked =
       let fixed = λ (calm : IsCalm old). ap fixed_of (looked.stays.calm calm).kept in search arith
 
--- a chip that can be restored still can be
+-- a chip that can be restored before a call that only reads can be restored after it
 pub looks_back : (journal : Content) (first : Chip) (most : ℕ) (old new : BusState) → old.honest ≡ true → Looks most old new → CanGiveBack journal first old → CanGiveBack journal first new
 looks_back journal first most old new honest looks can =
     assumption (looked_within _ first most old new looks.nature.steady (looks.looked honest) can.within)
 
--- ---- the changes after it
+-- ---- the changes after the preparation
 
--- What a restore prepared, and what its changes left.
+-- The result of a restore's preparation, and the state that its changes left.
 pub record AreChanged (journal : Content) (prepared : Prepared) (old mid new : BusState) : Type 0 where
   pub room : length journal.saved ≤ 4096
   pub looks : Looks (most_opening + length journal.saved) old mid
@@ -97,7 +97,7 @@ module _ (journal : Content) (prepared : Prepared) (old mid new : BusState) wher
       let fixed = λ (calm : IsCalm old). may.within.fixed ∙ ap fixed_of (stays.calm calm).kept in
       search (arith, narrower)
 
-  -- ---- they weren't finished
+  -- ---- the changes weren't finished
 
   pub change_gives_up : (refusal : Refusal) → AreChanged journal prepared old mid new → old.honest ≡ true
       → ChangeTells prepared.changes (saved_byte journal) mid new refusal
@@ -127,7 +127,7 @@ change_not_judged changes wanted old new (Timeout address) tells judged = true�
 change_not_judged changes wanted old new (Mismatch address) tells judged = true≢false (sym judged)
 change_not_judged changes wanted old new _ tells judged = tells
 
--- ---- they were
+-- ---- the changes were finished
 
 -- the report
 abbrev pub report_of : Prepared → Work → ℕ → Report
@@ -147,7 +147,7 @@ module _ (journal : Content) (prepared : Prepared) (old mid new : BusState) (wor
 
   module _ (sent : ℕ) (are : AreChanged journal prepared old mid new)
       (does : DoesChange prepared.changes (saved_byte journal) true mid new work) where
-    -- if the status is written at most this often
+    -- the report is within the bound for at most `writes` status writes
     restored_within : (writes : ℕ) → sent ≡ prepared.transactions + work.transactions
         → status_writes prepared.changes ≤ writes
         → IsWithinBound (length journal.saved) writes true (report_of prepared work sent)
@@ -157,7 +157,7 @@ module _ (journal : Content) (prepared : Prepared) (old mid new : BusState) (wor
         → IsWithinBound (length journal.saved) 2 true (report_of prepared work sent)
     restored_bounded sum = restored_within 2 sum (two_writes prepared.changes)
 
-    -- if no status write is needed, there is none
+    -- if no status write is needed, the report is within the bound without status writes
     pub restored_sparing : sent ≡ prepared.transactions + work.transactions → IsModelled old
         → ¬ NeedsStatusFrom journal old.chip
         → IsWithinBound (length journal.saved) 0 true (report_of prepared work sent)
@@ -212,6 +212,6 @@ module _ (journal : Content) (prepared : Prepared) (old mid new : BusState) (wor
               does.still (omega arith) ∙ are.looks.sent;
         }
 
--- the first chip is restored
+-- a restore that ends leaves the original chip
 pub restored_back : (journal : Content) (first : Chip) (old new : BusState) (report : Report) → CanGiveBack journal first old → IsRestored journal old new report → IsSame first new.chip
 restored_back journal first old new report can done = search (arith, given_back)

@@ -1,4 +1,4 @@
--- What a journal saved: the bytes at the addresses of a chip, and how many sectors.
+-- The saved sectors of a journal: the bytes at the addresses of a chip, and the number of sectors.
 use Rattle.std.proofs.Common.{◌≡◌, ℕ, ◌+◌, ◌*◌, ◌/◌, ◌<◌, ◌≤◌, ◌∙◌, ◌||◌, Bool, true, false, length, List, [], ◌∷◌, slice_index, refl, sym, ap, arith, Some}
 use Rattle.std.specs.Prelude.{◌==◌}
 use Rattle.std.specs.Option.{is_some}

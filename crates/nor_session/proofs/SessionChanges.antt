@@ -1,4 +1,4 @@
--- The changes of a session can be made, and what their errors say.
+-- The changes of a session can be made; the meaning of their errors.
 use Rattle.std.proofs.Common.{◌≡◌, ◌≢◌, ◌<◌, ◌≤◌, ◌/◌, ◌∙◌, ℕ, Bool, true, false, List, ap, sym, refl, arith, bit_and}
 use Rattle.nor_probe.specs.Known.{shown_as}
 use Rattle.nor_probe.specs.Found.{part_in}
@@ -55,7 +55,7 @@ pub record ReadyChip (request : Request) (image image' : List ℕ) (opening : Op
   pub bytes : (a : ℕ) → slice_index image' a < 256
   pub small : old.chip.kept.two < 128
 
--- ---- the status is written only where it can be
+-- ---- the status is written only if it can be
 
 needs_by : (what : What) (unlock lifted : Bool) (code : ℕ) (touched : ℕ → Bool) (chip : Chip)
     → (lifted ≡ true → (unlock ≡ true) × SomeHeld touched chip) → (is_data what ≡ false → lifted ≡ false)
@@ -74,7 +74,7 @@ scheme_needed _ unlock code touched chip scheme need = held_scheme touched chip 
 module _ (request : Request) (image image' : List ℕ) (opening : Opening) (status : Status) (code : ℕ)
     (kept : SavedScan) (old mid : BusState) (is : Ready request opening status code kept old mid)
     (of : ReadyChip request image image' opening code kept old mid) where
-  -- why the status is written
+  -- the reason for a status write
   pub needs : (kept.unlock || writes_code (changes_of opening kept status code)) ≡ true
       → NeedsStatus request.what request.unlock code (is_touched old.chip.bytes (wanted request image old.chip)) old.chip
   needs writes =
@@ -127,7 +127,7 @@ module _ (request : Request) (image image' : List ℕ) (opening : Opening) (stat
             cc;
       }
 
--- ---- what a refusal tells
+-- ---- the errors of the changes
 
 pub change_gives_up : (request : Request) (opening : Opening) (status : Status) (code : ℕ) (kept : SavedScan) (aim : ℕ → ℕ) (old mid new : BusState) (refusal : Refusal) → old.honest ≡ true
     → Ready request opening status code kept old mid → ChangeTells (changes_of opening kept status code) aim mid new refusal → HonestTells (most_of 4096) (λ refusal. number_of refusal ≤ 11) old new refusal

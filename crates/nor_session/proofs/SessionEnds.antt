@@ -1,4 +1,4 @@
--- What a session leaves after the seal, and at its end.
+-- The state that a session leaves after the seal, and at its end.
 use Rattle.std.proofs.Common.{subst, ◌≡◌, ◌<◌, ◌+◌, ◌∙◌, ℕ, Bool, List, ap, sym, arith}
 use mathlib.Core.Path.{fun_ext}
 use Rattle.std.specs.Prelude.{slice_index}
@@ -59,7 +59,7 @@ module _ (request : Request) (image image' : List ℕ) (opening : Opening) (stat
       record {
         accepted = of.scan.accepted;
         journal = chip.journal;
-        -- the changes are on the way to the wanted chip
+        -- the changes lead from the original chip to the target
         changes = change_then is.looked.nature.steady (same_change unchanged.same of.idle unchanged.worn)
             (change_as (λ s hit. sym (of.touched s) ∙ hit) (λ s hit. sym (of.raised s) ∙ hit)
             (λ a plain hit. of.merged a hit) (leaves.reached honest can));

@@ -23,12 +23,13 @@ use Rattle.nor_session.proofs.GivesBack.{can_give_back, leads_back}
 
 -- ---- one chip written over with another
 
--- what holds for two numbers holds for a number that is one of them
+-- a property of two numbers holds for a number that is one of them
 pub either : (P : ℕ → Type 0) (x y z : ℕ) → (z ≡ x) ⊎ (z ≡ y) → P x → P y → P z
 either P x y z (inl is) one two = rw is one
 either P x y z (inr is) one two = rw is two
 
--- bits that both chips have are bits of the chip that was opened, and so are fixed bits
+-- if both chips have the same non-volatile bits, so has the chip that was opened; the same holds for the bits that are
+-- never changed
 kept_over : {old new opened : Chip} (first : KeptBits) → IsWrittenOver old new opened → old.kept ≡ first
     → new.kept ≡ first → opened.kept ≡ first
 kept_over {old} {new} {opened} first over before after =
@@ -47,7 +48,7 @@ fixed_over {old} {new} {opened} first over before after =
     (ap (λ (f : ℕ × ℕ). f.1) before) (ap (λ (f : ℕ × ℕ). f.1) after) in
     rw (one, two) refl
 
--- if both chips differ from the first one only within these addresses, so does the chip that was opened
+-- if both chips differ from the original one only at these addresses, so does the chip that was opened
 pub within_both : (places : ℕ → Bool) (first : Chip) (old new opened : BusState) → IsWrittenOver old.chip new.chip opened.chip
     → IsWithin places first old → IsWithin places first new → IsWithin places first opened
 within_both places first old new opened over before after =
@@ -55,7 +56,8 @@ within_both places first old new opened over before after =
     let kept = λ (shut : is_writable first ≡ false). kept_over first.kept over (before.kept shut) (after.kept shut) in
     search (arith, either)
 
--- a chip that can be restored before and after can be restored at each moment between
+-- if the journal can restore the chip before and the chip after, it can restore each chip that is opened while the
+-- files are overwritten from one to the other
 pub restore_over : (journal : Content) (first : Chip) (old new opened : BusState) → CanGiveBack journal first old
     → CanGiveBack journal first new → IsWrittenOver old.chip new.chip opened.chip → CanGiveBack journal first opened
 restore_over journal first old new opened before after over = search (arith, within_both)
@@ -66,7 +68,7 @@ same_over old new opened same over = let kept = kept_over old.kept over refl sam
 
 -- ---- after a session
 
--- a journal that was read saves what the one that was written saves
+-- the journal that is read from the bytes saves the same sectors as the journal that was written
 read_kept : (head : Content) (bytes : ℕ → ℕ) (saved : ℕ → Bool) (journal : Content) (kept : List ℕ) → JournalSaves head bytes saved kept
     → IsContent journal → kept ≡ text journal → SameHead head journal × Saves bytes saved journal
 read_kept head bytes saved journal kept saves is read =
@@ -83,7 +85,7 @@ read_back request image old new vault journal modelled is telling undone sound r
     (leads_back request image old new vault is modelled.genuine telling undone)
     (read_kept (head_of old.chip) old.chip.bytes _ journal vault.bytes (undone.journal telling) sound read)
 
--- the first chip when nothing runs on it
+-- the bus, with its chip idle
 abbrev idle : BusState → BusState
 idle state = record state { chip = record state.chip { busy = 0 } }
 

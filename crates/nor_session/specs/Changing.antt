@@ -1,4 +1,4 @@
--- What the changes of a session or restore leave, and the check of their result.
+-- The state that the changes of a session or restore leave, and the check of their result.
 use Rattle.std.specs.Prelude.{◌≡◌, ◌≤◌, ◌+◌, ◌*◌, ◌/◌, ◌⊎◌, ℕ, Bool, true, if◌then◌else◌, ⊤}
 use Rattle.nor_chip.specs.Bus.{BusState}
 use Rattle.nor_driver.specs.Ready.{StaysReady}
@@ -30,10 +30,10 @@ most_changed changes = most_applied (touched_count changes) + touched_count chan
 abbrev pub read_back : Changes → Bool → ℕ
 read_back changes verify = if verify then touched_count changes else 0
 
--- ---- the check alone, after all is written
+-- ---- the check, after all is written
 
 -- At the end: the touched sectors were read if `verify` is set, and the work counts these readings; nothing changed,
--- and no modifying command was sent; on an honest bus each byte that was read is the wanted one.
+-- and no modifying command was sent; on an honest bus each byte that was read is the target's.
 pub record DoesCheck (changes : Changes) (wanted : ℕ → ℕ) (verify : Bool) (written : Work) (old new : BusState)
     (work : Work) : Type 0 where
   pub erases : work.erases ≡ written.erases

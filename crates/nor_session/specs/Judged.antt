@@ -1,4 +1,4 @@
--- What a session knows after the identification was checked, and from where its promises count.
+-- The state of a session after its request was checked, and the bus states to which its promises refer.
 use Rattle.std.specs.Prelude.{◌≡◌, ◌≤◌, ◌<◌, ℕ, true, Option, List, Result, length}
 use Rattle.nor_chip.specs.Guard.{code_of}
 use Rattle.nor_chip.specs.Chip.{Chip, kept_in}
@@ -19,8 +19,8 @@ use Rattle.nor_save.specs.Verdict.{IsNamed, OpeningAccepts}
 use Rattle.nor_probe.specs.Known.{IsModelled}
 use Rattle.nor_session.specs.Session.{SessionAlways, SessionHonest, SessionModelled}
 
--- The identification found a part, and its checks accepted the request for an image of this length, with these wanted
--- protection bits.
+-- The identification found a chip type, and the checks accepted the request for an image of this length, with these
+-- target protection bits.
 pub record IsJudged (request : Request) (image : ℕ) (opening : Opening) (code : ℕ) : Type 0 where
   pub part : IsPart opening.found
   pub few : opening.transactions ≤ most_opening

@@ -1,4 +1,4 @@
--- What a chip is after a session or a restore that ended, and what its report counts.
+-- The chip after a session or a restore that ended, and the counts of the report.
 use Rattle.std.specs.Prelude.{◌≡◌, ◌/◌, ◌||◌, ℕ, true, Ok}
 use Rattle.nor_chip.specs.declared.config.Config.{Config}
 use Rattle.nor_chip.specs.Chip.{Chip, status1_of}
@@ -22,7 +22,7 @@ abbrev pub pages_of : (old wanted : ℕ → ℕ) → ℕ
 pages_of old wanted =
     count_below 65536 (is_programmed (is_touched old wanted) (once_erased (is_raised old wanted) old) wanted)
 
--- The chip holds the wanted bytes, its fixed status bits are as they were, and it is idle. Its latch is set only if it
+-- The chip holds the target bytes, its fixed status bits are as they were, and it is idle. Its latch is set only if it
 -- was set before.
 pub record IsMade (wanted : ℕ → ℕ) (old new : Chip) : Type 0 where
   pub config : new.config ≡ old.config

@@ -1,4 +1,4 @@
--- What a restore finds out about a chip before it changes anything.
+-- The facts about a chip that a restore finds out before it changes anything.
 use Rattle.std.specs.Prelude.{◌≡◌, ◌≢◌, ◌<◌, ◌≤◌, ◌+◌, ◌/◌, ◌||◌, ◌⊎◌, ℕ, Bool, true, List, Result, None, Ok, Err, IfErr, OnOk, OnErr, IfOk, MatchBool, length, slice_index, ⊤}
 use Rattle.nor_chip.specs.Guard.{code_of}
 use Rattle.nor_chip.specs.Chip.{Chip, IsSame, is_locked, status1_of, kept_in}
@@ -34,7 +34,7 @@ use Rattle.nor_session.specs.Headline.{IsOfKind}
 use Rattle.nor_save.specs.Verdict.{IsNamed}
 use Rattle.nor_session.specs.Restore.{IsOfOtherUnit, FitsStatus, NeedsStatusFrom, IsJudgedFirst, restored}
 
--- ---- what is checked, in the order of the code
+-- ---- the checks, in the order of the code
 
 -- The chip is known, and the journal fits it.
 pub record Fits (journal : Content) (chip : Chip) : Type 0 where
@@ -104,8 +104,8 @@ pub record IsRefusedFor (journal : Content) (old new : BusState) (refusal : Refu
   pub same : old.honest ≡ true → IsSame old.chip new.chip
   pub verdict : IsModelled old → RestoreJudges journal old.chip refusal
 
--- What an error before the first change says: the bus stopped, with fewer transactions left than these; a faulty bus
--- stayed busy, which names address 0; or a check failed.
+-- The meaning of an error before the first change: the bus stopped, with fewer than `most` transactions left; a faulty
+-- bus stayed busy, and the timeout names address 0; or a check failed.
 abbrev pub PrepareTells : Content → ℕ → (old new : BusState) → Refusal → Type 0
 PrepareTells journal most old new Stopped = RanOutIfHonest most old new
 PrepareTells journal most old new (Timeout address) = (address ≡ 0) × (old.honest ≡ true → ⊥)
@@ -113,7 +113,7 @@ PrepareTells journal most old new refusal = IsRefusedFor journal old new refusal
 
 -- ---- the scan
 
--- A sector was read, and its plan says what is needed to make it what was saved.
+-- A sector was read, and its plan says what is needed to turn it into the saved sector.
 pub record PlansSaved (sector : ℕ) (saved bytes : List ℕ) (old new : BusState) (plan : SectorPlan) : Type 0 where
   pub small : (k : ℕ) → slice_index saved k < 256
   pub read : ReadsSector sector old new bytes
@@ -139,7 +139,7 @@ pub record ScansSaved (journal : Content) (old new : BusState) (scanned : Scanne
   pub raised : IsOpen journal.size old → (s : ℕ)
       → has scanned.raised s ≡ is_raised old.chip.bytes (restored journal old.chip.bytes) s
 
--- ---- what must be changed
+-- ---- the changes
 
 -- The changes are those that the scan found, to the journal's protection bits.
 pub record AreChanges (journal : Content) (opening : Opening) (scanned : Scanned) (changes : Changes) : Type 0 where
@@ -177,7 +177,7 @@ abbrev pub RefusesShut : Content → Opening → (ℕ → Bool) → Result Chang
 RefusesShut journal opening touched judged =
     (chip : Chip) → IsOpening chip opening → OnErr judged (IsShut journal touched chip)
 
--- ---- all of it
+-- ---- the preparation as a whole
 
 -- On a modelled bus: the chip may be restored, was identified as what its ID or SFDP says, and the changes that the
 -- journal asks for can be made to it. They write the status only if that is needed.

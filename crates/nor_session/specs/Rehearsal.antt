@@ -1,4 +1,4 @@
--- What a rehearsal promises.
+-- The promises of a rehearsal.
 use Rattle.std.specs.Prelude.{◌≡◌, ◌≤◌, ◌<◌, ◌+◌, ◌-◌, ◌*◌, ◌/◌, ◌==◌, ◌⊎◌, max, ℕ, Bool, true, false, List, [], ◌∷◌, Result, IfOk, IfErr, OnErr, drop, length, slice_index}
 use Rattle.std.specs.List.{list_any}
 use Rattle.nor_chip.specs.Chip.{Chip, IsSame}
@@ -23,12 +23,13 @@ use Rattle.nor_save.specs.Verdict.{IsVerdict, IsAccepted}
 use Rattle.nor_session.specs.Session.{AnswersSession, NamesAddress, IsSavedCode, IsWrittenCode, most_status_writes, SendsSaved, WritesStatusAtMost}
 use Rattle.nor_session.specs.Restore.{IsRestoreRefusal}
 
--- how many transactions the session may use: the first stop, or without a stop the most that one may need on 16 MiB
+-- The number of transactions that the session is allowed: the first stop or, without stops, the most that a session may
+-- need on a chip of 16 MiB.
 abbrev pub first_allowance : List ℕ → ℕ
 first_allowance [] = most_of 4096
 first_allowance (first ∷ later) = first
 
--- On every bus: what a rehearsal with this many stops reports. Without a stop the session ended.
+-- The report of a rehearsal with this many stops, on every bus. Without a stop the session ended.
 pub record IsRehearsal (stops : ℕ) (vault : VaultState) (rehearsal : Rehearsal) : Type 0 where
   pub seal : rehearsal.sealed ≡ vault.sealed
   pub ended : rehearsal.ended ≡ true → rehearsal.sealed ≡ true
@@ -37,8 +38,8 @@ pub record IsRehearsal (stops : ℕ) (vault : VaultState) (rehearsal : Rehearsal
   pub none : rehearsal.sealed ≡ false → rehearsal.restores ≡ 0
   pub whole : stops ≡ 0 → rehearsal.ended ≡ true
 
--- how many transactions a session with this many erases needs at least: those of the identification and the scan, and
--- three for each erase and each program
+-- The fewest transactions of a session with this many erases: those of the identification and the scan, and three for
+-- each erase and each program.
 abbrev pub least_needed : Request → (image : List ℕ) → Chip → (erases : ℕ) → ℕ
 least_needed request image chip erases =
     4 + scanned_sectors request chip.config.size + 3 * (erases + pages_of chip.bytes (wanted request image chip))
@@ -50,8 +51,9 @@ pub record CanEnd (request : Request) (image : List ℕ) (allowance : ℕ) (chip
   pub fewest : AreFewestErases chip.config chip.bytes (wanted request image chip) erases
   pub enough : least_needed request image chip erases ≤ allowance
 
--- What the vault's seal says about the first allowance. If the vault was sealed, it was enough for the shortest
--- identification and the scan; if not, it was less than these may need.
+-- The relation between the first allowance and the vault's seal. If the vault was sealed, the allowance was enough for
+-- the shortest identification and the scan. If the vault wasn't sealed, the allowance was less than the identification
+-- and the scan may need.
 pub record SealFits (request : Request) (allowance : ℕ) (chip : Chip) (seal : Bool) : Type 0 where
   pub enough : seal ≡ true → 4 + scanned_sectors request chip.config.size ≤ allowance
   pub below : seal ≡ false → allowance < most_looked (scanned_sectors request chip.config.size)
@@ -107,7 +109,7 @@ pub record RehearsalAlways (request : Request) (stops : List ℕ) (old new : Bus
   pub answers : IfErr result (IsRehearsalRefusal vault vault')
   -- an error names an address in a sector that the journal saves, or 0
   pub names : IfErr result (NamesAddress vault')
-  -- if it restored, it ends only if the last poll showed that the chip is ready
+  -- if the vault was sealed, the rehearsal ends only if the last poll showed that the chip is ready
   pub heard : IfOk result (λ rehearsal. rehearsal.sealed ≡ true → new.heard ≡ true)
   -- if the vault isn't sealed, no modifying command was sent
   pub still : vault'.sealed ≡ false → new.sent ≡ old.sent
@@ -116,7 +118,7 @@ pub record RehearsalAlways (request : Request) (stops : List ℕ) (old new : Bus
   pub sends : vault'.sealed ≡ true → (journal : IsJournal vault'.bytes)
       × SendsSaved (IsRehearsedCode request.what journal.content) (1 + max 1 (length stops)) journal.content old new
   -- at every exit the status was written no more often than the request may need, and at most twice by each restore;
-  -- the restores are at most as many as the stops, or one
+  -- the number of restores is at most the number of stops, or one without stops
   pub writes : WritesStatusAtMost (most_status_writes request.what request.unlock + 2 * max 1 (length stops)) old new
 
 -- On a modelled bus: an honest one whose chip is what its ID or SFDP says.
@@ -134,10 +136,11 @@ pub record RehearsalModelled (request : Request) (image stops : List ℕ) (old n
   pub saves : vault'.sealed ≡ true
       → JournalSaves (head_of old.chip) old.chip.bytes
       (is_touched old.chip.bytes (wanted request image old.chip)) vault'.bytes
-  -- the session ends if it may use as many transactions as it may need
+  -- the session ends if its allowance is at least the bound of a session on a chip of this size
   pub ended : most_of (old.chip.config.size / 4096) ≤ first_allowance stops
       → IfOk result (λ rehearsal. rehearsal.ended ≡ true)
-  -- it ends only if it may use as many as it needs at least
+  -- the session ends only if its request is accepted and its allowance is at least the fewest transactions that the
+  -- request needs
   pub stopped : IfOk result (λ rehearsal. rehearsal.ended ≡ true
       → CanEnd request image (first_allowance stops) old.chip)
   -- the first allowance says whether the vault is sealed

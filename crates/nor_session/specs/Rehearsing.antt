@@ -1,4 +1,4 @@
--- What the parts of a rehearsal leave: its session, and the restores in turn.
+-- The states that the parts of a rehearsal leave: its session, and the restores in turn.
 use Rattle.std.specs.Prelude.{◌≡◌, ◌≤◌, ◌<◌, ◌+◌, ◌*◌, ◌/◌, ℕ, Bool, true, false, List, Result, IfOk, IfErr, OnOk, length}
 use Rattle.nor_chip.specs.Chip.{Chip, IsChip, IsSame, is_locked}
 use Rattle.nor_chip.specs.Bus.{BusState, KeepsNature}
@@ -26,9 +26,9 @@ use Rattle.nor_session.specs.Rehearsal.{CanEnd, SealFits, AreRestores, FitsLastS
 
 -- ---- the session
 
--- These bytes can restore the first chip on this bus: that chip is known; they are its journal, which saves exactly
--- these sectors, all of them inside the chip, and none of them protected if the status is locked; and the bus's chip
--- differs from the first one only within them.
+-- These bytes can restore the original chip (`first`) on this bus: that chip is known; they are its journal, which
+-- saves exactly these sectors, all of them inside the chip, and none of them protected if the status is locked; and the
+-- bus's chip differs from the original one only within these sectors.
 pub record LeadsBack (saved : ℕ → Bool) (first : Chip) (text : List ℕ) (state : BusState) : Type 0 where
   pub is : IsChip first
   pub known : IsKnown first.config
@@ -53,14 +53,14 @@ pub record LeavesSession (request : Request) (image : List ℕ) (old new : BusSt
       × SendsSaved (IsWrittenCode request.what journal.content) 1 journal.content old new
   pub writes : WritesStatusAtMost (most_status_writes request.what request.unlock) old new
 
--- The wanted non-volatile status bits: those of before with the wanted protection bits.
+-- The target's non-volatile status bits: those from before, with the target's protection bits.
 pub record HasWantedBits (what : What) (old new : Chip) : Type 0 where
   pub code : ℕ
   pub is_wanted : IsWantedCode what old code
   pub kept : new.kept ≡ with_code code old.kept
 
--- The session might use this many transactions. It ended, and the chip is the wanted one; or it was stopped because
--- they were too few, and none is left.
+-- The session was allowed this many transactions. It ended, and the chip is the target; or it was stopped because the
+-- allowance was too small, and no transaction is left.
 pub record ShowsSession (request : Request) (image : List ℕ) (allowance : ℕ) (old new : BusState) (vault : VaultState)
     (ended : Bool) : Type 0 where
   pub seals : ended ≡ true → vault.sealed ≡ true
@@ -93,8 +93,8 @@ pub record LeavesRestores (journal : Content) (restores : ℕ) (old new : BusSta
   pub sends : SendsSaved (IsSavedCode journal) restores journal old new
   pub writes : WritesStatusAtMost (2 * restores) old new
 
--- One restore might use this many transactions. It ended, and restored each chip that the journal could restore; or it
--- was stopped because they were too few, and none is left.
+-- One restore was allowed this many transactions. It ended, and restored each chip that the journal could restore; or
+-- it was stopped because the allowance was too small, and no transaction is left.
 pub record ShowsRestore (journal : Content) (allowance : ℕ) (old new : BusState) (ended : Bool) : Type 0 where
   pub back : IsModelled old → ended ≡ true → (first : Chip) → CanGiveBack journal first old → IsSame first new.chip
   pub enough : IsModelled old → ended ≡ true → new.left + (4 + length journal.saved) ≤ allowance
@@ -119,7 +119,7 @@ pub record StopsRestores (journal : Content) (old : BusState) (refusal : Refusal
 
 -- ---- restores from bytes
 
--- They ended, and restored the chip that the bytes can restore.
+-- The restores ended, and restored the chip that the bytes can restore.
 pub record Undoes (text : List ℕ) (stops : List ℕ) (old new : BusState) (restores : ℕ) : Type 0 where
   pub some : 1 ≤ restores
   pub most : restores ≤ length stops + 1
@@ -139,27 +139,27 @@ abbrev pub SendsText : List ℕ → (restores : ℕ) → (old new : BusState) �
 SendsText text restores old new =
     (journal : IsJournal text) → SendsSaved (IsSavedCode journal.content) restores journal.content old new
 
--- They returned an error: one of restores if the bytes are a journal, on an honest bus never a stop, and none at all if
--- the bytes can restore the chip.
+-- The restores returned an error. If the bytes are a journal, it is an error of a restore. On an honest bus it is
+-- neither a stop nor a timeout. If the bytes can restore the chip, no error is returned.
 pub record RefusesUndo (text : List ℕ) (old : BusState) (refusal : Refusal) : Type 0 where
   pub answers : IsJournal text → IsRestoreRefusal refusal
   pub names : NamesSector (λ sector. SavesSector sector text) refusal
   pub halts : old.honest ≡ true → IsNoHalt refusal
   pub never : IsModelled old → (saved : ℕ → Bool) (first : Chip) → LeadsBack saved first text old → ⊥
 
--- All that restores from these bytes with these stops leave.
+-- The state that restores from these bytes, with these stops, leave.
 pub record LeavesUndo (text stops : List ℕ) (old new : BusState) (result : Result ℕ Refusal) : Type 0 where
   -- the bus stays as honest and as steady as it was
   pub nature : KeepsNature old new
   -- at every exit only sectors were erased that the bytes save
   pub wears : WearsSaved text old new
-  -- only sectors were targeted that the bytes save
+  -- only sectors that the bytes save were targeted
   pub sends : SendsText text (length stops + 1) old new
   -- each restore wrote the status at most twice, and at most one ran without a stop
   pub writes : WritesStatusAtMost (2 * (length stops + 1)) old new
-  -- they ended, and restored the first chip
+  -- if the restores ended, they restored the original chip
   pub undoes : IfOk result (Undoes text stops old new)
-  -- they end only if the last poll showed that the chip is ready
+  -- the restores end only if the last poll showed that the chip is ready
   pub heard : OnOk result (new.heard ≡ true)
-  -- they returned an error
+  -- the meaning of an error
   pub refuses : IfErr result (RefusesUndo text old)

@@ -1,4 +1,4 @@
--- What a restore checks of a chip, and what it promises.
+-- The checks of a chip by a restore, and the promises of a restore.
 use Rattle.std.specs.Prelude.{◌≡◌, ◌≢◌, ◌<◌, ◌+◌, ◌/◌, ◌==◌, ◌⊎◌, ℕ, true, false, List, [], ◌∷◌, length, Result, IfOk, IfErr, IsSomeAnd, OnOk, Err, if◌then◌else◌}
 use Rattle.std.specs.List.{list_any}
 use Rattle.nor_chip.specs.declared.config.Config.{Config}
@@ -24,7 +24,7 @@ use Rattle.nor_session.specs.Made.{IsMade, IsReported}
 use Rattle.nor_session.specs.Headline.{IsOfKind}
 use Rattle.nor_session.specs.Session.{NamesSector, IsWithinBound, IsSavedCode, SendsSaved, SendsCounted, WritesStatusAtMost, HonestTells}
 
--- ---- what is wanted
+-- ---- the target
 
 -- the byte that a restore writes at an address: the saved one in a saved sector, elsewhere the one that is there
 abbrev pub restored : Content → (old : ℕ → ℕ) → (a : ℕ) → ℕ
@@ -36,7 +36,8 @@ restored journal old a = if is_saved journal (a / 4096) then saved_byte journal 
 abbrev pub IsOfOtherUnit : Content → Config → Type 0
 IsOfOtherUnit journal config = IsSomeAnd journal.unique (λ unique. unique ≢ unique_of config)
 
--- No status bit differs that a restore may not write: the fixed ones agree, and all do if there is no block protection.
+-- The status bits that a restore may not write agree: those that flashnor never changes, and without block protection
+-- all non-volatile bits.
 pub record FitsStatus (journal : Content) (chip : Chip) : Type 0 where
   pub fixed : fixed_of chip.kept ≡ fixed_of (kept_in journal.status)
   pub all : chip.config.scheme ≡ false → chip.kept ≡ kept_in journal.status
@@ -60,11 +61,11 @@ RestoreHolds journal chip _ = ⊥
 abbrev pub judged_in_turn : List ℕ
 judged_in_turn = 1 ∷ 2 ∷ 16 ∷ 20 ∷ 17 ∷ 9 ∷ []
 
--- the error is one of these, which are all checked before a modifying command is sent
+-- the error is one of those that a restore checks before it sends a modifying command
 abbrev pub IsJudgedFirst : Refusal → Type 0
 IsJudgedFirst refusal = list_any (λ n. number_of refusal == n) judged_in_turn ≡ true
 
--- how many numbers of a list are before this one
+-- the number of elements of a list before this one
 abbrev pub place_in : List ℕ → ℕ → ℕ
 place_in [] n = 0
 place_in (first ∷ later) n = if first == n then 0 else 1 + place_in later n
@@ -86,15 +87,16 @@ IsRestorable journal chip = (refusal : Refusal) → ¬ RestoreHolds journal chip
 abbrev pub IsRestoreRefusal : Refusal → Type 0
 IsRestoreRefusal refusal = list_any (λ n. number_of refusal == n) (12 ∷ 13 ∷ 14 ∷ judged_in_turn) ≡ true
 
--- ---- on an honest bus whose chip is what it shows itself to be
+-- ---- on a modelled bus
 
 -- The error is the verdict; or the bus stopped, and fewer transactions were left than the bound.
 abbrev pub RestoreTells : Content → (old new : BusState) → Refusal → Type 0
 RestoreTells journal old new Stopped = RanOut (most_of (length journal.saved)) old new
 RestoreTells journal old new refusal = IsRestoreVerdict journal old.chip refusal
 
--- At every exit, with any journal: on a calm bus the bytes outside the saved sectors and the fixed status bits are as
--- they were; on any bus only sectors were erased in which a bit had to rise.
+-- At every exit, with any journal: on a bus that is steady or whose chip was idle, the bytes outside the saved sectors
+-- and the fixed status bits are as they were; even if the bus is neither, only sectors in which a bit had to rise were
+-- erased.
 pub record LeavesRestore (journal : Content) (old new : BusState) : Type 0 where
   pub config : new.chip.config ≡ old.chip.config
   pub bytes : IsCalm old → (a : ℕ) → is_saved journal (a / 4096) ≡ false → new.chip.bytes a ≡ old.chip.bytes a
@@ -150,5 +152,5 @@ pub record RestoreModelled (journal : Content) (old new : BusState) (result : Re
   pub done : IfOk result (IsRestored journal old new)
   -- if no status write is needed, none was sent
   pub unwritten : (¬ NeedsStatusFrom journal old.chip) → WritesStatusAtMost 0 old new
-  -- if no status write is needed, the report's bound leaves none
+  -- if no status write is needed, the bound on the report's transactions includes none
   pub spares : (¬ NeedsStatusFrom journal old.chip) → IfOk result (IsWithinBound (length journal.saved) 0 true)

@@ -1,5 +1,5 @@
-//! What a restore does before it changes anything: it identifies the chip, which must be one that the journal fits,
-//! reads the saved sectors, and finds out what must be changed.
+//! The steps of a restore before it changes anything: it identifies the chip, which the journal must fit, reads the
+//! saved sectors, and finds out which changes are needed.
 ghost use Rattle.std.specs.Prelude.{◌≡◌, ◌<◌, ◌≤◌, ◌/◌, true, None, length, IfOk, IfErr, OnOk, OnErr, MatchBool, IsTrue};
 ghost use Rattle.nor_chip.specs.Size.{is_chip_size};
 ghost use Rattle.nor_driver.specs.Looks.{Looks, RanOutIfHonest};

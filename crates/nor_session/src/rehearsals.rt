@@ -25,9 +25,9 @@ pub struct Rehearsal {
     pub restores: u32,
 }
 
-/// Runs a session that may use as many transactions as the first of `stops` says. If that sealed the vault, runs
-/// restores with the following stops, one each, until one ends. If no stop is left, a call may use as many transactions
-/// as a session on a chip of 16 MiB takes at most.
+/// Runs a session that may send at most the number of transactions given by the first of `stops`. If the session sealed
+/// the vault, runs restores, each with the next number of `stops`, until one ends. If no stop is left, a call may send
+/// the most transactions of a session on a chip of 16 MiB.
 ///
 /// There are at most 64 stops, and `vault` must be empty and unsealed. `image` and `request` are as for `session`.
 ///
@@ -75,7 +75,7 @@ const OPENING: u64 = 65_542;
 // The most transactions of an operation: write enable, its command and 65,536 polls.
 const OPERATION: u64 = 65_538;
 
-// Returns how many transactions a session on a chip of 16 MiB takes at most. No call needs more.
+// Returns the most transactions of a session on a chip of 16 MiB. No call needs more.
 fn most_needed() -> u64
     ensures { result ≡ most_of 4096 }
 {
@@ -83,7 +83,8 @@ fn most_needed() -> u64
     OPENING + 3 * sectors + OPERATION * (17 * sectors + 2)
 }
 
-// Returns how many transactions the session may use: the first stop, or if there is none as many as any call needs.
+// Returns the number of transactions that the session may send: the first stop or, without stops, the most that any
+// call needs.
 fn first_allowed(stops: &[u64]) -> u64
     ensures { result ≡ first_allowance stops.now }
 {

@@ -16,8 +16,8 @@ use nor_save::{Refusal, Report};
 /// A journal of format 1 is accepted for any chip with its ID and size, one of format 2 only for the device whose
 /// unique ID it contains.
 ///
-/// On a modelled bus a restore that is stopped can be run again: each chip that the journal could restore at the start,
-/// it can restore at every exit. If there is such a chip, then Ok leaves that chip, and the only possible error is 12.
+/// On a modelled bus a restore that is stopped can be run again: if the journal could restore a chip at the start, it
+/// can restore that chip at every exit. In that case `Ok` leaves that chip, and the only possible error is 12.
 ///
 /// Returns 1, 2, 16, 20, 17 or 9, checked in this order before anything is modified; or 12 (the bus stopped), 13 (the
 /// chip stayed busy; not on an honest bus) or 14 (the chip holds other bytes than were written).
