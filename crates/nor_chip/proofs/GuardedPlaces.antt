@@ -23,7 +23,7 @@ part_of size true (suc (suc (suc (suc (suc (suc (suc zero))))))) large blocks sm
 part_of size false (suc (suc (suc (suc (suc (suc (suc zero))))))) large blocks small = omega arith
 part_of size _ _ large blocks small = omega arith
 
--- the length of the selected range is such a number, and so is the length of the rest of the chip
+-- the length of the selected range fits `IsPart`, and so does the length of the rest of the chip
 named_length-part : (size code : ℕ) → IsInBlocks size → IsPart size (named_length size code)
 named_length-part size code are = part_of size (names_sectors code) (bp_of code) are.large are.blocks (omega arith)
 
@@ -83,7 +83,7 @@ alike size test a b ends below_a below_b page =
       | inr last ↦ grind (arith, nat_tests, last a below_a, last b below_b)
     ]
 
--- if such a test holds at some address of a range, it holds at the first or the last one
+-- if a test that holds at one end of the chip holds at some address of a range, it holds at its first or last address
 pub at_borders : (size : ℕ) (test : ℕ → Bool) (start len a : ℕ) → LieAtAnEnd size test → start + len ≤ size → start ≤ a
     → a < start + len → test a ≡ true → (test start || test (start + len - 1)) ≡ true
 at_borders size test start len a ends fits from before holds = elim ends.side [

@@ -36,8 +36,8 @@ pub record ClearsFrom (from done : ℕ) (sent old new : List ℕ) : Type 0 where
   pub below : (a : ℕ) → a < from → slice_index new a ≡ slice_index old a
   pub above : (a : ℕ) → from + done ≤ a → slice_index new a ≡ slice_index old a
 
--- Only the last 256 bytes sent count. The first of them, as many as fit, go to the end of the page, and the others to
--- its beginning.
+-- Only the last 256 bytes sent have an effect. The first of these are programmed up to the end of the page, and the
+-- others from its beginning on.
 pub record IsParted (at : ℕ) (sent : List ℕ) (skipped : ℕ) (front back : List ℕ) : Type 0 where
   pub skips : skipped ≡ length sent - 256
   pub front_len : length front ≡ min (length sent - skipped) (256 - (at + skipped) % 256)

@@ -1,18 +1,18 @@
--- What the bytes of a transaction ask for. (W25Q64FV datasheet, instruction set table.)
+-- The command that the bytes of a transaction ask for. (W25Q64FV datasheet, instruction set table.)
 use Rattle.std.specs.Prelude.{◌+◌, ◌*◌, ◌/◌, ◌%◌, ◌==◌, ◌&&◌, ◌||◌, ℕ, Bool, true, false, List, [], ◌∷◌, if◌then◌else◌}
 use Rattle.nor_chip.specs.declared.config.Config.{Config}
 use Rattle.nor_chip.specs.declared.command.Command.{Command}
 use Rattle.nor_chip.specs.declared.command.Command.TheVariants.{WriteEnable, WriteDisable, Poll, ReadStatus2, WriteStatus, Program, Erase, ReadData, ReadId, ReadSfdp, ReadUnique, Ignored}
 
--- the address that three bytes name on a chip of this size, high byte first
+-- the address in three bytes, high byte first, modulo the chip's size
 abbrev pub address_of : Config → (x y z : ℕ) → ℕ
 address_of config x y z = (65536 * x + 256 * y + z) % config.size
 
--- an erase of the aligned block of `len` bytes that holds an address
+-- an erase of the aligned block of `len` bytes that contains the address `at`
 abbrev pub aligned_erase : (len at : ℕ) → Command
 aligned_erase len at = Erase (at / len * len) len
 
--- what an opcode alone asks for, if this many reply bytes are read
+-- the command of a transaction that sends only an opcode and reads `replies` bytes
 abbrev pub bare_command : Config → (opcode replies : ℕ) → Command
 bare_command config opcode replies =
     if opcode == 0x05 then Poll
@@ -23,7 +23,7 @@ bare_command config opcode replies =
     else if opcode == 0xC7 && replies == 0 then Erase 0 config.size
     else Ignored
 
--- what an opcode and three address bytes ask for, which name the address `at`
+-- the command of a transaction that sends an opcode and the three bytes of the address `at`, and reads `replies` bytes
 abbrev pub addressed_command : Config → (opcode at replies : ℕ) → Command
 addressed_command config opcode at replies =
     if opcode == 0x03 then ReadData at
@@ -32,8 +32,8 @@ addressed_command config opcode at replies =
     else if opcode == 0xD8 && replies == 0 && config.kinds.k64 then aligned_erase 65536 at
     else Ignored
 
--- What a transaction asks for, by the bytes that go out and the number of reply bytes that are read. Every other
--- transaction is ignored.
+-- The command of a transaction that sends `out` and reads `replies` bytes. A transaction that fits no command is
+-- ignored.
 abbrev pub command_of : Config → (out : List ℕ) → (replies : ℕ) → Command
 command_of config [] replies = Ignored
 command_of config (opcode ∷ []) replies = bare_command config opcode replies
@@ -48,31 +48,32 @@ command_of config (opcode ∷ x ∷ y ∷ z ∷ fifth ∷ []) replies =
 command_of config (opcode ∷ x ∷ y ∷ z ∷ fifth ∷ sixth ∷ rest) replies =
     if opcode == 0x02 && replies == 0 then Program (address_of config x y z) else Ignored
 
--- the opcodes that change nothing: those of readings, and write disable
+-- true for the opcodes that change nothing: those that read, and write disable
 abbrev pub is_quiet_opcode : (opcode : ℕ) → Bool
 is_quiet_opcode opcode =
     opcode == 0x03 || opcode == 0x04 || opcode == 0x05 || opcode == 0x35
     || opcode == 0x4B || opcode == 0x5A || opcode == 0x9F
 
--- the opcodes of an erase
+-- true for the opcodes of an erase
 abbrev pub is_erase_opcode : (opcode : ℕ) → Bool
 is_erase_opcode opcode = opcode == 0x20 || opcode == 0x52 || opcode == 0xD8 || opcode == 0xC7
 
--- the seven modifying opcodes: write enable, write status, page program and the erases
+-- true for the seven modifying opcodes: write enable, write status, page program and the erases
 abbrev pub is_changing_opcode : (opcode : ℕ) → Bool
 is_changing_opcode opcode = opcode == 0x06 || opcode == 0x01 || opcode == 0x02 || is_erase_opcode opcode
 
--- a transaction that sends `out` begins with a modifying opcode
+-- true if a transaction that sends `out` begins with a modifying opcode
 abbrev pub begins_change : (out : List ℕ) → Bool
 begins_change [] = false
 begins_change (opcode ∷ rest) = is_changing_opcode opcode
 
--- a transaction that sends `out` sends nothing, or begins with an opcode that changes nothing
+-- true if `out` is empty, or begins with an opcode that changes nothing
 abbrev pub begins_quiet : (out : List ℕ) → Bool
 begins_quiet [] = true
 begins_quiet (opcode ∷ rest) = is_quiet_opcode opcode
 
--- `out` has the form of a modifying command: one of the seven opcodes, with as many bytes after it as the command has
+-- true if `out` has the form of a modifying command: one of the seven opcodes, followed by the number of bytes that its
+-- command takes (02h: an address and at least one byte)
 abbrev pub is_change : (out : List ℕ) → Bool
 is_change [] = false
 is_change (opcode ∷ []) = opcode == 0x06 || opcode == 0xC7

@@ -11,7 +11,7 @@ size_of walk = walk.size
 abbrev pub next_code : Offered → ℕ
 next_code walk = walk.next
 
--- The next range: no code between the last position and its least code is the least code of a range.
+-- The next range, with its least code. No code from the last position up to that code is the least code of a range.
 pub record IsNextSet (old : Offered) (start len : ℕ) (new : Offered) : Type 0 where
   pub code : ℕ
   pub not_passed : next_code old ≤ code

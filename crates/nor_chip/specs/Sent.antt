@@ -1,26 +1,26 @@
--- What was sent over a bus that may modify a chip, by its bytes, even if the chip ignored it. (W25Q64FV datasheet,
--- instruction set table.)
+-- Transactions over a bus that may modify a chip, by the bytes that were sent, even if the chip ignored them. (W25Q64FV
+-- datasheet, instruction set table.)
 use Rattle.std.specs.Prelude.{◌≡◌, ◌+◌, ◌*◌, ◌/◌, ◌-◌, ◌^◌, ◌==◌, ◌&&◌, ◌||◌, not, ℕ, Bool, true, false, List, [], ◌∷◌, min, nat_le, nat_lt, slice_index_or, if◌then◌else◌}
 use Rattle.nor_chip.specs.declared.sent.Aim.{Aim}
 use Rattle.nor_chip.specs.declared.sent.Sent.{Sent}
 use Rattle.nor_chip.specs.Command.{begins_change, begins_quiet, is_change, is_erase_opcode}
 
--- every sector that 24 bits can name, and none
+-- all 4,096 sectors that a 24-bit address can lie in (`aim_all`), and no sector (`aim_none`)
 abbrev pub aim_all : Aim
 aim_all = record { first = 0; count = 4096 }
 
 abbrev pub aim_none : Aim
 aim_none = record { first = 0; count = 0 }
 
--- the aligned unit of `count` sectors that holds this one
+-- the aligned block of `count` sectors that contains this sector
 abbrev pub aim_unit : (count sector : ℕ) → Aim
 aim_unit count sector = record { first = sector / count * count; count = count }
 
--- the sectors that an opcode without an address targets: the erase of the chip targets all
+-- the sectors that an opcode targets without an address: all for C7h (chip erase), none for any other opcode
 abbrev pub bare_aim : (opcode : ℕ) → Aim
 bare_aim opcode = if opcode == 0xC7 then aim_all else aim_none
 
--- the sectors that an opcode and an address in this sector target
+-- the sectors that an opcode targets with an address in this sector
 abbrev pub addressed_aim : (opcode sector : ℕ) → Aim
 addressed_aim opcode sector =
     if opcode == 0x02 || opcode == 0x20 then aim_unit 1 sector
@@ -28,7 +28,7 @@ addressed_aim opcode sector =
     else if opcode == 0xD8 then aim_unit 16 sector
     else bare_aim opcode
 
--- the sectors that a transaction erases or programs, by the bytes that go out
+-- the sectors that a transaction targets with an erase or a program, by the bytes `out` that it sends
 abbrev pub aim_of : (out : List ℕ) → Aim
 aim_of [] = aim_none
 aim_of (opcode ∷ []) = bare_aim opcode
@@ -36,15 +36,16 @@ aim_of (opcode ∷ x ∷ []) = bare_aim opcode
 aim_of (opcode ∷ x ∷ y ∷ []) = bare_aim opcode
 aim_of (opcode ∷ x ∷ y ∷ z ∷ rest) = addressed_aim opcode ((65536 * x + 256 * y + z) / 4096)
 
--- the sector is one of these
+-- true if the sector is one of these consecutive sectors
 abbrev pub is_in_aim : Aim → ℕ → Bool
 is_in_aim aim s = nat_le aim.first s && nat_lt s (aim.first + aim.count)
 
--- the transaction targets the sector
+-- true if a transaction that sends `out` targets the sector
 abbrev pub aims : (out : List ℕ) → ℕ → Bool
 aims out s = is_in_aim (aim_of out) s
 
--- the transaction begins with the opcode of an erase, of a page program, of a status write
+-- true if the transaction begins with the opcode of an erase (`begins_erase`), of a page program (`begins_program`), of
+-- a status write (`begins_status_write`)
 abbrev pub begins_erase : (out : List ℕ) → Bool
 begins_erase [] = false
 begins_erase (opcode ∷ rest) = is_erase_opcode opcode
@@ -57,35 +58,36 @@ abbrev pub begins_status_write : (out : List ℕ) → Bool
 begins_status_write [] = false
 begins_status_write (opcode ∷ rest) = opcode == 0x01
 
--- the transaction is a status write of these two bytes
+-- true if the transaction is a status write with exactly these two bytes
 abbrev pub writes_status : (out : List ℕ) → (one two : ℕ) → Bool
 writes_status (opcode ∷ x ∷ y ∷ []) one two = opcode == 0x01 && x == one && y == two
 writes_status _ one two = false
 
--- the transaction neither begins with an opcode that changes nothing nor has the form of a modifying command: no more is
--- known of what a real chip makes of it (60h erases it, 31h writes status 2, 01h with one byte clears status 2)
+-- True if the model does not know the transaction. The model knows each transaction whose opcode changes nothing, and
+-- each that has the form of a modifying command. A real chip may carry out others: 60h erases the chip, 31h writes
+-- status 2, and 01h with one byte clears status 2.
 abbrev pub is_strange_to_model : (out : List ℕ) → Bool
 is_strange_to_model out = not (begins_quiet out || is_change out)
 
--- ---- what a record of them says
+-- ---- the record of these transactions
 
--- a modifying opcode was sent
+-- true if a modifying opcode was sent
 abbrev pub is_stirred : Sent → Bool
 is_stirred sent = sent.stirred
 
--- a transaction was sent that the model does not know
+-- true if a transaction was sent that the model does not know
 abbrev pub is_strange : Sent → Bool
 is_strange sent = sent.strange
 
--- the sector was targeted
+-- true if the sector was targeted
 abbrev pub is_aimed_at : Sent → ℕ → Bool
 is_aimed_at sent s = slice_index_or sent.aimed s false
 
--- a status write of these two bytes was sent
+-- true if a status write with these two bytes was sent
 abbrev pub has_written : Sent → (one two : ℕ) → Bool
 has_written sent one two = nat_lt two 256 && slice_index_or sent.written (256 * one + two) false
 
--- how many erases, page programs and status writes were sent; each number stays at the greatest u64
+-- the numbers of erases, page programs and status writes that were sent; each count ends at the greatest u64
 abbrev pub erases_of : Sent → ℕ
 erases_of sent = sent.erases
 
@@ -105,12 +107,12 @@ pub record IsNothing (sent : Sent) : Type 0 where
   pub programs : programs_of sent ≡ 0
   pub status_writes : status_writes_of sent ≡ 0
 
--- one more if it is so, as a u64 can count
+-- `before`, plus one if `is` holds, but at most the greatest u64
 abbrev pub one_more : (is : Bool) → (before : ℕ) → ℕ
 one_more is before = if is then min (before + 1) (2 ^ 64 - 1) else before
 
--- A transaction was sent, or tried. One that changes nothing leaves the record as it was. Any other adds to it what its
--- bytes say.
+-- The effect on the record of a transaction that the bus sent, or was asked to send. If it sends nothing, or its opcode
+-- changes nothing, the record stays as it was. Any other transaction is added to the record, by its bytes.
 pub record Notes (out : List ℕ) (old new : Sent) : Type 0 where
   pub quiet : begins_quiet out ≡ true → new ≡ old
   pub stirred : is_stirred new ≡ (is_stirred old || begins_change out)

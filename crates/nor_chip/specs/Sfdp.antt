@@ -18,6 +18,6 @@ sfdp_of size0 size1 size2 size3 =
     -- double words 8 and 9: erases of 2 ^ 12 bytes by 20h, of 2 ^ 15 by 52h, of 2 ^ 16 by D8h
     ∷ 0x0C ∷ 0x20 ∷ 0x0F ∷ 0x52 ∷ 0x10 ∷ 0xD8 ∷ 0x00 ∷ 0x00 ∷ []
 
--- the same bytes, from double word 2 as a number
+-- the SFDP bytes of an emulated chip, with double word 2 given as a number
 abbrev pub sfdp_with : (density : ℕ) → List ℕ
 sfdp_with density = sfdp_of (density % 256) (density / 256 % 256) (density / 65536 % 256) (density / 16777216)

@@ -15,8 +15,8 @@ OnFirst size test border = (a : ℕ) → a < size → test a ≡ nat_lt a border
 abbrev pub OnLast : ℕ → (ℕ → Bool) → ℕ → Type 0
 OnLast size test border = (a : ℕ) → a < size → test a ≡ nat_le border a
 
--- The test holds exactly in a range at one end of the chip. The range has whole KiB, and on a chip of at least 256 KiB,
--- of which a 64th is at least a sector, whole sectors.
+-- The test holds exactly in a range at one end of the chip. The range consists of whole KiB. On a chip of at least 256
+-- KiB, a 64th of which is at least a sector, it consists of whole sectors.
 pub record LieAtAnEnd (size : ℕ) (test : ℕ → Bool) : Type 0 where
   pub border : ℕ
   pub within : border ≤ size

@@ -105,7 +105,8 @@ pub fn is_changing(out: &[u8]) -> bool
     matches!(out, [0x06 | 0x01 | 0x02 | 0x20 | 0x52 | 0xD8 | 0xC7, ..])
 }
 
-/// Returns whether a transaction that sends `out` sends nothing, or begins with an opcode that reads (03h, 05h, 35h, 4Bh, 5Ah, 9Fh) or with write disable.
+/// Returns whether `out` is empty, or begins with an opcode that reads (03h, 05h, 35h, 4Bh, 5Ah, 9Fh) or with write
+/// disable (04h).
 pub(crate) fn is_quiet(out: &[u8]) -> bool
     ensures { result ≡ begins_quiet out.now }
 {
@@ -115,8 +116,8 @@ pub(crate) fn is_quiet(out: &[u8]) -> bool
     )
 }
 
-/// Returns whether `out` has the form of a modifying command: one of the seven opcodes, and as many bytes after it as that
-/// command has.
+/// Returns whether `out` has the form of a modifying command: one of the seven opcodes, followed by the number of bytes
+/// that its command takes.
 pub(crate) fn is_change(out: &[u8]) -> bool
     ensures { result ≡ is_change out.now }
 {

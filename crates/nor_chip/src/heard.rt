@@ -1,9 +1,10 @@
-//! What polls told of a chip.
+//! The result of the last poll.
 ghost use Rattle.std.specs.Prelude.{◌≡◌};
 ghost use Rattle.nor_chip.specs.Heard.{heard_after};
 
-/// Whether the chip was last heard to be ready, once a transaction sent the bytes `out` and took `reply` in. A poll
-/// tells that by its last byte, in which BUSY is clear or not; any other transaction leaves what was `heard` before.
+/// Returns whether the last poll showed that the chip is ready, after a transaction that sent `out` and received
+/// `reply`. A poll with at least one reply byte decides this by BUSY, bit 0, in the last of these bytes; any other
+/// transaction keeps `heard`, the result before it.
 pub fn heard_after(out: &[u8], reply: &[u8], heard: bool) -> bool
     ensures { result ≡ heard_after out.now reply.now heard }
 {

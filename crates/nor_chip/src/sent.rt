@@ -1,13 +1,14 @@
-//! What was sent over a bus that may modify a chip.
+//! Records the transactions over a bus that may modify a chip.
 ghost use Rattle.std.specs.Prelude.{◌≡◌, ◌<◌, ◌≤◌, ◌+◌, ◌||◌, ℕ, false, length, slice_index_or};
 ghost use Rattle.nor_chip.specs.Sent.{aim_of, bare_aim, addressed_aim, aim_unit, is_in_aim, has_written, writes_status, IsNothing, Notes};
 
 use crate::command::{is_change, is_changing, is_quiet};
 use crate::{MOST_SECTORS, SECTOR_LEN};
 
-/// A record of what was sent over a bus, or tried, that may modify a chip: whether anything was, whether a transaction was
-/// that the model does not know, which sectors erases and programs targeted, which bytes status writes had, and how many
-/// of each there were. A bus holds one, and notes each transaction in it before anything else.
+/// The record of the transactions that a bus sent, or was asked to send, and that may modify a chip. It contains
+/// whether a modifying opcode was sent, and whether a transaction was sent that the model does not know. It also
+/// contains which sectors erases and programs targeted, which bytes status writes had, and the numbers of erases,
+/// programs and status writes. A bus holds one record, and notes each transaction in it before it sends anything.
 #[derive(Drop)]
 pub struct Sent {
     stirred: bool,
@@ -35,7 +36,7 @@ impl Sent {
         }
     }
 
-    /// Notes a transaction that sends these bytes.
+    /// Notes a transaction that sends `out`.
     pub fn note(&mut self, out: &[u8])
         ensures { Notes out.now self.old self.new }
     {
@@ -76,7 +77,7 @@ struct Aim {
 }
 
 impl Aim {
-    // Returns the sectors that a transaction targets, by its bytes.
+    // Returns the sectors that a transaction that sends `out` targets.
     fn of(out: &[u8]) -> Aim
         ensures aim { result ≡ aim_of out.now }
         ensures within { result.first + result.count ≤ 4096 }
