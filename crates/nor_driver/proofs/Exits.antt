@@ -1,4 +1,5 @@
--- What an operation leaves wherever it ends: at its write enable or its command, in its wait, or well.
+-- The state that an operation leaves at each of its exits: at its write enable or its command, in its wait, or after
+-- success.
 use Rattle.std.proofs.Common.{◌≡◌, ◌+◌, ◌∙◌, ◌⊎◌, ℕ, true, false, List, [], ◌∷◌, length, drop, take, ap, sym, subst, arith, inl, inr}
 use Rattle.std.proofs.Math.Bool.{or-true}
 use Rattle.nor_chip.specs.declared.command.Command.{Command}

@@ -6,7 +6,7 @@ use Rattle.nor_chip.specs.Sent.{aim_none, is_in_aim, begins_erase, begins_progra
 use Rattle.nor_chip.specs.Bus.{BusState, Sends}
 use Rattle.nor_driver.specs.Limits.{Limits, limits_of, SendsWithin, SendsExactly, CountsUp, Stirs}
 
--- What the first limits allow, the second ones do.
+-- The second limits allow all that the first ones allow.
 pub record IsPartOf (less more : Limits) : Type 0 where
   pub sectors : (s : ℕ) → less.sectors s ≡ true → more.sectors s ≡ true
   pub status : (one two : ℕ) → less.status one two ≡ true → more.status one two ≡ true
@@ -14,7 +14,7 @@ pub record IsPartOf (less more : Limits) : Type 0 where
   pub programs : less.programs ≤ more.programs
   pub status_writes : less.status_writes ≤ more.status_writes
 
--- What two limits allow together, a third one does.
+-- The third limits allow all that the first two allow together.
 pub record AreParts (first second all : Limits) : Type 0 where
   pub sectors : (s : ℕ) → first.sectors s ≡ true → all.sectors s ≡ true
   pub sectors' : (s : ℕ) → second.sectors s ≡ true → all.sectors s ≡ true
@@ -24,7 +24,7 @@ pub record AreParts (first second all : Limits) : Type 0 where
   pub programs : first.programs + second.programs ≤ all.programs
   pub status_writes : first.status_writes + second.status_writes ≤ all.status_writes
 
--- What two limits allow together, with numbers that are exact.
+-- The third limits allow all that the first two allow together, and have exactly the sums of their numbers.
 pub record IsSum (first second all : Limits) : Type 0 where
   pub sectors : (s : ℕ) → first.sectors s ≡ true → all.sectors s ≡ true
   pub sectors' : (s : ℕ) → second.sectors s ≡ true → all.sectors s ≡ true
@@ -57,7 +57,7 @@ pub sends_then : (first second all : Limits) (old mid new : BusState) → ArePar
 sends_then first second all old mid new parts before after =
     grind (arith, before.aimed, after.aimed, before.written, after.written, parts.sectors, parts.sectors', parts.status, parts.status')
 
--- what follows sent nothing that may modify a chip
+-- limits are still kept if nothing that may modify a chip is sent afterwards
 pub sends_same : (limits : Limits) (old mid new : BusState) → new.sent ≡ mid.sent → SendsWithin limits old mid
     → SendsWithin limits old new
 sends_same limits old mid new same sends = grind (arith, sends.aimed, sends.written)
@@ -96,7 +96,7 @@ exactly_then erases programs status before after = record {
   wrote_status = up_then _ _ _ _ _ _ status before.wrote_status after.wrote_status;
 }
 
--- what was sent within limits is within the exact numbers
+-- limits are also kept with the exact numbers of erases, page programs and status writes that were sent
 pub sends_exactly : {limits : Limits} {e p w : ℕ} {old new : BusState} → SendsWithin limits old new
     → SendsExactly e p w old new
     → SendsWithin (record limits { erases = e; programs = p; status_writes = w }) old new

@@ -65,7 +65,7 @@ looked_at (Ok done) out answer old new is stops carries =
     looked_by old new 1 read.rested read.count
 looked_at (Err stopped) out answer old new is stops carries = looked_at_stop out old new 1 is.quiet stops
 
--- a transaction that reads, at every exit
+-- at every exit of one transaction that reads, `Looks` holds with a bound of one transaction
 pub read_leaves : {T E : Type 0} (outcome : Result T E) (out answer : List ℕ) (old new : BusState) → IsReading out
     → Sends out old new → (old.honest ≡ true → OnErr outcome (Stops out old new))
     → (old.honest ≡ true → OnOk outcome (Carries out answer old new)) → Looks 1 old new

@@ -1,10 +1,10 @@
--- What a call may send that modifies a chip, on every bus.
+-- Limits on the modifying commands that a call sends, on every bus.
 use Rattle.std.specs.Prelude.{◌≡◌, ◌≤◌, ◌<◌, ◌+◌, ◌^◌, ◌⊎◌, ℕ, Bool, true, false, List, if◌then◌else◌}
 use Rattle.nor_chip.specs.Sent.{aims, begins_erase, begins_program, begins_status_write, writes_status, is_aimed_at, has_written, is_strange, is_stirred, erases_of, programs_of, status_writes_of}
 use Rattle.nor_chip.specs.Bus.{BusState, KeepsNature}
 
--- The most that may be sent: which sectors erases and page programs may target, which two bytes a status write may have,
--- and how many erases, page programs and status writes there may be.
+-- Limits on modifying commands: the sectors that erases and page programs may target, the two bytes that a status write
+-- may have, and the most erases, page programs and status writes.
 pub record Limits : Type 0 where
   pub sectors : ℕ → Bool
   pub status : (one two : ℕ) → Bool
@@ -12,26 +12,26 @@ pub record Limits : Type 0 where
   pub programs : ℕ
   pub status_writes : ℕ
 
--- no sector, and no bytes of a status write
+-- no sector (`no_sector`), and no bytes of a status write (`no_status`)
 abbrev pub no_sector : ℕ → Bool
 no_sector s = false
 
 abbrev pub no_status : (one two : ℕ) → Bool
 no_status one two = false
 
--- at most n erases of these sectors
+-- the limits of at most `n` erases of these sectors
 abbrev pub erasing : (sectors : ℕ → Bool) → (n : ℕ) → Limits
 erasing sectors n = record { sectors = sectors; status = no_status; erases = n; programs = 0; status_writes = 0 }
 
--- at most n page programs in these sectors
+-- the limits of at most `n` page programs in these sectors
 abbrev pub programming : (sectors : ℕ → Bool) → (n : ℕ) → Limits
 programming sectors n = record { sectors = sectors; status = no_status; erases = 0; programs = n; status_writes = 0 }
 
--- at most n status writes of these bytes
+-- the limits of at most `n` status writes of these bytes
 abbrev pub writing : (status : (one two : ℕ) → Bool) → (n : ℕ) → Limits
 writing status n = record { sectors = no_sector; status = status; erases = 0; programs = 0; status_writes = n }
 
--- what one transaction is, by the bytes that go out
+-- the limits of one transaction, by the bytes `out` that it sends
 abbrev pub limits_of : (out : List ℕ) → Limits
 limits_of out = record {
   sectors = aims out;
@@ -41,7 +41,7 @@ limits_of out = record {
   status_writes = if begins_status_write out then 1 else 0;
 }
 
--- No more was sent than these limits allow, and nothing that the model does not know.
+-- Between the two states no more was sent than these limits allow, and no transaction that the model does not know.
 pub record SendsWithin (limits : Limits) (old new : BusState) : Type 0 where
   pub aimed : (s : ℕ) → (is_aimed_at new.sent s ≡ is_aimed_at old.sent s) ⊎ (limits.sectors s ≡ true)
   pub written : (one two : ℕ)
@@ -51,18 +51,18 @@ pub record SendsWithin (limits : Limits) (old new : BusState) : Type 0 where
   pub status_writes : status_writes_of new.sent ≤ status_writes_of old.sent + limits.status_writes
   pub strange : is_strange new.sent ≡ is_strange old.sent
 
--- n more were counted; a count stays at the greatest u64.
+-- A count grew by `n`, unless the sum does not fit in a u64; then it grew by at most `n`.
 pub record CountsUp (n before after : ℕ) : Type 0 where
   pub most : after ≤ before + n
   pub exact : before + n < 2 ^ 64 → after ≡ before + n
 
--- These numbers of erases, page programs and status writes were sent.
+-- Exactly these numbers of erases, page programs and status writes were sent, as far as their counts fit in a u64.
 pub record SendsExactly (erases programs status_writes : ℕ) (old new : BusState) : Type 0 where
   pub erased : CountsUp erases (erases_of old.sent) (erases_of new.sent)
   pub programmed : CountsUp programs (programs_of old.sent) (programs_of new.sent)
   pub wrote_status : CountsUp status_writes (status_writes_of old.sent) (status_writes_of new.sent)
 
--- At every exit of an operation, on every bus: a modifying opcode was sent, and no more than these limits allow.
+-- At every exit of an operation, on every bus: a modifying opcode was sent, and nothing beyond these limits.
 pub record Stirs (limits : Limits) (old new : BusState) : Type 0 where
   pub nature : KeepsNature old new
   pub stirred : is_stirred new.sent ≡ true

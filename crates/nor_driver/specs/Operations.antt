@@ -1,4 +1,4 @@
--- What operations leave, whatever they are: write enable, a command, a wait.
+-- The effect of an operation of any kind: a write enable, a command, and a wait.
 use Rattle.std.specs.Prelude.{◌≡◌, ◌≢◌, ◌≤◌, ◌+◌, ◌*◌, ◌⊎◌, ◌||◌, ℕ, Bool, true, false, List, ◌∷◌, drop, take, slice_index, if◌then◌else◌}
 use Rattle.nor_chip.specs.declared.config.Config.{Config}
 use Rattle.nor_chip.specs.declared.command.Command.{Command}
@@ -16,16 +16,16 @@ use Rattle.nor_driver.specs.Limits.{limits_of, Stirs, SendsExactly}
 abbrev pub most_operation : ℕ
 most_operation = 65538
 
--- three bytes name an address, high byte first
+-- the first three bytes are the address `at`, high byte first
 abbrev pub BytesNameAddress : ℕ → List ℕ → Type 0
 BytesNameAddress at bytes = 65536 * slice_index bytes 0 + 256 * slice_index bytes 1 + slice_index bytes 2 ≡ at
 
--- a command is an opcode, three bytes that name an address and then data
+-- the command consists of this opcode, the three bytes of the address `at`, and the data `sent`
 abbrev pub IsCommandAt : (opcode at : ℕ) → (sent command : List ℕ) → Type 0
 IsCommandAt opcode at sent command =
     (x : ℕ) × (y : ℕ) × (z : ℕ) × (65536 * x + 256 * y + z ≡ at) × (command ≡ opcode ∷ x ∷ y ∷ z ∷ sent)
 
--- a command that is an operation, or none
+-- true if the command is an operation or `Ignored`
 abbrev pub is_operation_or_none : Command → Bool
 is_operation_or_none (WriteStatus one two) = true
 is_operation_or_none (Program at) = true
@@ -33,28 +33,29 @@ is_operation_or_none (Erase start len) = true
 is_operation_or_none Ignored = true
 is_operation_or_none _ = false
 
--- These bytes ask no chip for anything except an operation, and each prefix of them asks for the same one, or for none.
--- The model knows what they are.
+-- For every chip these bytes are an operation, or are ignored. Each prefix of them is the same operation, or is
+-- ignored. The transaction is one that the model knows.
 pub record AsksForOperation (out : List ℕ) : Type 0 where
   pub known : is_strange_to_model out ≡ false
   pub whole : (config : Config) → is_operation_or_none (command_of config out 0) ≡ true
   pub begun : (config : Config) (count : ℕ) → (command_of config (take count out) 0 ≡ Ignored)
       ⊎ (command_of config (take count out) 0 ≡ command_of config out 0)
 
--- Each byte is as it was, or at these places, where the power stays, as wanted.
+-- Each byte is as it was, except at these addresses. There a byte may have changed: on a steady bus to `wanted`, on any
+-- other bus to any value.
 abbrev pub ChangesOnly : Bool → (ℕ → Bool) → (wanted old new : ℕ → ℕ) → Type 0
 ChangesOnly steady places wanted old new =
     (a : ℕ) → (new a ≡ old a) ⊎ ((places a ≡ true) × (steady ≡ true → new a ≡ wanted a))
 
--- On an honest bus, an operation that was ignored has ended: nothing changed but the latch, which is set now, unless
--- the chip was busy with something else that has ended too.
+-- On an honest bus, an operation that the chip ignored has ended. Only the write enable latch may have changed. It is
+-- set if the chip was idle before, and clear if the chip was busy with another operation, which has ended too.
 pub record HasIgnored (old new : BusState) : Type 0 where
   pub same : IsSame old.chip new.chip
   pub worn : (s : ℕ) → new.worn s ≡ old.worn s
   pub latch : new.chip.latch ≡ is_idle old.chip
 
--- An operation succeeded, with so many transactions: whatever the bus, from 3 to 65,538, and its last poll showed that
--- the chip is ready; on an honest one so many fewer are left, and the chip is idle.
+-- An operation succeeded with `sent` transactions. On every bus these are 3 to 65,538, and the last poll showed that
+-- the chip is ready. On an honest bus `sent` fewer transactions are left, and the chip is idle.
 pub record EndsWaiting (old new : BusState) (sent : ℕ) : Type 0 where
   pub least : 3 ≤ sent
   pub few : sent ≤ most_operation
@@ -62,11 +63,13 @@ pub record EndsWaiting (old new : BusState) (sent : ℕ) : Type 0 where
   pub count : old.honest ≡ true → old.left ≡ new.left + sent
   pub idle : old.honest ≡ true → new.chip.busy ≡ 0
 
--- what a command does on this chip after write enable, which sets the latch of an idle chip
+-- the command that this chip carries out when `out` follows a write enable, which sets the latch of an idle chip;
+-- `Ignored` if it carries out none
 abbrev pub operation_of : Chip → List ℕ → Command
 operation_of chip out = done_of (record chip { latch = true }) out 0
 
--- On an honest bus, at every exit of an operation of an idle chip: it has had its effect, has had none, or was cut off.
+-- On an honest bus, at every exit of an operation of an idle chip: the operation had its whole effect, had none, or was
+-- interrupted.
 pub record MayOperate (command : Command) (sent : List ℕ) (old new : BusState) : Type 0 where
   pub config : new.chip.config ≡ old.chip.config
   pub bytes : ChangesOnly old.steady (is_in_work (running_after old.chip command))
@@ -75,7 +78,7 @@ pub record MayOperate (command : Command) (sent : List ℕ) (old new : BusState)
   pub runs : new.chip.busy ≢ 0 → new.chip.running ≡ running_after old.chip command
   pub worn : (s : ℕ) → wears command s ≡ false → new.worn s ≡ old.worn s
 
--- On an honest bus, an operation of an idle chip has ended.
+-- On an honest bus, an operation of an idle chip has ended, with its whole effect.
 pub record HasOperated (command : Command) (sent : List ℕ) (old new : BusState) : Type 0 where
   pub config : new.chip.config ≡ old.chip.config
   pub bytes : (a : ℕ) → new.chip.bytes a ≡ byte_after old.chip command sent a
@@ -83,7 +86,7 @@ pub record HasOperated (command : Command) (sent : List ℕ) (old new : BusState
   pub worn : (s : ℕ) → new.worn s ≡ (old.worn s || wears command s)
   pub latch : new.chip.latch ≡ false
 
--- What an operation leaves at every exit.
+-- The state that an operation leaves at every exit.
 pub record LeavesOperation (out : List ℕ) (old new : BusState) : Type 0 where
   pub stirs : Stirs (limits_of out) old new
   pub falls : old.honest ≡ true → Falls most_operation old new
@@ -91,7 +94,7 @@ pub record LeavesOperation (out : List ℕ) (old new : BusState) : Type 0 where
       → MayOperate (operation_of old.chip out) (drop 4 out) old new
   pub ignored : old.honest ≡ true → is_operation (operation_of old.chip out) ≡ false → Stays old new
 
--- What an operation that succeeded leaves.
+-- The state that an operation leaves if it succeeds.
 pub record Operates (out : List ℕ) (old new : BusState) (sent : ℕ) : Type 0 where
   pub ends : EndsWaiting old new sent
   pub sends : SendsExactly (if begins_erase out then 1 else 0) (if begins_program out then 1 else 0)

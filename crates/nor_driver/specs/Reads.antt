@@ -72,7 +72,7 @@ pub record ReadsSfdp (at len : ℕ) (old new : BusState) (bytes : List ℕ) : Ty
   pub read : old.honest ≡ true → HasRead old new
   pub told : old.honest ≡ true → old.chip.busy ≡ 0 → bytes ≡ shown old.chip.config at len
 
--- The read of a sector. What it returns is stated only for a sector that lies on the chip.
+-- The read of a sector. The bytes that it returns are stated only for a sector that lies on the chip.
 pub record ReadsSector (sector : ℕ) (old new : BusState) (bytes : List ℕ) : Type 0 where
   pub read : old.honest ≡ true → HasRead old new
   pub told : old.honest ≡ true → old.chip.busy ≡ 0 → 4096 * (sector + 1) ≤ old.chip.config.size
