@@ -49,14 +49,14 @@ write_most b = grind arith
 
 -- ---- limits
 
--- those of a status write that is sent only if it is needed
+-- the limits of a status write that is sent only if it is needed
 abbrev pub code_limits : Changes → (needed : Bool) → (code : ℕ) → Limits
 code_limits changes needed code =
     writing (λ one two. needed && has_code changes.status code one two) (if needed then 1 else 0)
 
 -- ---- some of the changes, after others
 
--- How many erases, page programs and status writes were sent.
+-- The numbers of erases, page programs and status writes that were sent.
 pub record Numbers : Type 0 where
   pub erases : ℕ
   pub programs : ℕ

@@ -1,4 +1,4 @@
--- What the read and comparison of a sector prove about it, and about the sectors up to it.
+-- The result of the read and comparison of a sector, for that sector and for all sectors up to it.
 use Rattle.std.proofs.Common.{◌≡◌, ◌≤◌, ◌<◌, ◌+◌, ◌-◌, ◌*◌, ◌/◌, ◌∙◌, ℕ, Bool, true, false, sym, refl, arith, List, length, slice_index}
 use Rattle.std.proofs.lemmas.Bool.Decides.{nat_tests}
 use Rattle.nor_count.specs.Below.{count_below}

@@ -121,7 +121,7 @@ module _ {kinds : Kinds} {size : ℕ} {set : ℕ → Bool} {units left : List Er
       sym (so.covers.union s)
       ∙ rw (← so.listed.split, list_any-append (erases_sector (size / 4096) s) units left, erased) refl
 
-  -- at most as many erases as sectors
+  -- the number of erases is at most the number of sectors
   within_count : {n : ℕ} → n ≤ sector_count set
       → IsPartOf (erasing (may_aim_at set size) n) (erasing (may_aim_at set size) (sector_count set))
   within_count few = record {

@@ -44,7 +44,7 @@ is_status_asked changes one two =
     (changes.unlock && has_code changes.status 0 one two)
     || (writes_code changes && has_code changes.status changes.code one two)
 
--- what the changes may send, with at most these numbers of erases, page programs and status writes
+-- the limits of the changes, with at most these numbers of erases, page programs and status writes
 abbrev pub sending : Changes → (erases programs status_writes : ℕ) → Limits
 sending changes erases programs status_writes = record {
   sectors = may_aim_at (touched_in changes) changes.size;

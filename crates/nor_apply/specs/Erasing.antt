@@ -23,8 +23,8 @@ pub record LeavesErases (sectors : ℕ → Bool) (kinds : Kinds) (size : ℕ) (o
   pub sends : SendsWithin (erasing (may_aim_at sectors size) (sector_count sectors)) old new
   pub reached : old.honest ≡ true → CanEraseAll sectors kinds size old.chip → MayChange sectors sectors blank old new
 
--- On success, there were as many erases as in the planned list, which is the shortest that covers the set. If there was
--- none, the record of modifying commands is as it was.
+-- On success, the number of erases is that of the planned list, which is the shortest list that covers the set. If
+-- there was no erase, the record of modifying commands is as it was.
 pub record DoesErases (sectors : ℕ → Bool) (kinds : Kinds) (size : ℕ) (old new : BusState)
     (tally : Tally) : Type 0 where
   pub count : tally.count ≡ length (planned kinds (size / 4096) sectors)

@@ -1,4 +1,5 @@
--- How many transactions a part of a session or restore sends, where it may aim, and what a timeout of it names.
+-- Bounds on a part of a session or restore: the number of its transactions, the sectors that it may target, and the
+-- address that its timeout names.
 use Rattle.std.specs.Prelude.{◌≡◌, ◌≤◌, ◌+◌, ◌*◌, ◌/◌, ◌&&◌, ◌||◌, ℕ, Bool, true, nat_le, ⊤}
 use Rattle.nor_chip.specs.Bus.{BusState, KeepsNature}
 use Rattle.nor_driver.specs.declared.waits.Halt.{Halt}
@@ -9,23 +10,24 @@ use Rattle.nor_driver.specs.Operations.{most_operation}
 use Rattle.nor_plan.specs.Planned.{holds_run}
 use Rattle.nor_apply.specs.declared.tally.Tally.{Tally}
 
--- At every exit: the bus keeps its honesty and its steadiness; an honest one sent at most so many transactions.
+-- At every exit: the bus stays honest or not, and steady or not; an honest bus sent at most `most` transactions.
 pub record Spends (most : ℕ) (old new : BusState) : Type 0 where
   pub nature : KeepsNature old new
   pub falls : old.honest ≡ true → Falls most old new
 
--- where the erases and programs of some sectors of a chip of this size may aim: at one of them; and where they are the
--- whole chip behind its end too, since the erase of a chip names no sector
+-- True if the erases and programs of these sectors, on a chip of this size, may target the sector `s`: it is one of
+-- them; or they are the whole chip and `s` is past its end, since the command that erases the chip has no address.
 abbrev pub may_aim_at : (sectors : ℕ → Bool) → (size s : ℕ) → Bool
 may_aim_at sectors size s = sectors s || (nat_le (size / 4096) s && holds_run sectors 0 (size / 4096))
 
--- whatever the bus, a timeout names an address in one of these sectors
+-- on every bus, a timeout names an address in one of these sectors
 abbrev pub NamesTimeoutIn : (ℕ → Bool) → Halt → Type 0
 NamesTimeoutIn sectors Stopped = ⊤
 NamesTimeoutIn sectors (Timeout address) = sectors (address / 4096) ≡ true
 
--- A part succeeded, after so many operations and beside at most so many readings: the chip is as ready as before. On an
--- honest bus so many transactions fewer are left.
+-- A part succeeded, with `tally.count` operations and at most `readings` readings. If the last poll before it showed
+-- that the chip is ready, so does the last poll after it. On an honest bus `tally.transactions` fewer transactions are
+-- left.
 pub record Tallies (readings : ℕ) (old new : BusState) (tally : Tally) : Type 0 where
   pub least : 3 * tally.count ≤ tally.transactions
   pub few : tally.transactions ≤ readings + most_operation * tally.count
