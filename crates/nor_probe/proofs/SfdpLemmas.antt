@@ -14,7 +14,7 @@ use Rattle.nor_probe.specs.Sfdp.{is_chip_size_in_bits}
 pub large_exponent : (k : ℕ) → 27 < k → leb (2 ^ k) (2 ^ 27) ≡ false
 large_exponent k h = let above : 2 ^ 27 < 2 ^ k = pow_below 27 k h in grind (arith, nat_tests)
 
--- a number of bits has as many ones as the number of its bytes and the bits left over together
+-- the number of one bits is that of the quotient by 8 plus that of the remainder
 ones_of_bytes : (bits : ℕ) → count_ones bits ≡ count_ones (bits / 8) + count_ones (bits % 8)
 ones_of_bytes bits =
     let whole : bits ≡ bits / 8 * 2 ^ 3 + bits % 8 = omega arith in

@@ -1,4 +1,4 @@
--- What a probe returns: the chip that it found, or why it found none.
+-- The result of a probe: the chip that it found, or the reason why it found none.
 use Rattle.std.specs.Prelude.{◌≡◌, ◌+◌, ◌%◌, ◌≤◌, ◌<◌, ◌⊎◌, ℕ, true, false, List, if◌then◌else◌, ⊤}
 use Rattle.std.specs.Prelude.{Option, None, Some, Result, Ok, Err, IfOk, IfErr, OnOk}
 use Rattle.nor_chip.specs.declared.config.Config.{Config}
@@ -106,8 +106,8 @@ pub record HasProbed (old new : BusState) : Type 0 where
   pub rested : Rested old new
   pub count : old.left ≡ new.left + needed old.chip
 
--- what a fault means on a well-behaved bus; a stop is possible only with fewer than 65,540 transactions left, and a
--- timeout doesn't occur
+-- The meaning of a fault on a well-behaved bus. A stop is possible only with fewer than 65,540 transactions left, and a
+-- timeout doesn't occur.
 abbrev pub Tells : Option ChipName → (old new : BusState) → ProbeFault → Type 0
 Tells named old new NoChip = (shown_as old.chip.config ≡ Err NoChip) × HasProbed old new
 Tells named old new (UnknownChip fault) = (shown_as old.chip.config ≡ Err (UnknownChip fault)) × HasProbed old new

@@ -1,4 +1,4 @@
--- What a chip shows about itself, and which chips are genuine and known.
+-- The properties that a chip shows (ID, SFDP), and the definitions of genuine and known chips.
 use Rattle.std.specs.Prelude.{◌≡◌, ◌+◌, ◌*◌, ◌||◌, ◌⊎◌, ℕ, Bool, true, false, Option, None, Some, Result, Ok, Err, List, [], ◌∷◌, bytes_eq, slice_index, IsOk, if◌then◌else◌}
 use Rattle.nor_chip.specs.declared.config.Config.{Config}
 use Rattle.nor_chip.specs.Makers.{IsTiny64, IsW25q64fv, IsW25q128fv}
@@ -21,7 +21,8 @@ is_no_chip of_id = bytes_eq of_id (0xFF ∷ 0xFF ∷ 0xFF ∷ []) || bytes_eq of
 abbrev pub pointer_in : (first : List ℕ) → ℕ
 pointer_in first = slice_index first 4 + 256 * slice_index first 5 + 65536 * slice_index first 6
 
--- what the chip's SFDP says: its header, its first parameter header, and the table that this points to
+-- the geometry that the chip's SFDP gives, or its fault; the SFDP has a header, a first parameter header, and the table
+-- that this points to
 unfoldable pub chip_says : Config → Result Geometry SfdpFault
 chip_says config = sfdp_says (shown config 0 8) (shown config 8 8) (shown config (pointer_in (shown config 8 8)) 36)
 
@@ -40,7 +41,8 @@ abbrev pub listed_or : (by_sfdp : Result Part ProbeFault) → Option Part → Re
 listed_or by_sfdp (Some part) = Ok part
 listed_or by_sfdp None = by_sfdp
 
--- what the chip shows itself as: no chip, the row of the table with its ID, or the type that its SFDP gives
+-- the chip type that a chip shows: the row of the table with its ID or, without a row, the type that its SFDP gives; or
+-- the fault (no chip, unknown chip)
 abbrev pub shown_as : Config → Result Part ProbeFault
 shown_as config =
     if is_no_chip (id_of config) then Err NoChip

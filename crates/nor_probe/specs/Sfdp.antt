@@ -1,6 +1,6 @@
--- What SFDP bytes say about a chip: the header, the first parameter header, and double words 1, 2, 8 and 9 of the basic
--- flash parameter table (JESD216). `header` has the eight bytes at 0, `first` the eight bytes of the first parameter
--- header, and `table` the 36 bytes at the address that it points to. Bits that no definition here uses are ignored.
+-- The meaning of SFDP bytes: the header, the first parameter header, and double words 1, 2, 8 and 9 of the basic flash
+-- parameter table (JESD216). `header` has the eight bytes at 0, `first` the eight bytes of the first parameter header,
+-- and `table` the 36 bytes at the address that it points to. Bits that no definition here uses are ignored.
 use Rattle.std.specs.Prelude.{ℕ, ◌==◌, ◌+◌, ◌-◌, ◌*◌, ◌/◌, ◌%◌, ◌^◌, nat_lt, nat_le, Bool, not, ◌&&◌, ◌||◌, if◌then◌else◌, List, [], ◌∷◌, ◌++◌, Result, Ok, Err, slice_index}
 use Rattle.byteorder.specs.Endian.{little_from}
 use Rattle.nor_chip.specs.Size.{is_chip_size}
@@ -66,7 +66,7 @@ table_faults table =
     ∷ (not (has_erase_type 0x0C 0x20 table), NoSector)
     ∷ []
 
--- what the table gives: the size in bytes, and whether 32 KiB and 64 KiB are among the erase types
+-- the geometry that the table gives: the size in bytes, and whether 32 KiB and 64 KiB are among the erase types
 abbrev pub geometry_of : (table : List ℕ) → Geometry
 geometry_of table = record {
   size = size_in_bits (double_word 2 table) / 8;

@@ -58,7 +58,7 @@ pub record ReadsGeometry (old new : BusState) (geometry : Geometry) : Type 0 whe
   -- if the chip was idle, this is what its SFDP says
   pub says : old.chip.busy ≡ 0 → chip_says old.chip.config ≡ Ok geometry
 
--- what a fault means for an idle chip on a well-behaved bus, if only its SFDP was read
+-- the meaning of a fault for an idle chip on a well-behaved bus, if only its SFDP was read
 abbrev pub GeometryTells : (old new : BusState) → ProbeFault → Type 0
 GeometryTells old new (UnknownChip fault) =
     (chip_says old.chip.config ≡ Err fault) × (old.left ≡ new.left + 3) × Rested old new
@@ -73,14 +73,14 @@ IsIdentityFault OtherName = ⊥
 IsIdentityFault Stopped = ⊤
 IsIdentityFault Timeout = ⊥
 
--- For an idle chip on a well-behaved bus, after its ID was read: the type is what the chip shows itself as, the other
--- reads were sent, and nothing changed.
+-- For an idle chip on a well-behaved bus, after its ID was read: the chip type is the one that the chip shows
+-- (`shown_as`), the remaining reads of the probe were sent, and nothing changed.
 pub record Identifies (old new : BusState) (part : Part) : Type 0 where
   pub rested : Rested old new
   pub shows : shown_as old.chip.config ≡ Ok part
   pub count : old.left + 1 ≡ new.left + reads_of (id_of old.chip.config)
 
--- what a fault means for an idle chip on a well-behaved bus, after its ID was read
+-- the meaning of a fault for an idle chip on a well-behaved bus, after its ID was read
 abbrev pub IdentityTells : (old new : BusState) → ProbeFault → Type 0
 IdentityTells old new Stopped = (new.left ≡ 0) × (old.left + 1 < reads_of (id_of old.chip.config))
 IdentityTells old new fault =
