@@ -16,7 +16,7 @@ use Rattle.nor_count.proofs.Below.{same_tests}
 
 -- ---- a number with one bit set is a power of two
 
--- a number has as many one bits as its half and its lowest bit together
+-- the number of one bits is that of the half plus that of the lowest bit
 ones_by_half : (n : ℕ) → count_ones n ≡ count_ones (n / 2) + count_ones (n % 2)
 ones_by_half n =
     let whole : n ≡ n / 2 * 2 ^ 1 + n % 2 = omega arith in

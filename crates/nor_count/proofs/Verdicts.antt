@@ -6,7 +6,7 @@ use Rattle.nor_count.specs.Below.{any_below, count_below}
 use Rattle.nor_count.proofs.Below.{any_below-some}
 use Rattle.nor_count.proofs.Counting.{any_below-all, count_below-same}
 
--- a verdict is `any_below` if true comes with a number that passes, and false with proof that all fail
+-- a verdict equals `any_below` if true is returned only with a number that passes, and false only if all numbers fail
 pub any_below-decided : (n : ℕ) (verdict : Bool) (test : ℕ → Bool) (P Q : ℕ → Type 0) → ((k : ℕ) → P k → test k ≡ true) → ((k : ℕ) → Q k → test k ≡ false)
     → MatchBool verdict ((k : ℕ) × (k < n) × P k) ((k : ℕ) → k < n → Q k) → verdict ≡ any_below n test
 any_below-decided n true test P Q passes fails some = sym (any_below-some n some.0 test some.1 (passes some.0 some.2))
