@@ -87,7 +87,7 @@ module _ (included : Option (List Span)) (image : List ℕ) (content : ℕ → �
       → AgreeIn included image content from to
   agree_more to low high a above below inside = grind (arith, low, high)
 
-  -- The first difference in two ranges, one after the other.
+  -- The first difference in two adjacent ranges is that of the first range or, if it has none, that of the second.
   tells_more : (to : ℕ) (first second : Option ℕ) → from ≤ mid → mid ≤ to
       → TellsFirst included image content from mid first → TellsFirst included image content mid to second
       → TellsFirst included image content from to (option_or first second)

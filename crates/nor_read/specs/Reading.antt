@@ -64,7 +64,7 @@ pub record ReadOutAlways (named : Option ChipName) (included : Option (List Span
   pub reports : IfOk result (ReportsPart named)
   -- No included address is past the chip's end.
   pub fits : IfOk result (λ report. FitsInto included report.found.size)
-  -- The vault accepted as many bytes as the chip has.
+  -- The number of bytes that the vault accepted is the size of the chip.
   pub whole : IfOk result (λ report. TakesWhole report.found.size vault vault')
   -- An error is one of those that `read_out` may return, and error 19 has the number of bytes that the vault accepted.
   pub refuses : IfErr result (IsReadRefusal vault vault')
@@ -105,8 +105,8 @@ pub record ReadOutModelled (named : Option ChipName) (included : Option (List Sp
   -- A `telling` vault has the chip's included bytes, and FFh for the others.
   pub copy : IfOk result (λ report. vault.telling ≡ true
       → Copies included old.chip.bytes old.chip.config.size vault vault')
-  -- An error means that an included address isn't on the chip, that too few transactions were left, or how much was
-  -- copied.
+  -- Error 5 means that an included address isn't on the chip. Error 12 means that too few transactions were left. Error
+  -- 19 has the number of bytes that were copied.
   pub tells : IfErr result (ReadOutTells named included old new vault vault')
 
 -- ---- piece by piece, and each of these sector by sector
