@@ -17,8 +17,9 @@ use Rattle.nor_words.specs.declared.settings.Settings.{Settings}
 
 -- ---- one key
 
--- For one key: its value in all settings is the one in its field or, if that is empty, the one in the remaining
--- settings. All settings have the key once more than the remaining ones if the field has a value.
+-- For one key, while settings are taken one after another. The key's value in all settings is the value in its field;
+-- if the field is empty, it is the key's value in the settings that remain. If the field has a value, all settings have
+-- the key once more than those that remain.
 pub record Open {T : Type 0} (all left : List Text) (key : Text) (read : Text → Option T)
     (place : Option T) : Type 0 where
   pub value : option_and_then read (value_in all key) ≡ option_or place (option_and_then read (value_in left key))

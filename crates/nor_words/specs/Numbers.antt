@@ -12,7 +12,7 @@ abbrev pub is_numeral : (radix most greatest : ℕ) → Text → Bool
 is_numeral radix most greatest text = list_all (λ digit. is_digit digit radix) text
     && (nat_le 1 (length text) && (nat_le (length text) most && nat_le (digits_value radix text) greatest))
 
--- the value of these digits, or `None` if the text isn't such a numeral
+-- the value of the digits, or `None` if the text isn't a numeral of this form (`is_numeral`)
 abbrev pub numeral : (radix most greatest : ℕ) → Text → Option ℕ
 numeral radix most greatest text =
     if is_numeral radix most greatest text then Some (digits_value radix text) else None

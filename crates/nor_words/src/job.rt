@@ -5,7 +5,7 @@ use crate::stops::MOST_STOPS;
 use arrayvec::ArrayVec;
 use nor_probe::ChipName;
 
-/// What the arguments ask for.
+/// The job that the arguments ask for.
 #[derive(Drop)]
 pub enum Job<'a> {
     /// `-L`: list the table of chips.
