@@ -6,7 +6,7 @@ ghost use Rattle.nor_call.specs.declared.request.What.TheVariants as Whats;
 use nor_layout::Ranges;
 use nor_probe::ChipName;
 
-/// What a session is asked for.
+/// The change that a session is asked for.
 #[derive(Clone, Copy, Debug, PartialEq, Eq)]
 pub enum What {
     /// A write: each included byte becomes equal to the image, which must be as long as the chip.
