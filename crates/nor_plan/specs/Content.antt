@@ -1,4 +1,4 @@
--- What is needed to turn one content into the target (`wanted`): touched and raised sectors, and pages to program.
+-- The changes that turn one content into the target (`wanted`): touched and raised sectors, and pages to program.
 use Rattle.std.specs.Prelude.{ℕ, ◌+◌, ◌*◌, ◌/◌, ◌==◌, ◌&&◌, Bool, not, bit_and, if◌then◌else◌}
 use Rattle.nor_count.specs.Below.{any_below}
 

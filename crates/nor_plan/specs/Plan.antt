@@ -1,4 +1,4 @@
--- What is needed to turn bytes into the target bytes, stated for functions from positions to bytes.
+-- The plan of a sector: whether it must be written or erased, stated for functions from positions to bytes.
 use Rattle.std.specs.Prelude.{ℕ, ◌≡◌, ◌≢◌, ◌<◌, true, MatchBool, EachIndex, List, slice_index}
 use Rattle.nor_plan.specs.declared.plan.SectorPlan.{SectorPlan}
 use Rattle.nor_plan.specs.Bytes.{IsWithinBits}
@@ -7,7 +7,7 @@ use Rattle.nor_plan.specs.Bytes.{IsWithinBits}
 abbrev pub AreBytesOf : (ℕ → ℕ) → List ℕ → Type 0
 AreBytesOf content bytes = EachIndex bytes (λ i. slice_index bytes i ≡ content i)
 
--- what the first `count` bytes of `content` need to become those of `wanted`
+-- The plan says what must be done to turn the first `count` bytes of `content` into those of `wanted`.
 pub record IsPlan (content wanted : ℕ → ℕ) (count : ℕ) (plan : SectorPlan) : Type 0 where
   -- `touched`: some byte differs; if it is false, none does
   pub touched : MatchBool plan.touched ((i : ℕ) × (i < count) × (content i ≢ wanted i))

@@ -113,7 +113,7 @@ fn last_difference(a: &[u8], b: &[u8]) -> Option<usize>
     None
 }
 
-/// Returns whether some bit is 1 in `target` and 0 in `old`. Only an erase can set such a bit. Requires slices of equal
+/// Returns whether some bit is 1 in `target` and 0 in `old`. Only an erase can set that bit. Requires slices of equal
 /// length.
 pub fn raises(old: &[u8], target: &[u8]) -> bool
     requires { length old.now ≡ length target.now }

@@ -10,7 +10,7 @@ use crate::lanes::{differs, raises};
 #[derive(Clone, Copy, Debug)]
 pub struct Plan;
 
-/// What a sector needs.
+/// Whether a sector must be written or erased to get its target bytes.
 #[derive(Clone, Copy, Debug, PartialEq, Eq)]
 pub struct SectorPlan {
     /// Whether some byte differs, so that the sector must be written.
