@@ -28,7 +28,7 @@ or_missing true May Might seen left more (inl gone) = inl gone
 or_missing true May Might seen left more (inr may) = inr (more may)
 or_missing false May Might seen left more (there, may) = (there, more may)
 
--- what may be left if a host crash can't remove the file may also be left if it may
+-- each content that may be left if a host crash can't remove the file may also be left if a host crash may remove it
 placed_or : (unplaced : Bool) (May : Type 0) (seen left : Found) → OrMissing false May seen left
     → OrMissing unplaced May seen left
 placed_or true May seen left (there, may) = inr may

@@ -9,7 +9,7 @@ Name = List ℕ
 abbrev pub Found : Type 0
 Found = Option (List ℕ)
 
--- What a call may find or fail with, for the file of a name.
+-- A condition that a call may find or fail with, for the file of a name.
 pub data Failure : Type 0 where
   -- the file can't be looked up, opened or read, or a read of it may block forever
   Unread : Name → Failure
@@ -39,12 +39,12 @@ pub record Nature : Type 0 where
   -- file. On the system's files, which aren't lawful, two names are apart if they differ
   pub apart : Name → Name → Bool
 
--- What a read of each file returns.
+-- The files, as reads show them.
 pub record View : Type 0 where
   pub nature : Nature
   -- whether a vault or a log in that file is borrowed, so that its bytes are unknown
   pub out : Name → Bool
-  -- what a read of that file returns
+  -- the result of a read of that file
   pub seen : Name → Found
 
 -- The files, as contracts see them.
@@ -56,14 +56,14 @@ pub record FilesState : Type 1 where
   pub left : ℕ
   -- the file whose vault was borrowed last and not yet taken back
   pub lent : Option Name
-  -- what a host crash now may leave of that file
+  -- the contents that a host crash now may leave of that file
   pub may_leave : Name → Found → Type 0
 
 abbrev pub is_lawful : View → Bool
 is_lawful view = view.nature.lawful
 
--- The two names are apart, whichever of them is given first. The files needn't be lawful, so a promise about names that
--- are apart holds for the system's files, too.
+-- The two names are apart, in either order. The files needn't be lawful, so a promise about names that are apart holds
+-- for the system's files, too.
 abbrev pub AreApart : Nature → (one other : Name) → Type 0
 AreApart nature one other = (nature.apart one other ≡ true) × (nature.apart other one ≡ true)
 

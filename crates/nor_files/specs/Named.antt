@@ -20,7 +20,7 @@ abbrev pub is_there : List Stored → Name → Bool
 is_there [] name = false
 is_there (stored ∷ files) name = if is_named name stored then true else is_there files name
 
--- true if the list has an entry for the file whose vault is borrowed, or if none is
+-- true if no vault is borrowed, or if the list has an entry for the file whose vault is borrowed
 abbrev pub is_lent_there : List Stored → Option Name → Bool
 is_lent_there files None = true
 is_lent_there files (Some name) = is_there files name

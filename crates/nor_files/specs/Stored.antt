@@ -43,29 +43,30 @@ missing = record { seen = None; steps = []; unplaced = false; out = false }
 
 -- ---- what a host crash may leave of a file
 
--- a mix of these bytes and what the file may have been
+-- a mix of these bytes and of a content that the file may have had
 abbrev pub IsMixOf : List ℕ → (Found → Type 0) → Found → Type 0
 IsMixOf bytes MayHaveBeen left = (had : List ℕ) × MayHaveBeen (Some had)
     × ((has : List ℕ) × (left ≡ Some has) × IsMixed had bytes has)
 
--- what the file may have been, with this length
+-- a content that the file may have had, changed to this length
 abbrev pub IsCutOf : ℕ → (Found → Type 0) → Found → Type 0
 IsCutOf len MayHaveBeen left = (had : List ℕ) × MayHaveBeen (Some had) × (left ≡ Some (with_length len had))
 
--- what a change may make of what the file may have been: after `Lent`, anything
+-- a content that a change may make of one that the file may have had; after `Lent`, any content
 abbrev pub Becomes : Change → (Found → Type 0) → Found → Type 0
 Becomes (Written bytes) MayHaveBeen left = IsMixOf bytes.items MayHaveBeen left
 Becomes (Cut len) MayHaveBeen left = IsCutOf len MayHaveBeen left
 Becomes Lent MayHaveBeen left = ⊤
 
--- what a read returns, or what may have been before the newest change, or what that change may make of it
+-- the content that a read returns, or one that the file may have had before the newest change, or one that this change
+-- may make of it
 abbrev pub MayBe : List Step → Found → Found → Type 0
 MayBe [] seen left = left ≡ seen
 MayBe (step ∷ earlier) seen left = (left ≡ seen) ⊎ (MayBe earlier (found_in step.before) left
     ⊎ Becomes step.change (MayBe earlier (found_in step.before)) left)
 
--- what may be left, if a host crash may remove the file (`true`: it may be missing) or can't (it exists exactly if a
--- read finds it)
+-- a content that may be left; with `true` a host crash may remove the file, so it may be missing; with `false` it
+-- exists if and only if a read finds it
 abbrev pub OrMissing : Bool → Type 0 → (seen left : Found) → Type 0
 OrMissing true May seen left = (left ≡ None) ⊎ May
 OrMissing false May seen left = (is_some left ≡ is_some seen) × May

@@ -18,7 +18,7 @@ use std::{fs, io};
 /// The system's files, through the runtime. Contracts know nothing about them: that each call works on the named file
 /// and obeys the contract of `Store` is assumed, and tested.
 ///
-/// Files opened by `hold` and `share` stay open and locked until the store is dropped. Each later call on such a name
+/// Files opened by `hold` and `share` stay open and locked until the store is dropped. Each later call on the same name
 /// works on the file that was opened and locked, even if the name refers to another file by then.
 #[derive(Drop)]
 pub struct Disk<'a, R: Files> {

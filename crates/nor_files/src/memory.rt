@@ -12,7 +12,7 @@ use std::io::{ErrorKind, Sink};
 use std::{io, mem};
 
 /// Files in memory that obey the contract of `Store`. At most a given number of calls succeed: `hold`, syncs, and calls
-/// that change or lend a file. After that many, each such call fails and changes nothing.
+/// that change or lend a file. Each further call of these kinds fails and changes nothing.
 ///
 /// A host crash may leave each byte as it was at the last sync of the file, or as any later write or change of length
 /// made it; a file whose vault or log was borrowed since that sync may have any bytes. A file that was created may be

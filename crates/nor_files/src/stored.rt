@@ -37,7 +37,7 @@ pub struct Step {
     change: Change,
 }
 
-/// What an interruption destroys.
+/// The data that an interruption destroys.
 #[derive(Clone, Copy, Debug, PartialEq, Eq)]
 pub enum Loss {
     /// Nothing: only the process was killed.
