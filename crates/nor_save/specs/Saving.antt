@@ -63,8 +63,8 @@ NeedsStatus _ unlock code touched chip = (unlock ≡ true) × SomeHeld touched c
 abbrev pub kept_read : Opening → List ℕ
 kept_read opening = (opening.found.status1 / 4 * 4) ∷ (opening.status2 % 128) ∷ []
 
--- The header of the journal that is written after this identification: ID, unique ID, non-volatile status bits and size,
--- as they were read.
+-- The header of the journal that is written after this identification: ID, unique ID, non-volatile status bits and
+-- size, as they were read.
 abbrev pub head_found : Opening → Content
 head_found opening =
     empty_content opening.found.id (Some opening.unique) (kept_read opening) opening.found.size
