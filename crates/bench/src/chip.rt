@@ -171,7 +171,7 @@ impl Work for CopiesOut<'_> {
     }
 }
 
-// The reference for erases and programs.
+// The plain work with which erases and programs are compared: copies one sector into each sector of the memory.
 #[derive(Drop)]
 struct CopiesIn<'a> {
     memory: &'a mut [u8],
