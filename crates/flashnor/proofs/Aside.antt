@@ -59,7 +59,7 @@ aside_of other was (Some all) left len mid new rest still is whole long aside =
       inr aside,
     )
 
--- what is found is something that a run may have left, or nothing if there was no file at first
+-- the content found is one that a run may have left, or there is none if there was no file at first
 pub pick : (one other : Option (Bor Text)) (was found left : Found) (len : ℕ) (mid new : FilesState) → NameOne one other
     → AreAtRest mid → ((name : Name) → new.may_leave name (new.view.seen name)) → IsFileFound mid.view other len found
     → IfSome found (λ all. length all ≡ len) → LeavesAsLong other mid new → MayFind one was left new

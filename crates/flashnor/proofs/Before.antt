@@ -16,7 +16,7 @@ use Rattle.flashnor.specs.Stored.{AreTwo, IsNot, LeavesNoMoreOf, MakesNothing, S
 use Rattle.flashnor.specs.Tasks.{journal_by, journal_of, keeps_journal, made_by, puts_back}
 use Rattle.flashnor.proofs.Stays.{StayApart, apart, known_after, known_at_rest, not_after, not_that, stays_same}
 
--- what holds of all files holds of a file that is named
+-- a promise about all files holds for a file that is named
 pub leaves_of : (old new : FilesState) (name : Option (Bor Text)) → LeaveNoMore old new → LeavesNoMoreOf name old new
 leaves_of old new None leave = tt
 leaves_of old new (Some name) leave = leave name.now
@@ -93,7 +93,7 @@ module _ (programmer : Programmer) (old new : FilesState) (image : LeavesNoMoreO
   })
   keeps_unmade _ still leave source empty = still refl
 
--- a run that did nothing
+-- a run that changed no file keeps what its task must keep of the files
 pub keeps_still : (files : FilesState) (programmer : Programmer) (done : Task) → KeepsFiles programmer done files files
 keeps_still files programmer done =
     let same = λ (name : Name). stays_same name files in

@@ -30,7 +30,7 @@ missing_settled {name = name} {there = there} {old = old} gone known holds place
 
 -- ---- faults
 
--- what is read afterwards could be read before
+-- a read afterwards returns what a read before would have returned
 reads_before : (name : Name) (most : ℕ) (found : Found) (a b : FilesState) → b.view.nature ≡ a.view.nature
     → KnownStay a b → Reads name most found b.view → Reads name most found a.view
 reads_before name most found a b same stay reads known =

@@ -194,7 +194,7 @@ made {bytes = bytes} make = record {
   ];
 }
 
--- what may be left of the file is nothing, or its content, which is complete if its length is right
+-- a host crash may leave no file, or a content that is complete if its length is right
 of_new : {name : Name} {bytes content : List ℕ} {old new : FilesState} → IsNew name bytes content old new
     → (had : List ℕ) → IsReadyFile name false had bytes old → LeavesFileAmid name false had bytes new
 of_new {content = content} is had ready left can = elim (is.leaves had ready left can) [

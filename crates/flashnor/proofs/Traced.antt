@@ -28,7 +28,7 @@ view_apart trace old mid nature others = record {
   stays = λ any not known. let stays = others known.lawful any not in (stays.out, stays.seen);
 }
 
--- files that were locked before stay as they were
+-- if all known files stay, and then all except the trace, then all except the trace stay in all
 pub view_before : (trace : Option (Bor Text)) (old mid : FilesState) (amid : View) → mid.view.nature ≡ old.view.nature
     → KnownStay old mid → IsViewBut trace mid.view amid → IsViewBut trace old.view amid
 view_before trace old mid amid nature stay but = record {
@@ -39,7 +39,7 @@ view_before trace old mid amid nature stay but = record {
       (same.0 ∙ stays.out, same.1 ∙ stays.seen);
 }
 
--- what is read after the trace was created is what existed before
+-- a read after the trace was created returns what a read before would have returned
 pub reads_before : (trace : Option (Bor Text)) (file : Text) (most : ℕ) (found : Found) (old amid : View)
     → IsNot old.nature trace file
     → IsViewBut trace old amid → Reads file most found amid → Reads file most found old
@@ -55,7 +55,7 @@ missing_before trace file old amid not but gone = λ known.
     let same = but.stays file.now not known in
     sym same.1 ∙ gone (record { lawful = lawful_after but.nature known.lawful; in_store = same.0 ∙ known.in_store })
 
--- of a file other than the trace nothing more may be left than before the trace was created
+-- a host crash may leave no more of a file other than the trace than it could before the trace was created
 pub makes_nothing_before : (name : Bor Text) (journal : Option (Bor Text)) (old mid new : FilesState)
     → mid.view.nature ≡ old.view.nature → IsNot old.view.nature journal name.now
     → (is_lawful old.view ≡ true → OthersStay name.now old mid) → MakesNothing journal mid new

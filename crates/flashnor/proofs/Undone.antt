@@ -184,7 +184,7 @@ module _ (programmer : Programmer) (file : Text) (start : FilesState) (first : O
           (found_one programmer.status other.status _ _ mid same.status
           (left_seen mid rest still other.status _ _ found.read.status.is_found found.read.status.whole _)) from)
 
-    -- what may be found after a restore
+    -- the contents that may be found after a restore
     module _ (new : FilesState) (still' : (name : Name) → new.may_leave name (new.view.seen name))
         (kept : LeavesRestorable other file mid new) (image status : Found) (later : BusState)
         (can_image : MayFind programmer.image first.read.bytes.found image new)
@@ -276,7 +276,8 @@ module _ (programmer : Programmer) (file : Text) (start : FilesState) (first : O
   -- files that hold a chip open to that chip
   module _ (chip : Chip) (new : FilesState) (lawful : is_lawful new.view ≡ true) (is : IsSame first.bus.chip chip)
       (put : ArePutBack other chip None None new) where
-    -- what was written to a file that is named, or what stands for it
+    -- the content that is left of a named file is the one that was written; a file that was missing at first may be
+    -- missing
     settled : (name given : Option (Bor Text)) (was : Found) (bytes : List ℕ) (left : Found) → (given ≡ None → was ≡ None)
         → NameOne given name → ArePut name bytes None new → MayFind given was left new
         → ((was ≡ None) × (left ≡ None)) ⊎ (left ≡ Some bytes)

@@ -42,7 +42,7 @@ ready_still one (Some name) there had bytes a b two same others ready =
       as_many = ready.as_many;
     }
 
--- what was written to the other file, or may be left of it, stays
+-- a write to one file keeps the content of the other file, and the contents that may be left of it
 still : (there : Bool) (had bytes : List ℕ) (a b c : FilesState) (one other : Option (Bor Text))
     → AreTwo a.view.nature one other → b.view.nature ≡ a.view.nature → OthersOf other b c
     → IsReady one there had bytes a

@@ -79,7 +79,7 @@ pub record HasPrinted (outcome : Result Answer Fault) (unwritten : Unwritten) (o
   pub no_output : (IsAnswered outcome → ⊥) → out' ≡ out
   pub silent : IsAnswered outcome → unwritten ≡ all_written → err' ≡ err
 
--- the run ended with such an `Ending`, which has this status
+-- the run ended with an `Ending` for which `IsEnding` holds, and which has this exit status
 abbrev pub EndsWith : (Ending → Type 0) → ℕ → Type 0
 EndsWith IsEnding status = (ending : Ending) × IsEnding ending × (status ≡ ending.status)
 

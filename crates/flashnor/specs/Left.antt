@@ -97,7 +97,7 @@ pub record LeavesAll (programmer : Programmer) (file : Text) (old new : FilesSta
       → LeavesNoMore name old new
   pub empty : LeavesOrEmpty file old new
 
--- what a run that changes a chip keeps: it was interrupted before anything was changed, or the original chip can be
+-- the promise of a run that changes a chip: it was interrupted before anything was changed, or the original chip can be
 -- restored
 abbrev pub KeepsFirst : Programmer → (file : Text) → (old new : FilesState) → Type 0
 KeepsFirst programmer file old new =
@@ -126,7 +126,7 @@ pub record LeavesRestorable (programmer : Programmer) (file : Text) (old new : F
   pub stays : Stays file old new
   pub back : (first : Chip) → CanGiveBack journal first found.bus → LeavesOnly found (CanGiveBack journal first) new
 
--- what a restore keeps: it was interrupted before anything was changed, or the original chip can still be restored
+-- the promise of a restore: it was interrupted before anything was changed, or the original chip can still be restored
 abbrev pub KeepsRestorable : Programmer → (file : Text) → (old new : FilesState) → Type 0
 KeepsRestorable programmer file old new =
     LeavesSources programmer file old new ⊎ LeavesRestorable programmer file old new

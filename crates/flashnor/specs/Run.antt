@@ -189,13 +189,14 @@ FailsTraced view on_chip fault = IsSomeAnd on_chip.programmer.trace (λ name. Is
     ⊎ (FailsRoles view.nature on_chip fault
     ⊎ ((amid : View) × IsViewBut on_chip.programmer.trace view amid × FailsBefore amid on_chip.task fault))
 
--- the faults of a job without a call: of the roles of its files, of the chip's files, of the trace, or of its task
+-- the faults of a job that occur before its call: of the roles of its files, of the chip's files, of the trace, or of
+-- its task
 abbrev pub FailsJob : View → ChipJob → Fault → Type 0
 FailsJob view on_chip fault = FailsRoles view.nature on_chip fault
     ⊎ (FailsToStart (puts_back on_chip.task) view on_chip.programmer fault
     ⊎ FailsTraced view on_chip fault)
 
--- ---- what a run leaves of files, on every exit
+-- ---- the files at every exit of a run
 
 -- The chip's files are as they were. Each file is, too, whose name is apart from those of the trace and of the file
 -- that the task creates.
@@ -211,13 +212,13 @@ abbrev pub KeepsChange : Programmer → JournalUse → (old new : FilesState) �
 KeepsChange programmer (uses.Journal file) old new = KeepsFirst programmer file.now old new
 KeepsChange programmer (uses.Rehearse stops) old new = StayBut programmer None old new
 
--- what each task keeps of the files
+-- the promise of each task about the files, at every exit
 abbrev pub KeepsFiles : Programmer → Task → (old new : FilesState) → Type 0
 KeepsFiles programmer (task.Change change) old new = KeepsChange programmer change.journal_use old new
 KeepsFiles programmer (task.Restore journal) old new = KeepsRestorable programmer journal.now old new
 KeepsFiles programmer done old new = StayBut programmer (made_by done) old new
 
--- ---- what a run that ends with an answer leaves of files
+-- ---- the files after a run that ends with an answer
 
 -- A change ended with this answer, and all files were written. The chip's files hold the requested chip. The journal's
 -- file holds one journal, which restores the original chip. A host crash loses neither.

@@ -14,7 +14,7 @@ Happens view failure = view.nature.fails failure ≡ true
 abbrev pub IsRead : View → Text → ℕ → List ℕ → Type 0
 IsRead view name most bytes = Reads name most (Some bytes) view
 
--- what was read of a file, if one is named; if it has more than `len` bytes, one more than `len` is read
+-- the bytes that were read from a file, if one is named; if it has more than `len` bytes, `len` and one more are read
 abbrev pub IsFileFound : View → Option (Bor Text) → ℕ → Option (List ℕ) → Type 0
 IsFileFound view None len found = found ≡ None
 IsFileFound view (Some name) len found = Reads name.now (len + 1) found view

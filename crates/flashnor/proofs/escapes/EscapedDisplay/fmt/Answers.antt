@@ -5,7 +5,7 @@ use Rattle.std.proofs.lemmas.Str.{IsUtf8-past_char, chars-nil, chars_past_char}
 use Rattle.flashnor.specs.Escapes.{escaped, escaped_character}
 use Rattle.flashnor.proofs.escapes.EscapedDisplay.fmt.Goals as goal
 
--- the first character of a name, and the rest
+-- a text is escaped character by character: its first character, and then the rest
 escaped_step : (text rest : List ℕ) (character : ℕ) → IsUtf8 text → text ≡ encode_utf8 character ++ rest
     → escaped text ≡ escaped_character character ++ escaped rest
 escaped_step text rest character utf8 is = ap (flat_map escaped_character) (chars_past_char text rest character utf8 is)
