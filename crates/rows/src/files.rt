@@ -149,8 +149,9 @@ fn fail(rt: &impl Abort, alloc: Global, row: Row, most: usize, failure: Failure)
     file
 }
 
-// Makes write `n`, counted from 0, return an error, and then accept no bytes. Asserts that it was the last call of the
-// file, which holds the journal's bytes from before that write.
+// Runs the session twice. Write `n`, counted from 0, returns an error in the first run, and accepts no bytes in the
+// second. Asserts that this write was the last call on the file, and that the file holds the journal's bytes from
+// before it.
 fn fail_write(rt: &impl Abort, alloc: Global, row: Row, right: &OnceFile, n: usize) {
     for failure in [Failure::Write(n), Failure::Nothing(n)] {
         let file = fail(rt, alloc, row, right.most, failure);

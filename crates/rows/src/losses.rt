@@ -16,7 +16,7 @@ fn change<S: Store>(files: &mut S) -> io::Result<()> {
     Ok(())
 }
 
-// What a change leaves that so many calls of succeed.
+// Returns the files that are left by a change whose first `left` calls succeed, after this loss.
 fn left_of(alloc: Global, left: u64, is_torn: bool, loss: Loss) -> Result<Memory, AllocError> {
     let mut files = Memory::new(alloc, left);
     files.put("image", b"abcd")?;

@@ -12,7 +12,7 @@ const SECTORS_ALONE: Kinds = Kinds {
     k64: false,
 };
 
-// What a probe finds on each emulated chip, with BP0 set in status 1.
+// The results of a probe on each emulated chip, with BP0 set in status 1.
 const TINY64: Found = Found {
     name: ChipName::Sfdp,
     id: [0xFE, 0x10, 0x10],

@@ -1,4 +1,4 @@
-//! What is asked of a serprog programmer before the first transaction.
+//! The commands that a serprog programmer receives before the first transaction.
 
 use crate::serprog_model::Model;
 use nor_serprog::{Link, Programmer};
@@ -86,7 +86,7 @@ fn a_limit_that_is_too_small_is_an_error(rt: HostRuntime) -> Result<(), Fail> {
     Ok(())
 }
 
-// What an earlier run left unread is skipped, also if it ends like an answer to SYNCNOP.
+// Bytes that an earlier run left unread are skipped, even if they end like a reply to SYNCNOP.
 #[test]
 fn stale_bytes_are_skipped(rt: HostRuntime) -> Result<(), Fail> {
     let stale: [&[u8]; 4] = [

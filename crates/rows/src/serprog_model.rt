@@ -9,17 +9,17 @@ use std::alloc::Global;
 use std::test::Fail;
 use std::{fmt, mem};
 
-// A frame; and the answer to a read of a sector, after stale bytes.
+// The most bytes of an incomplete frame, and of the pending replies: those to a read of a sector, after stale bytes.
 const MOST_BEGUN: usize = 300;
 
 const MOST_PENDING: usize = 5000;
 
-/// What the model does at one O_SPIOP in place of answering it.
+/// A fault of the model at one O_SPIOP, in place of its correct reply.
 #[derive(Clone, Copy, Debug, PartialEq, Eq)]
 pub enum Fault {
     /// Replies NAK, and the chip is not selected.
     Nak,
-    /// Carries it out, and the answer is lost.
+    /// Carries it out, and the reply is lost.
     Silent,
     /// Carries it out, and only ACK and half of the replies arrive.
     Short,
