@@ -31,8 +31,8 @@ pub enum Halt {
     Failed(Fault),
 }
 
-/// What a session must have put into its vault: its journal without end mark and digest, and whether it was completed and
-/// sealed.
+/// The bytes that a session must have put into its vault, the journal without end mark and digest, and whether the
+/// journal was completed and sealed.
 #[derive(Drop)]
 pub struct Put {
     pub begun: Vec<u8>,
