@@ -26,12 +26,12 @@ abbrev pub part_in : Found → Part
 part_in found =
     record { name = found.name; id = found.id; size = found.size; kinds = found.kinds; scheme = found.scheme }
 
--- holds if no name is wanted, or the chip has the wanted name
+-- holds if no name is requested, or the chip has the requested name
 abbrev pub IsWanted : (named : Option ChipName) → ChipName → Type 0
 IsWanted None name = ⊤
 IsWanted (Some wanted) name = wanted ≡ name
 
--- holds if the fault is possible with this wanted name: `OtherName` needs one
+-- holds if the fault is possible for a request with this name or none: `OtherName` needs a name
 abbrev pub BlamesName : Option ChipName → ProbeFault → Type 0
 BlamesName None OtherName = ⊥
 BlamesName named fault = ⊤
@@ -88,13 +88,13 @@ pub record IsConfigOf (config : Config) (found : Found) : Type 0 where
   pub kinds : found.kinds ≡ config.kinds
   pub scheme : found.scheme ≡ config.scheme
 
--- The chip shows itself as a type, which has the wanted name if one is wanted.
+-- The chip shows a chip type (`shown_as`) that has the requested name, if a name is requested.
 pub record IsNamed (named : Option ChipName) (config : Config) : Type 0 where
   pub part : Part
   pub shown : shown_as config ≡ Ok part
   pub wanted : IsWanted named part.name
 
--- The chip shows itself as a type with another name than the wanted one.
+-- The chip shows a chip type (`shown_as`) with another name than the requested one.
 pub record HasOtherName (named : Option ChipName) (config : Config) : Type 0 where
   pub part : Part
   pub shown : shown_as config ≡ Ok part
@@ -123,9 +123,9 @@ pub record ProbeAlways (named : Option ChipName) (old new : BusState) (result : 
   pub looks : Looks most_probe old new
   -- a chip found is a row of the table, or was identified by SFDP, and has a size that a chip may have
   pub part : IfOk result IsPart
-  -- a chip found has the wanted name, or no name is wanted
+  -- a chip found has the requested name, or no name is requested
   pub wanted : IfOk result (λ found. IsWanted named found.name)
-  -- `OtherName` is possible only if a name is wanted
+  -- `OtherName` is possible only if a name is requested
   pub blames : IfErr result (BlamesName named)
   -- a chip is found only if the last poll showed that it is ready
   pub heard : OnOk result (new.heard ≡ true)
@@ -135,7 +135,8 @@ pub record ProbeHonest (named : Option ChipName) (old new : BusState) (result : 
   -- a chip found is what the chip shows about itself; the chip is idle, and its bytes and non-volatile status bits are
   -- unchanged
   pub finds : IfOk result (Finds old new)
-  -- a fault says why the chip isn't a wanted one, or that too few transactions were left; a timeout doesn't occur
+  -- a fault says why no chip with the requested name was found, or that too few transactions were left; a timeout
+  -- doesn't occur
   pub tells : IfErr result (Tells named old new)
 
 -- the result of a probe without the number of transactions
