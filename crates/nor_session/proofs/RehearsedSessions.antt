@@ -86,7 +86,7 @@ module _ {n : ℕ} {old mid : BusState} (allows : Allows n old mid) where
       writes = search arith;
     }
 
-    -- it ended
+    -- the session ended
     pub session_ends : (report : Report) → SessionAlways request mid new before after (Ok report)
         → (mid.honest ≡ true → SessionHonest mid new (Ok report))
         → (IsModelled mid → SessionModelled request image mid new before after (Ok report))

@@ -63,7 +63,7 @@ tested : (n s : ℕ) (test : ℕ → Bool) (verdict before after old new : Bool)
     → new ≡ (after && test s)
 tested n s test verdict before after old new is more was inserted = grind (arith, nat_tests)
 
--- the wanted bytes of a saved sector are the saved ones, those of any other sector are the present ones
+-- the target bytes of a saved sector are the saved ones; those of any other sector are the present ones
 pub restored_saved : (journal : Content) (content : ℕ → ℕ) (a : ℕ) → is_saved journal (a / 4096) ≡ true → restored journal content a ≡ saved_byte journal a
 restored_saved journal content a is = rw is refl
 

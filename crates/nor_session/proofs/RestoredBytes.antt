@@ -19,7 +19,7 @@ none_at test a none =
     let place : 4096 * (a / 4096) + a % 4096 ≡ a = omega arith in
     rw place at (any_below-false 4096 (λ i. test (4096 * (a / 4096) + i)) none (a % 4096) (omega arith))
 
--- a sector that isn't touched is as wanted
+-- a sector that isn't touched has its target bytes
 pub untouched_byte : (content aim : ℕ → ℕ) (a : ℕ) → is_touched content aim (a / 4096) ≡ false → content a ≡ aim a
 unfolding is_touched
 untouched_byte content aim a none = eqb-true _ _ (not-false _ (none_at (λ b. is_other (content b) (aim b)) a none))
@@ -53,7 +53,7 @@ written_restored journal old mid new touched a right same is = search (arith, to
 and_same : (b x y : Bool) → (b ≡ true → x ≡ y) → (b && x) ≡ (b && y)
 and_same b x y same = grind arith
 
--- the wanted bytes of touched sectors say which pages are programmed
+-- the pages to program depend only on the target bytes of touched sectors
 pub pages_same : (touched : ℕ → Bool) (old aim aim' : ℕ → ℕ) → ((a : ℕ) → touched (a / 4096) ≡ true → aim a ≡ aim' a)
     → count_below 65536 (is_programmed touched old aim) ≡ count_below 65536 (is_programmed touched old aim')
 unfolding is_page_other

@@ -22,8 +22,8 @@ abbrev pub pages_of : (old wanted : ℕ → ℕ) → ℕ
 pages_of old wanted =
     count_below 65536 (is_programmed (is_touched old wanted) (once_erased (is_raised old wanted) old) wanted)
 
--- The chip holds the target bytes, its fixed status bits are as they were, and it is idle. Its latch is set only if it
--- was set before.
+-- The chip holds the target bytes, the status bits that flashnor never changes are as they were, and the chip is idle.
+-- Its latch is set only if it was set before.
 pub record IsMade (wanted : ℕ → ℕ) (old new : Chip) : Type 0 where
   pub config : new.config ≡ old.config
   pub bytes : (a : ℕ) → new.bytes a ≡ wanted a

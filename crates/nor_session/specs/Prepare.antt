@@ -83,7 +83,8 @@ IsUnitRefusal _ = ⊥
 abbrev pub FitsOpening : Content → Opening → Type 0
 FitsOpening journal opening = (chip : Chip) → chip.kept.two < 128 → IsOpening chip opening → Fits journal chip
 
--- Whether the fixed status bits that the identification shows are the journal's, for each chip that it may be of.
+-- Whether the status bits that flashnor never changes are the journal's, on each chip that the identification may have
+-- found.
 abbrev pub ShowsFixed : Content → Opening → Bool → Type 0
 ShowsFixed journal opening shown = (chip : Chip) → chip.kept.two < 128 → IsOpening chip opening
     → MatchBool shown (FitsStatus journal chip) (¬ FitsStatus journal chip)

@@ -95,8 +95,8 @@ RestoreTells journal old new Stopped = RanOut (most_of (length journal.saved)) o
 RestoreTells journal old new refusal = IsRestoreVerdict journal old.chip refusal
 
 -- At every exit, with any journal: on a bus that is steady or whose chip was idle, the bytes outside the saved sectors
--- and the fixed status bits are as they were; even if the bus is neither, only sectors in which a bit had to rise were
--- erased.
+-- and the status bits that flashnor never changes are as they were; even if the bus is neither, only sectors in which a
+-- bit had to rise were erased.
 pub record LeavesRestore (journal : Content) (old new : BusState) : Type 0 where
   pub config : new.chip.config ≡ old.chip.config
   pub bytes : IsCalm old → (a : ℕ) → is_saved journal (a / 4096) ≡ false → new.chip.bytes a ≡ old.chip.bytes a

@@ -104,7 +104,8 @@ fn judge_unit(journal: &Journal<'_>, opening: &Opening) -> Result<(), Refusal>
     }
 }
 
-// Whether the fixed status bits are those of the journal; without block protection, whether all non-volatile ones are.
+// Returns whether the status bits that flashnor never changes are those of the journal; without block protection,
+// whether all non-volatile status bits are.
 fn has_fixed(journal: &Journal<'_>, opening: &Opening) -> bool
     ensures shows { ShowsFixed journal.now opening.now result }
     ensures fixed { result ≡ true → HasFixedRead journal.now opening.now }

@@ -32,7 +32,7 @@ returns-in_err-restores g c =
       modelled = λ modelled. absurd (never modelled);
     })
 
--- one ended
+-- a restore ended
 pub returns : goal.returns
 returns g c =
     let session = c.stopped_session.ensures.leaves in let undone = c.undo.ensures in let is = c.bytes.ensures in
