@@ -46,7 +46,7 @@ tells_well (Ok found) unwritten err err' answered told = told
 tells_well (Err (end.Usage (usage.Words error))) unwritten err err' answered told = tt
 tells_well _ unwritten err err' answered told = absurd answered
 
--- an answer, or help
+-- the end of a run with an answer, or with help
 pub printed_well : (outcome : Result Answer Fault) (unwritten : Unwritten) (out out' err err' : Option (List ℕ)) (ending : Ending)
     (is_printed : Bool) → IsAnswered outcome → (is_printed ≡ true → PrintsAnswer outcome out out')
     → EndsWell is_printed unwritten err err' ending → HasPrinted outcome unwritten out out' err err' ending

@@ -31,14 +31,14 @@ modelled_ready programmer bus ready = record {
 pub calm_ready : (programmer : Programmer) (bus : BusState) → IsReady programmer bus → IsCalm bus
 calm_ready programmer bus ready = inr ready.idle
 
--- the part that a ready bus shows is that of the emulated chip
+-- the chip type that a ready bus shows is that of the emulated chip
 shows : (programmer : Programmer) (bus : BusState) (part : Part) → IsReady programmer bus
     → shown_as bus.chip.config ≡ Ok part → emulated_part programmer.chip ≡ part
 shows programmer bus part ready shown =
     let both = sym (shown_with programmer.chip programmer.unique bus.chip.config ready.config) ∙ shown in
     cc
 
--- the chip that is found
+-- a probe that succeeds finds the emulated chip, with the requested name
 pub finds_ready : (programmer : Programmer) (named : Option ChipName) (old new : BusState) (found : Found)
     → IsReady programmer old → IsWanted named found.name → Finds old new found
     → IsEmulatedFound named programmer.chip found
@@ -46,7 +46,7 @@ finds_ready programmer named old new found ready name finds =
     let part : emulated_part programmer.chip ≡ part_in found = shows programmer old _ ready finds.part in
     record { part = sym part; name = rw part name }
 
--- the errors of identification
+-- the errors of the identification, on a ready bus
 pub refuses_ready : (programmer : Programmer) (named : Option ChipName) (old new : BusState) (fault : ProbeFault)
     → IsReady programmer old → Tells named old new fault → FindRefuses programmer named (of_probe fault)
 refuses_ready programmer named old new Probes.OtherName ready tells = λ has.

@@ -1,4 +1,4 @@
--- The configuration of the emulated chips, and the part that identification shows.
+-- The configuration of the emulated chips, and the chip type that they show.
 use Rattle.std.proofs.Common.{◌≡◌, ◌∙◌, List, ℕ, [], ◌∷◌, Option, None, Some, Result, Ok, Err, IsOk, ap, arith}
 use Rattle.std.proofs.Common.{if◌then◌else◌, refl, replicate, subst, sym}
 use Rattle.nor_chip.specs.declared.config.Config.{Config}
@@ -25,7 +25,7 @@ known_by W25q128fv config is = w25q128fv_known config is
 size_by : (chip : Emulated) (config : Config) → IsConfigOfEmulated chip config → config.size ≡ (emulated_part chip).size
 size_by chip config is = grind arith
 
--- the part that a geometry gives for TINY64, if it is that of the chip
+-- a geometry that is that of the chip gives the chip type of TINY64
 by_geometry : (config : Config) → config.size ≡ 65536 → config.kinds ≡ all_kinds → (says : Result Geometry SfdpFault)
     → ((geometry : Geometry) → says ≡ Ok geometry → HasGeometry geometry config)
     → IsOk (part_by_sfdp (254 ∷ 16 ∷ 16 ∷ []) says)

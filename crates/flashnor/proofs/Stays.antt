@@ -91,7 +91,7 @@ rest_on same rest stay = record {
   in_store = λ name. (stay name).out ∙ rest.in_store name;
 }
 
--- a vault that was lent and returned
+-- a vault that was borrowed and taken back
 module _ (name : Name) (old mid new : FilesState) (vault : VaultState)
     (made : mid.view.nature ≡ old.view.nature) (lends : is_lawful old.view ≡ true → Lends name old mid)
     (back : new.view.nature ≡ mid.view.nature)

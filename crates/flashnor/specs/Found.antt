@@ -1,4 +1,4 @@
--- Which chip identification finds.
+-- The chip that the identification finds.
 use Rattle.std.specs.Prelude.{◌≡◌, false, [], ◌∷◌, Option}
 use Rattle.nor_chip.specs.Makers.{all_kinds}
 use Rattle.nor_probe.specs.Found.{IsWanted, part_in}
