@@ -130,15 +130,15 @@ Makes name (Err _) old new = Stays name old new
 
 -- ---- vaults and logs
 
--- A vault in the file was lent. Each file whose name is apart from this one is as it was.
+-- A vault or a log in the file was borrowed. Each file whose name is apart from this one is as it was.
 pub record Lends (name : Name) (old new : FilesState) : Type 0 where
   pub succeeds : Succeeds old new
   pub lent : new.lent ≡ Some name
   pub out : new.view.out name ≡ true
   pub others : OthersStay name old new
 
--- No vault was lent. If no vault or log in the file was borrowed before, a host crash can leave nothing of it that it
--- couldn't leave before, except an empty file if it was missing.
+-- No vault or log was borrowed. If no vault or log in the file was borrowed before, a host crash can leave nothing of
+-- it that it couldn't leave before, except an empty file if it was missing.
 pub record LendsNone (name : Name) (old new : FilesState) : Type 0 where
   pub fails : Fails old new
   pub leaves : IsKnown name old.view → LeavesOrEmpty name old new

@@ -146,7 +146,7 @@ abbrev pub FileMakes : {T E : Type 0} → Result T E → (old new : Stored) → 
 FileMakes (Ok _) old new = IsMadeNow old new
 FileMakes (Err _) old new = IsUnchanged old new
 
--- A vault or a log in the file was lent. The file is empty; if it had to be new, it was missing before, and a host
+-- A vault or a log in the file was borrowed. The file is empty; if it had to be new, it was missing before, and a host
 -- crash can't remove it.
 pub record IsLent (is_new : Bool) (old new : Stored) : Type 0 where
   pub name : new.name ≡ old.name

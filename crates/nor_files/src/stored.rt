@@ -26,7 +26,7 @@ pub enum Change {
     Written(Vec<u8>),
     /// The length was set to this.
     Cut(u64),
-    /// The file was emptied, and a vault or a log in it was lent.
+    /// The file was emptied, and a vault or a log in it was borrowed.
     Lent,
 }
 
