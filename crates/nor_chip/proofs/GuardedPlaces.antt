@@ -69,7 +69,7 @@ guarded_by-end size code are =
     place_test-end size (named_length size code) (is_undefined code) (is_complement code) (is_bottom code) are.blocks
     (named_length-part size code are)
 
--- nothing is guarded past the chip's end
+-- no address past the chip's end is protected
 pub guarded_by-past : (size code a : ℕ) → size ≤ a → guarded_by size code a ≡ false
 unfolding guarded_by
 guarded_by-past size code a past = rw (le-ltb a size past) refl
