@@ -132,7 +132,7 @@ module _ {kinds : Kinds} {size : ℕ} {set : ℕ → Bool} {units left : List Er
     status_writes = omega arith;
   }
 
-  -- at the end
+  -- no planned erase is left
   module _ (none : left ≡ []) where
     pub does_ended : DoesErases set kinds size old mid tally
     does_ended =
@@ -154,7 +154,7 @@ module _ {kinds : Kinds} {size : ℕ} {set : ℕ → Bool} {units left : List Er
       reached = λ honest can. made_may (λ a. erased_inside (a / 4096)) erased_inside (so.done honest can);
     }
 
-  -- the next erase
+  -- an erase is left: the next one
   module _ {unit : Erase} {rest : List Erase} (next : left ≡ unit ∷ rest) where
     pub few_units : tally.count < 4096
     few_units = omega (arith, come_fewer so.listed next, so.few, count_below-most 4096 set)
@@ -191,7 +191,7 @@ module _ {kinds : Kinds} {size : ℕ} {set : ℕ → Bool} {units left : List Er
         let some = of_plan.some in
         grind (arith, nat_tests)
 
-    -- one erase more
+    -- limits of `n` erases and of this one together
     one_more : (n more : ℕ) → more ≡ n + 1
         → IsSum (erasing (may_aim_at set size) n) (erasing (is_sector_named unit) 1) (erasing (may_aim_at set size) more)
     one_more n more is = record {

@@ -16,7 +16,8 @@ use Rattle.nor_apply.specs.Spending.{Spends, Tallies}
 
 -- ---- parts that ran
 
--- A part succeeded.
+-- A part of a change succeeded. It sent exactly the numbers of operations in these limits, only what they allow, and at
+-- most this number of readings.
 pub record Ran (limits : Limits) (readings : ℕ) (old new : BusState) (tally : Tally) : Type 0 where
   pub nature : KeepsNature old new
   pub sends : SendsWithin limits old new
@@ -36,7 +37,7 @@ ran_none {limits} state none = record {
   tallies = search arith;
 }
 
--- one operation
+-- a single operation that succeeded is such a part
 ran_one : {limits : Limits} {sent : ℕ} {old new : BusState} → Stirs limits old new
     → SendsExactly limits.erases limits.programs limits.status_writes old new
     → EndsWaiting old new sent → Ran limits 0 old new (record { count = 1; transactions = sent })

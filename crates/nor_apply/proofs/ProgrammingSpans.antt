@@ -249,7 +249,7 @@ spans_none state whole wanted_whole same are all = record {
 
 module _ {sector : ℕ} {old wanted : List ℕ} {spans left : List PageSpan} {first now : BusState} {tally : Tally}
     (so : SpansSoFar sector old wanted spans left first now tally) where
-  -- no more than sixteen
+  -- limits of at most 16 page programs
   sixteen : (n : ℕ) → n ≤ 16 → IsPartOf (programming (only sector) n) (programming (only sector) 16)
   sixteen n few = record {
     sectors = λ s aimed. aimed;
@@ -259,7 +259,7 @@ module _ {sector : ℕ} {old wanted : List ℕ} {spans left : List PageSpan} {fi
     status_writes = omega arith;
   }
 
-  -- at the end
+  -- no span is left
   module _ (none : left ≡ []) where
     pub does_ended : DoesSpans sector old wanted first now tally
     does_ended =
@@ -280,7 +280,7 @@ module _ {sector : ℕ} {old wanted : List ℕ} {spans left : List PageSpan} {fi
       reached = λ honest can. changed_may (does_ended.done honest can);
     }
 
-  -- the next span
+  -- a span is left: the next one
   module _ {span : PageSpan} {rest : List PageSpan} (next : left ≡ span ∷ rest) where
     spanned : Spanned sector old wanted span
     spanned = record {
@@ -300,7 +300,7 @@ module _ {sector : ℕ} {old wanted : List ℕ} {spans left : List PageSpan} {fi
         let at = named_in 1 ((4096 * sector + span.first) / 4096) s (omega arith) (omega arith) named in
         only-here (omega arith)
 
-    -- one page program more
+    -- limits of `n` page programs and of this one together
     one_more : (n more : ℕ) → more ≡ n + 1
         → IsSum (programming (only sector) n) (programming (is_sector_of (4096 * sector + span.first)) 1)
         (programming (only sector) more)

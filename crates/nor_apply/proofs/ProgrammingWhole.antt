@@ -41,7 +41,7 @@ module _ {sector : ℕ} {erased : Bool} {bytes bytes' : List ℕ} {reads : ℕ} 
         tallies = grind (arith, ends.reads_once, ends.heard, ends.kept, ends.read);
       }
 
-  -- page programs after it
+  -- limits of a read and of `n` page programs together
   then_programs : (n : ℕ)
       → IsSum (programming (only sector) 0) (programming (only sector) n) (programming (only sector) n)
   then_programs n = record {
@@ -233,7 +233,7 @@ module _ {touched raised : ℕ → Bool} {wanted : ℕ → ℕ} {n : ℕ} {first
             let able = can_after now.chip only_touched can.can done.config done.kept done.idle in
             grind (arith, still_old, only_touched, wanted_byte, can.blank, can.falls, nat_tests)
 
-      -- one sector more
+      -- limits of `n'` page programs and of those of one more sector together
       pages_after : (n' more all : ℕ) → all ≡ n' + more
           → IsSum (programming touched n') (programming (only n) more) (programming touched all)
       pages_after n' more all is = record {
