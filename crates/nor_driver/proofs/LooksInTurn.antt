@@ -14,7 +14,7 @@ looks_then m n old mid new first second =
     let looked = looked_then m n old mid new first.nature.steady in
     grind (arith, nature, looked, first.looked, second.looked)
 
--- no call
+-- no call leaves the state as it is
 pub looks_none : (state : BusState) → Looks 0 state state
 looks_none state = search (nature_refl state, unchanged_stays state state (unchanged_none state), arith)
 

@@ -40,7 +40,7 @@ module _ (at : ℕ) (sent : List ℕ) (fits : at % 256 + length sent ≤ 256) (o
       let byte = λ (a : ℕ). byte_after-program old.chip at sent a fits in
       grind (arith, byte, or-false)
 
--- the whole command
+-- a page program as a whole
 module _ (at : ℕ) (sent command : List ℕ) (sends : IsCommandAt 0x02 at sent command) (some : 0 < length sent)
     (fits : at % 256 + length sent ≤ 256) (old new : BusState) where
   asked : at < old.chip.config.size

@@ -60,7 +60,7 @@ module _ (status : Status) (code : ℕ) (below : code < 64) where
 
   module _ (old new : BusState) where
     module _ (fixed : fixed_of old.chip.kept ≡ fixed_of (kept_in (bytes_of status))) where
-      -- the non-volatile bits afterwards
+      -- the non-volatile bits after the status write are those from before with the new protection bits
       code_there : new.chip.kept ≡ record { one = one / 4; two = written old.chip.kept.two two }
           → new.chip.kept ≡ with_code code old.chip.kept
       code_there kept =
