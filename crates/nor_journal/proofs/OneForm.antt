@@ -108,7 +108,7 @@ length-unique u is = grind arith
 same_unique : (u v : Option (List ℕ)) → head_length u ≡ head_length v → unwrap_or u [] ≡ unwrap_or v [] → u ≡ v
 same_unique u v f e = grind arith
 
--- a header as its parts
+-- a header is the concatenation of its fields
 pub head_opened : (c : Content) (x : List ℕ)
     → head c ++ x ≡ magic c.unique ++ (c.id ++ (unwrap_or c.unique [] ++ (c.status ++ (number_text c.size ++ x))))
 unfolding head
