@@ -7,12 +7,12 @@ use Rattle.nor_driver.specs.Ready.{StaysReady}
 use Rattle.nor_driver.specs.Looks.{Rested, Looks, IsOpen}
 use Rattle.nor_driver.proofs.RestsInTurn.{HasLooked, rested_then}
 
--- A step that succeeded.
+-- The effect of a step that succeeded (`HasLooked`), with its number of reads.
 pub has_looked : {most more : ℕ} {old new : BusState} → Looks most old new → (old.honest ≡ true → Rested old new)
     → (old.honest ≡ true → old.left ≡ new.left + more) → StaysReady old new → HasLooked more old new
 has_looked looks rested fell heard = assumption
 
--- One more step after it.
+-- Two steps that succeeded, one after the other, are one with the sum of their reads.
 pub looked_on : {reads more : ℕ} {old mid new : BusState} → HasLooked reads old mid → HasLooked more mid new
     → HasLooked (reads + more) old new
 looked_on {reads} {more} {old} {mid} {new} has next =
