@@ -50,7 +50,7 @@ nothing_rescanned {journal = journal} {state = state} {scanned = scanned} blank 
 later_marks : {m n : ℕ} {scanned : Scanned} → m ≤ n → AreMarks m scanned → AreMarks n scanned
 later_marks later are = search (are.below, arith)
 
--- which sectors the records save with one more record
+-- one more record adds exactly its sector to those that are saved
 more_before : (journal : Content) (i number : ℕ) (saved : List ℕ) (s : ℕ) → IsContent journal → slice_get journal.saved i ≡ Some (record { number = number; bytes = saved })
     → saved_before journal (i + 1) s ≡ ((s == number) || saved_before journal i s)
 more_before journal i number saved s is at =

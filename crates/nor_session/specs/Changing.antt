@@ -18,7 +18,7 @@ use Rattle.nor_apply.specs.Applying.{touched_in, raised_in, status_writes, most_
 use Rattle.nor_call.specs.declared.refusal.Refusal.{Refusal}
 use Rattle.nor_call.specs.declared.refusal.Refusal.TheVariants.{Stopped, Timeout, Mismatch}
 
--- how many sectors are touched
+-- the number of touched sectors
 abbrev pub touched_count : Changes → ℕ
 touched_count changes = sector_count (touched_in changes)
 
@@ -26,14 +26,15 @@ touched_count changes = sector_count (touched_in changes)
 abbrev pub most_changed : Changes → ℕ
 most_changed changes = most_applied (touched_count changes) + touched_count changes
 
--- how many sectors are read back
+-- the number of sectors that are read back
 abbrev pub read_back : Changes → Bool → ℕ
 read_back changes verify = if verify then touched_count changes else 0
 
 -- ---- the check, after all is written
 
--- At the end: the touched sectors were read if `verify` is set, and the work counts these readings; nothing changed,
--- and no modifying command was sent; on an honest bus each byte that was read is the target's.
+-- At the end. The touched sectors were read if `verify` is set, and the work counts these readings. Nothing changed,
+-- and no modifying command was sent. On an honest bus, if the chip can be checked (`CanCheck`), each byte that was read
+-- is the target's.
 pub record DoesCheck (changes : Changes) (wanted : ℕ → ℕ) (verify : Bool) (written : Work) (old new : BusState)
     (work : Work) : Type 0 where
   pub erases : work.erases ≡ written.erases
@@ -46,7 +47,8 @@ pub record DoesCheck (changes : Changes) (wanted : ℕ → ℕ) (verify : Bool) 
   pub same : verify ≡ true → old.honest ≡ true → CanCheck (touched_in changes) old.chip
       → (a : ℕ) → touched_in changes (a / 4096) ≡ true → old.chip.bytes a ≡ wanted a
 
--- Why the check failed: the bus stopped, with fewer transactions left than sectors, or this is the first difference.
+-- The reason why the check failed: the bus stopped, with fewer transactions left than touched sectors, or this is the
+-- first difference.
 abbrev pub CheckRefuses : Changes → (ℕ → ℕ) → (old new : BusState) → Refusal → Type 0
 CheckRefuses changes wanted old new Stopped = RanOutIfHonest (touched_count changes) old new
 CheckRefuses changes wanted old new (Mismatch address) =
@@ -56,8 +58,8 @@ CheckRefuses changes wanted old new _ = ⊥
 
 -- ---- the changes and their check
 
--- At every exit. On every bus only touched sectors are targeted, no more is sent than the changes may send, and the
--- status is written only as they ask.
+-- At every exit. On every bus no more is sent than the changes may send: only touched sectors are targeted, or sectors
+-- past the end of a chip that is touched as a whole, and the status is written only as the changes ask.
 pub record LeavesChange (changes : Changes) (wanted : ℕ → ℕ) (old new : BusState) : Type 0 where
   pub spends : Spends (most_changed changes) old new
   pub sends : SendsWithin (most_sent changes) old new

@@ -117,8 +117,8 @@ pub record RehearsalAlways (request : Request) (stops : List ℕ) (old new : Bus
   -- were written and are not protection bits
   pub sends : vault'.sealed ≡ true → (journal : IsJournal vault'.bytes)
       × SendsSaved (IsRehearsedCode request.what journal.content) (1 + max 1 (length stops)) journal.content old new
-  -- at every exit the status was written no more often than the request may need, and at most twice by each restore;
-  -- the number of restores is at most the number of stops, or one without stops
+  -- At every exit the status was written no more often than the request may need, and at most twice by each restore.
+  -- The number of restores is at most the number of stops, or one without stops.
   pub writes : WritesStatusAtMost (most_status_writes request.what request.unlock + 2 * max 1 (length stops)) old new
 
 -- On a modelled bus: an honest one whose chip is what its ID or SFDP says.

@@ -26,8 +26,8 @@ use Rattle.nor_session.specs.Rehearsal.{CanEnd, SealFits, AreRestores, FitsLastS
 
 -- ---- the session
 
--- These bytes can restore the original chip (`first`) on this bus: that chip is known; they are its journal, which
--- saves exactly these sectors, all of them inside the chip, and none of them protected if the status is locked; and the
+-- These bytes can restore the original chip (`first`) on this bus. That chip is known. The bytes are its journal, which
+-- saves exactly these sectors. All of them lie inside the chip, and none is protected if the status is locked. The
 -- bus's chip differs from the original one only within these sectors.
 pub record LeadsBack (saved : ℕ → Bool) (first : Chip) (text : List ℕ) (state : BusState) : Type 0 where
   pub is : IsChip first

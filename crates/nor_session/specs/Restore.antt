@@ -94,8 +94,8 @@ abbrev pub RestoreTells : Content → (old new : BusState) → Refusal → Type 
 RestoreTells journal old new Stopped = RanOut (most_of (length journal.saved)) old new
 RestoreTells journal old new refusal = IsRestoreVerdict journal old.chip refusal
 
--- At every exit, with any journal: on a bus that is steady or whose chip was idle, the bytes outside the saved sectors
--- and the status bits that flashnor never changes are as they were; even if the bus is neither, only sectors in which a
+-- At every exit, with any journal. On a bus that is steady or whose chip was idle, the bytes outside the saved sectors
+-- and the status bits that flashnor never changes are as they were. Even if the bus is neither, only sectors in which a
 -- bit had to rise were erased.
 pub record LeavesRestore (journal : Content) (old new : BusState) : Type 0 where
   pub config : new.chip.config ≡ old.chip.config

@@ -1,5 +1,5 @@
-//! Laws on sessions and restores that follow one another, and on chips that are kept in files: what a journal can
-//! restore after a session, after a loss of power, and while files are being overwritten.
+//! Laws (theorems) on sessions and restores that follow one another, and on chips in files. They say which chips a
+//! journal can restore after a session, after a loss of power, and while files are being overwritten.
 ghost use Rattle.std.specs.Prelude.{◌≡◌, ◌⊎◌, true, ℕ, List};
 ghost use Rattle.nor_chip.specs.Bus.{BusState};
 ghost use Rattle.nor_chip.specs.Chip.{Chip, IsChip, IsSame};

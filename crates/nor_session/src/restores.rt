@@ -19,8 +19,8 @@ use nor_save::{Refusal, Report};
 /// On a modelled bus a restore that is stopped can be run again: if the journal could restore a chip at the start, it
 /// can restore that chip at every exit. In that case `Ok` leaves that chip, and the only possible error is 12.
 ///
-/// Returns 1, 2, 16, 20, 17 or 9, checked in this order before anything is modified; or 12 (the bus stopped), 13 (the
-/// chip stayed busy; not on an honest bus) or 14 (the chip holds other bytes than were written).
+/// Returns error 1, 2, 16, 20, 17 or 9, checked in this order before anything is modified. Also returns 12 (the bus
+/// stopped), 13 (the chip stayed busy; not on an honest bus) or 14 (the chip holds other bytes than were written).
 pub fn restore<B: Bus>(bus: &mut B, journal: &Journal<'_>) -> Result<Report, Refusal>
     ensures gives_back { IsModelled (B.state bus.old)
         → GivesBack journal.now (B.state bus.old) (B.state bus.new) result }
