@@ -37,8 +37,8 @@ writes_code changes = not ((if changes.unlock then 0 else code_of (kept_in (byte
 abbrev pub status_writes : Changes → ℕ
 status_writes changes = (if changes.unlock then 1 else 0) + (if writes_code changes then 1 else 0)
 
--- these two bytes are those of a status write of these changes: the status that was read, without protection bits if
--- protection is lifted first, or with the target's if these are written at the end
+-- True if the changes ask for a status write of these two bytes. They are the status that was read, without protection
+-- bits if protection is lifted first, or with the target's protection bits if these are written at the end.
 abbrev pub is_status_asked : Changes → (one two : ℕ) → Bool
 is_status_asked changes one two =
     (changes.unlock && has_code changes.status 0 one two)

@@ -15,8 +15,9 @@ pub record Spends (most : ℕ) (old new : BusState) : Type 0 where
   pub nature : KeepsNature old new
   pub falls : old.honest ≡ true → Falls most old new
 
--- True if the erases and programs of these sectors, on a chip of this size, may target the sector `s`: it is one of
--- them; or they are the whole chip and `s` is past its end, since the command that erases the chip has no address.
+-- True if the erases and programs of these sectors, on a chip of this size, may target the sector `s`. Either `s` is
+-- one of them; or they are the whole chip and `s` is past its end, since the command that erases the chip has no
+-- address.
 abbrev pub may_aim_at : (sectors : ℕ → Bool) → (size s : ℕ) → Bool
 may_aim_at sectors size s = sectors s || (nat_le (size / 4096) s && holds_run sectors 0 (size / 4096))
 
