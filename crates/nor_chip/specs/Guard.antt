@@ -27,8 +27,8 @@ is_complement code = code / 32 % 2 == 1
 abbrev pub is_undefined : (code : ℕ) → Bool
 is_undefined code = names_sectors code && bp_of code == 6
 
--- the length of the selected range: with SEC 4, 8, 16 or 32 KiB, without it a 64th of the chip, doubled up to one half;
--- nothing for BP 000, the whole chip for BP 111
+-- The length of the selected range. With SEC it is 4, 8, 16 or 32 KiB; without SEC it is a 64th of the chip, doubled up
+-- to one half. For BP 000 it is 0, for BP 111 the whole chip.
 abbrev pub named_length : (size code : ℕ) → ℕ
 named_length size code =
     if bp_of code == 0 then 0

@@ -32,8 +32,8 @@ abbrev pub done_of : Chip → (out : List ℕ) → (replies : ℕ) → Command
 done_of chip out replies =
     let command = command_of chip.config out replies in if is_carried_out chip command then command else Ignored
 
--- The reply byte with index i: a status byte, data (which continue at address 0 after the chip's end), the ID, the SFDP
--- bytes or the unique ID. Past their ends, and for all other commands, it is FFh.
+-- The reply byte with index `i`: a byte of a status register, the data, the ID, the SFDP or the unique ID. Data
+-- continue at address 0 after the chip's end. Past the other ends, and for all other commands, it is FFh.
 abbrev pub reply_byte : Chip → Command → (i : ℕ) → ℕ
 reply_byte chip Poll i = status1_of chip
 reply_byte chip ReadStatus2 i = status2_of chip
@@ -43,8 +43,8 @@ reply_byte chip (ReadSfdp at) i = sfdp_byte chip.config (at + i)
 reply_byte chip ReadUnique i = slice_index_or chip.config.unique i 255
 reply_byte chip _ i = 255
 
--- the last byte that was sent for the address `a` of a page: the first byte sent goes to the address `at`, each further
--- one to the next address, which wraps around at the end of the page
+-- The last byte that was sent for the address `a` of a page. The first byte sent is for the address `at`, and each
+-- further one for the next address. Addresses wrap around at the end of the page.
 unfoldable pub last_for : (at : ℕ) → (sent : List ℕ) → (a : ℕ) → Option ℕ
 last_for at [] a = None
 last_for at (byte ∷ sent) a = elim (last_for (at + 1) sent a) [

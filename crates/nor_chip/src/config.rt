@@ -39,8 +39,8 @@ pub const ALL_KINDS: Kinds = Kinds {
 };
 
 /// The properties of a chip that never change: the ID that 9Fh reads, the size in bytes, the erase types, whether the
-/// chip has block protection (`scheme`), the unique ID that 4Bh reads, and the SFDP bytes, which are FFh past their
-/// end.
+/// chip has block protection (`scheme`), the unique ID that 4Bh reads, and the SFDP bytes. Past their end the SFDP
+/// reads as FFh.
 #[derive(Clone, Copy)]
 pub struct Config {
     pub id: [u8; 3],
