@@ -59,8 +59,8 @@ pub struct Work {
 /// The touched sectors must lie below `changes.size`, which is at most 16 MiB. Every raised sector must be touched, and
 /// `source` must have every touched sector. On any bus, erases and programs target only touched sectors; if these are
 /// the whole chip, they may target addresses past its end, too. On an honest bus the changes are proved complete if
-/// `CanApply` holds for the chip: it is idle, has this size, these erase types and this status, and protects no touched
-/// address unless `unlock` is set.
+/// `CanApply` holds for the chip. It holds if the chip is idle, has this size, these erase types and this status, and
+/// protects no touched address unless `unlock` is set.
 ///
 /// Returns `Stopped` if the bus stopped. Returns `Timeout` with an address in a touched sector, or 0 for a status
 /// write, if the chip stayed busy for 65,536 polls. On an honest bus there is no timeout.
