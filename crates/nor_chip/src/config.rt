@@ -38,9 +38,8 @@ pub const ALL_KINDS: Kinds = Kinds {
     k64: true,
 };
 
-/// The properties of a chip that never change: the ID that 9Fh reads, the size in bytes, the erase types, whether the
-/// chip has block protection (`scheme`), the unique ID that 4Bh reads, and the SFDP bytes. Past their end the SFDP
-/// reads as FFh.
+/// The properties of a chip that never change: the ID (9Fh), the size in bytes, the erase types, whether the chip has
+/// block protection (`scheme`), the unique ID (4Bh), and the SFDP bytes. Past their end the SFDP reads as FFh.
 #[derive(Clone, Copy)]
 pub struct Config {
     pub id: [u8; 3],

@@ -1,5 +1,5 @@
-//! The model of an SPI NOR flash chip, the contract of a bus that carries transactions to it, and buses to test with: a
-//! simulated chip in memory, a bus that traces, and a faulty bus.
+//! The model of an SPI NOR flash chip, and the contract of a bus that carries transactions to it. Buses to test with
+//! are a simulated chip in memory, a bus that traces, and a faulty bus.
 //!
 //! ```rust
 //! use nor_chip::{Bus, Config, Delays, Meter, SimBus};
