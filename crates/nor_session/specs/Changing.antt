@@ -58,8 +58,8 @@ CheckRefuses changes wanted old new _ = ⊥
 
 -- ---- the changes and their check
 
--- At every exit. On every bus no more is sent than the changes may send: only touched sectors are targeted, or sectors
--- past the end of a chip that is touched as a whole, and the status is written only as the changes ask.
+-- At every exit. On every bus no more is sent than the changes may send. Only touched sectors are targeted, or sectors
+-- past the end of a chip that is touched as a whole. The status is written only as the changes ask.
 pub record LeavesChange (changes : Changes) (wanted : ℕ → ℕ) (old new : BusState) : Type 0 where
   pub spends : Spends (most_changed changes) old new
   pub sends : SendsWithin (most_sent changes) old new
