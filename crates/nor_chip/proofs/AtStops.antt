@@ -22,6 +22,7 @@ pub stops_at : (torn fill : Option ℕ) (out : List ℕ) (old new : BusState) (r
     → WornTo torn out old.chip old.worn new.worn → AtStop out old new
 stops_at None None out old new reached steady torn lost worn = record {
   count = 0;
+  read = [];
   reached = old.chip;
   step = nothing_sent old.chip;
   chip = inl (lost ∙ torn);
@@ -31,6 +32,7 @@ stops_at None None out old new reached steady torn lost worn = record {
 }
 stops_at None (Some fill) out old new reached steady torn lost worn = record {
   count = 0;
+  read = [];
   reached = old.chip;
   step = nothing_sent old.chip;
   chip = inr (power_lost fill old.chip new.chip (subst (λ (c : Chip). PowerLostWith fill c new.chip) torn lost));
@@ -40,6 +42,7 @@ stops_at None (Some fill) out old new reached steady torn lost worn = record {
 }
 stops_at (Some count) None out old new reached steady torn lost worn = record {
   count = count;
+  read = [];
   reached = reached;
   step = torn;
   chip = inl lost;
@@ -49,6 +52,7 @@ stops_at (Some count) None out old new reached steady torn lost worn = record {
 }
 stops_at (Some count) (Some fill) out old new reached steady torn lost worn = record {
   count = count;
+  read = [];
   reached = reached;
   step = torn;
   chip = inr (power_lost fill reached new.chip lost);
@@ -62,6 +66,7 @@ pub stops_as : (out : List ℕ) (old new : BusState) (sent : Sent) → AtStop ou
     → AtStop out old new
 stops_as out old new sent stop = record {
   count = stop.count;
+  read = stop.read;
   reached = stop.reached;
   step = stop.step;
   chip = stop.chip;

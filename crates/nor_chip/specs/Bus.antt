@@ -1,5 +1,5 @@
 -- The contract of a bus. Contracts see a bus as one state.
-use Rattle.std.specs.Prelude.{◌≡◌, ◌+◌, ◌⊎◌, ◌||◌, ℕ, Bool, true, false, List, [], length, take, Result, OnOk, OnErr}
+use Rattle.std.specs.Prelude.{◌≡◌, ◌≤◌, ◌+◌, ◌⊎◌, ◌||◌, ℕ, Bool, true, false, List, [], length, take, Result, OnOk, OnErr}
 use Rattle.std.proofs.Common.{refl}
 use Rattle.nor_chip.specs.declared.running.Running.TheVariants.{Unknown}
 use Rattle.nor_chip.specs.Chip.{Chip}
@@ -23,15 +23,26 @@ pub record BusState : Type 0 where
   pub worn : ℕ → Bool
   -- a stop sends no byte of its transaction and keeps the power, so it leaves the chip as it was
   pub steady : Bool
+  -- the bus takes transactions of any length
+  pub unlimited : Bool
   -- the last poll that was replied to showed that the chip is ready
   pub heard : Bool
 
--- A bus stays honest or not, and steady or not.
+-- A bus stays honest or not, steady or not and unlimited or not. The chip on an honest bus is always the same: its ID,
+-- size, SFDP and all else that no command changes.
 pub record KeepsNature (old new : BusState) : Type 0 where
   pub honest : new.honest ≡ old.honest
   pub steady : new.steady ≡ old.steady
+  pub unlimited : new.unlimited ≡ old.unlimited
+  pub config : old.honest ≡ true → new.chip.config ≡ old.chip.config
 
--- On every bus: it stays honest or not and steady or not, and modifying commands are recorded.
+-- The bus is honest, and takes a transaction that sends `out` and reads this many bytes: it is unlimited, or the
+-- transaction sends no more than a page program does, and reads no more than a sector.
+pub record IsHonestFor (out : List ℕ) (replies : ℕ) (bus : BusState) : Type 0 where
+  pub honest : bus.honest ≡ true
+  pub fits : (bus.unlimited ≡ true) ⊎ ((length out ≤ 260) × (replies ≤ 4096))
+
+-- On every bus: its nature stays (`KeepsNature`), and modifying commands are recorded.
 pub record Sends (out : List ℕ) (old new : BusState) : Type 0 where
   pub nature : KeepsNature old new
   pub sent : Notes out old.sent new.sent
@@ -41,15 +52,17 @@ pub record Hears (out answer : List ℕ) (outcome : Result Unit Stopped) (old ne
   pub told : OnOk outcome (new.heard ≡ heard_after out answer old.heard)
   pub stopped : OnErr outcome (new.heard ≡ old.heard)
 
--- The effect of a stop. The first `count` bytes of the transaction were sent (none, some or all), and the chip made the
--- step that these ask for; no reply was read. Then the chip lost its power, or did not. On a steady bus no byte was
--- sent and no power was lost.
+-- The effect of a stop. The first `count` bytes of the transaction were sent (none, some or all), the bytes `read` of
+-- the reply were read and are lost (none, some or all, and more than were asked for is allowed here), and the chip made
+-- the step that these ask for. Then the chip lost its power, or did not. On a steady bus no byte was sent and no power
+-- was lost.
 pub record AtStop (out : List ℕ) (old new : BusState) : Type 0 where
   pub count : ℕ
+  pub read : List ℕ
   pub reached : Chip
-  pub step : Step old.chip (take count out) [] reached
+  pub step : Step old.chip (take count out) read reached
   pub chip : (new.chip ≡ reached) ⊎ PowerLost reached new.chip
-  pub worn : (s : ℕ) → new.worn s ≡ (old.worn s || wears (done_of old.chip (take count out) 0) s)
+  pub worn : (s : ℕ) → new.worn s ≡ (old.worn s || wears (done_of old.chip (take count out) (length read)) s)
   pub none : old.steady ≡ true → count ≡ 0
   pub still : old.steady ≡ true → new.chip ≡ old.chip
 
@@ -104,5 +117,6 @@ unknown_bus sent heard = record {
   sent = sent;
   worn = λ s. false;
   steady = false;
+  unlimited = false;
   heard = heard;
 }

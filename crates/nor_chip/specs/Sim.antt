@@ -9,7 +9,7 @@ use Rattle.nor_chip.specs.Power.{PowerLostWith}
 use Rattle.nor_chip.specs.Step.{Step, is_operation, done_of, wears}
 use Rattle.nor_chip.specs.Bus.{BusState}
 
--- The state of a simulated bus, which is always honest. It is steady if neither `lose` nor `tear` set an effect of a
+-- The state of a simulated bus, which is always honest and takes transactions of any length. It is steady if neither `lose` nor `tear` set an effect of a
 -- stop.
 abbrev pub state_of : SimBus → BusState
 state_of bus = record {
@@ -19,6 +19,7 @@ state_of bus = record {
   sent = bus.sent;
   worn = λ s. slice_index_or bus.worn s false;
   steady = is_none bus.fill && is_none bus.torn;
+  unlimited = true;
   heard = bus.heard;
 }
 

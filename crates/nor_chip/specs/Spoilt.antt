@@ -6,7 +6,7 @@ use Rattle.nor_chip.specs.declared.spoilt.Spoil.TheVariants.{Fill, BusyFrom, Dro
 use Rattle.nor_chip.specs.declared.bus.Stopped.{Stopped}
 use Rattle.nor_chip.specs.declared.sent.Sent.{Sent}
 use Rattle.nor_chip.specs.Heard.{is_poll}
-use Rattle.nor_chip.specs.Bus.{BusState, Stops, Carries}
+use Rattle.nor_chip.specs.Bus.{BusState, IsHonestFor, Stops, Carries}
 
 -- the bus inside, the way in which it fails, and how many transactions succeeded
 abbrev pub inner_of : {B : Type 0} → SpoiltBus B → B
@@ -56,16 +56,17 @@ pub record IsWithheld {B : Type 0} (byte : ℕ) (asked answer : List ℕ) (outco
   pub replies : answer ≡ replicate (length asked) byte
 
 -- The transaction was passed on: the bus inside carried it out, and each reply byte was changed.
-pub record IsPassedOn (byte_for : ℕ → ℕ) (out answer : List ℕ) (old new : BusState) : Type 0 where
+pub record IsPassedOn (byte_for : ℕ → ℕ) (out asked answer : List ℕ) (old new : BusState) : Type 0 where
   pub replied : List ℕ
   pub as_many : length answer ≡ length replied
   pub replies : (i : ℕ) → i < length answer → slice_index answer i ≡ byte_for (slice_index replied i)
-  pub inner : old.honest ≡ true → Carries out replied old new
+  pub inner : IsHonestFor out (length asked) old → Carries out replied old new
 
 -- The bus inside carried out the transaction, or it stopped. If it is honest, a stop left the reply as it was.
 abbrev pub GoesThrough : (ℕ → ℕ) → (out asked answer : List ℕ) → Result Unit Stopped → (old new : BusState) → Type 0
-GoesThrough byte_for out asked answer (Ok done) old new = IsPassedOn byte_for out answer old new
-GoesThrough byte_for out asked answer (Err stopped) old new = old.honest ≡ true → (answer ≡ asked) × Stops out old new
+GoesThrough byte_for out asked answer (Ok done) old new = IsPassedOn byte_for out asked answer old new
+GoesThrough byte_for out asked answer (Err stopped) old new =
+    IsHonestFor out (length asked) old → (answer ≡ asked) × Stops out old new
 
 -- The effect of a transaction of a faulty bus. A transaction at which the bus inside stops isn't counted.
 pub record Spoils {B : Type 0} (state : B → BusState) (out asked answer : List ℕ) (outcome : Result Unit Stopped)

@@ -1,7 +1,7 @@
 //! The traits of a bus to a chip.
 ghost use Rattle.std.specs.Prelude.{◌≡◌, true, length, OnOk, OnErr};
 ghost use Rattle.nor_chip.specs.Chip.{IsChip};
-ghost use Rattle.nor_chip.specs.Bus.{BusState, Sends, Stops, Carries, Hears, Allows};
+ghost use Rattle.nor_chip.specs.Bus.{BusState, IsHonestFor, Sends, Stops, Carries, Hears, Allows};
 
 use std::fmt;
 
@@ -20,19 +20,27 @@ impl std::error::Error for Stopped {}
 /// A bus to a chip. A transaction sends the bytes `out` and then reads as many bytes as `reply` holds.
 ///
 /// Contracts see a bus as a `BusState`. An *honest* (well-behaved) bus stops if and only if it has no transaction left;
-/// otherwise the chip makes one step. At a stop a *steady* bus sends nothing and keeps the chip's power. Any other
-/// honest bus may at a stop have sent the first bytes of the transaction (none, some or all), and the chip may then
-/// have lost its power. A faulty bus may do anything except three things: change its honesty or steadiness, hide sent
-/// bytes that may modify a chip, and hide the BUSY bits that its polls replied.
+/// otherwise the chip makes one step. That holds for every transaction of an *unlimited* bus, and on any other honest
+/// bus for transactions that send at most 260 bytes (a page program) and read at most 4,096 (a sector); of a longer one
+/// only the records of what was sent and heard are promised.
+///
+/// At a stop a *steady* bus sends nothing and keeps the chip's power. Any other honest bus may at a stop have sent the
+/// first bytes of the transaction (none, some or all) and have read bytes of the reply, which are lost, and the chip may
+/// then have lost its power.
+///
+/// A faulty bus may do anything except three things: change its honesty, steadiness or limits, hide sent bytes that may
+/// modify a chip, and hide the BUSY bits that its polls replied.
 pub trait Bus {
     ghost state: { Self → BusState };
 
     /// Sends `out`, then reads `reply`. Returns `Stopped` if the bus did not carry out the whole transaction.
     fn transfer(&mut self, out: &[u8], reply: &mut [u8]) -> Result<(), Stopped>
         ensures sends { Sends out.now (state self.old) (state self.new) }
-        ensures stops { (state self.old).honest ≡ true → OnErr result (Stops out.now (state self.old) (state self.new)) }
-        ensures unread { (state self.old).honest ≡ true → OnErr result (reply.new ≡ reply.old) }
-        ensures carries { (state self.old).honest ≡ true
+        ensures stops { IsHonestFor out.now (length reply.old) (state self.old)
+            → OnErr result (Stops out.now (state self.old) (state self.new)) }
+        ensures unread { IsHonestFor out.now (length reply.old) (state self.old)
+            → OnErr result (reply.new ≡ reply.old) }
+        ensures carries { IsHonestFor out.now (length reply.old) (state self.old)
             → OnOk result (Carries out.now reply.new (state self.old) (state self.new)) }
         ensures hears { Hears out.now reply.new result (state self.old) (state self.new) };
 

@@ -167,7 +167,7 @@ impl SimBus {
 }
 
 impl Bus for SimBus {
-    ghost use Rattle.nor_chip.specs.Bus.{Sends, Stops, Carries, Hears};
+    ghost use Rattle.nor_chip.specs.Bus.{IsHonestFor, Sends, Stops, Carries, Hears};
     ghost use Rattle.nor_chip.specs.Sim.{state_of, Simulates};
 
     ghost state = { state_of };
@@ -181,10 +181,11 @@ impl Bus for SimBus {
 
     fn transfer(&mut self, out: &[u8], reply: &mut [u8]) -> Result<(), Stopped>
         ensures sends { Sends out.now (state_of self.old) (state_of self.new) }
-        ensures stops { (state_of self.old).honest ≡ true
+        ensures stops { IsHonestFor out.now (length reply.old) (state_of self.old)
             → OnErr result (Stops out.now (state_of self.old) (state_of self.new)) }
-        ensures unread { (state_of self.old).honest ≡ true → OnErr result (reply.new ≡ reply.old) }
-        ensures carries { (state_of self.old).honest ≡ true
+        ensures unread { IsHonestFor out.now (length reply.old) (state_of self.old)
+            → OnErr result (reply.new ≡ reply.old) }
+        ensures carries { IsHonestFor out.now (length reply.old) (state_of self.old)
             → OnOk result (Carries out.now reply.new (state_of self.old) (state_of self.new)) }
         ensures hears { Hears out.now reply.new result (state_of self.old) (state_of self.new) }
         ensures simulates { Simulates out.now reply.new result self.old self.new }

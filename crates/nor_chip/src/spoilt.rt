@@ -1,9 +1,9 @@
 //! A faulty bus, for tests.
-ghost use Rattle.std.specs.Prelude.{◌≡◌, Bool, true, false, OnOk, OnErr, MatchBool, EachIndex, slice_index, ⊤};
+ghost use Rattle.std.specs.Prelude.{◌≡◌, Bool, true, false, length, OnOk, OnErr, MatchBool, EachIndex, slice_index, ⊤};
 ghost use Rattle.std.proofs.Common.{subst};
 ghost use Rattle.nor_chip.specs.Chip.{IsChip};
 ghost use Rattle.nor_chip.specs.Sent.{IsNothing};
-ghost use Rattle.nor_chip.specs.Bus.{Sends, Stops, Carries, Hears, Allows};
+ghost use Rattle.nor_chip.specs.Bus.{IsHonestFor, Sends, Stops, Carries, Hears, Allows};
 ghost use Rattle.nor_chip.specs.Spoilt.{inner_of, spoil_of, sent_of, noted_of, spoilt_state, withheld, spoilt_byte, Spoils};
 
 use crate::{Bus, Meter, Sent, Stopped, heard_after};
@@ -85,10 +85,11 @@ impl<B: Bus> Bus for SpoiltBus<B> {
 
     fn transfer(&mut self, out: &[u8], reply: &mut [u8]) -> Result<(), Stopped>
         ensures sends { Sends out.now (spoilt_state B.state self.old) (spoilt_state B.state self.new) }
-        ensures stops { (spoilt_state B.state self.old).honest ≡ true
+        ensures stops { IsHonestFor out.now (length reply.old) (spoilt_state B.state self.old)
             → OnErr result (Stops out.now (spoilt_state B.state self.old) (spoilt_state B.state self.new)) }
-        ensures unread { (spoilt_state B.state self.old).honest ≡ true → OnErr result (reply.new ≡ reply.old) }
-        ensures carries { (spoilt_state B.state self.old).honest ≡ true
+        ensures unread { IsHonestFor out.now (length reply.old) (spoilt_state B.state self.old)
+            → OnErr result (reply.new ≡ reply.old) }
+        ensures carries { IsHonestFor out.now (length reply.old) (spoilt_state B.state self.old)
             → OnOk result (Carries out.now reply.new (spoilt_state B.state self.old) (spoilt_state B.state self.new)) }
         ensures hears { Hears out.now reply.new result (spoilt_state B.state self.old) (spoilt_state B.state self.new) }
         ensures spoils { Spoils B.state out.now reply.old reply.new result self.old self.new }

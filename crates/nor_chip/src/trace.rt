@@ -1,8 +1,8 @@
 //! A bus that logs each transaction that it carries out.
-ghost use Rattle.std.specs.Prelude.{◌≡◌, true, false, OnOk, OnErr};
+ghost use Rattle.std.specs.Prelude.{◌≡◌, true, false, length, OnOk, OnErr};
 ghost use Rattle.std.specs.Io.KnownBytes.{Appends, Keeps};
 ghost use Rattle.hex.specs.Hex.{encode_lower};
-ghost use Rattle.nor_chip.specs.Bus.{Sends, Stops, Carries, Hears, Allows};
+ghost use Rattle.nor_chip.specs.Bus.{IsHonestFor, Sends, Stops, Carries, Hears, Allows};
 ghost use Rattle.nor_chip.specs.Trace.{traced_by, log_of, has_lost, traced_line, Traces};
 
 use crate::{Bus, Meter, Stopped};
@@ -80,10 +80,11 @@ impl<B: Bus, L: Write> Bus for TraceBus<B, L> {
 
     fn transfer(&mut self, out: &[u8], reply: &mut [u8]) -> Result<(), Stopped>
         ensures sends { Sends out.now (B.state (traced_by self.old)) (B.state (traced_by self.new)) }
-        ensures stops { (B.state (traced_by self.old)).honest ≡ true
+        ensures stops { IsHonestFor out.now (length reply.old) (B.state (traced_by self.old))
             → OnErr result (Stops out.now (B.state (traced_by self.old)) (B.state (traced_by self.new))) }
-        ensures unread { (B.state (traced_by self.old)).honest ≡ true → OnErr result (reply.new ≡ reply.old) }
-        ensures carries { (B.state (traced_by self.old)).honest ≡ true
+        ensures unread { IsHonestFor out.now (length reply.old) (B.state (traced_by self.old))
+            → OnErr result (reply.new ≡ reply.old) }
+        ensures carries { IsHonestFor out.now (length reply.old) (B.state (traced_by self.old))
             → OnOk result (Carries out.now reply.new (B.state (traced_by self.old)) (B.state (traced_by self.new))) }
         ensures hears { Hears out.now reply.new result (B.state (traced_by self.old)) (B.state (traced_by self.new)) }
         ensures traces { Traces L.contents out.now reply.new result self.old self.new }

@@ -1,6 +1,7 @@
 -- Each prefix of an operation's bytes asks for that operation or for none.
-use Rattle.std.proofs.Common.{◌≡◌, ◌<◌, ◌∙◌, ◌⊎◌, ℕ, zero, suc, true, false, List, length, [], ◌∷◌, take, refl, sym, arith, inl, inr}
+use Rattle.std.proofs.Common.{◌≡◌, ◌<◌, ◌≤◌, ◌∙◌, ◌⊎◌, ℕ, zero, suc, true, false, List, length, [], ◌∷◌, take, refl, sym, arith, inl, inr}
 use Rattle.std.proofs.Math.Seq.{take-nil}
+use Rattle.std.proofs.lemmas.Bool.Decides.{nat_tests}
 use Rattle.nor_chip.specs.declared.config.Config.{Config}
 use Rattle.nor_chip.specs.declared.command.Command.TheVariants.{Program, Ignored}
 use Rattle.nor_chip.specs.Command.{address_of, command_of}
@@ -11,9 +12,9 @@ use Rattle.nor_driver.specs.Operations.{is_operation_or_none, IsCommandAt, AsksF
 use Rattle.nor_driver.proofs.Erasing.{erase_bytes}
 
 -- a prefix asks for nothing, or for the same command as all bytes
-abbrev AsksAlike : Config → List ℕ → ℕ → Type 0
-AsksAlike config out count = (command_of config (take count out) 0 ≡ Ignored)
-    ⊎ (command_of config (take count out) 0 ≡ command_of config out 0)
+abbrev AsksAlike : Config → List ℕ → (count replies : ℕ) → Type 0
+AsksAlike config out count replies = (command_of config (take count out) replies ≡ Ignored)
+    ⊎ (command_of config (take count out) replies ≡ command_of config out 0)
 
 -- ---- a program
 
@@ -27,27 +28,35 @@ program_whole : (config : Config) (x y z : ℕ) (sent : List ℕ)
 program_whole config x y z [] = refl
 program_whole config x y z (byte ∷ rest) = rw (programs config x y z byte rest) refl
 
-program_begun : (config : Config) (x y z : ℕ) (sent : List ℕ) (count : ℕ)
-    → AsksAlike config (2 ∷ x ∷ y ∷ z ∷ sent) count
-program_begun config x y z sent zero = inl refl
-program_begun config x y z sent (suc zero) = inl refl
-program_begun config x y z sent (suc (suc zero)) = inl refl
-program_begun config x y z sent (suc (suc (suc zero))) = inl refl
-program_begun config x y z sent (suc (suc (suc (suc zero)))) = inl refl
-program_begun config x y z [] (suc (suc (suc (suc (suc n))))) = inl refl
-program_begun config x y z (byte ∷ rest) (suc (suc (suc (suc (suc n))))) =
+unread : (config : Config) (x y z byte : ℕ) (rest : List ℕ) (replies : ℕ)
+    → command_of config (2 ∷ x ∷ y ∷ z ∷ byte ∷ rest) (suc replies) ≡ Ignored
+unread config x y z byte [] replies = grind (arith, nat_tests)
+unread config x y z byte (next ∷ rest) replies = grind (arith, nat_tests)
+
+program_begun : (config : Config) (x y z : ℕ) (sent : List ℕ) (count replies : ℕ)
+    → AsksAlike config (2 ∷ x ∷ y ∷ z ∷ sent) count replies
+program_begun config x y z sent zero replies = inl refl
+program_begun config x y z sent (suc zero) replies = inl refl
+program_begun config x y z sent (suc (suc zero)) replies = inl refl
+program_begun config x y z sent (suc (suc (suc zero))) replies = inl refl
+program_begun config x y z sent (suc (suc (suc (suc zero)))) replies = inl refl
+program_begun config x y z [] (suc (suc (suc (suc (suc n))))) replies = inl refl
+program_begun config x y z (byte ∷ rest) (suc (suc (suc (suc (suc n))))) zero =
     inr (programs config x y z byte (take n rest) ∙ sym (programs config x y z byte rest))
+program_begun config x y z (byte ∷ rest) (suc (suc (suc (suc (suc n))))) (suc replies) =
+    inl (unread config x y z byte (take n rest) replies)
 
 program_known : (x y z : ℕ) (sent : List ℕ) → 0 < length sent → is_strange_to_model (2 ∷ x ∷ y ∷ z ∷ sent) ≡ false
 program_known x y z [] some = absurd (omega (arith, some))
 program_known x y z (byte ∷ rest) some = refl
 
-pub asks_program : (at : ℕ) (sent command : List ℕ) → 0 < length sent → IsCommandAt 2 at sent command
-    → AsksForOperation command
-asks_program at sent command some sends = rw sends.4 record {
+pub asks_program : (at : ℕ) (sent command : List ℕ) → 0 < length sent → length sent ≤ 256
+    → IsCommandAt 2 at sent command → AsksForOperation command
+asks_program at sent command some few sends = rw sends.4 record {
   known = program_known sends.0 sends.1 sends.2 sent some;
   whole = λ config. program_whole config sends.0 sends.1 sends.2 sent;
-  begun = λ config count. program_begun config sends.0 sends.1 sends.2 sent count;
+  begun = λ config count replies. program_begun config sends.0 sends.1 sends.2 sent count replies;
+  short = omega (arith, few);
 }
 
 -- ---- an erase
@@ -57,15 +66,23 @@ erase_whole : (unit : EraseUnit) (config : Config) (x y z : ℕ)
 erase_whole Units.Chip config x y z = refl
 erase_whole _ config x y z = grind arith
 
-erase_begun : (unit : EraseUnit) (config : Config) (x y z count : ℕ)
-    → AsksAlike config (erase_bytes unit x y z) count
-erase_begun Units.Chip config x y z zero = inl refl
-erase_begun Units.Chip config x y z (suc n) = inr (rw (take-nil {A = ℕ} n) refl)
-erase_begun _ config x y z zero = inl refl
-erase_begun _ config x y z (suc zero) = inl refl
-erase_begun _ config x y z (suc (suc zero)) = inl refl
-erase_begun _ config x y z (suc (suc (suc zero))) = inl refl
-erase_begun _ config x y z (suc (suc (suc (suc n)))) = inr (rw (take-nil {A = ℕ} n) refl)
+erase_begun : (unit : EraseUnit) (config : Config) (x y z count replies : ℕ)
+    → AsksAlike config (erase_bytes unit x y z) count replies
+erase_begun Units.Chip config x y z zero replies = inl refl
+erase_begun Units.Chip config x y z (suc n) zero = inr (rw (take-nil {A = ℕ} n) refl)
+erase_begun Units.Chip config x y z (suc n) (suc replies) =
+    inl (rw (take-nil {A = ℕ} n) (grind (arith, nat_tests)))
+erase_begun _ config x y z zero replies = inl refl
+erase_begun _ config x y z (suc zero) replies = inl (grind arith)
+erase_begun _ config x y z (suc (suc zero)) replies = inl refl
+erase_begun _ config x y z (suc (suc (suc zero))) replies = inl (grind arith)
+erase_begun _ config x y z (suc (suc (suc (suc n)))) zero = inr (rw (take-nil {A = ℕ} n) refl)
+erase_begun _ config x y z (suc (suc (suc (suc n)))) (suc replies) =
+    inl (rw (take-nil {A = ℕ} n) (grind (arith, nat_tests)))
+
+erase_short : (unit : EraseUnit) (x y z : ℕ) → length (erase_bytes unit x y z) ≤ 260
+erase_short Units.Chip x y z = omega arith
+erase_short _ x y z = omega arith
 
 erase_known : (unit : EraseUnit) (x y z : ℕ) → is_strange_to_model (erase_bytes unit x y z) ≡ false
 erase_known Units.Chip x y z = refl
@@ -76,20 +93,24 @@ pub asks_erase : (unit : EraseUnit) (x y z : ℕ) (command : List ℕ) → comma
 asks_erase unit x y z command is = rw is record {
   known = erase_known unit x y z;
   whole = λ config. erase_whole unit config x y z;
-  begun = λ config count. erase_begun unit config x y z count;
+  begun = λ config count replies. erase_begun unit config x y z count replies;
+  short = erase_short unit x y z;
 }
 
 -- ---- a status write
 
-status_begun : (config : Config) (one two count : ℕ) → AsksAlike config (1 ∷ one ∷ two ∷ []) count
-status_begun config one two zero = inl refl
-status_begun config one two (suc zero) = inl refl
-status_begun config one two (suc (suc zero)) = inl refl
-status_begun config one two (suc (suc (suc n))) = inr (rw (take-nil {A = ℕ} n) refl)
+status_begun : (config : Config) (one two count replies : ℕ) → AsksAlike config (1 ∷ one ∷ two ∷ []) count replies
+status_begun config one two zero replies = inl refl
+status_begun config one two (suc zero) replies = inl refl
+status_begun config one two (suc (suc zero)) replies = inl refl
+status_begun config one two (suc (suc (suc n))) zero = inr (rw (take-nil {A = ℕ} n) refl)
+status_begun config one two (suc (suc (suc n))) (suc replies) =
+    inl (rw (take-nil {A = ℕ} n) (grind (arith, nat_tests)))
 
 pub asks_status : (one two : ℕ) → AsksForOperation (1 ∷ one ∷ two ∷ [])
 asks_status one two = record {
   known = refl;
   whole = λ config. refl;
-  begun = λ config count. status_begun config one two count;
+  begun = λ config count replies. status_begun config one two count replies;
+  short = omega arith;
 }

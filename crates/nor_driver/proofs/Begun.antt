@@ -38,11 +38,12 @@ then_done out old ready asks enabling = elim (eqb_tells old.chip.busy 0) [
 ]
 
 -- the effect of a prefix of the command's bytes: the command's operation, or nothing
-pub part_done : (out : List ℕ) (old ready : BusState) (count : ℕ) → AsksForOperation out → IsEnabled old ready
-    → (done_of ready.chip (take count out) 0 ≡ Ignored) ⊎ (done_of ready.chip (take count out) 0 ≡ operation_of old.chip out)
-part_done out old ready count asks enabling =
+pub part_done : (out : List ℕ) (old ready : BusState) (count replies : ℕ) → AsksForOperation out
+    → IsEnabled old ready → (done_of ready.chip (take count out) replies ≡ Ignored)
+    ⊎ (done_of ready.chip (take count out) replies ≡ operation_of old.chip out)
+part_done out old ready count replies asks enabling =
     let does = λ (k : Command). cond (is_carried_out ready.chip k) k Ignored in
-    elim (asks.begun ready.chip.config count) [
+    elim (asks.begun ready.chip.config count replies) [
       | inl none ↦ inl (ap does none)
       | inr same ↦ inr (ap does same ∙ then_done out old ready asks enabling)
     ]

@@ -5,7 +5,7 @@ use Rattle.std.proofs.Math.Bool.{or-true}
 use Rattle.nor_chip.specs.declared.command.Command.{Command}
 use Rattle.nor_chip.specs.Sent.{is_stirred}
 use Rattle.nor_chip.specs.Step.{Does, is_operation, done_of}
-use Rattle.nor_chip.specs.Bus.{BusState, Sends, AtStop, Stops, Carries}
+use Rattle.nor_chip.specs.Bus.{BusState, IsHonestFor, Sends, AtStop, Stops, Carries}
 use Rattle.nor_chip.proofs.Nature.{nature_then}
 use Rattle.nor_driver.specs.declared.waits.Waited.{Waited}
 use Rattle.nor_driver.specs.Looks.{Unchanged, Stays, Falls, Looks}
@@ -27,21 +27,30 @@ module _ (out : List ℕ) (asks : AsksForOperation out) (old : BusState) where
   not_begun new stirs falls stays =
       search (may-before (operation_of old.chip out) (drop 4 out) old new, idle-takes old.chip out asks, stays)
 
+  -- every honest bus takes a write enable, and the command
+  enable_fits : (bus : BusState) → bus.honest ≡ true → IsHonestFor (6 ∷ []) 0 bus
+  enable_fits bus honest = record { honest = honest; fits = inr (omega arith, omega arith) }
+
+  command_fits : (bus : BusState) → bus.honest ≡ true → IsHonestFor out 0 bus
+  command_fits bus honest = record { honest = honest; fits = inr (asks.short, omega arith) }
+
   enabled_stirs : (new : BusState) → Sends (6 ∷ []) old new → is_stirred new.sent ≡ true
   enabled_stirs new sends = sends.sent.stirred ∙ or-true (is_stirred old.sent)
 
   -- the write enable itself was the last thing sent
-  pub leaves-at_enable : (new : BusState) → Sends (6 ∷ []) old new → (old.honest ≡ true → Stops (6 ∷ []) old new)
+  pub leaves-at_enable : (new : BusState) → Sends (6 ∷ []) old new
+      → (IsHonestFor (6 ∷ []) 0 old → Stops (6 ∷ []) old new)
       → LeavesOperation out old new
   leaves-at_enable new sends stops =
       let within = enable_sends (limits_of out) old new sends in
       not_begun new record { nature = sends.nature; stirred = enabled_stirs new sends; sends = within }
-      (λ honest. omega (arith, (stops honest).left)) (λ honest. enable_stays old new (stops honest))
+      (λ honest. omega (arith, (stops (enable_fits old honest)).left))
+      (λ honest. enable_stays old new (stops (enable_fits old honest)))
 
   module _ (ready : BusState) (first : List ℕ) (none : length first ≡ 0) (sends : Sends (6 ∷ []) old ready)
-      (carries : old.honest ≡ true → Carries (6 ∷ []) first old ready) where
+      (carries : IsHonestFor (6 ∷ []) 0 old → Carries (6 ∷ []) first old ready) where
     enabling : old.honest ≡ true → IsEnabled old ready
-    enabling honest = enabled old ready first none (carries honest)
+    enabling honest = enabled old ready first none (carries (enable_fits old honest))
 
     honest-still : old.honest ≡ true → ready.honest ≡ true
     honest-still honest = sends.nature.honest ∙ honest
@@ -63,17 +72,17 @@ module _ (out : List ℕ) (asks : AsksForOperation out) (old : BusState) where
 
       module _ (shaky : ready.steady ≡ false) (cut : AtStop out ready new) where
         begins-part : is_operation (operation_of old.chip out) ≡ true
-            → done_of ready.chip (take cut.count out) 0 ≡ operation_of old.chip out
+            → done_of ready.chip (take cut.count out) (length cut.read) ≡ operation_of old.chip out
             → HasBegun (operation_of old.chip out) (drop 4 (take cut.count out)) old (reached out ready new cut)
         begins-part is same =
-            operation-begins (operation_of old.chip out) (drop 4 (take cut.count out)) [] old ready
+            operation-begins (operation_of old.chip out) (drop 4 (take cut.count out)) cut.read old ready
             (reached out ready new cut) is (enabling honest).unchanged
-            (subst (λ (k : Command). Does k (drop 4 (take cut.count out)) ready.chip [] cut.reached) same cut.step)
+            (subst (λ (k : Command). Does k (drop 4 (take cut.count out)) ready.chip cut.read cut.reached) same cut.step)
             (subst (λ (k : Command). Wore k ready (reached out ready new cut)) same cut.worn)
 
         may-cut : is_operation (operation_of old.chip out) ≡ true
             → MayOperate (operation_of old.chip out) (drop 4 out) old new
-        may-cut is = elim (part_done out old ready cut.count asks (enabling honest)) [
+        may-cut is = elim (part_done out old ready cut.count (length cut.read) asks (enabling honest)) [
           | inl none ↦
               may-before _ _ old new (idle-takes old.chip out asks is)
               (stays-before (none_begun out ready new shaky cut (ap is_operation none)))
@@ -85,7 +94,7 @@ module _ (out : List ℕ) (asks : AsksForOperation out) (old : BusState) where
 
         stays-cut : is_operation (operation_of old.chip out) ≡ false → Stays old new
         stays-cut none = stays-before (none_begun out ready new shaky cut
-            (elim (part_done out old ready cut.count asks (enabling honest)) [
+            (elim (part_done out old ready cut.count (length cut.read) asks (enabling honest)) [
               | inl nothing ↦ ap is_operation nothing
               | inr same ↦ ap is_operation same ∙ none
             ]))
@@ -102,23 +111,23 @@ module _ (out : List ℕ) (asks : AsksForOperation out) (old : BusState) where
       stays-at_stop none (inl still) = stays-before (still_stays ready new still)
       stays-at_stop none (inr cut) = stays-cut cut.0 cut.1 none
 
-    pub leaves-at_command : (new : BusState) → Sends out ready new → (ready.honest ≡ true → Stops out ready new)
+    pub leaves-at_command : (new : BusState) → Sends out ready new → (IsHonestFor out 0 ready → Stops out ready new)
         → LeavesOperation out old new
     leaves-at_command new sends' stops = record {
       stirs = stirs-by new sends';
-      falls = λ honest. omega (arith, (enabling honest).count, (stops (honest-still honest)).left);
-      reached = λ honest is. may-at_stop honest new is (still_or_torn out ready new (stops (honest-still honest)).at_stop);
-      ignored = λ honest none. stays-at_stop honest new none (still_or_torn out ready new (stops (honest-still honest)).at_stop);
+      falls = λ honest. omega (arith, (enabling honest).count, (stops (command_fits ready (honest-still honest))).left);
+      reached = λ honest is. may-at_stop honest new is (still_or_torn out ready new (stops (command_fits ready (honest-still honest))).at_stop);
+      ignored = λ honest none. stays-at_stop honest new none (still_or_torn out ready new (stops (command_fits ready (honest-still honest))).at_stop);
     }
 
     module _ (begun : BusState) (second : List ℕ) (none' : length second ≡ 0) (sends' : Sends out ready begun)
-        (carries' : ready.honest ≡ true → Carries out second ready begun) where
+        (carries' : IsHonestFor out 0 ready → Carries out second ready begun) where
       command : old.honest ≡ true → done_of ready.chip out (length second) ≡ operation_of old.chip out
       command honest =
           ap (λ (n : ℕ). done_of ready.chip out n) none' ∙ then_done out old ready asks (enabling honest)
 
       carried : old.honest ≡ true → Carries out second ready begun
-      carried honest = carries' (honest-still honest)
+      carried honest = carries' (command_fits ready (honest-still honest))
 
       stirs : Stirs (limits_of out) old begun
       stirs = stirs-by begun sends'

@@ -7,7 +7,7 @@ use Rattle.nor_chip.specs.declared.command.Command.{Command}
 use Rattle.nor_chip.specs.declared.command.Command.TheVariants.{Ignored}
 use Rattle.nor_chip.specs.Chip.{Chip}
 use Rattle.nor_chip.specs.Step.{Does, is_operation, done_of}
-use Rattle.nor_chip.specs.Bus.{BusState, Sends, Stops, Carries, Hears}
+use Rattle.nor_chip.specs.Bus.{BusState, IsHonestFor, Sends, Stops, Carries, Hears}
 use Rattle.nor_chip.specs.Heard.{is_poll}
 use Rattle.nor_chip.specs.declared.bus.Stopped.{Stopped}
 use Rattle.nor_driver.specs.Looks.{Rested, LooksHonest, Looks}
@@ -64,6 +64,15 @@ looked_at (Ok done) out answer old new is stops carries =
     let read = carried_reading out answer old new is carries in
     looked_by old new 1 read.rested read.count
 looked_at (Err stopped) out answer old new is stops carries = looked_at_stop out old new 1 is.quiet stops
+
+-- every honest bus takes a poll
+pub poll_fits : (bus : BusState) → bus.honest ≡ true → IsHonestFor (5 ∷ []) 1 bus
+poll_fits bus honest = record { honest = honest; fits = inr (omega arith, omega arith) }
+
+-- every honest bus takes a transaction that reads no more than a sector
+pub read_fits : (out asked : List ℕ) (bus : BusState) → IsReading out → length asked ≤ 4096 → bus.honest ≡ true
+    → IsHonestFor out (length asked) bus
+read_fits out asked bus is short honest = record { honest = honest; fits = inr (is.short, short) }
 
 -- at every exit of one transaction that reads, `Looks` holds with a bound of one transaction
 pub read_leaves : {T E : Type 0} (outcome : Result T E) (out answer : List ℕ) (old new : BusState) → IsReading out

@@ -1,5 +1,5 @@
 -- The effect of a stop that may cut its transaction.
-use Rattle.std.proofs.Common.{◌≡◌, ◌∙◌, ◌⊎◌, ◌||◌, ℕ, zero, suc, Bool, true, false, true≢false, List, [], ◌∷◌, take, refl, sym, ap, arith, inl, inr}
+use Rattle.std.proofs.Common.{◌≡◌, ◌∙◌, ◌⊎◌, ◌||◌, ℕ, zero, suc, Bool, true, false, true≢false, List, [], ◌∷◌, length, take, refl, sym, ap, arith, inl, inr}
 use Rattle.std.proofs.Math.Seq.{take-nil}
 use Rattle.std.proofs.Math.Bool.{or-false}
 use Rattle.std.proofs.lemmas.Bool.{cases_Bool}
@@ -62,21 +62,22 @@ reached_stays out old new shaky cut = elim cut.chip [
 
 -- the sent bytes asked for no operation
 pub none_begun : (out : List ℕ) (old new : BusState) → old.steady ≡ false → (cut : AtStop out old new)
-    → is_operation (done_of old.chip (take cut.count out) 0) ≡ false → Stays old new
+    → is_operation (done_of old.chip (take cut.count out) (length cut.read)) ≡ false → Stays old new
 none_begun out old new shaky cut none =
     stays_after old (reached out old new cut) new refl
-    (no_operation _ _ [] old (reached out old new cut) none cut.step cut.worn) (reached_stays out old new shaky cut)
+    (no_operation _ _ cut.read old (reached out old new cut) none cut.step cut.worn)
+    (reached_stays out old new shaky cut)
 
 -- ---- a write enable
 
-enable_part : (chip : Chip) (count : ℕ) → is_operation (done_of chip (take count (6 ∷ [])) 0) ≡ false
-enable_part chip zero = refl
-enable_part chip (suc n) = rw (take-nil {A = ℕ} n) (grind arith)
+enable_part : (chip : Chip) (count replies : ℕ) → is_operation (done_of chip (take count (6 ∷ [])) replies) ≡ false
+enable_part chip zero replies = refl
+enable_part chip (suc n) replies = rw (take-nil {A = ℕ} n) (grind arith)
 
 pub enable_stays : (old new : BusState) → Stops (6 ∷ []) old new → Stays old new
 enable_stays old new stops = elim (still_or_torn _ old new stops.at_stop) [
   | inl still ↦ still_stays old new still
-  | inr cut ↦ none_begun (6 ∷ []) old new cut.0 cut.1 (enable_part old.chip cut.1.count)
+  | inr cut ↦ none_begun (6 ∷ []) old new cut.0 cut.1 (enable_part old.chip cut.1.count (length cut.1.read))
 ]
 
 -- ---- a reading
@@ -89,24 +90,25 @@ is_quiet (Program at) = false
 is_quiet (Erase start len) = false
 is_quiet _ = true
 
-quiet_asks : (config : Config) (opcode : ℕ) (rest : List ℕ) → is_quiet_opcode opcode ≡ true
-    → is_quiet (command_of config (opcode ∷ rest) 0) ≡ true
-quiet_asks config opcode [] quiet = grind (arith, nat_tests)
-quiet_asks config opcode (x ∷ []) quiet = refl
-quiet_asks config opcode (x ∷ y ∷ []) quiet = grind (arith, nat_tests)
-quiet_asks config opcode (x ∷ y ∷ z ∷ []) quiet = grind (arith, nat_tests)
-quiet_asks config opcode (x ∷ y ∷ z ∷ fifth ∷ []) quiet = grind (arith, nat_tests)
-quiet_asks config opcode (x ∷ y ∷ z ∷ fifth ∷ sixth ∷ rest) quiet = grind (arith, nat_tests)
+quiet_asks : (config : Config) (opcode : ℕ) (rest : List ℕ) (replies : ℕ) → is_quiet_opcode opcode ≡ true
+    → is_quiet (command_of config (opcode ∷ rest) replies) ≡ true
+quiet_asks config opcode [] replies quiet = grind (arith, nat_tests)
+quiet_asks config opcode (x ∷ []) replies quiet = refl
+quiet_asks config opcode (x ∷ y ∷ []) replies quiet = grind (arith, nat_tests)
+quiet_asks config opcode (x ∷ y ∷ z ∷ []) replies quiet = grind (arith, nat_tests)
+quiet_asks config opcode (x ∷ y ∷ z ∷ fifth ∷ []) replies quiet = grind (arith, nat_tests)
+quiet_asks config opcode (x ∷ y ∷ z ∷ fifth ∷ sixth ∷ rest) replies quiet = grind (arith, nat_tests)
 
-quiet_part : (config : Config) (count : ℕ) (out : List ℕ) → begins_quiet out ≡ true
-    → is_quiet (command_of config (take count out) 0) ≡ true
-quiet_part config zero out quiet = refl
-quiet_part config (suc n) [] quiet = refl
-quiet_part config (suc n) (opcode ∷ rest) quiet = quiet_asks config opcode (take n rest) (grind (arith, quiet))
+quiet_part : (config : Config) (count : ℕ) (out : List ℕ) (replies : ℕ) → begins_quiet out ≡ true
+    → is_quiet (command_of config (take count out) replies) ≡ true
+quiet_part config zero out replies quiet = refl
+quiet_part config (suc n) [] replies quiet = refl
+quiet_part config (suc n) (opcode ∷ rest) replies quiet =
+    quiet_asks config opcode (take n rest) replies (grind (arith, quiet))
 
-quiet_done : (chip : Chip) (count : ℕ) (out : List ℕ) → begins_quiet out ≡ true
-    → is_quiet (done_of chip (take count out) 0) ≡ true
-quiet_done chip count out quiet = grind (arith, quiet_part chip.config count out quiet)
+quiet_done : (chip : Chip) (count : ℕ) (out : List ℕ) (replies : ℕ) → begins_quiet out ≡ true
+    → is_quiet (done_of chip (take count out) replies) ≡ true
+quiet_done chip count out replies quiet = grind (arith, quiet_part chip.config count out replies quiet)
 
 -- a quiet command is no operation, and does not set the write enable latch
 quiet_is_none : (command : Command) → is_quiet command ≡ true → is_operation command ≡ false
@@ -125,10 +127,10 @@ pub looked_at_stop : (out : List ℕ) (old new : BusState) (most : ℕ) → begi
 looked_at_stop out old new most quiet stops = elim (still_or_torn _ old new stops.at_stop) [
   | inl still ↦ grind (arith, still_stays old new still)
   | inr cut ↦
-      let is = quiet_done old.chip cut.1.count out quiet in
+      let is = quiet_done old.chip cut.1.count out (length cut.1.read) quiet in
       record {
         stays = none_begun out old new cut.0 cut.1 (quiet_is_none _ is);
-        latch = λ latch. quiet_latch _ _ [] old.chip cut.1.reached is cut.1.step
+        latch = λ latch. quiet_latch _ _ cut.1.read old.chip cut.1.reached is cut.1.step
             (latch_then cut.1.reached new.chip cut.1.chip latch);
         idle_latch = λ steady idle. absurd (true≢false (sym steady ∙ cut.0));
         falls = grind (arith, stops.left);

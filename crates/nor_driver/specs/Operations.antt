@@ -1,5 +1,5 @@
 -- The effect of an operation of any kind: a write enable, a command, and a wait.
-use Rattle.std.specs.Prelude.{◌≡◌, ◌≢◌, ◌≤◌, ◌+◌, ◌*◌, ◌⊎◌, ◌||◌, ℕ, Bool, true, false, List, ◌∷◌, drop, take, slice_index, if◌then◌else◌}
+use Rattle.std.specs.Prelude.{◌≡◌, ◌≢◌, ◌≤◌, ◌+◌, ◌*◌, ◌⊎◌, ◌||◌, ℕ, Bool, true, false, List, ◌∷◌, length, drop, take, slice_index, if◌then◌else◌}
 use Rattle.nor_chip.specs.declared.config.Config.{Config}
 use Rattle.nor_chip.specs.declared.command.Command.{Command}
 use Rattle.nor_chip.specs.declared.command.Command.TheVariants.{WriteStatus, Program, Erase, Ignored}
@@ -33,13 +33,15 @@ is_operation_or_none (Erase start len) = true
 is_operation_or_none Ignored = true
 is_operation_or_none _ = false
 
--- For every chip these bytes are an operation, or are ignored. Each prefix of them is the same operation, or is
--- ignored. The transaction is one that the model knows.
+-- For every chip these bytes are an operation, or are ignored. Each prefix of them is the same operation, or is ignored,
+-- whatever number of reply bytes is read after it. The transaction is one that the model knows, and short enough for
+-- every honest bus.
 pub record AsksForOperation (out : List ℕ) : Type 0 where
   pub known : is_strange_to_model out ≡ false
   pub whole : (config : Config) → is_operation_or_none (command_of config out 0) ≡ true
-  pub begun : (config : Config) (count : ℕ) → (command_of config (take count out) 0 ≡ Ignored)
-      ⊎ (command_of config (take count out) 0 ≡ command_of config out 0)
+  pub begun : (config : Config) (count replies : ℕ) → (command_of config (take count out) replies ≡ Ignored)
+      ⊎ (command_of config (take count out) replies ≡ command_of config out 0)
+  pub short : length out ≤ 260
 
 -- Each byte is as it was, except at these addresses. There a byte may have changed: on a steady bus to `wanted`, on any
 -- other bus to any value.

@@ -20,8 +20,9 @@ changes_nothing ReadUnique = true
 changes_nothing Ignored = true
 changes_nothing _ = false
 
--- These bytes ask every chip only for a read, or for nothing.
+-- These bytes ask every chip only for a read, or for nothing, and every honest bus takes them.
 pub record IsReading (out : List ℕ) : Type 0 where
+  pub short : length out ≤ 260
   pub quiet : begins_quiet out ≡ true
   pub reading : (config : Config) (replies : ℕ) → changes_nothing (command_of config out replies) ≡ true
 

@@ -1,6 +1,6 @@
 //! Commands that read from the chip and modify nothing.
 
-ghost use Rattle.std.specs.Prelude.{◌≡◌, ◌<◌, ◌^◌, true, length, IfOk, OnOk, OnErr};
+ghost use Rattle.std.specs.Prelude.{◌≡◌, ◌<◌, ◌≤◌, ◌^◌, true, length, IfOk, OnOk, OnErr};
 ghost use Rattle.nor_driver.specs.Looks.{Looks, RanOutIfHonest};
 ghost use Rattle.nor_driver.specs.Reads.{IsReading, Replies, ReadsId, ReadsStatus2, ReadsUnique, ReadsSfdp, ReadsSector};
 
@@ -57,12 +57,13 @@ pub fn read_unique<B: Bus>(bus: &mut B) -> Result<[u8; 8], Stopped>
     Ok(unique)
 }
 
-/// Fills `bytes` with SFDP bytes from `address` (5Ah; JESD216). The address must fit in three bytes. On an honest bus
-/// the bytes are the chip's if the chip is idle; the chip takes the address modulo its size.
+/// Fills `bytes` (at most 4,096) with SFDP bytes from `address` (5Ah; JESD216). The address must fit in three bytes. On
+/// an honest bus the bytes are the chip's if the chip is idle; the chip takes the address modulo its size.
 ///
 /// Returns `Stopped` if the bus stopped. An honest bus then leaves `bytes` as they were.
 pub fn read_parameters<B: Bus>(bus: &mut B, address: u32, bytes: &mut [u8]) -> Result<(), Stopped>
-    requires { address < 2 ^ 24 }
+    requires reachable { address < 2 ^ 24 }
+    requires short { length bytes.old ≤ 4096 }
     ensures leaves { Looks 1 (B.state bus.old) (B.state bus.new) }
     ensures does { OnOk result (ReadsSfdp address (length bytes.old) (B.state bus.old) (B.state bus.new) bytes.new) }
     ensures halts { OnErr result (RanOutIfHonest 1 (B.state bus.old) (B.state bus.new)) }
@@ -92,7 +93,8 @@ pub fn read_sector<B: Bus>(bus: &mut B, sector: u32, bytes: &mut [u8]) -> Result
 
 // Performs one transaction that only reads.
 fn read<B: Bus>(bus: &mut B, out: &[u8], reply: &mut [u8]) -> Result<(), Stopped>
-    requires { IsReading out.now }
+    requires reading { IsReading out.now }
+    requires short { length reply.old ≤ 4096 }
     ensures leaves { Looks 1 (B.state bus.old) (B.state bus.new) }
     ensures does { OnOk result (Replies out.now (B.state bus.old) (B.state bus.new) reply.new) }
     ensures halts { OnErr result (RanOutIfHonest 1 (B.state bus.old) (B.state bus.new)) }

@@ -1,13 +1,14 @@
 -- An exchange over an honest port, from the effects of its calls.
-use Rattle.std.proofs.Common.{◌≡◌, ◌∙◌, ◌<◌, ◌++◌, ℕ, List, [], ◌∷◌, length, refl, sym, subst, ap, arith, inr, length-append}
+use Rattle.std.proofs.Common.{◌≡◌, ◌∙◌, ◌<◌, ◌≤◌, true, ◌++◌, ℕ, Bool, List, [], ◌∷◌, length, refl, sym, subst, ap, arith, inr, length-append}
 use Rattle.std.specs.Prelude.{◌⊎◌, slice_index, Result, Ok, Err, OnErr}
 use Rattle.std.proofs.lemmas.List.{append-nil}
+use Rattle.std.proofs.Math.Seq.{take-length}
 use Rattle.nor_chip.specs.Chip.{Chip}
 use Rattle.nor_chip.specs.Step.{Step}
 use Rattle.nor_serprog.specs.Frame.{IsFrame, Reads, out_in, replies_in}
 use Rattle.nor_serprog.specs.declared.command.Command.{Command}
 use Rattle.nor_serprog.specs.declared.command.Command.TheVariants.{Operate}
-use Rattle.nor_serprog.specs.Device.{PortState, IsIdle, IfOperates, Operates, AnswerBegins, IsSent, IsCutOff, TakesAnswer, MissesAnswer, Exchanged, Interrupted}
+use Rattle.nor_serprog.specs.Device.{Device, PortState, IsIdle, IfOperates, StepsOnce, IsCut, Operates, AnswerBegins, IsSent, IsCutOff, TakesAnswer, MissesAnswer, Exchanged, Interrupted}
 
 -- A whole frame of O_SPIOP that reaches an idle programmer is carried out.
 pub operated : (frame : List ℕ) (old sent : PortState) → IsIdle old.device → IsFrame frame
@@ -25,6 +26,14 @@ none_rest answer reply [] e len = refl
 none_rest answer reply (x ∷ rest) e len =
     absurd (omega (arith, length-append reply (x ∷ rest), ap length e))
 
+-- Calls that receive leave the chip and its erased sectors as they were.
+steps_then : (out answer : List ℕ) (old sent new : Device) → new.chip ≡ sent.chip → new.worn ≡ sent.worn
+    → StepsOnce out answer old sent → StepsOnce out answer old new
+steps_then out answer old sent new chip worn steps = record {
+  step = subst (λ (c : Chip). Step old.chip out answer c) (sym chip) steps.step;
+  worn = λ s. ap (λ (w : ℕ → Bool). w s) worn ∙ steps.worn s;
+}
+
 pub exchanged : (frame out : List ℕ) (replies : ℕ) (reply : List ℕ) (old sent new : PortState)
     → IsIdle old.device → IsFrame frame → slice_index frame 0 ≡ 0x13 → out_in frame ≡ out → replies_in frame ≡ replies
     → IsSent frame old sent → TakesAnswer reply sent new → length reply ≡ replies → Exchanged out reply old new
@@ -36,13 +45,12 @@ exchanged frame out replies reply old sent new idle whole opcode goes comes s t 
     let f : o.answer ≡ reply ++ new.device.pending = cc in
     let rest : new.device.pending ≡ [] = none_rest o.answer reply new.device.pending f (o.len ∙ comes ∙ sym len) in
     let got : o.answer ≡ reply = f ∙ ap (λ (r : List ℕ). reply ++ r) rest ∙ append-nil reply in
-    let P : List ℕ → Type 0 = λ b. Step old.device.chip b o.answer sent.device.chip in
-    let Q : List ℕ → Type 0 = λ a. Step old.device.chip out a sent.device.chip in
-    let R : Chip → Type 0 = λ chip. Step old.device.chip out reply chip in
+    let P : List ℕ → Type 0 = λ b. StepsOnce b o.answer old.device sent.device in
+    let Q : List ℕ → Type 0 = λ a. StepsOnce out a old.device sent.device in
     record {
       left = omega (arith, s.left, t.left);
       idle = record { begun = t.begun ∙ o.begun; pending = rest };
-      step = subst R (sym t.chip) (subst Q got (subst P goes o.step));
+      steps = steps_then out reply old.device sent.device new.device t.chip t.worn (subst Q got (subst P goes o.steps));
     }
 
 -- The reply to an operation begins with ACK.
@@ -62,32 +70,33 @@ cut_off frame out old new idle whole opcode goes c =
     let e : frame ≡ old.device.begun ++ frame = sym (ap (λ (b : List ℕ). b ++ frame) idle.begun) in
     let P : List ℕ → Type 0 = λ b. IsFrame b in
     let Q : List ℕ → Type 0 = λ b. slice_index b 0 ≡ 0x13 in
-    let R : List ℕ → Type 0 = λ b. (c.reached ≡ old.device.chip)
-    ⊎ ((answer : List ℕ) × Step old.device.chip (out_in b) answer c.reached) in
-    let S : List ℕ → Type 0 = λ b. (c.reached ≡ old.device.chip)
-    ⊎ ((answer : List ℕ) × Step old.device.chip b answer c.reached) in
+    let R : List ℕ → Type 0 = λ b. IsCut (out_in b) old.device new.device in
+    let S : List ℕ → Type 0 = λ b. IsCut b old.device new.device in
     record {
       few_left = omega (arith, c.none_left);
       few = omega (arith, c.left);
-      reached = c.reached;
-      step = subst S goes
-          (subst R (sym e) (c.sent (record { whole = subst P e whole; opcode = subst Q e opcode })));
-      chip = c.chip;
+      cut = subst S goes
+          (subst R (sym e) (c.cut (record { whole = subst P e whole; opcode = subst Q e opcode })));
     }
 
--- The port failed while the reply was received, so the transaction was interrupted.
+-- The port failed while the reply was received, so the transaction was interrupted: all of it was carried out, and the
+-- reply is lost.
 pub missed : (frame out : List ℕ) (old sent new : PortState) → IsIdle old.device → IsFrame frame
     → slice_index frame 0 ≡ 0x13 → out_in frame ≡ out → IsSent frame old sent → MissesAnswer sent new
     → Interrupted out old new
 missed frame out old sent new idle whole opcode goes s m =
     let o = operated frame old sent idle whole opcode s in
-    let P : List ℕ → Type 0 = λ b. Step old.device.chip b o.answer sent.device.chip in
+    let P : List ℕ → Type 0 = λ b. StepsOnce b o.answer old.device sent.device in
     record {
       few_left = omega (arith, s.left, m.few_left);
       few = m.few;
-      reached = sent.device.chip;
-      step = inr (o.answer, subst P goes o.step);
-      chip = m.chip;
+      cut = record {
+        count = length out;
+        read = o.answer;
+        reached = sent.device;
+        steps = subst P (sym (take-length out)) (subst P goes o.steps);
+        then = m.power;
+      };
     }
 
 -- These three facts for any command.
@@ -116,3 +125,19 @@ missed_by _ frame old sent new idle whole reads s m = tt
 pub on_err : {T E : Type 0} (result : Result T E) (P : Type 0) → P → OnErr result P
 on_err (Ok x) P p = tt
 on_err (Err e) P p = p
+
+-- Calls of an honest port use up calls, and never add any.
+pub record UsesCalls (old new : PortState) : Type 0 where
+  pub honest : new.honest ≡ old.honest
+  pub fewer : old.honest ≡ true → new.left ≤ old.left
+
+pub uses_none : (state : PortState) → UsesCalls state state
+uses_none state = record { honest = refl; fewer = λ honest. omega arith }
+
+pub uses_then : {old mid new : PortState} → UsesCalls old mid → new.honest ≡ mid.honest
+    → (mid.honest ≡ true → new.left ≤ mid.left) → UsesCalls old new
+uses_then uses nature fewer = record {
+  honest = nature ∙ uses.honest;
+  fewer = λ honest.
+      let first = uses.fewer honest in let second = fewer (uses.honest ∙ honest) in omega arith;
+}

@@ -1,3 +1,4 @@
 pub mod Pauses
 pub mod SameReply
 pub mod Exchanges
+pub mod Stops

@@ -1,5 +1,5 @@
 -- A chip gives the same reply when data is read a second time.
-use Rattle.std.proofs.Common.{◌≡◌, ◌∙◌, ◌<◌, ◌+◌, ◌%◌, ℕ, Bool, true, false, List, [], ◌∷◌, length, refl, sym, subst, ap}
+use Rattle.std.proofs.Common.{◌≡◌, ◌∙◌, ◌<◌, ◌+◌, ◌%◌, ℕ, Bool, true, false, List, [], ◌∷◌, length, refl, sym, subst, ap, inl, inr}
 use Rattle.std.specs.Prelude.{◌==◌, if◌then◌else◌}
 use Rattle.std.proofs.lemmas.Bool.{eqb-true, false≢true}
 use Rattle.std.proofs.lemmas.List.{ext_get_or}
@@ -9,6 +9,7 @@ use Rattle.nor_chip.specs.declared.command.Command.{Command}
 use Rattle.nor_chip.specs.declared.command.Command.TheVariants.{ReadData, Ignored}
 use Rattle.nor_chip.specs.Command.{address_of}
 use Rattle.nor_chip.specs.Step.{Step, Does, reply_byte}
+use Rattle.nor_chip.specs.Bus.{BusState, KeepsNature, IsHonestFor}
 use Rattle.nor_serprog.specs.Twice.{begins_read}
 
 -- The parts of a chip that a read of data leaves as they are: all that the reply depends on.
@@ -83,3 +84,14 @@ same_reply (a ∷ rest) old mid new first again reads one two len =
     let Q : ℕ → Type 0 = λ n. Step mid (n ∷ rest) again new in
     let three = eqb-true a 3 reads in
     same_reply_03 rest old mid new first again (subst P three one) (subst Q three two) len
+
+-- After a transaction an honest bus takes the next one of the same length, too.
+pub fits_again : (out : List ℕ) (m n : ℕ) (old new : BusState) → KeepsNature old new → n ≡ m → IsHonestFor out m old
+    → IsHonestFor out n new
+fits_again out m n old new nature same fits = record {
+  honest = nature.honest ∙ fits.honest;
+  fits = elim fits.fits [
+    | inl unlimited ↦ inl (nature.unlimited ∙ unlimited)
+    | inr short ↦ inr (short.0, rw same short.1)
+  ];
+}

@@ -1,36 +1,54 @@
 -- The bus to the chip at a programmer, as contracts see it.
-use Rattle.std.specs.Prelude.{Bool, Option}
+use Rattle.std.specs.Prelude.{◌/◌, Bool, false, Option}
 use Rattle.nor_chip.specs.declared.sent.Sent.{Sent}
-use Rattle.nor_chip.specs.Bus.{BusState, unknown_bus}
+use Rattle.nor_chip.specs.Bus.{BusState}
 use Rattle.nor_serprog.specs.declared.bus.SerprogBus.{SerprogBus}
 use Rattle.nor_serprog.specs.declared.link.Link.{Link}
 use Rattle.nor_serprog.specs.declared.link.Failure.{Failure}
+use Rattle.nor_serprog.specs.declared.port.Port.{Ghosts}
+use Rattle.nor_serprog.specs.Device.{PortState}
 use Rattle.nor_serprog.specs.Link.{is_in_step}
 
--- The link to the programmer.
-abbrev pub link_of : {P C : Type 0} → SerprogBus P C → Link P C
-link_of bus = bus.link
+-- The state of a bus over a port in this state. Its chip is the programmer's. A transaction takes three calls of the
+-- port: one sends the frame, one receives ACK, and one receives the reply. The bus is not steady, since a port can fail
+-- inside a transaction, and not unlimited, since a frame sends at most 260 bytes.
+abbrev pub over_port : PortState → Sent → (heard : Bool) → BusState
+over_port port sent heard = record {
+  chip = port.device.chip;
+  left = port.left / 3;
+  honest = port.honest;
+  sent = sent;
+  worn = port.device.worn;
+  steady = false;
+  unlimited = false;
+  heard = heard;
+}
 
--- The port to the programmer.
-abbrev pub port_in : {P C : Type 0} → SerprogBus P C → P
-port_in bus = bus.link.port
+module _ {P C : Type 0} {over : Ghosts P C} where
+  -- The link to the programmer.
+  abbrev pub link_of : SerprogBus P C over → Link P C
+  link_of bus = bus.link
 
--- The modifying commands that were sent, or that the bus tried to send.
-abbrev pub sent_of : {P C : Type 0} → SerprogBus P C → Sent
-sent_of bus = bus.sent
+  -- The port to the programmer.
+  abbrev pub port_in : SerprogBus P C over → P
+  port_in bus = bus.link.port
 
--- The reply to the last poll showed that the chip is ready.
-abbrev pub heard_of : {P C : Type 0} → SerprogBus P C → Bool
-heard_of bus = bus.heard
+  -- The modifying commands that were sent, or that the bus tried to send.
+  abbrev pub sent_of : SerprogBus P C over → Sent
+  sent_of bus = bus.sent
 
--- The cause of the last transaction that failed.
-abbrev pub cause_of : {P C : Type 0} → SerprogBus P C → Option (Failure C)
-cause_of bus = bus.cause
+  -- The reply to the last poll showed that the chip is ready.
+  abbrev pub heard_of : SerprogBus P C over → Bool
+  heard_of bus = bus.heard
 
--- The programmer is in step, so the bus sends the next transaction.
-abbrev pub is_ready : {P C : Type 0} → SerprogBus P C → Bool
-is_ready bus = is_in_step bus.link
+  -- The cause of the last transaction that failed.
+  abbrev pub cause_of : SerprogBus P C over → Option (Failure C)
+  cause_of bus = bus.cause
 
--- The state of a bus about which only the modifying commands sent and the replies to polls are known.
-abbrev pub state_of : {P C : Type 0} → SerprogBus P C → BusState
-state_of bus = unknown_bus bus.sent bus.heard
+  -- The programmer is in step, so the bus sends the next transaction.
+  abbrev pub is_ready : SerprogBus P C over → Bool
+  is_ready bus = is_in_step bus.link
+
+  -- The state of the bus.
+  abbrev pub state_of : SerprogBus P C over → BusState
+  state_of bus = over_port (over.state bus.link.port) bus.sent bus.heard

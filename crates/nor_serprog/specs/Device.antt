@@ -1,10 +1,10 @@
 -- A programmer and its chip, and an honest port to the programmer. (serprog protocol version 1, flashrom's
 -- Documentation/serprog-protocol.txt: "Command And Answer Sequence", and the note on O_SPIOP.)
-use Rattle.std.specs.Prelude.{◌≡◌, ◌<◌, ◌+◌, ◌++◌, ◌⊎◌, ℕ, Bool, false, List, [], ◌∷◌, length, slice_index, ⊤}
+use Rattle.std.specs.Prelude.{◌≡◌, ◌<◌, ◌+◌, ◌++◌, ◌⊎◌, ◌||◌, ℕ, Bool, false, List, [], ◌∷◌, length, take, slice_index, ⊤}
 use Rattle.nor_chip.specs.Chip.{Chip}
 use Rattle.nor_chip.specs.Bus.{unknown_chip}
 use Rattle.nor_chip.specs.Power.{PowerLost}
-use Rattle.nor_chip.specs.Step.{Step}
+use Rattle.nor_chip.specs.Step.{Step, done_of, wears}
 use Rattle.nor_serprog.specs.declared.command.Command.{Command}
 use Rattle.nor_serprog.specs.declared.command.Command.TheVariants.{Operate}
 use Rattle.nor_serprog.specs.Frame.{IsFrame, out_in, replies_in}
@@ -12,6 +12,8 @@ use Rattle.nor_serprog.specs.Frame.{IsFrame, out_in, replies_in}
 -- A programmer and its chip at a moment.
 pub record Device : Type 0 where
   pub chip : Chip
+  -- the sectors that the chip erased
+  pub worn : ℕ → Bool
   -- the bytes that the programmer received of a command that is not complete yet
   pub begun : List ℕ
   -- the bytes of replies that the host has not received yet
@@ -30,12 +32,31 @@ pub record PortState : Type 0 where
   -- the port keeps the contract of an honest port
   pub honest : Bool
 
+-- The chip made one step, and the sectors of an erase are recorded.
+pub record StepsOnce (out answer : List ℕ) (old new : Device) : Type 0 where
+  pub step : Step old.chip out answer new.chip
+  pub worn : (s : ℕ) → new.worn s ≡ (old.worn s || wears (done_of old.chip out (length answer)) s)
+
+-- The chip may have lost its power. No sector was erased.
+pub record MayLosePower (old new : Device) : Type 0 where
+  pub chip : (new.chip ≡ old.chip) ⊎ PowerLost old.chip new.chip
+  pub worn : (s : ℕ) → new.worn s ≡ old.worn s
+
+-- A transaction was cut: the programmer sent its first `count` bytes to the chip (none, some or all) and read the bytes
+-- `read`. Then the chip lost its power, or did not.
+pub record IsCut (out : List ℕ) (old new : Device) : Type 0 where
+  pub count : ℕ
+  pub read : List ℕ
+  pub reached : Device
+  pub steps : StepsOnce (take count out) read old reached
+  pub then : MayLosePower reached new
+
 -- A whole frame of O_SPIOP is carried out: the chip makes one step, and the reply is ACK and the bytes that the chip
 -- returned.
 pub record Operates (frame : List ℕ) (old new : Device) : Type 0 where
   pub answer : List ℕ
   pub len : length answer ≡ replies_in frame
-  pub step : Step old.chip (out_in frame) answer new.chip
+  pub steps : StepsOnce (out_in frame) answer old new
   pub begun : new.begun ≡ []
   pub pending : new.pending ≡ old.pending ++ 0x06 ∷ answer
 
@@ -50,20 +71,12 @@ pub record IsSent (bytes : List ℕ) (old new : PortState) : Type 0 where
   pub left : old.left ≡ new.left + 1
   pub done : CompletesOperation bytes old.device → Operates (old.device.begun ++ bytes) old.device new.device
 
--- The chip may have lost its power.
-abbrev pub MayLosePower : Chip → Chip → Type 0
-MayLosePower reached chip = (chip ≡ reached) ⊎ PowerLost reached chip
-
--- The port failed while these bytes were sent, after any number of them. If they would complete a frame of O_SPIOP, the
--- chip made its step or is as it was. Then the chip lost its power, or did not.
+-- The port failed while these bytes were sent, after any number of them. If they would complete a frame of O_SPIOP, its
+-- transaction was cut (`IsCut`): a programmer may begin it before the frame is complete.
 pub record IsCutOff (bytes : List ℕ) (old new : PortState) : Type 0 where
   pub none_left : old.left ≡ 0
   pub left : new.left ≡ 0
-  pub reached : Chip
-  pub sent : CompletesOperation bytes old.device
-      → (reached ≡ old.device.chip)
-      ⊎ ((answer : List ℕ) × Step old.device.chip (out_in (old.device.begun ++ bytes)) answer reached)
-  pub chip : MayLosePower reached new.device.chip
+  pub cut : CompletesOperation bytes old.device → IsCut (out_in (old.device.begun ++ bytes)) old.device new.device
 
 -- The first pending bytes were received.
 pub record IsReceived (bytes : List ℕ) (old new : PortState) : Type 0 where
@@ -71,12 +84,13 @@ pub record IsReceived (bytes : List ℕ) (old new : PortState) : Type 0 where
   pub pending : old.device.pending ≡ bytes ++ new.device.pending
   pub begun : new.device.begun ≡ old.device.begun
   pub chip : new.device.chip ≡ old.device.chip
+  pub worn : new.device.worn ≡ old.device.worn
 
 -- The port failed while bytes were received.
 pub record IsSilent (old new : PortState) : Type 0 where
   pub none_left : old.left ≡ 0
   pub left : new.left ≡ 0
-  pub chip : MayLosePower old.device.chip new.device.chip
+  pub power : MayLosePower old.device new.device
 
 -- ACK and these reply bytes were received, with two calls.
 pub record TakesAnswer (reply : List ℕ) (old new : PortState) : Type 0 where
@@ -84,6 +98,7 @@ pub record TakesAnswer (reply : List ℕ) (old new : PortState) : Type 0 where
   pub pending : old.device.pending ≡ 0x06 ∷ (reply ++ new.device.pending)
   pub begun : new.device.begun ≡ old.device.begun
   pub chip : new.device.chip ≡ old.device.chip
+  pub worn : new.device.worn ≡ old.device.worn
 
 -- The pending bytes begin with ACK.
 pub record AnswerBegins (port : PortState) : Type 0 where
@@ -94,22 +109,19 @@ pub record AnswerBegins (port : PortState) : Type 0 where
 pub record MissesAnswer (old new : PortState) : Type 0 where
   pub few_left : old.left < 2
   pub few : new.left < 3
-  pub chip : MayLosePower old.device.chip new.device.chip
+  pub power : MayLosePower old.device new.device
 
--- A transaction was carried out, and the reply was received: the chip made one step.
+-- A transaction was carried out with three calls, and the reply was received: the chip made one step.
 pub record Exchanged (out answer : List ℕ) (old new : PortState) : Type 0 where
   pub left : old.left ≡ new.left + 3
   pub idle : IsIdle new.device
-  pub step : Step old.device.chip out answer new.device.chip
+  pub steps : StepsOnce out answer old.device new.device
 
--- A transaction was interrupted, because fewer than three calls were left: the chip made its step or is as it was, and
--- then lost its power or did not.
+-- A transaction was cut, because fewer than three calls were left.
 pub record Interrupted (out : List ℕ) (old new : PortState) : Type 0 where
   pub few_left : old.left < 3
   pub few : new.left < 3
-  pub reached : Chip
-  pub step : (reached ≡ old.device.chip) ⊎ ((answer : List ℕ) × Step old.device.chip out answer reached)
-  pub chip : MayLosePower reached new.device.chip
+  pub cut : IsCut out old.device new.device
 
 -- The fact holds for the bytes and the number of reply bytes of O_SPIOP, if the command is O_SPIOP.
 abbrev pub IfOperates : Command → (List ℕ → ℕ → Type 0) → Type 0
@@ -122,6 +134,7 @@ abbrev pub unknown_port : PortState
 unknown_port = record {
   device = record {
     chip = unknown_chip;
+    worn = λ s. false;
     begun = [];
     pending = [];
   };

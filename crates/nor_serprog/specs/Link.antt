@@ -1,8 +1,9 @@
 -- A link to a programmer, as contracts see it.
-use Rattle.std.specs.Prelude.{Bool, true, false}
+use Rattle.std.specs.Prelude.{◌≡◌, ◌<◌, Bool, true, false}
 use Rattle.nor_serprog.specs.declared.link.Link.{Link}
 use Rattle.nor_serprog.specs.declared.link.Sync.{Sync}
 use Rattle.nor_serprog.specs.declared.link.Sync.TheVariants.{InStep, Lost, Cut}
+use Rattle.nor_serprog.specs.Device.{PortState, IsIdle}
 
 -- The port of a link.
 abbrev pub port_of : {P C : Type 0} → Link P C → P
@@ -19,3 +20,8 @@ is_in_step link = elim link.sync [ InStep ↦ true | Lost ↦ false | Cut ↦ fa
 -- A frame may have been sent in part.
 abbrev pub is_cut : {P C : Type 0} → Link P C → Bool
 is_cut link = elim link.sync [ InStep ↦ false | Lost ↦ false | Cut ↦ true ]
+
+-- Over an honest port: in step, the programmer is idle; out of step, too few calls are left for a transaction.
+pub record IsSettled {P C : Type 0} (port : P → PortState) (link : Link P C) : Type 0 where
+  pub idle : (port link.port).honest ≡ true → is_in_step link ≡ true → IsIdle (port link.port).device
+  pub spent : (port link.port).honest ≡ true → is_in_step link ≡ false → (port link.port).left < 3

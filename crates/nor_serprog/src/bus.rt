@@ -1,11 +1,9 @@
 //! A bus to the chip at a serial programmer.
-ghost use Rattle.std.specs.Prelude.{◌≡◌, ◌≤◌, true, false, length, OnOk, OnErr, IsSome, option_copied};
-ghost use Rattle.std.proofs.lemmas.Bool.{false≢true};
+ghost use Rattle.std.specs.Prelude.{◌≡◌, ◌≤◌, ◌⊎◌, true, false, length, OnOk, OnErr, IsSome, option_copied};
 ghost use Rattle.nor_chip.specs.Sent.{IsNothing};
-ghost use Rattle.nor_chip.specs.Bus.{Sends, Hears, Stops, Carries};
-ghost use Rattle.nor_serprog.specs.Bus.{link_of, port_in, sent_of, heard_of, cause_of, is_ready, state_of};
+ghost use Rattle.nor_chip.specs.Bus.{IsHonestFor, Sends, Hears, Stops, Carries};
 ghost use Rattle.nor_serprog.specs.Device.{IsIdle, Exchanged, Interrupted};
-ghost use Rattle.nor_serprog.specs.Link.{port_of, is_in_step};
+ghost use Rattle.nor_serprog.specs.Link.{port_of, is_in_step, IsSettled};
 
 use crate::{Command, Failure, Link, Port, Programmer, Sync};
 use nor_chip::{Bus, Sent, Stopped, heard_after};
@@ -13,15 +11,14 @@ use nor_chip::{Bus, Sent, Stopped, heard_after};
 /// A bus to the chip at a serial programmer, over any port. One transaction is one O_SPIOP (serprog protocol,
 /// flashrom's Documentation/serprog-protocol.txt).
 ///
-/// This bus is not honest as `Bus` defines it, because it rejects transactions of more than 260 bytes. Over any port
-/// its contract records the modifying commands that were sent and the replies to polls. A modifying command is recorded
-/// before its first byte is sent. After a transaction that failed, nothing more is sent until `synchronize` returns
-/// `Ok`.
+/// Over an honest port this bus is honest, and its chip is the programmer's: each transaction of at most 260 bytes and
+/// 4,096 replies is one step of the chip, and fails only if fewer than three calls of the port are left. The chip has
+/// then done any part of the transaction, and may have lost its power.
 ///
-/// Over an honest port to an idle programmer, a transaction that succeeds is one step of the chip, and leaves the
-/// programmer idle (`Exchanged`). If the bus is in step, a transaction of at most 260 bytes and 4,096 replies fails
-/// only if fewer than three calls of the port were left. The chip has then made its step or is as it was, and may have
-/// lost its power (`Interrupted`).
+/// Over any port the modifying commands that were sent and the replies to polls are recorded; a modifying command is
+/// recorded before its first byte is sent. A transaction that sends more than 260 bytes, or reads more than the
+/// programmer can, is rejected, and nothing is sent. After any other transaction that failed, nothing more is sent until
+/// `synchronize` returns `Ok`.
 #[derive(Drop)]
 pub struct SerprogBus<P: Port + Drop> {
     link: Link<P>,
@@ -29,11 +26,19 @@ pub struct SerprogBus<P: Port + Drop> {
     cause: Option<Failure<P::Cause>>,
     sent: Sent,
     heard: bool,
+    // In step, an honest port leads to a programmer that waits for a frame; out of step it has too few calls left for a
+    // transaction.
+    ghost idle: { IsSettled P.state link },
 }
 
 impl<P: Port + Drop> SerprogBus<P> {
-    /// Returns a bus over a link whose programmer was identified (`Programmer::identify`).
+    ghost use Rattle.nor_serprog.specs.Bus.{link_of, port_in, sent_of, heard_of, cause_of, is_ready};
+
+    /// Returns a bus over a link whose programmer was identified (`Programmer::identify`). Over an honest port the
+    /// programmer must be idle.
     pub fn new(link: Link<P>, programmer: Programmer) -> SerprogBus<P>
+        requires in_step { is_in_step link ≡ true }
+        requires idle { (P.state (port_of link)).honest ≡ true → IsIdle (P.state (port_of link)).device }
         ensures link { link_of result ≡ link }
         ensures sent { IsNothing (sent_of result) }
         ensures heard { heard_of result ≡ false }
@@ -67,8 +72,8 @@ impl<P: Port + Drop> SerprogBus<P> {
         self.cause.as_ref()
     }
 
-    /// Synchronizes the programmer after a transaction failed, as `Link::synchronize` does. The record of modifying
-    /// commands and polls is kept.
+    /// Synchronizes the programmer after a transaction failed, as `Link::synchronize` does; a programmer that is in step
+    /// is left alone. The record of modifying commands and polls is kept.
     ///
     /// The chip may have carried out the transaction that failed, or not.
     pub fn synchronize(&mut self) -> Result<(), Failure<P::Cause>>
@@ -77,34 +82,34 @@ impl<P: Port + Drop> SerprogBus<P> {
         ensures ok { OnOk result (is_ready self.new ≡ true) }
         ensures err { OnErr result (is_ready self.new ≡ false) }
     {
+        if self.link.sync() == Sync::InStep {
+            return Ok(());
+        }
         self.link.synchronize()
     }
 }
 
 impl<P: Port + Drop> Bus for SerprogBus<P> {
+    ghost use Rattle.nor_serprog.specs.Bus.{link_of, cause_of, is_ready, state_of};
+
     ghost state = { state_of };
 
-    ghost reaches = { λ bus honest. absurd (false≢true honest) };
+    ghost reaches = { λ bus honest. P.reaches bus.link.port honest };
 
     fn transfer(&mut self, out: &[u8], reply: &mut [u8]) -> Result<(), Stopped>
         ensures sends { Sends out.now (state_of self.old) (state_of self.new) }
-        ensures stops { (state_of self.old).honest ≡ true
+        ensures stops { IsHonestFor out.now (length reply.old) (state_of self.old)
             → OnErr result (Stops out.now (state_of self.old) (state_of self.new)) }
-        ensures unread { (state_of self.old).honest ≡ true → OnErr result (reply.new ≡ reply.old) }
-        ensures carries { (state_of self.old).honest ≡ true
+        ensures unread { IsHonestFor out.now (length reply.old) (state_of self.old)
+            → OnErr result (reply.new ≡ reply.old) }
+        ensures carries { IsHonestFor out.now (length reply.old) (state_of self.old)
             → OnOk result (Carries out.now reply.new (state_of self.old) (state_of self.new)) }
         ensures hears { Hears out.now reply.new result (state_of self.old) (state_of self.new) }
-        ensures exchanged { (P.state (port_in self.old)).honest ≡ true
-            → IsIdle (P.state (port_in self.old)).device → OnOk result
-            (Exchanged out.now reply.new (P.state (port_in self.old)) (P.state (port_in self.new))) }
-        ensures interrupted { (P.state (port_in self.old)).honest ≡ true
-            → IsIdle (P.state (port_in self.old)).device → is_ready self.old ≡ true
-            → length out.now ≤ 260 → length reply.old ≤ 4096 → OnErr result
-            (Interrupted out.now (P.state (port_in self.old)) (P.state (port_in self.new))) }
         ensures silent { is_ready self.old ≡ false → link_of self.new ≡ link_of self.old }
         ensures was_ready { OnOk result (is_ready self.old ≡ true) }
         ensures ok { OnOk result (is_ready self.new ≡ true) }
-        ensures err { OnErr result (is_ready self.new ≡ false) }
+        ensures err { OnErr result ((link_of self.new ≡ link_of self.old) ⊎ (is_ready self.new ≡ false)) }
+        ensures fits { length out.now ≤ 260 → length reply.old ≤ 4096 → OnErr result (is_ready self.new ≡ false) }
         ensures cause { is_ready self.old ≡ true → OnErr result (IsSome (cause_of self.new)) }
         ensures first_cause { is_ready self.old ≡ false → cause_of self.new ≡ cause_of self.old }
     {
@@ -132,19 +137,23 @@ fn carry<P: Port + Drop>(
     out: &[u8],
     reply: &mut [u8],
 ) -> Result<(), Failure<P::Cause>>
-    requires { 4096 ≤ longest_read }
-    ensures exchanged { (P.state (port_of link.old)).honest ≡ true → IsIdle (P.state (port_of link.old)).device
-        → OnOk result (Exchanged out.now reply.new (P.state (port_of link.old)) (P.state (port_of link.new))) }
-    ensures interrupted { (P.state (port_of link.old)).honest ≡ true → IsIdle (P.state (port_of link.old)).device
-        → is_in_step link.old ≡ true → length out.now ≤ 260 → length reply.old ≤ 4096
-        → OnErr result (Interrupted out.now (P.state (port_of link.old)) (P.state (port_of link.new))) }
+    requires longest { 4096 ≤ longest_read }
+    requires settled { IsSettled P.state link.old }
+    ensures settled { IsSettled P.state link.new }
+    ensures nature { (P.state (port_of link.new)).honest ≡ (P.state (port_of link.old)).honest }
     ensures silent { is_in_step link.old ≡ false → link.new ≡ link.old }
     ensures was_in_step { OnOk result (is_in_step link.old ≡ true) }
     ensures ok { OnOk result (is_in_step link.new ≡ true) }
-    ensures err { OnErr result (is_in_step link.new ≡ false) }
+    ensures err { OnErr result ((link.new ≡ link.old) ⊎ (is_in_step link.new ≡ false)) }
+    ensures fits { length out.now ≤ 260 → length reply.old ≤ 4096 → OnErr result (is_in_step link.new ≡ false) }
+    ensures exchanged { (P.state (port_of link.old)).honest ≡ true
+        → OnOk result (Exchanged out.now reply.new (P.state (port_of link.old)) (P.state (port_of link.new))) }
+    ensures interrupted { (P.state (port_of link.old)).honest ≡ true → OnErr result ((link.new ≡ link.old)
+        ⊎ Interrupted out.now (P.state (port_of link.old)) (P.state (port_of link.new))) }
+    ensures unread { (P.state (port_of link.old)).honest ≡ true → OnErr result (reply.new ≡ reply.old) }
 {
     if reply.len() > longest_read as usize {
-        return link.refuse();
+        return Err(link.rejection());
     }
     let replies = reply.len() as u32;
     link.exchange(Command::Operate { out, replies }, reply)

@@ -1,5 +1,5 @@
 //! Exchanges with a programmer: a frame, and the reply to it.
-ghost use Rattle.std.specs.Prelude.{◌≡◌, ◌≤◌, true, false, length, ◌↔◌, IsOk, IfOk, IsErr, OnOk, OnErr};
+ghost use Rattle.std.specs.Prelude.{◌≡◌, ◌≤◌, ◌+◌, ◌⊎◌, true, false, length, ◌↔◌, IsOk, IfOk, OnOk, OnErr};
 ghost use Rattle.nor_serprog.specs.Device.{IsIdle, IsSent, IsCutOff, IfOperates, Exchanged, Interrupted, AnswerBegins, TakesAnswer, MissesAnswer};
 ghost use Rattle.nor_serprog.specs.Frame.{Fits, IsFrame, Reads};
 ghost use Rattle.nor_serprog.specs.Link.{port_of, sync_of, is_in_step, is_cut};
@@ -20,7 +20,8 @@ pub enum Failure<C> {
     /// The reply began with this byte, which is neither ACK (06h) nor NAK (15h).
     #[error("the programmer answered {0:02X}h, which is neither ACK nor NAK")]
     Strange(u8),
-    /// The transaction sends more than 260 bytes, or reads more than the programmer can return. Nothing was sent.
+    /// The transaction sends more than 260 bytes, or reads more than the programmer can return. Nothing was sent, and
+    /// the link is as it was.
     #[error("a transaction of this length does not fit into one serprog frame")]
     TooLong,
     /// Nothing was sent, because an earlier exchange failed and the programmer was not synchronized since.
@@ -39,8 +40,8 @@ pub enum Failure<C> {
 pub enum Sync {
     /// Each frame had its reply, and each reply was read.
     InStep,
-    /// The link isn't synchronized: it is new, a command was too long, `synchronize` failed, or an exchange failed
-    /// after its whole frame was sent, so that bytes of the reply may still arrive.
+    /// The link isn't synchronized: it is new, `synchronize` failed, or an exchange failed after its whole frame was
+    /// sent, so that bytes of the reply may still arrive.
     Lost,
     /// A frame may have been sent in part, so the programmer may take the next bytes as the rest of it.
     Cut,
@@ -98,22 +99,25 @@ impl<P: Port + Drop> Link<P> {
 
     /// Sends the frame of a command, and reads the reply: ACK, and as many bytes as `reply` holds.
     ///
-    /// After any error nothing more is sent, until `synchronize` returns `Ok`. If the link was out of step, the call
-    /// returns `OutOfStep` or `CutFrame` and does not use the port.
+    /// Returns `TooLong` if the command does not fit into one frame; nothing was sent then, and the link is as it was.
+    /// After any other error nothing more is sent, until `synchronize` returns `Ok`. If the link was out of step, the
+    /// call returns `OutOfStep` or `CutFrame` and does not use the port.
     pub fn exchange(
         &mut self,
         command: Command<'_>,
         reply: &mut [u8],
     ) -> Result<(), Failure<P::Cause>>
+        ensures nature { (P.state (port_of self.new)).honest ≡ (P.state (port_of self.old)).honest }
         ensures silent { is_in_step self.old ≡ false → self.new ≡ self.old }
         ensures was_in_step { OnOk result (is_in_step self.old ≡ true) }
         ensures ok { OnOk result (is_in_step self.new ≡ true) }
-        ensures err { OnErr result (is_in_step self.new ≡ false) }
+        ensures err { OnErr result ((self.new ≡ self.old) ⊎ (is_in_step self.new ≡ false)) }
+        ensures fits { Fits command.entry → OnErr result (is_in_step self.new ≡ false) }
         ensures exchanged { (P.state (port_of self.old)).honest ≡ true → IsIdle (P.state (port_of self.old)).device
             → OnOk result (IfOperates command.entry (λ out replies. length reply.old ≡ replies
             → Exchanged out reply.new (P.state (port_of self.old)) (P.state (port_of self.new)))) }
         ensures interrupted { (P.state (port_of self.old)).honest ≡ true → IsIdle (P.state (port_of self.old)).device
-            → is_in_step self.old ≡ true → Fits command.entry → OnErr result (IfOperates command.entry (λ out replies.
+            → OnErr result ((self.new ≡ self.old) ⊎ IfOperates command.entry (λ out replies.
             Interrupted out (P.state (port_of self.old)) (P.state (port_of self.new)))) }
         ensures unread { (P.state (port_of self.old)).honest ≡ true → OnErr result (reply.new ≡ reply.old) }
     {
@@ -124,21 +128,13 @@ impl<P: Port + Drop> Link<P> {
         }
     }
 
-    /// Rejects a command that is too long, and sends nothing. Returns `TooLong`, or `OutOfStep` or `CutFrame` if the
-    /// link was out of step. Nothing more is sent until `synchronize` returns `Ok`.
-    pub(crate) fn refuse(&mut self) -> Result<(), Failure<P::Cause>>
-        ensures silent { is_in_step self.old ≡ false → self.new ≡ self.old }
-        ensures port { port_of self.new ≡ port_of self.old }
-        ensures fails { IsErr result }
-        ensures err { is_in_step self.new ≡ false }
-    {
+    /// Returns why a command that is too long is not sent: `TooLong`, or `OutOfStep` or `CutFrame` if the link is out of
+    /// step.
+    pub(crate) fn rejection(&self) -> Failure<P::Cause> {
         match self.sync {
-            Sync::InStep => {
-                self.sync = Sync::Lost;
-                Err(Failure::TooLong)
-            }
-            Sync::Lost => Err(Failure::OutOfStep),
-            Sync::Cut => Err(Failure::CutFrame),
+            Sync::InStep => Failure::TooLong,
+            Sync::Lost => Failure::OutOfStep,
+            Sync::Cut => Failure::CutFrame,
         }
     }
 
@@ -147,17 +143,18 @@ impl<P: Port + Drop> Link<P> {
         command: Command<'_>,
         reply: &mut [u8],
     ) -> Result<(), Failure<P::Cause>>
+        ensures nature { (P.state (port_of self.new)).honest ≡ (P.state (port_of self.old)).honest }
         ensures ok { OnOk result (is_in_step self.new ≡ true) }
-        ensures err { OnErr result (is_in_step self.new ≡ false) }
+        ensures err { OnErr result ((self.new ≡ self.old) ⊎ (is_in_step self.new ≡ false)) }
+        ensures fits { Fits command.entry → OnErr result (is_in_step self.new ≡ false) }
         ensures exchanged { (P.state (port_of self.old)).honest ≡ true → IsIdle (P.state (port_of self.old)).device
             → OnOk result (IfOperates command.entry (λ out replies. length reply.old ≡ replies
             → Exchanged out reply.new (P.state (port_of self.old)) (P.state (port_of self.new)))) }
         ensures interrupted { (P.state (port_of self.old)).honest ≡ true → IsIdle (P.state (port_of self.old)).device
-            → Fits command.entry → OnErr result (IfOperates command.entry (λ out replies.
+            → OnErr result ((self.new ≡ self.old) ⊎ IfOperates command.entry (λ out replies.
             Interrupted out (P.state (port_of self.old)) (P.state (port_of self.new)))) }
         ensures unread { (P.state (port_of self.old)).honest ≡ true → OnErr result (reply.new ≡ reply.old) }
     {
-        self.sync = Sync::Lost;
         let frame = encode(command)?;
         self.sync = Sync::Cut;
         send(&mut self.port, &frame)?;
@@ -178,6 +175,11 @@ impl<P: Port + Drop> Link<P> {
     /// Returns `Port` if the port fails. Returns `NoSync` if the reply to the first SYNCNOP isn't among the next 65,536
     /// bytes, or the replies to the row aren't among the 65,536 bytes after it.
     pub fn synchronize(&mut self) -> Result<(), Failure<P::Cause>>
+        ensures nature { (P.state (port_of self.new)).honest ≡ (P.state (port_of self.old)).honest }
+        ensures fewer { (P.state (port_of self.old)).honest ≡ true
+            → (P.state (port_of self.new)).left ≤ (P.state (port_of self.old)).left }
+        ensures calls { (P.state (port_of self.old)).honest ≡ true
+            → OnOk result (3 ≤ (P.state (port_of self.old)).left) }
         ensures silent { is_cut self.old ≡ true → self.new ≡ self.old }
         ensures was_whole { OnOk result (is_cut self.old ≡ false) }
         ensures ok { OnOk result (is_in_step self.new ≡ true) }
@@ -188,9 +190,9 @@ impl<P: Port + Drop> Link<P> {
         }
         self.sync = Sync::Lost;
         // If the programmer waits for the rest of a frame, it receives only this byte.
-        self.port.send(&[0x10]).map_err(Failure::Port)?;
+        send_all(&mut self.port, &[0x10])?;
         skip_past(&mut self.port, &[0x15, 0x06])?;
-        self.port.send(&ROW).map_err(Failure::Port)?;
+        send_all(&mut self.port, &ROW)?;
         skip_past(&mut self.port, &ROW_ANSWERS)?;
         self.sync = Sync::InStep;
         Ok(())
@@ -215,12 +217,23 @@ fn send<P: Port>(port: &mut P, frame: &Frame) -> Result<(), Failure<P::Cause>>
     port.send(frame).map_err(Failure::Port)
 }
 
+// Sends bytes that are no transaction.
+fn send_all<P: Port>(port: &mut P, bytes: &[u8]) -> Result<(), Failure<P::Cause>>
+    ensures nature { (P.state port.new).honest ≡ (P.state port.old).honest }
+    ensures fewer { (P.state port.old).honest ≡ true → (P.state port.new).left ≤ (P.state port.old).left }
+    ensures calls { (P.state port.old).honest ≡ true
+        → OnOk result ((P.state port.old).left ≡ (P.state port.new).left + 1) }
+{
+    port.send(bytes).map_err(Failure::Port)
+}
+
 // Receives the reply to the command with this opcode.
 fn receive_answer<P: Port>(
     port: &mut P,
     opcode: u8,
     reply: &mut [u8],
 ) -> Result<(), Failure<P::Cause>>
+    ensures nature { (P.state port.new).honest ≡ (P.state port.old).honest }
     ensures answered { (P.state port.old).honest ≡ true
         → OnOk result (TakesAnswer reply.new (P.state port.old) (P.state port.new)) }
     ensures missed { (P.state port.old).honest ≡ true → AnswerBegins (P.state port.old)
@@ -239,15 +252,27 @@ fn receive_answer<P: Port>(
 // Receives bytes until the last ones are `wanted`. Returns `NoSync` after 65,536 bytes.
 fn skip_past<P: Port>(port: &mut P, wanted: &[u8]) -> Result<(), Failure<P::Cause>>
     requires { length wanted.now ≤ 25 }
+    ensures nature { (P.state port.new).honest ≡ (P.state port.old).honest }
+    ensures fewer { (P.state port.old).honest ≡ true → (P.state port.new).left ≤ (P.state port.old).left }
+    ensures calls { (P.state port.old).honest ≡ true
+        → OnOk result ((P.state port.new).left + 1 ≤ (P.state port.old).left) }
 {
     let mut last = [0; ROW_ANSWERS_LEN];
     for _ in 0..MOST_STALE {
         last.rotate_left(1);
-        port.receive(&mut last[ROW_ANSWERS_LEN - 1..])
-            .map_err(Failure::Port)?;
+        receive_one(port, &mut last[ROW_ANSWERS_LEN - 1..])?;
         if last.ends_with(wanted) {
             return Ok(());
         }
     }
     Err(Failure::NoSync)
+}
+
+fn receive_one<P: Port>(port: &mut P, byte: &mut [u8]) -> Result<(), Failure<P::Cause>>
+    ensures nature { (P.state port.new).honest ≡ (P.state port.old).honest }
+    ensures fewer { (P.state port.old).honest ≡ true → (P.state port.new).left ≤ (P.state port.old).left }
+    ensures calls { (P.state port.old).honest ≡ true
+        → OnOk result ((P.state port.old).left ≡ (P.state port.new).left + 1) }
+{
+    port.receive(byte).map_err(Failure::Port)
 }

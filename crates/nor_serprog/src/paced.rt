@@ -1,6 +1,6 @@
 //! A bus that pauses between polls of a busy chip.
-ghost use Rattle.std.specs.Prelude.{◌≡◌, ◌≤◌, true, OnOk, OnErr};
-ghost use Rattle.nor_chip.specs.Bus.{Sends, Stops, Carries, Hears};
+ghost use Rattle.std.specs.Prelude.{◌≡◌, ◌≤◌, true, length, OnOk, OnErr};
+ghost use Rattle.nor_chip.specs.Bus.{IsHonestFor, Sends, Stops, Carries, Hears};
 ghost use Rattle.nor_serprog.specs.Pace.{pause_before, pauses, busy_row_after, busy_row, paced_of};
 
 use nor_chip::{Bus, Stopped, heard_after};
@@ -75,10 +75,11 @@ impl<B: Bus, C: Clock> Bus for Paced<B, C> {
 
     fn transfer(&mut self, out: &[u8], reply: &mut [u8]) -> Result<(), Stopped>
         ensures sends { Sends out.now (B.state (paced_of self.old)) (B.state (paced_of self.new)) }
-        ensures stops { (B.state (paced_of self.old)).honest ≡ true
+        ensures stops { IsHonestFor out.now (length reply.old) (B.state (paced_of self.old))
             → OnErr result (Stops out.now (B.state (paced_of self.old)) (B.state (paced_of self.new))) }
-        ensures unread { (B.state (paced_of self.old)).honest ≡ true → OnErr result (reply.new ≡ reply.old) }
-        ensures carries { (B.state (paced_of self.old)).honest ≡ true
+        ensures unread { IsHonestFor out.now (length reply.old) (B.state (paced_of self.old))
+            → OnErr result (reply.new ≡ reply.old) }
+        ensures carries { IsHonestFor out.now (length reply.old) (B.state (paced_of self.old))
             → OnOk result (Carries out.now reply.new (B.state (paced_of self.old)) (B.state (paced_of self.new))) }
         ensures hears { Hears out.now reply.new result (B.state (paced_of self.old)) (B.state (paced_of self.new)) }
         ensures row { OnOk result (busy_row self.new ≡ busy_row_after out.now reply.new (busy_row self.old)) }

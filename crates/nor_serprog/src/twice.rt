@@ -1,7 +1,7 @@
 //! A bus that reads data twice.
 ghost use Rattle.std.specs.Prelude.{◌≡◌, ◌≢◌, ◌≤◌, true, false, length, OnOk, OnErr};
 ghost use Rattle.std.proofs.lemmas.Bool.{false≢true};
-ghost use Rattle.nor_chip.specs.Bus.{Sends, Stops, Carries, Hears, unknown_bus};
+ghost use Rattle.nor_chip.specs.Bus.{IsHonestFor, Sends, Stops, Carries, Hears, unknown_bus};
 ghost use Rattle.nor_serprog.specs.Twice.{twice_of, has_differed, begins_read, ReadsTwice, view_of};
 
 use nor_chip::{Bus, Stopped};
@@ -59,20 +59,20 @@ impl<B: Bus> Bus for ReadTwice<B> {
 
     fn transfer(&mut self, out: &[u8], reply: &mut [u8]) -> Result<(), Stopped>
         ensures sends { Sends out.now (view_of (B.state (twice_of self.old))) (view_of (B.state (twice_of self.new))) }
-        ensures stops { (view_of (B.state (twice_of self.old))).honest ≡ true
+        ensures stops { IsHonestFor out.now (length reply.old) (view_of (B.state (twice_of self.old)))
             → OnErr result
             (Stops out.now (view_of (B.state (twice_of self.old))) (view_of (B.state (twice_of self.new)))) }
-        ensures unread { (view_of (B.state (twice_of self.old))).honest ≡ true → OnErr result (reply.new ≡ reply.old) }
-        ensures carries { (view_of (B.state (twice_of self.old))).honest ≡ true
+        ensures unread { IsHonestFor out.now (length reply.old) (view_of (B.state (twice_of self.old))) → OnErr result (reply.new ≡ reply.old) }
+        ensures carries { IsHonestFor out.now (length reply.old) (view_of (B.state (twice_of self.old)))
             → OnOk result (Carries out.now reply.new
             (view_of (B.state (twice_of self.old))) (view_of (B.state (twice_of self.new)))) }
         ensures hears { Hears out.now reply.new result
             (view_of (B.state (twice_of self.old))) (view_of (B.state (twice_of self.new))) }
-        ensures once { (B.state (twice_of self.old)).honest ≡ true → begins_read out.now ≡ false
+        ensures once { IsHonestFor out.now (length reply.old) (B.state (twice_of self.old)) → begins_read out.now ≡ false
             → OnOk result (Carries out.now reply.new (B.state (twice_of self.old)) (B.state (twice_of self.new))) }
-        ensures twice { (B.state (twice_of self.old)).honest ≡ true → begins_read out.now ≡ true
+        ensures twice { IsHonestFor out.now (length reply.old) (B.state (twice_of self.old)) → begins_read out.now ≡ true
             → OnOk result (ReadsTwice out.now reply.new (B.state (twice_of self.old)) (B.state (twice_of self.new))) }
-        ensures no_difference { (B.state (twice_of self.old)).honest ≡ true → length reply.old ≤ 4096
+        ensures no_difference { IsHonestFor out.now (length reply.old) (B.state (twice_of self.old)) → length reply.old ≤ 4096
             → OnErr result ((B.state (twice_of self.new)).left ≡ 0) }
         ensures remembers { has_differed self.old ≡ true → has_differed self.new ≡ true }
     {

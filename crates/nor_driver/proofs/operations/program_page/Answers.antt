@@ -1,3 +1,4 @@
+use Rattle.std.proofs.Common.{arith}
 use Rattle.std.proofs.lemmas.Result.{IfOk-weaker}
 use Rattle.nor_driver.specs.Operations.{IsCommandAt}
 use Rattle.nor_driver.proofs.Asks.{asks_program}
@@ -12,6 +13,7 @@ sent g c = rw c.deref.ensures.0 c.program_command-command.ensures
 pub operation-requires : goal.operation-requires
 operation-requires g c =
     asks_program c.args.address c.args.bytes.now c.deref.result.now c.requires.some
+    (omega (arith, c.requires.in_page))
     (rw c.deref.ensures.0 c.program_command-command.ensures)
 
 pub returns-clause-leaves : goal.returns-clause-leaves

@@ -1,12 +1,23 @@
-use Rattle.nor_driver.proofs.Readings.{read_leaves, read_does, read_heard}
+use Rattle.nor_driver.proofs.Readings.{read_fits, read_leaves, read_does, read_heard}
 use Rattle.nor_driver.proofs.reads.read.Goals as goal
 
 pub returns-clause-leaves : goal.returns-clause-leaves
 returns-clause-leaves g c =
-    read_leaves c.transfer.result _ c.transfer.new.reply _ _ c.requires c.transfer.ensures.sends c.transfer.ensures.stops c.transfer.ensures.carries
+    let fits = read_fits c.args.out.now c.args.reply.now (g.B.Bus.state c.args.bus.now) c.requires.reading c.requires.short in
+    read_leaves c.transfer.result _ c.transfer.new.reply _ _ c.requires.reading c.transfer.ensures.sends
+    (λ honest. c.transfer.ensures.stops (fits honest)) (λ honest. c.transfer.ensures.carries (fits honest))
 
 pub returns-clause-does : goal.returns-clause-does
-returns-clause-does g c = read_does c.transfer.result _ c.transfer.new.reply _ _ c.requires c.transfer.ensures.carries
+returns-clause-does g c =
+    let fits = read_fits c.args.out.now c.args.reply.now (g.B.Bus.state c.args.bus.now) c.requires.reading c.requires.short in
+    read_does c.transfer.result _ c.transfer.new.reply _ _ c.requires.reading
+    (λ honest. c.transfer.ensures.carries (fits honest))
 
 pub returns-clause-heard : goal.returns-clause-heard
-returns-clause-heard g c = read_heard c.transfer.result _ c.transfer.new.reply _ _ c.requires c.transfer.ensures.hears
+returns-clause-heard g c =
+    read_heard c.transfer.result _ c.transfer.new.reply _ _ c.requires.reading c.transfer.ensures.hears
+
+pub returns-clause-unread : goal.returns-clause-unread
+returns-clause-unread g c honest =
+    c.transfer.ensures.unread
+    (read_fits c.args.out.now c.args.reply.now (g.B.Bus.state c.args.bus.now) c.requires.reading c.requires.short honest)

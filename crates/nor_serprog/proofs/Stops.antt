@@ -1,0 +1,71 @@
+-- A bus over an honest port stops as the contract of a bus allows.
+use Rattle.std.proofs.Common.{◌≡◌, ◌∙◌, ◌<◌, ◌≤◌, ◌⊎◌, ℕ, Bool, true, false, List, [], length, refl, sym, ap, subst, arith, inl, inr}
+use Rattle.std.proofs.Math.Bool.{or-false}
+use Rattle.std.proofs.lemmas.Bool.{cases_Bool, false≢true}
+use Rattle.nor_chip.specs.declared.sent.Sent.{Sent}
+use Rattle.nor_chip.specs.Bus.{IsHonestFor, Stops}
+use Rattle.nor_chip.proofs.AtStops.{nothing_sent}
+use Rattle.nor_serprog.specs.declared.link.Link.{Link}
+use Rattle.nor_serprog.specs.Bus.{over_port}
+use Rattle.nor_serprog.specs.Device.{PortState, Interrupted}
+use Rattle.nor_serprog.specs.Link.{is_in_step, IsSettled}
+
+-- the transaction was interrupted
+stops_cut : (out : List ℕ) (old new : PortState) (sent sent' : Sent) (heard : Bool) → Interrupted out old new
+    → Stops out (over_port old sent heard) (over_port new sent' heard)
+stops_cut out old new sent sent' heard is = record {
+  none_left = omega (arith, is.few_left);
+  left = omega (arith, is.few_left, is.few);
+  at_stop = record {
+    count = is.cut.count;
+    read = is.cut.read;
+    reached = is.cut.reached.chip;
+    step = is.cut.steps.step;
+    chip = is.cut.then.chip;
+    worn = λ s. is.cut.then.worn s ∙ is.cut.steps.worn s;
+    none = λ steady. absurd (false≢true steady);
+    still = λ steady. absurd (false≢true steady);
+  };
+}
+
+-- nothing was sent
+stops_silent : (out : List ℕ) (port : PortState) (sent sent' : Sent) (heard : Bool) → port.left < 3
+    → Stops out (over_port port sent heard) (over_port port sent' heard)
+stops_silent out port sent sent' heard few = record {
+  none_left = omega (arith, few);
+  left = refl;
+  at_stop = record {
+    count = 0;
+    read = [];
+    reached = port.device.chip;
+    step = nothing_sent port.device.chip;
+    chip = inl refl;
+    worn = λ s. sym (or-false (port.device.worn s));
+    none = λ steady. refl;
+    still = λ steady. refl;
+  };
+}
+
+-- a transaction that failed, over a link that was in step or out of step
+pub stops_over : {P C : Type 0} (port : P → PortState) (out : List ℕ) (replies : ℕ) (link link' : Link P C)
+    (sent sent' : Sent) (heard : Bool) → IsSettled port link → (is_in_step link ≡ false → link' ≡ link)
+    → ((port link.port).honest ≡ true → (link' ≡ link) ⊎ Interrupted out (port link.port) (port link'.port))
+    → (length out ≤ 260 → replies ≤ 4096 → is_in_step link' ≡ false)
+    → IsHonestFor out replies (over_port (port link.port) sent heard)
+    → Stops out (over_port (port link.port) sent heard) (over_port (port link'.port) sent' heard)
+stops_over {P} {C} port out replies link link' sent sent' heard settled silent interrupted fits honest =
+    let Ends : Link P C → Type 0 = λ (now : Link P C).
+    Stops out (over_port (port link.port) sent heard) (over_port (port now.port) sent' heard) in
+    elim (cases_Bool (is_in_step link)) [
+      | inr lost ↦
+          subst Ends (sym (silent lost))
+          (stops_silent out (port link.port) sent sent' heard (settled.spent honest.honest lost))
+      | inl in_step ↦ elim (interrupted honest.honest) [
+        | inr cut ↦ stops_cut out (port link.port) (port link'.port) sent sent' heard cut
+        | inl same ↦ elim honest.fits [
+          | inl unlimited ↦ absurd (false≢true unlimited)
+          | inr short ↦
+              absurd (false≢true (sym (fits short.0 short.1) ∙ ap (λ (l : Link P C). is_in_step l) same ∙ in_step))
+        ]
+      ]
+    ]
