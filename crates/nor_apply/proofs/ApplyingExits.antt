@@ -1,7 +1,7 @@
 -- The effect of all changes at each exit, the transactions that they take, and their result.
-use Rattle.std.proofs.Common.{ℕ, zero, suc, ◌≡◌, ◌<◌, ◌≤◌, ◌+◌, ◌*◌, ◌/◌, ◌∙◌, Bool, true, false, refl, sym, ap, arith, true≢false}
+use Rattle.std.proofs.Common.{ℕ, zero, suc, ◌≡◌, ◌<◌, ◌≤◌, ◌+◌, ◌*◌, ◌/◌, ◌∙◌, Bool, true, false, refl, sym, ap, arith, true≢false, inl, inr}
 use Rattle.std.specs.Prelude.{◌&&◌, ◌||◌, if◌then◌else◌}
-use Rattle.std.proofs.lemmas.Bool.{or_left, or_right}
+use Rattle.std.proofs.lemmas.Bool.{cases_Bool, or_left, or_right}
 use Rattle.nor_count.specs.Below.{count_below}
 use Rattle.nor_count.specs.Counts.{sector_count}
 use Rattle.nor_count.proofs.Counting.{count_below-most}
@@ -152,8 +152,12 @@ module _ {changes : Changes} {wanted bytes : ℕ → ℕ} {worn : ℕ → Bool} 
         → all.transactions ≡ done.transactions + sent → spent + most_operation ≤ most
         → SoFar changes wanted bytes worn (if needed then code' else code) numbers' readings most old new all
     code_written {sent} does sum count transactions fits =
+        let idle : mid.honest ≡ true → mid.chip.busy ≡ 0 → new.chip.busy ≡ 0 = λ honest idle. elim (cases_Bool needed) [
+          | inl writes ↦ does.idle writes honest
+          | inr spared ↦ rw (leaves.still spared) idle
+        ] in
         let tallies : Tallies 0 mid new (record { count = if needed then 1 else 0; transactions = sent }) =
-        grind (arith, does.heard, does.count) in
+        grind (arith, does.heard, does.count, idle) in
         goes_on code_leaves tallies sum does.exactly (omega arith) count transactions
         (omega (arith, so.few, does.few, write_most needed))
         (λ honest can.
@@ -448,6 +452,7 @@ module _ {changes : Changes} {wanted : ℕ → ℕ} {old free mid made : BusStat
             least = fourth.ran.tallies.least;
             exactly = fourth.ran.exactly;
             heard = fourth.ran.tallies.heard;
+            idle = fourth.ran.tallies.idle;
             sent = fourth.ran.tallies.sent;
             still = λ nothing.
                 let few = raised_few changes parts.inside in

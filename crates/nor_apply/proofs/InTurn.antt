@@ -65,7 +65,7 @@ module _ {first : Limits} {r : ℕ} {old mid new : BusState} {done : Tally} (ran
         nature = nature;
         sends = sends_after (sum_parts first second both sum) after.sends;
         exactly = exactly_then sum.erases sum.programs sum.status_writes ran.exactly after.exactly;
-        tallies = grind (arith, ran.nature.honest, ran.tallies.sent, after.tallies.sent);
+        tallies = grind (arith, ran.nature.honest, ran.tallies.sent, after.tallies.sent, ran.tallies.idle, after.tallies.idle);
       }
 
 -- ---- exits

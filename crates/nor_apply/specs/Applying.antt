@@ -111,6 +111,7 @@ pub record DoesApply (changes : Changes) (wanted : ℕ → ℕ) (old new : BusSt
   pub least : 3 * (work.erases + work.programs + status_writes changes) ≤ work.transactions
   pub exactly : SendsExactly work.erases work.programs (status_writes changes) old new
   pub heard : StaysReady old new
+  pub idle : old.honest ≡ true → old.chip.busy ≡ 0 → new.chip.busy ≡ 0
   pub sent : old.honest ≡ true → old.left ≡ new.left + work.transactions
   pub still : sector_count (touched_in changes) + status_writes changes ≡ 0 → new.sent ≡ old.sent
   pub done : old.honest ≡ true → CanApply changes wanted old.chip → HasApplied changes wanted old new

@@ -28,9 +28,10 @@ NamesTimeoutIn sectors (Timeout address) = sectors (address / 4096) ≡ true
 
 -- A part succeeded, with `tally.count` operations and at most `readings` readings. If the last poll before it showed
 -- that the chip is ready, so does the last poll after it. On an honest bus `tally.transactions` fewer transactions are
--- left.
+-- left, and a chip that was idle is idle again.
 pub record Tallies (readings : ℕ) (old new : BusState) (tally : Tally) : Type 0 where
   pub least : 3 * tally.count ≤ tally.transactions
   pub few : tally.transactions ≤ readings + most_operation * tally.count
   pub heard : StaysReady old new
+  pub idle : old.honest ≡ true → old.chip.busy ≡ 0 → new.chip.busy ≡ 0
   pub sent : old.honest ≡ true → old.left ≡ new.left + tally.transactions

@@ -154,6 +154,24 @@ module _ {journal : Content} {opening : Opening} {scanned : Scanned} {changes : 
       } in
       search rules
 
+  idle_now : old.honest ≡ true → new.chip.busy ≡ 0
+  idle_now honest =
+      let idle = read.opens.idle honest in
+      let rested = read.scans.rested (read.looks.nature.honest ∙ honest) in
+      omega arith
+
+  touched_if : old.honest ≡ true → old.chip.config.size ≡ journal.size → (s : ℕ)
+      → has changes.touched s ≡ is_touched old.chip.bytes (restored journal old.chip.bytes) s
+  touched_if honest sized s =
+      let same = (read.opens.rested honest).unchanged.same in
+      let bytes : mid.chip.bytes ≡ old.chip.bytes = fun_ext same.bytes in
+      let is_open : IsOpen journal.size mid = record {
+        honest = read.looks.nature.honest ∙ honest;
+        idle = read.opens.idle honest;
+        same = ap (λ (config : Config). config.size) same.config ∙ sized;
+      } in
+      ap (λ (set : ℕ → Bool). set s) (ap has are.touched) ∙ rw bytes at (read.scans.touched is_open s)
+
   pub prepared_all : (sent : ℕ) → sent ≡ opening.transactions + length journal.saved → IsPrepared journal old new
       record { found = opening.found; changes = changes; touched = scanned.count; transactions = sent }
   prepared_all sent sum =
@@ -167,4 +185,4 @@ module _ {journal : Content} {opening : Opening} {scanned : Scanned} {changes : 
       omega arith in
       let fixed : fixed_of (kept_in (bytes_of changes.status)) ≡ fixed_of (kept_in journal.status)
       = rw (are.one, are.two) read.fixed in
-      search (rules, arith, below, saved, rises_touched, rested_all read, prepared_for sent)
+      search (rules, arith, below, saved, rises_touched, rested_all read, idle_now, touched_if, prepared_for sent)

@@ -14,9 +14,10 @@ use Rattle.nor_plan.specs.Planned.{fewest_erases, IsLeastLength}
 use Rattle.nor_plan.proofs.Fewest.{fewest_least}
 use Rattle.nor_apply.specs.declared.changes.Changes.{Changes}
 use Rattle.nor_apply.specs.declared.changes.Work.{Work}
+use Rattle.nor_apply.specs.Checking.{CanCheck}
 use Rattle.nor_apply.specs.Applying.{touched_in, raised_in, status_writes, writes_code, most_applied, HasApplied, LeavesApply, DoesApply}
 use Rattle.nor_apply.proofs.ApplyingExits.{raised_few}
-use Rattle.nor_session.specs.Changing.{touched_count, DoesCheck, DoesChange}
+use Rattle.nor_session.specs.Changing.{touched_count, HasBytes, DoesCheck, DoesChange}
 
 -- ---- the number of transactions and erases
 
@@ -67,4 +68,12 @@ pub checked : (changes : Changes) (wanted : ℕ → ℕ) (verify : Bool) (old mi
 checked changes wanted verify old mid new written work inside leaves does checking =
     let raised = raised_few changes inside in
     let still = leaves.spends.nature.honest in
-    grind (arith, rest_applied changes wanted old mid new)
+    let applied = rest_applied changes wanted old mid new in
+    let read : verify ≡ true → old.honest ≡ true → CanCheck (touched_in changes) old.chip
+    → HasBytes (touched_in changes) wanted new.chip = λ verifies honest can a hit.
+    let still_can : CanCheck (touched_in changes) mid.chip = record {
+      idle = does.idle honest can.idle;
+      inside = λ s is. rw (leaves.spends.nature.config honest) (can.inside s is);
+    } in
+    (checking.rested (still ∙ honest)).unchanged.same.bytes a ∙ checking.same verifies (still ∙ honest) still_can a hit in
+    grind (arith, applied, read)

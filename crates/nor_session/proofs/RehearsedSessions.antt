@@ -88,7 +88,7 @@ module _ {n : ℕ} {old mid : BusState} (allows : Allows n old mid) where
 
     -- the session ended
     pub session_ends : (report : Report) → SessionAlways request mid new before after (Ok report)
-        → (mid.honest ≡ true → SessionHonest mid new (Ok report))
+        → (mid.honest ≡ true → SessionHonest request image mid new (Ok report))
         → (IsModelled mid → SessionModelled request image mid new before after (Ok report))
         → ShowsSession request image n old new after true
     session_ends report always told promise =
@@ -121,7 +121,7 @@ module _ {n : ℕ} {old mid : BusState} (allows : Allows n old mid) where
     -- The session returned an error. If that is a stop, the session was allowed the most transactions that any call
     -- needs.
     pub session_refuses : (refusal : Refusal) → SessionAlways request mid new before after (Err refusal)
-        → (mid.honest ≡ true → SessionHonest mid new (Err refusal))
+        → (mid.honest ≡ true → SessionHonest request image mid new (Err refusal))
         → (IsModelled mid → SessionModelled request image mid new before after (Err refusal))
         → (refusal ≡ Stopped → n ≡ most_of 4096) → RefusesSession request image old new before after refusal
     session_refuses refusal always told_of promise all = search (arith, early, no_halt, told)

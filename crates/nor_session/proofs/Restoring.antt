@@ -13,6 +13,7 @@ use Rattle.nor_apply.specs.declared.changes.Work.{Work}
 use Rattle.nor_count.specs.Counts.{sector_count}
 use Rattle.nor_plan.specs.Content.{once_erased, is_touched, is_raised}
 use Rattle.nor_apply.specs.Spending.{Spends}
+use Rattle.nor_apply.specs.Checking.{CanCheck}
 use Rattle.nor_apply.specs.Applying.{touched_in, raised_in, status_writes}
 use Rattle.nor_driver.specs.StatusWrites.{fixed_of}
 use Rattle.nor_call.specs.Request.{wanted}
@@ -26,7 +27,7 @@ use Rattle.nor_probe.specs.Known.{IsModelled}
 use Rattle.nor_save.specs.Opening.{most_opening}
 use Rattle.nor_session.specs.Bounds.{most_of}
 use Rattle.nor_session.specs.Session.{HonestTells, IsWithinBound}
-use Rattle.nor_session.specs.Changing.{LeavesChange, DoesChange, ChangeTells}
+use Rattle.nor_session.specs.Changing.{HasBytes, LeavesChange, DoesChange, ChangeTells}
 use Rattle.nor_session.specs.Headline.{CanGiveBack}
 use Rattle.nor_session.specs.Restore.{restored, NeedsStatusFrom, IsJudgedFirst, IsRestoreRefusal, RestoreTells, LeavesRestore, IsRestored}
 use Rattle.nor_session.specs.Prepare.{PrepareTells, IsPrepared}
@@ -167,6 +168,19 @@ module _ (journal : Content) (prepared : Prepared) (old mid new : BusState) (wor
     pub restored_counted : sent ≡ prepared.transactions + work.transactions → old.honest ≡ true
         → old.left ≡ new.left + sent
     restored_counted sum honest = search arith
+
+    pub restored_checked : old.honest ≡ true → old.chip.config.size ≡ journal.size
+        → HasBytes (is_touched old.chip.bytes (restored journal old.chip.bytes)) (restored journal old.chip.bytes) new.chip
+    restored_checked honest sized a hit =
+        let config = are.looks.nature.config honest in
+        let touched : touched_in prepared.changes (a / 4096) ≡ true = are.is.touched honest sized (a / 4096) ∙ hit in
+        let can : CanCheck (touched_in prepared.changes) mid.chip = record {
+          idle = are.is.idle honest;
+          inside = λ s is. rw config
+              (let inside = are.is.inside s is in let same = are.is.sized in omega arith);
+        } in
+        does.checked refl (are.looks.nature.honest ∙ honest) can a touched
+        ∙ sym (restored_saved journal old.chip.bytes a (are.is.saved (a / 4096) touched))
 
     pub restored_done : IsModelled old → IsRestored journal old new (report_of prepared work sent)
     restored_done modelled =

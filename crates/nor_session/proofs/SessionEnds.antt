@@ -1,10 +1,10 @@
 -- The state that a session leaves after the seal, and at its end.
-use Rattle.std.proofs.Common.{subst, ◌≡◌, ◌<◌, ◌+◌, ◌∙◌, ℕ, Bool, List, ap, sym, arith}
+use Rattle.std.proofs.Common.{subst, ◌≡◌, ◌<◌, ◌+◌, ◌/◌, ◌∙◌, ℕ, Bool, true, List, ap, sym, arith}
 use mathlib.Core.Path.{fun_ext}
 use Rattle.std.specs.Prelude.{slice_index}
 use Rattle.nor_chip.specs.declared.status.Status.{Status}
 use Rattle.nor_chip.specs.Bus.{BusState}
-use Rattle.nor_driver.specs.Looks.{Looks}
+use Rattle.nor_driver.specs.Looks.{Looks, IsOpen}
 use Rattle.nor_journal.specs.Vault.{VaultState}
 use Rattle.nor_plan.specs.SectorSet.{has}
 use Rattle.nor_apply.specs.declared.changes.Work.{Work}
@@ -21,9 +21,12 @@ use Rattle.nor_save.specs.Opening.{Opens, most_opening}
 use Rattle.nor_save.specs.Saving.{IsOpening}
 use Rattle.nor_save.specs.SavedScan.{HasSaved}
 use Rattle.nor_chip.proofs.Sizes.{sized_bounds}
-use Rattle.nor_save.proofs.Planned.{raised_inside}
+use Rattle.nor_save.proofs.Planned.{touched_past, only_inside, raised_inside}
+use Rattle.nor_save.specs.Scanning.{wanted_at, Scans}
+use Rattle.nor_apply.specs.Checking.{CanCheck}
+use Rattle.nor_chip.specs.declared.config.Config.{Config}
 use Rattle.nor_probe.specs.Known.{IsModelled}
-use Rattle.nor_session.specs.Changing.{LeavesChange, DoesChange}
+use Rattle.nor_session.specs.Changing.{HasBytes, LeavesChange, DoesChange}
 use Rattle.nor_session.specs.Session.{IsWithinBound, IsDone, CanBeUndone}
 use Rattle.nor_session.specs.Made.{IsMade}
 use Rattle.nor_save.specs.Verdict.{NeedsStatusWrite, OpeningAccepts}
@@ -112,6 +115,40 @@ module _ (request : Request) (image image' : List ℕ) (opening : Opening) (stat
             let count = is.marks.count in
             does.still (omega arith) ∙ is.looked.same_sent;
       }
+
+  -- the check compared each touched sector with the wanted bytes, and an honest bus read the chip's own
+  pub session_checked : (opened new : BusState) (work : Work) → Looks most_opening old opened
+      → Opens request.named old opened opening → Scans request opening.found.size image image' opened mid kept.scanned
+      → Ready request opening status code kept old mid
+      → DoesChange (changes_of opening kept status code) (λ a. slice_index image' a) request.verify mid new work
+      → request.verify ≡ true → old.honest ≡ true → old.chip.config.size ≡ opening.found.size
+      → HasBytes (is_touched old.chip.bytes (wanted request image old.chip)) (wanted request image old.chip) new.chip
+  session_checked opened new work looks opens scans is does verifies honest sized a hit =
+      let same = (opens.rested honest).unchanged.same in
+      let bytes : opened.chip.bytes ≡ old.chip.bytes = fun_ext same.bytes in
+      let is_open : IsOpen opening.found.size opened = record {
+        honest = looks.nature.honest ∙ honest;
+        idle = opens.idle honest;
+        same = ap (λ (config : Config). config.size) same.config ∙ sized;
+      } in
+      let aim = wanted_at request image opening.found.size old.chip.bytes in
+      let hit : is_touched old.chip.bytes aim (a / 4096) ≡ true =
+      subst (λ (n : ℕ). is_touched old.chip.bytes (wanted_at request image n old.chip.bytes) (a / 4096) ≡ true) sized hit in
+      let past = touched_past request image opening.found.size old.chip.bytes (a / 4096) is.part.in_blocks in
+      let marked : has kept.scanned.touched (a / 4096) ≡ true =
+      rw bytes at ((scans.right is_open).touched (a / 4096))
+      ∙ only_inside (is_touched old.chip.bytes aim) (opening.found.size / 4096) (a / 4096) past ∙ hit in
+      let can : CanCheck (has kept.scanned.touched) mid.chip = record {
+        idle =
+            let rested = scans.rested (looks.nature.honest ∙ honest) in
+            let idle = opens.idle honest in omega arith;
+        inside = λ s is_touched.
+            let below = is.marks.below s is_touched in
+            let config = ap (λ (config : Config). config.size) (is.looked.nature.config honest) in omega arith;
+      } in
+      let wanted_byte : slice_index image' a ≡ aim a = rw bytes at (scans.merged is_open a marked) in
+      let read = does.checked verifies (is.looked.nature.honest ∙ honest) can a marked in
+      read ∙ wanted_byte ∙ sym (ap (λ (n : ℕ). wanted_at request image n old.chip.bytes a) sized)
 
   -- if the request needs no status write, there is none
   pub spared : (new : BusState) (aim : ℕ → ℕ) (verify : Bool) (work : Work) (sent : ℕ) → sent ≡ kept.scanned.reads

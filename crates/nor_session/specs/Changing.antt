@@ -1,5 +1,6 @@
 -- The state that the changes of a session or restore leave, and the check of their result.
 use Rattle.std.specs.Prelude.{◌≡◌, ◌≤◌, ◌+◌, ◌*◌, ◌/◌, ◌⊎◌, ℕ, Bool, true, if◌then◌else◌, ⊤}
+use Rattle.nor_chip.specs.Chip.{Chip}
 use Rattle.nor_chip.specs.Bus.{BusState}
 use Rattle.nor_driver.specs.Ready.{StaysReady}
 use Rattle.nor_driver.specs.Looks.{Rested, RanOut, RanOutIfHonest}
@@ -58,6 +59,10 @@ CheckRefuses changes wanted old new _ = ⊥
 
 -- ---- the changes and their check
 
+-- Each byte of these sectors is the target one.
+abbrev pub HasBytes : (sectors : ℕ → Bool) → (wanted : ℕ → ℕ) → Chip → Type 0
+HasBytes sectors wanted chip = (a : ℕ) → sectors (a / 4096) ≡ true → chip.bytes a ≡ wanted a
+
 -- At every exit. On every bus no more is sent than the changes may send. Only touched sectors are targeted, or sectors
 -- past the end of a chip that is touched as a whole. The status is written only as the changes ask.
 pub record LeavesChange (changes : Changes) (wanted : ℕ → ℕ) (old new : BusState) : Type 0 where
@@ -66,7 +71,8 @@ pub record LeavesChange (changes : Changes) (wanted : ℕ → ℕ) (old new : Bu
   pub reached : old.honest ≡ true → CanApply changes wanted old.chip
       → MayChange (touched_in changes) (raised_in changes) wanted old new
 
--- At the end, with what the work counts. If there is nothing to change, no modifying command was sent.
+-- At the end, with what the work counts. If there is nothing to change, no modifying command was sent. If `verify` is
+-- set, each touched byte of an honest bus's chip is the wanted one, whatever the chip does with commands.
 pub record DoesChange (changes : Changes) (wanted : ℕ → ℕ) (verify : Bool) (old new : BusState)
     (work : Work) : Type 0 where
   pub erases : work.erases ≡ fewest_erases changes.kinds (changes.size / 4096) (raised_in changes)
@@ -84,6 +90,8 @@ pub record DoesChange (changes : Changes) (wanted : ℕ → ℕ) (verify : Bool)
   pub programs : old.honest ≡ true → CanApply changes wanted old.chip
       → work.programs ≡ count_below 65536
       (is_programmed (touched_in changes) (once_erased (raised_in changes) old.chip.bytes) wanted)
+  pub checked : verify ≡ true → old.honest ≡ true → CanCheck (touched_in changes) old.chip
+      → HasBytes (touched_in changes) wanted new.chip
 
 -- Why the changes weren't finished: the bus stopped, with fewer transactions left than they may need; or a faulty bus
 -- kept the chip busy, or showed other bytes than were written.

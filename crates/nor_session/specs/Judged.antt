@@ -40,5 +40,5 @@ SinceOpening named opening now promise =
 pub record KeepsPromise (request : Request) (image : List ℕ) (old new : BusState) (vault vault' : VaultState)
     (result : Result Report Refusal) : Type 0 where
   pub always : SessionAlways request old new vault vault' result
-  pub honest : old.honest ≡ true → SessionHonest old new result
+  pub honest : old.honest ≡ true → SessionHonest request image old new result
   pub modelled : IsModelled old → SessionModelled request image old new vault vault' result

@@ -213,5 +213,8 @@ pub record IsPrepared (journal : Content) (old new : BusState) (prepared : Prepa
   pub most : prepared.transactions ≤ most_looked (length journal.saved)
   pub heard : new.heard ≡ true
   pub rested : old.honest ≡ true → Rested old new
+  pub idle : old.honest ≡ true → new.chip.busy ≡ 0
   pub sent : old.honest ≡ true → old.left ≡ new.left + prepared.transactions
+  pub touched : old.honest ≡ true → old.chip.config.size ≡ journal.size → (s : ℕ)
+      → has prepared.changes.touched s ≡ is_touched old.chip.bytes (restored journal old.chip.bytes) s
   pub modelled : IsModelled old → IsPreparedFor journal old.chip new.chip prepared

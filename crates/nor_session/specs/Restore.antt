@@ -21,6 +21,7 @@ use Rattle.nor_call.specs.Refusal.{number_of}
 use Rattle.nor_save.specs.Saving.{SomeHeld}
 use Rattle.nor_session.specs.Bounds.{most_looked, most_of}
 use Rattle.nor_session.specs.Made.{IsMade, IsReported}
+use Rattle.nor_session.specs.Changing.{HasBytes}
 use Rattle.nor_session.specs.Headline.{IsOfKind}
 use Rattle.nor_session.specs.Session.{NamesSector, IsWithinBound, IsSavedCode, SendsSaved, SendsCounted, WritesStatusAtMost, HonestTells}
 
@@ -141,6 +142,10 @@ pub record RestoreHonest (journal : Content) (old new : BusState) (result : Resu
   pub gives_up : IfErr result (HonestTells (most_of (length journal.saved)) IsJudgedFirst old new)
   -- the report counts exactly the transactions that were sent
   pub counted : IfOk result (λ report. old.left ≡ new.left + report.transactions)
+  -- at the end, if the chip has the journal's size, each saved sector in which a byte differed has the saved bytes: it
+  -- was read back and compared, so this holds for a chip that isn't genuine, too
+  pub checked : IfOk result (λ report. old.chip.config.size ≡ journal.size
+      → HasBytes (is_touched old.chip.bytes (restored journal old.chip.bytes)) (restored journal old.chip.bytes) new.chip)
 
 -- On a modelled bus: an honest one whose chip is what its ID or SFDP says.
 pub record RestoreModelled (journal : Content) (old new : BusState) (result : Result Report Refusal) : Type 0 where

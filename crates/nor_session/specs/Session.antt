@@ -28,6 +28,7 @@ use Rattle.nor_save.specs.Saving.{head_of}
 use Rattle.nor_save.specs.SavedScan.{IsJournal, BeginsJournal, HoldsJournal}
 use Rattle.nor_session.specs.Bounds.{most_looked, most_of}
 use Rattle.nor_session.specs.Made.{IsMade, IsReported}
+use Rattle.nor_session.specs.Changing.{HasBytes}
 use Rattle.nor_save.specs.Verdict.{IsNamed, NeedsStatusWrite, IsVerdict, IsAccepted}
 
 -- ---- on every bus
@@ -88,8 +89,9 @@ pub record WritesOnly (IsCode : (code : ℕ) → Type 0) (journal : Content) (on
 
 -- What was sent that may modify a chip, by a number of calls with the same journal. Each sector that was targeted is one
 -- that had been targeted before, or that the journal saves, or it lies past the end of a chip that the journal saves
--- whole. Each call sent at most one erase for each saved sector, and sixteen page programs. Each status write has bytes
--- that had been written before, or such as this. Nothing was sent that the model does not know.
+-- whole. All calls together sent at most one erase for each saved sector and call, and sixteen page programs. Each status
+-- write has bytes that had been written before, or is as `WritesOnly` says. Nothing was sent that the model does not
+-- know.
 pub record SendsSaved (IsCode : ℕ → Type 0) (calls : ℕ) (journal : Content) (old new : BusState) : Type 0 where
   pub aimed : (s : ℕ) → (is_aimed_at new.sent s ≡ is_aimed_at old.sent s)
       ⊎ ((is_saved journal s ≡ true) ⊎ IsBehindWhole journal s)
@@ -117,8 +119,7 @@ WritesStatusAtMost most old new = status_writes_of new.sent ≤ status_writes_of
 
 -- What a report may count if this many sectors are scanned and the status is written at most `writes` times. The
 -- identification takes at least four transactions, and an operation at least three (write enable, the command, a poll).
--- If
--- `verify` is set, each touched sector is read back.
+-- If `verify` is set, each touched sector is read back.
 pub record IsWithinBound (scanned writes : ℕ) (verify : Bool) (report : Report) : Type 0 where
   pub touched : report.touched ≤ scanned
   pub erases : report.erases ≤ scanned
@@ -221,11 +222,16 @@ pub record SessionAlways (request : Request) (old new : BusState) (vault vault' 
   pub heard : OnOk result (new.heard ≡ true)
 
 -- On an honest bus.
-pub record SessionHonest (old new : BusState) (result : Result Report Refusal) : Type 0 where
+pub record SessionHonest (request : Request) (image : List ℕ) (old new : BusState)
+    (result : Result Report Refusal) : Type 0 where
   -- no timeout occurs, a stop occurs only if no transaction is left, and errors 1 to 11 are early
   pub gives_up : IfErr result (HonestTells (most_of 4096) (λ refusal. number_of refusal ≤ 11) old new)
   -- the report counts exactly the transactions that were sent
   pub counted : IfOk result (λ report. old.left ≡ new.left + report.transactions)
+  -- at the end, if the request asks for a check and the chip has the size that was found, each touched sector has the
+  -- wanted bytes: it was read back and compared, so this holds for a chip that isn't genuine, too
+  pub checked : IfOk result (λ report. request.verify ≡ true → old.chip.config.size ≡ report.found.size
+      → HasBytes (is_touched old.chip.bytes (wanted request image old.chip)) (wanted request image old.chip) new.chip)
 
 -- On a modelled bus: an honest one whose chip is what its ID or SFDP says.
 pub record SessionModelled (request : Request) (image : List ℕ) (old new : BusState) (vault vault' : VaultState)

@@ -38,7 +38,8 @@ pub fn session<B: Bus, V: Vault>(
     ensures keeps { KeepsFirst (B.state bus.old) (B.state bus.new) (V.state vault.new) }
     ensures always { SessionAlways request.now (B.state bus.old) (B.state bus.new) (V.state vault.old)
         (V.state vault.new) result }
-    ensures honest { (B.state bus.old).honest ≡ true → SessionHonest (B.state bus.old) (B.state bus.new) result }
+    ensures honest { (B.state bus.old).honest ≡ true
+        → SessionHonest request.now image.old (B.state bus.old) (B.state bus.new) result }
     ensures modelled { IsModelled (B.state bus.old) → SessionModelled request.now image.old
         (B.state bus.old) (B.state bus.new) (V.state vault.old) (V.state vault.new) result }
 {

@@ -2,6 +2,7 @@ use Rattle.std.proofs.Common.{rules, arith, ◌∙◌, refl, sym}
 use Rattle.std.proofs.lemmas.Bool.{true≢false}
 use Rattle.std.proofs.lemmas.Result.{err_from_is_err_and}
 use Rattle.nor_journal.specs.MemVault.{held_by}
+use Rattle.nor_chip.proofs.Nature.{nature_then}
 use Rattle.nor_probe.specs.Known.{IsModelled}
 use Rattle.nor_session.proofs.RehearsedSessions.{session_sends, led, both_wear, both_send, both_write, undo_refused}
 use Rattle.nor_session.proofs.rehearsals.rehearse.Goals as goal
@@ -22,6 +23,7 @@ returns-in_err-restores g c =
     let never = λ (modelled : IsModelled (g.B.Bus.state c.args.bus.now)).
     let (still, leads) = led session sealed is undone modelled in refuses.never still _ _ leads in
     let told = undo_refused session sealed is undone (held_by c.args.vault.now) _ refuses in
+    let nature = nature_then _ _ _ undone.nature session.nature in
     let sends = both_send session sealed is undone c.args.stops.now c.later.ensures in
     let writes = both_write session sealed is undone c.args.stops.now c.later.ensures in
     let p = err_from_is_err_and c.from_residual-in_err-restores.result c.from_residual-in_err-restores.ensures.1 in
@@ -42,7 +44,7 @@ returns g c =
     record {
       gives_back = λ modelled calm. let (still, leads) = led modelled in undoes.same still _ _ leads;
       always = record {
-        nature = search rules;
+        nature = nature_then _ _ _ undone.nature session.nature;
         counts = record {
           seal = sym sealed;
           ended = λ ended. refl;

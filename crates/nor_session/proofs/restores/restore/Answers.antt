@@ -3,7 +3,7 @@ use Rattle.std.proofs.lemmas.Bool.{false_from_ne_true}
 use Rattle.std.proofs.lemmas.Result.{err_from_is_err_and}
 use Rattle.nor_save.specs.Opening.{most_opening}
 use Rattle.nor_session.specs.Bounds.{most_looked, most_of}
-use Rattle.nor_session.proofs.Restoring.{AreChanged, looks_most, looks_spend, prepare_answers, prepare_gives_up, prepare_tells, looks_leave, looks_back, changed_spends, changed_leaves, changed_back, change_answers, change_not_judged, change_gives_up, change_tells, sum_fits, restored_bounded, restored_counted, restored_sparing, restored_done, restored_back}
+use Rattle.nor_session.proofs.Restoring.{AreChanged, looks_most, looks_spend, prepare_answers, prepare_gives_up, prepare_tells, looks_leave, looks_back, changed_spends, changed_leaves, changed_back, change_answers, change_not_judged, change_gives_up, change_tells, sum_fits, restored_bounded, restored_counted, restored_checked, restored_sparing, restored_done, restored_back}
 use Rattle.nor_session.proofs.Changed.{two_writes, no_write}
 use Rattle.nor_session.proofs.GivenBack.{only_stopped}
 use Rattle.nor_session.proofs.Naming.{prepare_names, change_names}
@@ -94,6 +94,7 @@ returns g c =
           search (rules, changed_spends);
       honest = λ honest.
           let counted = restored_counted journal prepared old mid new work sent are does (omega arith) honest in
+          let checked = restored_checked journal prepared old mid new work sent are does honest in
           search rules;
       modelled = λ modelled. record {
         tells = search rules;

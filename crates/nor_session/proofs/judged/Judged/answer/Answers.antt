@@ -11,7 +11,7 @@ use Rattle.nor_save.specs.Verdict.{NeedsStatusWrite}
 use Rattle.nor_session.proofs.Ready.{changes_of, has_opened, ready, scanned_few, spends_looks, spends_more, spends_ready, writes_few, bounded_by, touched_data}
 use Rattle.nor_session.proofs.ReadyChip.{small_first, opening_of, shows, named, most_sized, refused_puts, save_gives_up, save_tells}
 use Rattle.nor_session.proofs.SessionChanges.{never_written, change_gives_up, change_tells}
-use Rattle.nor_session.proofs.SessionEnds.{ready_chip, can_be_undone, done, spared}
+use Rattle.nor_session.proofs.SessionEnds.{ready_chip, can_be_undone, done, session_checked, spared}
 use Rattle.nor_session.proofs.Naming.{save_names, save_number, work_names}
 use Rattle.nor_save.specs.Saving.{head_found}
 use Rattle.nor_session.proofs.Aiming.{none_written, few_none, change_writes, change_few}
@@ -133,7 +133,10 @@ returns g c = λ first looks opens.
           let heard = does.heard (keeps.scans.heard opens.heard) in
           let counts = counted first is.looked.same_sent does in
           search rules;
-      honest = λ honest. search rules;
+      honest = λ honest.
+          let checked = λ (verifies : request.verify ≡ true).
+          session_checked _ _ _ _ _ _ _ _ _ _ _ _ looks opens keeps.scans is does verifies honest in
+          search rules;
       modelled = λ modelled.
           let small = (g.met.B.Bus.reaches c.args.self.bus.now (looks.nature.honest ∙ modelled.honest)).kept2 in
           let of = ready_chip _ _ _ _ _ _ _ _ _ _ _ modelled looks opens is
