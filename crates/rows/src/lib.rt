@@ -41,7 +41,7 @@
 //! Single calls:
 //!
 //! - `probes.rt`: which chips are found, what a probe sends, and how long it waits
-//! - `sessions.rt`: sessions on chips with other erase types, and on a busy chip
+//! - `sessions.rt`: sessions on chips with other erase types, on a busy chip, and with requests that verify or do not
 //! - `kernels.rt`: nor_plan's comparisons of two slices
 //! - `sets.rt`: sets of addresses made from spans
 //! - `texts.rt`: malformed and very long layouts and journals
