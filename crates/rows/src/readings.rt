@@ -1,4 +1,4 @@
-//! Readings whose vault refuses a piece, and readings that are stopped.
+//! Readings whose vault refuses a piece, readings that are stopped, and the status that a reading reports.
 use crate::held::assert_held;
 use crate::row::{Row, Start};
 use crate::runs::AMPLE;
@@ -91,4 +91,18 @@ fn any_stop_of_a_look_at_the_protection_is_told(rt: HostRuntime) {
             assert_held(&rt, told == wanted, left);
         }
     }
+}
+
+// The write enable latch is bit 1 of status register 1. It is set at the start, and no command of a reading clears it.
+#[test]
+fn a_reading_reports_the_status_that_it_found(rt: HostRuntime) {
+    let row = Row::ABitRises;
+    let before = row.before(&rt, rt.alloc());
+    let mut bus = row.bus(&rt, rt.alloc(), Start::IDLE.latched());
+    bus.allow(AMPLE);
+    let mut out = MemVault::new(rt.alloc());
+    let read = read_out(&mut bus, None, None, &mut out).expect(&rt, "the reading ends");
+    let compared = verify(&mut bus, &before, None, None).expect(&rt, "the comparison ends");
+    assert!(rt; read.found.status1 == 0x02);
+    assert!(rt; compared.found.status1 == 0x02);
 }
