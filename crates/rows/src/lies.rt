@@ -22,7 +22,7 @@ fn assert_lied(rt: &impl Abort, alloc: Global, row: Row, lied: Lied, told: (Refu
 }
 
 // Each row has the session, the fault, the error, and the number of transactions sent. They are counted from 1: 1 to 7
-// identify the chip, and 8 to 23 scan it. Then the sessions send:
+// identify a TINY64, and 8 to 23 scan it; 1 to 4 identify a W25Q64FV, and 5 to 2,052 scan it. Then the sessions send:
 //
 // - `ABitRises`: 24 enables the erase, 25 is the erase, 26 its poll; 27 enables the program, 28 is the program, 29 its
 //   poll; 30 reads the sector to verify it.
@@ -30,10 +30,12 @@ fn assert_lied(rt: &impl Abort, alloc: Global, row: Row, lied: Lied, told: (Refu
 //   sector to verify it.
 // - `NineSectorsAreErased`: 25 erases sectors 0 to 7, 28 sector 8; 30 to 38 read them to verify them, up to the first
 //   difference.
+// - `AGuardedByteIsProgrammed`: 2,053 enables the status write that lifts the protection, 2,054 is this write, 2,055 its
+//   poll. A timeout of a status write has the address 0.
 //
 // A wait gives up after 65,536 polls. An ID of zeros means that there is no chip. Clearing bit 0 leaves a TINY64's ID
 // as it is, but changes the first letter of the SFDP signature.
-const SESSIONS: [(Row, Spoil, (Refusal, u64)); 9] = [
+const SESSIONS: [(Row, Spoil, (Refusal, u64)); 10] = [
     (Row::ABitRises, Spoil::Fill(0xFF), (TIMEOUT, 65_536)),
     (Row::ABitRises, Spoil::Fill(0x00), (Refusal::NoChip, 2)),
     (Row::ABitRises, Spoil::BusyFrom(26), (TIMEOUT, 25 + 65_536)),
@@ -58,6 +60,11 @@ const SESSIONS: [(Row, Spoil, (Refusal, u64)); 9] = [
         Row::NineSectorsAreErased,
         Spoil::Drop(28),
         (Refusal::Mismatch { address: 0x8000 }, 38),
+    ),
+    (
+        Row::AGuardedByteIsProgrammed,
+        Spoil::BusyFrom(2055),
+        (TIMEOUT, 2054 + 65_536),
     ),
 ];
 
