@@ -1,35 +1,78 @@
-//! An example of a bus of your own: it probes a chip, reads it out into a file, changes it with a journal, and restores
-//! it. The chip is simulated; `docs/OWN_BUS.md` says how to replace `played` by your hardware.
+//! An example of a bus of your own. `docs/OWN_BUS.md` explains it.
+//!
+//! Without arguments it plays a serial programmer with a simulated chip: it reads the chip out into a file, changes the
+//! chip with a journal, and restores it. Then it starts the change over a bus that speaks no serprog, whose wires are
+//! cut. With the name of a serial port it identifies the chip at the programmer there, and changes nothing.
 //!
 //! - `main.rt`: the steps of the example
-//! - `own.rt`: the trait `Wires`, which you implement, and the bus over it
-//! - `played.rt`: wires to a simulated chip
+//! - `device.rt`: a port over a device file
+//! - `own.rt`: the bus for a programmer that does not speak serprog, over the trait `Wires`, which you implement
+//! - `played.rt`: a port and wires to a simulated chip
 //! - `fault.rt`: the errors that end the example
 #![tactic(auto)]
 
+mod device;
 mod fault;
 mod own;
 mod played;
 
+use device::DevicePort;
 use fault::Fault;
-use nor_chip::{Config, Delays, Meter, SimBus};
+use nor_chip::{Bus, Config, Delays, Meter, SimBus};
+use nor_files::{Disk, MakeFault, Store, VaultedFile};
 use nor_journal::{FileVault, Journal, Vault};
 use nor_probe::probe;
-use nor_read::read_out;
+use nor_read::{read_out, verify};
+use nor_serprog::{HandshakeFault, Link, Paced, Port, Programmer, ReadTwice, SerprogBus};
 use nor_session::{Report, Request, restore, session};
 use own::OwnBus;
-use played::Played;
+use played::{PlayedPort, PlayedWires};
 use std::alloc::Global;
-use std::fs;
+use std::{env, fs};
+
+/// The bus of the example over a port: it pauses between polls, and reads data twice.
+type PortBus<'a, P> = Paced<ReadTwice<SerprogBus<P>>, &'a HostRuntime>;
 
 fn main(rt: HostRuntime) -> Result<(), Fault> {
-    let mut bus = OwnBus::new(Played::new(erased_chip(rt.alloc())?));
+    match env::args(&rt)?.nth(1) {
+        Some(device) => identify_chip(&rt, DevicePort::open(&rt, device.as_str())?),
+        None => play(&rt),
+    }
+}
+
+// Identifies the chip at the programmer that this port reaches.
+fn identify_chip<P: Port<Cause = std::io::Error> + Drop>(
+    rt: &HostRuntime,
+    port: P,
+) -> Result<(), Fault> {
+    let mut bus = open(rt, port)?;
     let found = probe(&mut bus, None)?;
     println!(rt; "A chip of {} bytes.", found.size)?;
-    back_up(&rt, &mut bus)?;
-    change(&rt, &mut bus)?;
-    give_back(&rt, &mut bus)?;
-    cut_off(&rt, &mut bus)
+    Ok(())
+}
+
+// Opens a bus over this port.
+fn open<P: Port + Drop>(
+    rt: &HostRuntime,
+    port: P,
+) -> Result<PortBus<'_, P>, HandshakeFault<P::Cause>> {
+    let mut link = Link::new(port);
+    let programmer = Programmer::identify(&mut link, None)?;
+    let bus = ReadTwice::new(SerprogBus::new(link, programmer));
+    Ok(Paced::new(bus, rt))
+}
+
+// Reads, changes and restores a simulated chip at a programmer in memory.
+fn play(rt: &HostRuntime) -> Result<(), Fault> {
+    let mut bus = open(rt, PlayedPort::new(erased_chip(rt.alloc())?))?;
+    let found = probe(&mut bus, None)?;
+    println!(rt; "A chip of {} bytes.", found.size)?;
+    back_up(rt, &mut bus)?;
+    let done = change(rt, &mut bus, "undo.journal")?;
+    print_counts(rt, "Changed", &done)?;
+    change_again(rt, &mut bus)?;
+    undo(rt, &mut bus)?;
+    cut_off(rt)
 }
 
 // Returns a chip of 65,536 bytes, all FFh.
@@ -41,56 +84,82 @@ fn erased_chip(alloc: Global) -> Result<SimBus, Fault> {
     Ok(chip)
 }
 
-// Reads the chip out into a file.
-fn back_up(rt: &HostRuntime, bus: &mut OwnBus<Played>) -> Result<(), Fault> {
-    let mut backup = FileVault::new(fs::create(rt, "chip.bin")?);
+// Creates a file that does not exist yet, and returns a vault in it.
+fn create_new<'a>(
+    rt: &'a HostRuntime,
+    name: &str,
+) -> Result<FileVault<VaultedFile<'a, HostRuntime>>, MakeFault> {
+    Disk::new(rt).vault_in_new(name)
+}
+
+// Reads the chip out into a new file.
+fn back_up<B: Bus>(rt: &HostRuntime, bus: &mut B) -> Result<(), Fault> {
+    let mut backup = create_new(rt, "chip.bin")?;
     let report = read_out(bus, None, None, &mut backup)?;
     backup.seal()?;
     println!(rt; "Read out with {} transactions.", report.transactions)?;
     Ok(())
 }
 
-// Writes the backup with another first byte, with a journal in a file.
-fn change(rt: &HostRuntime, bus: &mut OwnBus<Played>) -> Result<(), Fault> {
+// Writes the backup with another first byte, with a journal in a new file.
+fn change<B: Bus>(rt: &HostRuntime, bus: &mut B, journal: &str) -> Result<Report, Fault> {
     let mut image = fs::read(rt, "chip.bin")?;
     if let Some(first) = image.first_mut() {
         *first = 0x5A;
     }
-    let request = Request::write().verified();
-    let mut vault = FileVault::new(fs::create(rt, "undo.journal")?);
-    let report = session(bus, &mut vault, &mut image, &request)?;
-    tell(rt, "Changed", &report, bus)
+    let mut vault = create_new(rt, journal)?;
+    let report = session(bus, &mut vault, &mut image, &Request::write().verified())?;
+    Ok(report)
 }
 
-// Restores the chip from the journal.
-fn give_back(rt: &HostRuntime, bus: &mut OwnBus<Played>) -> Result<(), Fault> {
+// Tries the change once more with the journal that can restore the chip. The journal must stay as it was.
+fn change_again<B: Bus>(rt: &HostRuntime, bus: &mut B) -> Result<(), Fault> {
+    let before = fs::read(rt, "undo.journal")?;
+    match change(rt, bus, "undo.journal") {
+        Err(Fault::NewFile(MakeFault::There)) => {}
+        other => return other.map(|_| ()),
+    }
+    let after = fs::read(rt, "undo.journal")?;
+    let state = if before.as_slice() == after.as_slice() {
+        "as it was"
+    } else {
+        "damaged"
+    };
+    println!(rt; "The old journal is {state}.")?;
+    Ok(())
+}
+
+// Restores the chip from the journal, and compares it with the backup.
+fn undo<B: Bus>(rt: &HostRuntime, bus: &mut B) -> Result<(), Fault> {
     let saved = fs::read(rt, "undo.journal")?;
-    let report = restore(bus, &Journal::read(&saved)?)?;
-    tell(rt, "Given back", &report, bus)
+    let done = restore(bus, &Journal::read(&saved)?)?;
+    print_counts(rt, "Restored", &done)?;
+    let backup = fs::read(rt, "chip.bin")?;
+    verify(bus, &backup, None, None)?;
+    println!(rt; "The chip equals the backup.")?;
+    Ok(())
 }
 
-fn tell(rt: &HostRuntime, what: &str, done: &Report, bus: &OwnBus<Played>) -> Result<(), Fault> {
-    let first = bus.wires.chip.bytes().first().copied().unwrap_or(0);
+fn print_counts(rt: &HostRuntime, what: &str, done: &Report) -> Result<(), Fault> {
     let Report {
         erases,
         programs,
         ..
     } = done;
-    println!(rt; "{what} with {erases} erases and {programs} programs: byte 0 is {first:02X}.")?;
+    println!(rt; "{what} with {erases} erases and {programs} programs.")?;
     Ok(())
 }
 
-// Tries the same change, but cuts the wires after 10,000 exchanges, while the session scans the chip.
-fn cut_off(rt: &HostRuntime, bus: &mut OwnBus<Played>) -> Result<(), Fault> {
-    bus.wires.left = 10_000;
-    bus.wires.changing = 0;
-    let refusal = match change(rt, bus) {
+// Starts the change over wires that are cut after 10 transactions, while the session scans the chip.
+fn cut_off(rt: &HostRuntime) -> Result<(), Fault> {
+    let mut bus = OwnBus::new(PlayedWires::new(erased_chip(rt.alloc())?, 10));
+    let refusal = match change(rt, &mut bus, "second.journal") {
         Err(Fault::Refused(refusal)) => refusal,
-        other => return other,
+        other => return other.map(|_| ()),
     };
-    let sent = bus.wires.changing;
+    let sent = bus.wires.modifying;
     println!(rt;
-        "Error {}: {refusal}, with {sent} changing commands sent.",
+        "Error {}: {refusal}, with {sent} modifying commands sent.",
         refusal.number()
     )?;
     if let Some(cause) = &bus.cause {

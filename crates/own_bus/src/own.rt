@@ -1,4 +1,4 @@
-//! A bus to a chip of your own, about which nothing is assumed.
+//! A bus of your own, about which nothing is assumed.
 ghost use Rattle.std.proofs.lemmas.Bool.{false≢true};
 ghost use Rattle.nor_chip.specs.Bus.{unknown_bus};
 
@@ -9,15 +9,13 @@ pub trait Wires {
     /// What went wrong on the wires.
     type Cause: Drop;
 
-    /// Pulls chip select low (`true`, a transaction begins) or releases it (`false`, the transaction ends).
-    fn select(&mut self, selected: bool) -> Result<(), Self::Cause>;
-
-    /// Sends a byte, and returns the byte that the chip sends at the same time.
-    fn exchange(&mut self, byte: u8) -> Result<u8, Self::Cause>;
+    /// Makes one transaction: pulls chip select low, sends `out`, fills `reply` with the bytes that the chip sends
+    /// then, and releases chip select, even after an error. `out` has at most 260 bytes and `reply` at most 4,096.
+    fn transact(&mut self, out: &[u8], reply: &mut [u8]) -> Result<(), Self::Cause>;
 }
 
-/// A bus over wires about which nothing is assumed. It keeps the cause of the last transfer that failed, since error 12
-/// says only that the bus stopped.
+/// A bus over wires about which nothing is assumed. It keeps the cause of the last transaction that failed, since error
+/// 12 says only that the bus stopped.
 #[derive(Drop)]
 pub struct OwnBus<W: Wires + Drop> {
     pub wires: W,
@@ -44,7 +42,7 @@ impl<W: Wires + Drop> Bus for OwnBus<W> {
 
     fn transfer(&mut self, out: &[u8], reply: &mut [u8]) -> Result<(), Stopped> {
         self.sent.note(out);
-        match carry(&mut self.wires, out, reply) {
+        match self.wires.transact(out, reply) {
             Ok(()) => {
                 self.heard = heard_after(out, reply, self.heard);
                 Ok(())
@@ -55,25 +53,4 @@ impl<W: Wires + Drop> Bus for OwnBus<W> {
             }
         }
     }
-}
-
-// Carries out one transaction. Chip select is released even if an exchange failed, so that the next transaction starts
-// with an opcode.
-fn carry<W: Wires>(wires: &mut W, out: &[u8], reply: &mut [u8]) -> Result<(), W::Cause> {
-    wires.select(true)?;
-    let exchanged = exchange_all(wires, out, reply);
-    let released = wires.select(false);
-    exchanged?;
-    released
-}
-
-// Sends the bytes `out`, and then fills `reply` with the bytes that the chip sends.
-fn exchange_all<W: Wires>(wires: &mut W, out: &[u8], reply: &mut [u8]) -> Result<(), W::Cause> {
-    for byte in out {
-        wires.exchange(*byte)?;
-    }
-    for slot in reply.iter_mut() {
-        *slot = wires.exchange(0x00)?;
-    }
-    Ok(())
 }

@@ -1,12 +1,112 @@
-//! Wires to a simulated chip, so that the example needs no hardware.
+//! A port and wires to a simulated chip, so that the example needs no hardware.
+ghost use Rattle.nor_serprog.specs.Device.{unknown_port};
 
 use crate::own::Wires;
 use arrayvec::ArrayVec;
-use nor_chip::{Bus, SECTOR_LEN, SimBus, is_changing};
-use std::fmt;
+use nor_chip::{Bus, SimBus, is_changing};
+use nor_serprog::{Port, frame_len};
+use std::io::ErrorKind;
+use std::{fmt, io, mem};
 
-// A command has at most an opcode, three address bytes and a page.
-const LONGEST: usize = 260;
+// The longest frame is that of a page program: a header of 7 bytes, an opcode, three address bytes and a page.
+const MOST_BEGUN: usize = 267;
+
+// ACK and a sector.
+const MOST_PENDING: usize = 4097;
+
+const ACK: u8 = 0x06;
+
+const NAK: u8 = 0x15;
+
+// The reply to Q_CMDMAP: ACK and the map of the commands 00h, 01h, 02h, 10h, 12h and 13h.
+const COMMANDS: [u8; 33] = [
+    ACK, 0x07, 0, 0x0D, 0, 0, 0, 0, 0, 0, 0, 0, 0, 0, 0, 0, 0, 0, 0, 0, 0, 0, 0, 0, 0, 0, 0, 0, 0,
+    0, 0, 0, 0,
+];
+
+/// A port to a serprog programmer in memory, with a simulated chip.
+#[derive(Drop)]
+pub struct PlayedPort {
+    chip: SimBus,
+    // The bytes of a command that is not complete yet, and the reply bytes that were not received yet.
+    begun: ArrayVec<u8, MOST_BEGUN>,
+    pending: ArrayVec<u8, MOST_PENDING>,
+}
+
+impl PlayedPort {
+    pub fn new(chip: SimBus) -> PlayedPort {
+        PlayedPort {
+            chip,
+            begun: ArrayVec::new(),
+            pending: ArrayVec::new(),
+        }
+    }
+
+    // Adds these bytes to the reply.
+    fn reply(&mut self, bytes: &[u8]) -> io::Result<()> {
+        self.pending
+            .try_extend_from_slice(bytes)
+            .map_err(|_| ErrorKind::OutOfMemory.into())
+    }
+
+    // Carries out a whole command (serprog protocol, flashrom's Documentation/serprog-protocol.txt).
+    fn carry_out(&mut self, frame: &[u8]) -> io::Result<()> {
+        match frame {
+            [0x00 | 0x12, ..] => self.reply(&[ACK]),
+            [0x01] => self.reply(&[ACK, 1, 0]),
+            [0x02] => self.reply(&COMMANDS),
+            [0x10] => self.reply(&[NAK, ACK]),
+            [0x13, _, _, _, low, middle, _, out @ ..] => {
+                self.operate(out, u16::from_le_bytes([*low, *middle]))
+            }
+            _ => self.reply(&[NAK]),
+        }
+    }
+
+    // Carries out one transaction of the chip, of at most 4,096 reply bytes.
+    fn operate(&mut self, out: &[u8], replies: u16) -> io::Result<()> {
+        let mut reply = [0; 4096];
+        let len = usize::from(replies).min(4096);
+        let reply = &mut reply[..len];
+        if self.chip.transfer(out, &mut *reply).is_err() {
+            return self.reply(&[NAK]);
+        }
+        self.reply(&[ACK])?;
+        self.reply(reply)
+    }
+}
+
+impl Port for PlayedPort {
+    type Cause = io::Error;
+
+    ghost state = { λ _. unknown_port };
+
+    fn send(&mut self, bytes: &[u8]) -> io::Result<()> {
+        for byte in bytes {
+            self.begun
+                .try_push(*byte)
+                .map_err(|_| ErrorKind::OutOfMemory)?;
+            if frame_len(&self.begun) == Some(self.begun.len()) {
+                let frame = mem::replace(&mut self.begun, ArrayVec::new());
+                self.carry_out(&frame)?;
+            }
+        }
+        Ok(())
+    }
+
+    fn receive(&mut self, bytes: &mut [u8]) -> io::Result<()> {
+        let len = bytes.len();
+        if self.pending.len() < len {
+            return Err(ErrorKind::UnexpectedEof.into());
+        }
+        let mut rest = ArrayVec::new();
+        let (received, later) = self.pending.as_slice().split_at(len);
+        bytes.copy_from_slice(received);
+        let _ = rest.try_extend_from_slice(later);
+        self.pending = rest;
+        Ok(())
+    }
+}
 
 /// The wires were cut.
 #[derive(Clone, Copy, Debug, PartialEq, Eq)]
@@ -18,74 +118,34 @@ impl fmt::Display for Cut {
     }
 }
 
-/// Wires to a simulated chip, which are cut after `left` more exchanges.
+/// Wires to a simulated chip, which are cut after a number of transactions.
 #[derive(Drop)]
-pub struct Played {
-    pub chip: SimBus,
-    pub left: u64,
+pub struct PlayedWires {
+    chip: SimBus,
+    left: u64,
     /// The number of modifying commands sent.
-    pub changing: u64,
-    // the bytes of the command so far; the chip's reply, once these are complete; the number of reply bytes already
-    // read
-    sent: ArrayVec<u8, LONGEST>,
-    reply: [u8; SECTOR_LEN as usize],
-    taken: usize,
+    pub modifying: u64,
 }
 
-impl Played {
-    pub fn new(chip: SimBus) -> Played {
-        Played {
+impl PlayedWires {
+    /// Returns wires that carry out the given number of transactions.
+    pub fn new(chip: SimBus, left: u64) -> PlayedWires {
+        PlayedWires {
             chip,
-            left: u64::MAX,
-            changing: 0,
-            sent: ArrayVec::new(),
-            reply: [0xFF; SECTOR_LEN as usize],
-            taken: 0,
+            left,
+            modifying: 0,
         }
     }
 }
 
-// Returns the number of bytes to send before the reply of a reading command begins; `None` for any other command.
-fn reply_begins(sent: &[u8]) -> Option<usize> {
-    match sent.first()? {
-        0x05 | 0x35 | 0x9F => Some(1),
-        0x03 => Some(4),
-        0x5A | 0x4B => Some(5),
-        _ => None,
-    }
-}
-
-impl Wires for Played {
+impl Wires for PlayedWires {
     type Cause = Cut;
 
-    fn select(&mut self, selected: bool) -> Result<(), Cut> {
-        if selected {
-            self.sent.clear();
-            self.taken = 0;
-        } else if reply_begins(&self.sent).is_none() {
-            // A chip carries out a command that reads nothing when chip select is released.
-            if is_changing(&self.sent) {
-                self.changing = self.changing.saturating_add(1);
-            }
-            self.chip.transfer(&self.sent, &mut []).map_err(|_| Cut)?;
-        }
-        Ok(())
-    }
-
-    fn exchange(&mut self, byte: u8) -> Result<u8, Cut> {
+    fn transact(&mut self, out: &[u8], reply: &mut [u8]) -> Result<(), Cut> {
         self.left = self.left.checked_sub(1).ok_or(Cut)?;
-        let begins = reply_begins(&self.sent);
-        if begins == Some(self.sent.len()) {
-            let at = self.taken;
-            self.taken = at.saturating_add(1);
-            return Ok(self.reply.get(at).copied().unwrap_or(0xFF));
+        if is_changing(out) {
+            self.modifying = self.modifying.saturating_add(1);
         }
-        self.sent.try_push(byte).map_err(|_| Cut)?;
-        if reply_begins(&self.sent) == Some(self.sent.len()) {
-            self.chip
-                .transfer(&self.sent, &mut self.reply)
-                .map_err(|_| Cut)?;
-        }
-        Ok(0xFF)
+        self.chip.transfer(out, reply).map_err(|_| Cut)
     }
 }

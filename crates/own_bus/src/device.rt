@@ -1,0 +1,49 @@
+//! A port over a device file, such as a serial port that stty has set up.
+ghost use Rattle.nor_serprog.specs.Device.{unknown_port};
+
+use crate::fault::Fault;
+use nor_serprog::Port;
+use std::fs::{File, OpenOptions, TryLockError};
+use std::io::{Read, Write};
+use std::os::unix::fs::FileTypeExt;
+use std::{fs, io};
+
+/// A port over a device file. The file must have a timeout for reads, or a silent programmer blocks the program forever
+/// (`stty min 0 time 50`).
+#[derive(Drop)]
+pub struct DevicePort<F> {
+    file: F,
+}
+
+impl DevicePort<File> {
+    /// Opens a character device, and locks it against other programs. Nothing is sent.
+    ///
+    /// Returns `NoDevice` if the name refers to any other file, `InUse` if another program has locked the device, and
+    /// `System` if it can't be opened or locked.
+    pub fn open(rt: &HostRuntime, name: &str) -> Result<DevicePort<File>, Fault> {
+        if !fs::metadata(rt, name)?.file_type().is_char_device() {
+            return Err(Fault::NoDevice);
+        }
+        let mut options = OpenOptions::new();
+        let file = options.read(true).write(true).open(rt, name)?;
+        match file.try_lock() {
+            Ok(()) => Ok(DevicePort { file }),
+            Err(TryLockError::WouldBlock) => Err(Fault::InUse),
+            Err(TryLockError::Error(error)) => Err(Fault::System(error)),
+        }
+    }
+}
+
+impl<F: Read + Write> Port for DevicePort<F> {
+    type Cause = io::Error;
+
+    ghost state = { λ _. unknown_port };
+
+    fn send(&mut self, bytes: &[u8]) -> io::Result<()> {
+        self.file.write_all(bytes)
+    }
+
+    fn receive(&mut self, bytes: &mut [u8]) -> io::Result<()> {
+        self.file.read_exact(bytes)
+    }
+}
