@@ -1,0 +1,190 @@
+"""Models of SPI NOR chips for the tests of flashnor-serprog, written from the datasheets of W25Q64FV and W25Q128FV.
+
+TINY64 has 64 KiB, an ID that no table contains, SFDP (JESD216) and no block protection. The models leave out what
+flashnor and flashrom don't need: quad and dual reads, suspend, security registers, reset, deep power-down.
+"""
+import time
+from typing import NamedTuple
+
+PAGE, SECTOR = 256, 4096
+BUSY, WEL = 0x01, 0x02
+SRP0, TB, SEC = 0x80, 0x20, 0x40
+SRP1, CMP, ONCE = 0x01, 0x40, 0x38
+ERASES = {0x20: 4096, 0x52: 32768, 0xD8: 65536}
+READ_ID, READ_SFDP, READ_UNIQUE, READ_DATA = 0x9F, 0x5A, 0x4B, 0x03
+
+# The typical durations of the datasheets (AC characteristics), in seconds. The chip erase depends on the part.
+SECONDS = {0x01: 0.010, 0x02: 0.0007, 0x20: 0.045, 0x52: 0.120, 0xD8: 0.150}
+
+
+class Part(NamedTuple):
+    """What never changes of a chip. `chip_erase` is in seconds."""
+
+    id: bytes
+    size: int
+    has_protection: bool
+    chip_erase: float
+
+
+PARTS = {
+    "W25Q64FV": Part(bytes.fromhex("ef4017"), 1 << 23, True, 20.0),
+    "W25Q128FV": Part(bytes.fromhex("ef4018"), 1 << 24, True, 40.0),
+    "TINY64": Part(bytes.fromhex("fe1010"), 1 << 16, False, 1.0),
+}
+
+
+def sfdp(size):
+    """Returns SFDP bytes: the header, the header of the basic table, and its double words 1 to 9 (JESD216)."""
+    headers = bytes.fromhex("53464450 000100ff 00000109 100000ff")
+    density = (8 * size - 1).to_bytes(4, "little")
+    return headers + bytes.fromhex("05200000") + density + bytes(20) + bytes.fromhex("0c200f52 10d80000")
+
+
+def protected_range(status, size):
+    """Returns the protected range of these status bytes as its first byte and the byte after its last.
+
+    The tables of the datasheets don't define SEC with BP 110: here it protects the whole chip, with either CMP.
+    """
+    bp = status[0] >> 2 & 7
+    if status[0] & SEC and bp == 6:
+        return 0, size
+    if bp in (0, 7):
+        length = size if bp else 0
+    elif status[0] & SEC:
+        length = min(SECTOR << (bp - 1), 32768)
+    else:
+        length = size >> (7 - bp)
+    border = length if status[0] & TB else size - length
+    at_start = bool(status[0] & TB) != bool(status[1] & CMP)
+    return (0, border) if at_start else (border, size)
+
+
+class Chip:
+    """A chip with its data and its two status bytes.
+
+    `scale` multiplies the durations of the datasheet, so with 0 the chip is never busy. `wp_low` says whether the pin
+    WP# is low, so that SRP0 locks the status. Transactions that changed nothing although they should have are counted
+    in `ignored`.
+    """
+
+    def __init__(self, part, data=None, status=b"\0\0", unique=bytes(8), scale=0.0, wp_low=True):
+        self.part = PARTS[part]
+        self.size = self.part.size
+        self.data = bytearray(data if data is not None else b"\xff" * self.size)
+        if len(self.data) != self.size:
+            raise ValueError(f"the image has {len(self.data)} bytes, and the chip {self.size}")
+        self.status = bytearray(status)
+        self.unique, self.scale, self.wp_low = unique, scale, wp_low
+        self.wel, self.until, self.ignored = False, 0.0, 0
+        # The bytes that the last transaction changes, if it was a program or an erase.
+        self.in_progress = None
+
+    def is_busy(self):
+        if self.until and time.monotonic() >= self.until:
+            self.until, self.wel = 0.0, False
+        return self.until > 0
+
+    def wait(self):
+        """Waits until no operation is in progress."""
+        while self.is_busy():
+            time.sleep(max(0.0, self.until - time.monotonic()))
+
+    def lose_power(self, fill):
+        """Interrupts the operation of the last transaction: its bytes become `fill`. WEL is clear afterwards."""
+        if self.in_progress:
+            start, end = self.in_progress
+            self.data[start:end] = bytes([fill]) * (end - start)
+        self.wel, self.until, self.in_progress = False, 0.0, None
+
+    def transfer(self, out, replies):
+        """Carries out one transaction, and returns the bytes received."""
+        self.in_progress = None
+        opcode = out[0] if out else None
+        busy = self.is_busy()
+        if opcode == 0x05:
+            return bytes([self.status[0] & 0xFC | WEL * self.wel | BUSY * busy]) * replies
+        if opcode == 0x35:
+            return bytes([self.status[1]]) * replies
+        if busy:
+            self.ignored += 1
+        elif replies:
+            return self.read(opcode, out, replies)
+        elif opcode in (0x06, 0x04) and len(out) == 1:
+            self.wel = opcode == 0x06
+        elif not (self.wel and self.operate(opcode, out)):
+            self.ignored += 1
+        return b"\xff" * replies
+
+    def read(self, opcode, out, replies):
+        """Returns what a transaction receives that reads an ID, SFDP or data."""
+        if opcode == READ_ID:
+            found = self.part.id
+        elif opcode == READ_UNIQUE and len(out) == 5:
+            found = self.unique
+        elif opcode == READ_SFDP and len(out) == 5:
+            found = sfdp(self.size)[int.from_bytes(out[1:4], "big") :]
+        elif opcode == READ_DATA and len(out) == 4:
+            return self.read_data(int.from_bytes(out[1:], "big") % self.size, replies)
+        else:
+            found = b""
+        return found[:replies].ljust(replies, b"\xff")
+
+    def read_data(self, address, length):
+        """Returns data bytes. After the last byte of the chip the first one follows."""
+        found = bytes(self.data[address : address + length])
+        while len(found) < length:
+            found += bytes(self.data[: length - len(found)])
+        return found
+
+    def operate(self, opcode, out):
+        """Carries out a status write, a program or an erase, and returns whether the chip accepted it."""
+        if opcode == 0x01 and len(out) in (2, 3):
+            return self.write_status(out[1:])
+        if opcode == 0x02 and len(out) > 4:
+            return self.program(int.from_bytes(out[1:4], "big") % self.size, out[4:])
+        if opcode in ERASES and len(out) == 4:
+            length = ERASES[opcode]
+            start = int.from_bytes(out[1:], "big") % self.size & -length
+            return self.change(opcode, start, b"\xff" * length)
+        if opcode == 0xC7 and len(out) == 1:
+            return self.change(opcode, 0, b"\xff" * self.size)
+        return False
+
+    def write_status(self, sent):
+        """Writes the status bytes. If only the first byte is sent, CMP, QE and SRP1 become 0."""
+        if self.status[1] & SRP1 or (self.status[0] & SRP0 and self.wp_low):
+            return False
+        second = sent[1] if len(sent) == 2 else 0
+        self.status[0] = sent[0] & 0xFC
+        self.status[1] = self.status[1] & ONCE | second & 0x7B
+        self.begin(0x01)
+        return True
+
+    def program(self, address, sent):
+        """Programs a page: addresses wrap in it, the last byte sent for an address counts, and bits only fall."""
+        page = address & -PAGE
+        wanted = bytearray(b"\xff" * PAGE)
+        for offset, byte in enumerate(sent):
+            wanted[(address + offset) % PAGE] = byte
+        old = self.data[page : page + PAGE]
+        return self.change(0x02, page, bytes(one & other for one, other in zip(old, wanted)))
+
+    def change(self, opcode, start, new):
+        """Stores bytes, unless one of them is protected."""
+        end = start + len(new)
+        if self.part.has_protection:
+            first, after = protected_range(self.status, self.size)
+            if start < after and first < end:
+                return False
+        self.data[start:end] = new
+        self.in_progress = (start, end)
+        self.begin(opcode)
+        return True
+
+    def begin(self, opcode):
+        """Sets BUSY for the duration of an operation. WEL is clear when it ends."""
+        seconds = SECONDS.get(opcode, self.part.chip_erase) * self.scale
+        if seconds:
+            self.until = time.monotonic() + seconds
+        else:
+            self.wel = False

@@ -1,0 +1,301 @@
+#!/usr/bin/env python3
+"""A serial programmer at a pseudo-terminal, which speaks the serprog protocol (version 1) in front of a model of a chip.
+
+    server.py LINK --chip NAME [--image FILE] [--status HHHH] [--log FILE] ..
+
+LINK becomes a symbolic link to the terminal device. The image is read at the start, and is written back when the server
+gets SIGTERM. The log has one line per transaction, as a trace of flashnor has. `--help` lists the other options.
+
+As a library: `Server(link, chip, traits)` runs in a thread of its own. The protocol is described by flashrom's
+Documentation/serprog-protocol.txt; 16h, S_SPI_CS, is described by its newer versions.
+"""
+import argparse
+import os
+import pty
+import select
+import signal
+import sys
+import termios
+import threading
+import time
+import tty
+from dataclasses import dataclass, field
+from pathlib import Path
+
+from chip import PARTS, READ_DATA, Chip
+
+ACK, NAK = b"\x06", b"\x15"
+SPI = 0x08
+SYNCNOP, S_BUSTYPE, O_SPIOP, S_SPI_FREQ, S_PIN_STATE, S_SPI_CS = 0x10, 0x12, 0x13, 0x14, 0x15, 0x16
+ARGUMENTS = {S_BUSTYPE: 1, S_SPI_FREQ: 4, S_PIN_STATE: 1, S_SPI_CS: 1}
+COMMANDS = [0, 1, 2, 3, 4, 5, 8, 0x10, 0x11, S_BUSTYPE, O_SPIOP, S_SPI_FREQ, S_PIN_STATE]
+
+
+class Unplugged(Exception):
+    """The programmer lost its connection."""
+
+
+@dataclass
+class Traits:
+    """How a programmer behaves.
+
+    `events` has what happens at a transaction (counted from 1): `nak` (it isn't carried out), `strange` (a byte that
+    is neither ACK nor NAK), `mute` (it is carried out, and nothing is ever sent again), `unplug` (it isn't carried
+    out, and the programmer is gone), `lose` (it is carried out, and the programmer is gone before its reply), `power`
+    (the same, and the chip loses its power in the operation), `cut N` (the programmer gets the first N bytes of the
+    frame, and is gone), `kill` (it is carried out, the process `victim` is killed, and then the reply is sent).
+    """
+
+    version: int = 1
+    lacks: tuple = ()
+    buses: int = SPI
+    longest_write: int = 4096
+    longest_read: int = 65536
+    buffer: int = 4096
+    selects: int = 0
+    clock: int = 12_000_000
+    # Replies nothing at all; sends text without end, whatever it receives; these bytes wait for the first client.
+    is_silent: bool = False
+    babbles: bool = False
+    stale: bytes = b""
+    # The transactions in whose replies a bit is flipped, if they read data.
+    flips: tuple = ()
+    events: dict = field(default_factory=dict)
+    # Seconds for each way there and back, and bytes per second.
+    latency: float = 0.0
+    rate: float = 0.0
+    # The time-out of the terminal device in tenths of a second.
+    timeout: int = 50
+
+
+class Server:
+    """A programmer at a terminal device, served by a thread until `close`, or until it is unplugged."""
+
+    def __init__(self, link, chip, traits=None):
+        self.link, self.chip, self.traits = Path(link), chip, traits or Traits()
+        self.port, self.device = pty.openpty()
+        set_terminal(self.device, self.traits.timeout)
+        os.set_blocking(self.port, False)
+        self.link.unlink(missing_ok=True)
+        self.link.symlink_to(os.ttyname(self.device))
+        self.wakes, self.waker = os.pipe()
+        self.pending, self.owed, self.victim = bytearray(), 0.0, None
+        self.begin()
+        self.thread = threading.Thread(target=self.serve, daemon=True)
+        self.thread.start()
+
+    def begin(self, events=None):
+        """Forgets the log, and counts transactions from 1 again, for the next run of a client."""
+        if events is not None:
+            self.traits.events = events
+        self.received, self.commands, self.log = bytearray(), [], []
+        self.ways, self.sent, self.is_mute = 0, 0, self.traits.is_silent
+        self.has_victim = threading.Event()
+        self.killed = False
+
+    def kill_at(self, process):
+        """Sets the process that the event `kill` kills."""
+        self.victim = process
+        self.has_victim.set()
+
+    def close(self):
+        """Ends the server. The chip stays as it is."""
+        os.write(self.waker, b"x")
+        self.thread.join()
+        os.close(self.wakes)
+        os.close(self.waker)
+
+    def serve(self):
+        try:
+            self.put(self.traits.stale)
+            while True:
+                self.serve_command()
+        except (Unplugged, OSError):
+            pass
+        finally:
+            os.close(self.port)
+            os.close(self.device)
+
+    def serve_command(self):
+        opcode = self.take(1)[0]
+        if opcode == O_SPIOP:
+            self.serve_transaction()
+            return
+        arguments = self.take(ARGUMENTS.get(opcode, 0))
+        self.commands.append((opcode, arguments))
+        self.put(self.reply(opcode, arguments))
+
+    def reply(self, opcode, arguments):
+        """Returns the reply to a command other than O_SPIOP."""
+        traits = self.traits
+        if opcode not in self.known():
+            return NAK
+        if opcode in (0x08, 0x11):
+            limit = traits.longest_write if opcode == 0x08 else traits.longest_read
+            return ACK + (limit & 0xFFFFFF).to_bytes(3, "little")
+        if opcode == S_BUSTYPE:
+            return ACK if arguments[0] & traits.buses else NAK
+        if opcode == S_SPI_FREQ:
+            wanted = int.from_bytes(arguments, "little")
+            return ACK + min(wanted, traits.clock).to_bytes(4, "little") if wanted else NAK
+        if opcode == S_SPI_CS:
+            return ACK if arguments[0] < traits.selects else NAK
+        replies = {0x01: traits.version.to_bytes(2, "little"), 0x02: self.command_map(),
+                   0x03: b"test programmer".ljust(16, b"\0"), 0x04: traits.buffer.to_bytes(2, "little"),
+                   0x05: bytes([traits.buses])}
+        return (NAK if opcode == SYNCNOP else b"") + ACK + replies.get(opcode, b"")
+
+    def known(self):
+        """Returns the commands that the programmer has."""
+        return [it for it in COMMANDS + [S_SPI_CS] * bool(self.traits.selects) if it not in self.traits.lacks]
+
+    def command_map(self):
+        bits = sum(1 << opcode for opcode in self.known())
+        return bits.to_bytes(32, "little")
+
+    def serve_transaction(self):
+        """Reads the rest of an O_SPIOP, carries the transaction out, and replies, except for the events."""
+        number = len(self.log) + 1
+        event = self.traits.events.get(number, "")
+        if event.startswith("cut"):
+            self.take(int(event.split()[1]) - 1)
+            raise Unplugged
+        lengths = self.take(6)
+        longest, replies = (int.from_bytes(lengths[at : at + 3], "little") for at in (0, 3))
+        out = self.take(longest)
+        if event == "unplug":
+            raise Unplugged
+        traits = self.traits
+        if event == "nak" or O_SPIOP in traits.lacks or longest > (traits.longest_write or 1 << 24) or \
+                replies > (traits.longest_read or 1 << 24):
+            self.put(NAK)
+            return
+        reply = self.chip.transfer(out, replies)
+        if number in traits.flips and out[:1] == bytes([READ_DATA]):
+            reply = bytes([reply[0] ^ 0x10]) + reply[1:]
+        self.log.append((out, reply))
+        self.happen(event)
+        self.put((b"!" if event == "strange" else ACK) + reply)
+
+    def happen(self, event):
+        """Does what an event does after the transaction and before its reply."""
+        if event in ("lose", "power"):
+            if event == "power":
+                self.chip.lose_power(0x5A)
+            raise Unplugged
+        if event == "mute":
+            self.is_mute = True
+        if event == "kill":
+            self.has_victim.wait(10)
+            self.victim.kill()
+            self.victim.wait()
+            self.killed = True
+
+    def take(self, length):
+        """Returns the next bytes that the client sent."""
+        while len(self.pending) < length:
+            can_write = [self.port] if self.traits.babbles else []
+            ready, writable, _ = select.select([self.port, self.wakes], can_write, [])
+            if self.wakes in ready:
+                raise Unplugged
+            if writable:
+                time.sleep(0.001)
+                self.write_some(b"U" * 512)
+            if self.port in ready:
+                self.pending += self.read_some()
+        taken = bytes(self.pending[:length])
+        del self.pending[:length]
+        return taken
+
+    def read_some(self):
+        """Reads what there is. Each read is one way there and back, with its latency."""
+        if self.traits.latency:
+            time.sleep(self.traits.latency)
+        got = os.read(self.port, 65536)
+        self.received += got
+        self.ways += 1
+        self.pay(len(got))
+        return got
+
+    def pay(self, length):
+        """Sleeps for the time that bytes need on the wire, once it is at least half a millisecond."""
+        if not self.traits.rate:
+            return
+        self.owed += length / self.traits.rate
+        if self.owed > 0.0005:
+            before = time.monotonic()
+            time.sleep(self.owed)
+            self.owed -= time.monotonic() - before
+
+    def put(self, reply):
+        """Sends bytes to the client, except if the programmer is mute."""
+        if self.is_mute or self.traits.babbles:
+            return
+        self.sent += len(reply)
+        self.pay(len(reply))
+        while reply:
+            ready, _, _ = select.select([self.wakes], [self.port], [])
+            if ready:
+                raise Unplugged
+            reply = reply[self.write_some(reply) :]
+
+    def write_some(self, reply):
+        try:
+            return os.write(self.port, reply)
+        except BlockingIOError:
+            return 0
+
+
+def set_terminal(device, tenths):
+    """Sets a terminal device as `stty raw -echo clocal -hupcl min 0 time TENTHS` does."""
+    tty.setraw(device)
+    settings = termios.tcgetattr(device)
+    settings[2] = (settings[2] | termios.CLOCAL) & ~termios.HUPCL
+    settings[6][termios.VMIN], settings[6][termios.VTIME] = 0, tenths
+    termios.tcsetattr(device, termios.TCSANOW, settings)
+
+
+def trace_line(out, reply):
+    """Returns the line of a trace for a transaction."""
+    if not reply:
+        return out.hex()
+    return f"{out.hex()} > {reply.hex() if len(reply) <= 3 else f'{len(reply)} bytes'}"
+
+
+def options():
+    parser = argparse.ArgumentParser(description=__doc__, formatter_class=argparse.RawDescriptionHelpFormatter)
+    parser.add_argument("link")
+    parser.add_argument("--chip", default="W25Q64FV", choices=list(PARTS))
+    parser.add_argument("--image", type=Path, help="the chip's data; if it is missing, all bytes are FFh")
+    parser.add_argument("--status", type=bytes.fromhex, default=b"\0\0", help="the two status bytes")
+    parser.add_argument("--unique", type=bytes.fromhex, default=bytes(8), help="the unique ID")
+    parser.add_argument("--scale", type=float, default=1.0, help="multiplies the durations of the chip; 0: never busy")
+    parser.add_argument("--log", type=Path, help="gets the transactions when the server ends")
+    parser.add_argument("--event", nargs="*", default=[], metavar="N=EVENT", help="see the class Traits")
+    for name in ("longest-write", "longest-read", "buffer", "selects", "version", "timeout"):
+        parser.add_argument(f"--{name}", type=int, default=getattr(Traits, name.replace("-", "_")))
+    for name in ("latency", "rate"):
+        parser.add_argument(f"--{name}", type=float, default=0.0)
+    return parser.parse_args()
+
+
+def main():
+    given = options()
+    data = given.image.read_bytes() if given.image and given.image.exists() else None
+    chip = Chip(given.chip, data, given.status, given.unique, given.scale)
+    names = ("longest_write", "longest_read", "buffer", "selects", "version", "timeout", "latency", "rate")
+    traits = Traits(**{name: getattr(given, name) for name in names})
+    traits.events = {int(it.partition("=")[0]): it.partition("=")[2] for it in given.event}
+    signal.pthread_sigmask(signal.SIG_BLOCK, {signal.SIGTERM, signal.SIGINT})
+    server = Server(given.link, chip, traits)
+    print("ready", flush=True)
+    signal.sigwait({signal.SIGTERM, signal.SIGINT})
+    if given.image:
+        given.image.write_bytes(chip.data)
+    if given.log:
+        given.log.write_text("".join(trace_line(*it) + "\n" for it in server.log))
+    print(f"status {chip.status.hex()}, {len(server.log)} transactions", flush=True)
+
+
+if __name__ == "__main__":
+    sys.exit(main())
