@@ -1,5 +1,5 @@
 #!/usr/bin/env python3
-"""A serial programmer at a pseudo-terminal, which speaks the serprog protocol (version 1) in front of a model of a chip.
+"""A serial programmer at a pseudo-terminal, which speaks serprog (version 1) in front of a model of a chip.
 
     server.py LINK --chip NAME [--image FILE] [--status HHHH] [--log FILE] ..
 

@@ -1,0 +1,159 @@
+"""A chip at a programmer, the program that is tested, and the checks of what it prints and sends."""
+import os
+import subprocess
+from pathlib import Path
+from typing import NamedTuple
+
+import reference
+from chip import Chip
+from server import ARGUMENTS, O_SPIOP, Server, Traits, trace_line
+
+# How long a run may take, in seconds.
+LONGEST = 60
+
+
+class Differs(Exception):
+    """A check that failed. Its arguments are lines."""
+
+
+class Result(NamedTuple):
+    """What a run printed, as lines, and its exit status."""
+
+    status: int
+    out: list
+    err: list
+
+
+def check(what, got, wanted):
+    """Raises `Differs` unless both are the same."""
+    if got != wanted:
+        raise Differs(f"{what}:", f"    got    {abridged(got)}", f"    wanted {abridged(wanted)}")
+
+
+def abridged(value):
+    text = value.hex() if isinstance(value, (bytes, bytearray)) else repr(value)
+    return text if len(text) <= 400 else f"{text[:400]}.. ({len(text)} characters)"
+
+
+def check_data(what, got, wanted):
+    """Raises `Differs` unless both have the same bytes, with the first address that differs."""
+    check(f"{what}, length", len(got), len(wanted))
+    if got != wanted:
+        at = next(at for at, (one, other) in enumerate(zip(got, wanted)) if one != other)
+        raise Differs(f"{what}: the first other byte is at 0x{at:06x}: got {got[at]:02x}, wanted {wanted[at]:02x}")
+
+
+class Bench:
+    """A directory with a programmer at the link `dev`, and a chip behind it.
+
+    `plug` connects a programmer, after the one before was unplugged or closed. The chip stays the same.
+    """
+
+    def __init__(self, program, folder, part="TINY64", data=None, status=b"\0\0", unique=bytes(8), scale=0.0, **traits):
+        self.program, self.folder, self.part = program, Path(folder), part
+        self.chip = Chip(part, data, status, unique, scale)
+        self.server, self.command = None, ""
+        self.plug(**traits)
+
+    def plug(self, **traits):
+        if self.server:
+            self.server.close()
+        self.server = Server(self.folder / "dev", self.chip, Traits(**traits))
+
+    def close(self):
+        self.server.close()
+
+    def path(self, name):
+        return self.folder / name
+
+    def write(self, name, content):
+        self.path(name).write_bytes(content)
+
+    def start(self, words, keys=""):
+        """Starts the program with these arguments, after -p, and returns the process."""
+        words = [str(self.program), "-p", f"serprog:dev={self.folder / 'dev'}{keys}", *words]
+        return self.start_words(words)
+
+    def start_words(self, words):
+        self.command = " ".join(map(str, words[1:]))
+        process = subprocess.Popen(words, cwd=self.folder, stdin=subprocess.DEVNULL, stdout=subprocess.PIPE,
+                                   stderr=subprocess.PIPE, env=dict(os.environ, LC_ALL="C"))
+        self.server.kill_at(process)
+        return process
+
+    def finish(self, process):
+        """Waits until a run ended, and returns its result."""
+        try:
+            out, err = process.communicate(timeout=LONGEST)
+        except subprocess.TimeoutExpired:
+            process.kill()
+            process.communicate()
+            raise Differs(f"the run did not end in {LONGEST} seconds") from None
+        return Result(process.returncode, *(it.decode(errors="backslashreplace").splitlines() for it in (out, err)))
+
+    def run(self, *words, keys="", events=None):
+        """Runs the program with these arguments, and returns its result. The log begins anew."""
+        self.server.begin(events or {})
+        return self.finish(self.start(words, keys))
+
+    def expect(self, *words, out=(), err=(), keys="", events=None):
+        """Runs the program, and checks both streams and the exit status, which is 1 if `err` has lines."""
+        got = self.run(*words, keys=keys, events=events)
+        self.compare(got, out, err)
+        return got
+
+    @staticmethod
+    def compare(got, out, err):
+        check("standard error", got.err, list(err))
+        check("standard output", got.out, list(out))
+        check("exit status", got.status, int(bool(err)))
+
+    def device(self, text):
+        """Returns a message, with the name of the device in the place of DEV."""
+        return text.replace("DEV", str(self.folder / "dev"))
+
+    def transactions(self):
+        """Returns the transactions of the last run as lines of a trace."""
+        return [trace_line(*it) for it in self.server.log]
+
+    def check_frames(self, plan):
+        """Checks that the bytes of the last run after the handshake are exactly the frames of this plan."""
+        _, rest = split_handshake(self.server.received)
+        wanted = reference.frames(plan)
+        if rest == wanted:
+            return
+        at = next((at for at, (one, other) in enumerate(zip(rest, wanted)) if one != other),
+                  min(len(rest), len(wanted)))
+        raise Differs(f"the frames differ at byte {at} of {len(rest)}, and {len(wanted)} were wanted:",
+                      f"    got    {rest[max(0, at - 12) : at + 12].hex(' ')}",
+                      f"    wanted {wanted[max(0, at - 12) : at + 12].hex(' ')}")
+
+    def check_chip(self, data, status=b"\0\0"):
+        check_data("the chip", bytes(self.chip.data), data)
+        check("status bytes", bytes(self.chip.status), status)
+
+    def check_file(self, name, content):
+        if not self.path(name).exists():
+            raise Differs(f"the file {name} is missing")
+        check_data(f"the file {name}", self.path(name).read_bytes(), content)
+
+    def check_absent(self, name):
+        if self.path(name).exists():
+            raise Differs(f"the file {name} exists, and has {self.path(name).stat().st_size} bytes")
+
+    def check_nothing_sent(self):
+        check("bytes sent", bytes(self.server.received), b"")
+
+    def check_unselected(self):
+        """Checks that no transaction was sent."""
+        check("transactions", self.transactions(), [])
+
+
+def split_handshake(received):
+    """Returns the commands before the first O_SPIOP, each with its arguments, and the bytes from there on."""
+    commands, at = [], 0
+    while at < len(received) and received[at] != O_SPIOP:
+        after = at + 1 + ARGUMENTS.get(received[at], 0)
+        commands.append((received[at], bytes(received[at + 1 : after])))
+        at = after
+    return commands, bytes(received[at:])

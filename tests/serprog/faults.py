@@ -1,0 +1,203 @@
+"""Cases of programmers that can't be used, and of the cause after error 12.
+
+A programmer fault is printed before the first transaction: no transaction is sent, and no file is created.
+"""
+import fcntl
+import os
+
+import reference
+from bench import check
+from options import images
+from server import set_terminal
+
+STTY = "stty -F DEV raw -echo clocal -hupcl min 0 time 50"
+FIRMWARE = "Install other firmware on it."
+# For tests of silence, in tenths of a second.
+SOON = 3
+UNPLUG = "Disconnect the programmer from power for a second before the next run."
+RESTORE = "Then restore the chip with --restore and the journal."
+CAUSES = {
+    "nak": "the programmer refused command 13h",
+    "strange": "the programmer answered 21h, which is neither ACK nor NAK",
+    "mute": "the programmer is silent",
+}
+
+
+def refuse(bench, text, keys="", number=None):
+    """Checks that a session is refused with this programmer fault, before anything is sent to the chip."""
+    bench.write("new", b"\xff" * 65536)
+    line = bench.device(f"Programmer fault {number}: {text}")
+    before = bytes(bench.chip.data)
+    bench.expect("-w", "new", "--journal", "j", keys=keys, err=[line])
+    bench.check_unselected()
+    bench.check_absent("j")
+    bench.expect("-r", "out", keys=keys, err=[line])
+    bench.check_unselected()
+    bench.check_absent("out")
+    bench.check_chip(before)
+
+
+def needs_a_device(start):
+    """A device that is missing is programmer fault 1."""
+    bench = start()
+    bench.path("dev").unlink()
+    refuse(bench, "DEV cannot be opened. Check its name, and that you may read and write it.", number=1)
+    bench.check_nothing_sent()
+
+
+def needs_a_character_device(start):
+    """A regular file, a directory and a FIFO are programmer fault 2, and the file stays as it is."""
+    bench = start()
+    text = "DEV is not a character device. Name the serial port of the programmer."
+    dev = bench.path("dev")
+    dev.unlink()
+    dev.write_bytes(b"valuable")
+    refuse(bench, text, number=2)
+    bench.check_file("dev", b"valuable")
+    for make, remove in (os.mkdir, os.rmdir), (os.mkfifo, os.unlink):
+        if dev.is_file():
+            dev.unlink()
+        make(dev)
+        refuse(bench, text, number=2)
+        remove(dev)
+    bench.check_nothing_sent()
+
+
+def locks_the_device(start):
+    """A device that another process has locked is programmer fault 3, and nothing is sent."""
+    bench = start()
+    with open(bench.path("dev"), "rb", buffering=0) as other:
+        fcntl.flock(other, fcntl.LOCK_EX)
+        refuse(bench, "DEV is in use by another program. End that program first.", number=3)
+        bench.check_nothing_sent()
+    bench.expect(out=[reference.found("TINY64")])
+
+
+def holds_its_lock(start):
+    """The device is locked against others while a run uses it."""
+    bench = start(data=b"\0" * 65536, events={})
+    got = []
+
+    def try_lock(out, replies, carry=bench.chip.transfer):
+        with open(bench.path("dev"), "rb", buffering=0) as other:
+            try:
+                fcntl.flock(other, fcntl.LOCK_EX | fcntl.LOCK_NB)
+                got.append("free")
+            except BlockingIOError:
+                got.append("locked")
+        return carry(out, replies)
+
+    bench.chip.transfer = try_lock
+    bench.expect("-E", "--journal", "j", out=[
+        "Found SFDP (fe1010), 65536 bytes.", "Done: touched 16, erases 1, programs 0, transactions 42."])
+    check("the device during each transaction", set(got), {"locked"})
+
+
+def needs_an_answer(start):
+    """A programmer that never replies is programmer fault 4."""
+    bench = start(is_silent=True, timeout=SOON)
+    refuse(bench, f"the programmer is silent. Check its cable, and set up the port: {STTY}", number=4)
+
+
+def needs_its_step(start):
+    """A device that sends text without end is programmer fault 5."""
+    bench = start(babbles=True)
+    bench.write("new", b"\xff" * 65536)
+    got = bench.run("-w", "new", "--journal", "j")
+    advice = f"Disconnect the programmer from power, connect it again, and set up the port: {STTY}"
+    text = "the programmer did not reply to SYNCNOP as it must"
+    bench.compare(got, [], [bench.device(f"Programmer fault 5: {text}. {advice}")])
+    bench.check_unselected()
+    bench.check_absent("j")
+
+
+def needs_version_1(start):
+    """Another version of the protocol is programmer fault 6."""
+    for version in 0, 2, 257:
+        refuse(start(version=version), f"the programmer speaks version {version} of serprog, and only version 1 is "
+               f"known. {FIRMWARE}", number=6)
+
+
+def needs_commands(start):
+    """A programmer without O_SPIOP is programmer fault 7; also without the command that spispeed= or cs= needs."""
+    for opcode, keys, advice in ((0x13, "", FIRMWARE), (0x14, ",spispeed=1000", "Leave spispeed= out."),
+                                 (0x16, ",cs=1", "Leave cs= out.")):
+        bench = start(lacks=(opcode,))
+        refuse(bench, f"the programmer lacks command {opcode:02X}h, which is needed here. {advice}", keys, number=7)
+    bench = start(selects=2)
+    refuse(bench, "the programmer lacks command 16h, which is needed here. Leave cs= out.", ",cs=2", number=7)
+
+
+def needs_spi(start):
+    """A programmer for parallel chips is programmer fault 8; also one for several buses that can't select SPI."""
+    for traits in {"buses": 0x01}, {"buses": 0x0B, "lacks": (0x12,)}:
+        refuse(start(**traits), f"the programmer cannot be set to SPI: its types of bus are {traits['buses']:02X}h. "
+               f"{FIRMWARE}", number=8)
+
+
+def needs_wide_limits(start):
+    """Limits that are too small for a page or a sector are programmer fault 9."""
+    for traits, text in (
+        ({"longest_write": 259},
+         "the programmer sends at most 259 bytes in a transaction, and a page program needs 260"),
+        ({"longest_read": 4095}, "the programmer reads at most 4095 bytes in a transaction, and a sector needs 4096"),
+        ({"lacks": (0x08,), "buffer": 266},
+         "the serial buffer of the programmer has 266 bytes, and a page program needs 267"),
+    ):
+        refuse(start(**traits), f"{text}. {FIRMWARE}", number=9)
+
+
+def reports_causes(start):
+    """A line after error 12 has the cause, and says what to do. After a change that is to restore."""
+    old, new = images("reports_causes")
+    seal = len(reference.identify("TINY64")) + 32
+    for event, text in CAUSES.items():
+        for at in 3, seal, seal + 5:
+            bench = start(data=old, timeout=SOON)
+            bench.write("new", new)
+            got = bench.run("-w", "new", "--journal", "j", events={at: event})
+            bench.compare(got, [], ["Error 12: stopped.", f"Cause: {text}. {UNPLUG} {RESTORE}"])
+            check("transactions that were carried out", len(bench.server.log), at - (event == "nak"))
+        got = bench.run("-r", "out", events={9: event})
+        bench.compare(got, [], ["Error 12: stopped.", f"Cause: {text}. {UNPLUG}"])
+
+
+def reports_the_port(start):
+    """A programmer that is unplugged is error 12, with the system's text as the cause."""
+    old, new = images("reports_the_port")
+    bench = start(data=old)
+    bench.write("new", new)
+    got = bench.run("-w", "new", "--journal", "j", events={50: "unplug"})
+    check("the lines", (got.out, got.err[:1], len(got.err), got.status), ([], ["Error 12: stopped."], 2, 1))
+    begins, ends = "Cause: the ", f". {UNPLUG} {RESTORE}"
+    check("the cause", (got.err[1][: len(begins)], got.err[1][-len(ends) :]), (begins, ends))
+
+
+def reads_twice(start):
+    """Two reads that differ stop a session before anything is changed, and before a wrong byte is in the journal."""
+    old, new = images("reads_twice")
+    bench = start(data=old)
+    bench.write("new", new)
+    line = "Cause: two reads of the same bytes differ. Lower the clock (spispeed=), shorten the wires, and try again."
+    for first in 8, 9, 20:
+        bench.server.traits.flips = (first,)
+        got = bench.run("-w", "new", "--journal", f"j{first}")
+        check("the lines", (got.out, got.err[:1], got.status), ([], ["Error 12: stopped."], 1))
+        check("the cause", got.err[1][: len(line)], line)
+        bench.check_chip(old)
+        journal = bench.path(f"j{first}").read_bytes()
+        whole = reference.journal("TINY64", old, (1, 2, 7, 15))
+        check("the journal is a prefix", journal == whole[: len(journal)] and len(journal) < len(whole), True)
+        bench.expect("--restore", f"j{first}", err=["Error 15: journal fault 1."])
+
+
+def sets_up_terminals(start):
+    """A terminal with a time-out of two tenths of a second is used as it was set."""
+    bench = start()
+    set_terminal(bench.server.device, 2)
+    bench.expect(out=[reference.found("TINY64")])
+
+
+CASES = [needs_a_device, needs_a_character_device, locks_the_device, holds_its_lock, needs_an_answer, needs_its_step,
+         needs_version_1, needs_commands, needs_spi, needs_wide_limits, reports_causes, reports_the_port, reads_twice,
+         sets_up_terminals]

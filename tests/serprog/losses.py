@@ -1,0 +1,120 @@
+"""Kills, lost replies and cut frames, at each transaction of a session and of its restores, on a chip of 64 KiB.
+
+After each of them a restore must end, and the chip must have each byte of the original, unless the session's journal
+was never sealed: then the chip must be unchanged.
+"""
+import tempfile
+from typing import NamedTuple
+
+import reference
+from bench import Bench, Differs, check
+from chip import SECTOR
+from options import images
+
+# Sector 1 only has bits that fall, the others are erased, 8 to 15 by one erase.
+CHANGED = (1, 2, 8, 9, 10, 11, 12, 13, 14, 15)
+UNSEALED = ["Error 15: journal fault 1."]
+STOPPED = "Error 12: stopped."
+
+
+class Loss(NamedTuple):
+    """An event at a transaction of the session, and one at a transaction of the first restore. 0 is none."""
+
+    event: str
+    session: int
+    restore: int = 0
+
+
+def chip_images():
+    """Returns the original and the target. They have few bytes in the changed sectors, so that runs are short."""
+    old, _ = map(bytearray, images("losses"))
+    for number in CHANGED:
+        old[number * SECTOR : (number + 1) * SECTOR] = b"\xff" * SECTOR
+        at = number * SECTOR + 256 * (number - 1)
+        old[at + 250 : at + 260] = bytes(range(number, number + 10))
+    new = bytearray(old)
+    for number in CHANGED[1:]:
+        new[number * SECTOR : (number + 1) * SECTOR] = b"\xff" * SECTOR
+    new[SECTOR + 700 : SECTOR + 703] = b"\x00\x10\x00"
+    new[2 * SECTOR + 250 : 2 * SECTOR + 262] = bytes(range(12))
+    return bytes(old), bytes(new)
+
+
+def numbered(plan):
+    """Returns the plan with data read twice, as it is counted on the wire."""
+    return [it for it in plan for _ in range(2 if it[0][0] == 0x03 else 1)]
+
+
+def losses():
+    """Returns the losses: at each transaction of a session, and at each of a restore after a session that ended."""
+    old, new = chip_images()
+    wire = numbered(reference.session("TINY64", old, new))
+    back = numbered(reference.restore("TINY64", new, old, CHANGED))
+    found = [Loss(event, at) for event in ("kill", "lose") for at in range(1, len(wire) + 1)]
+    found += [Loss(event, 0, at) for event in ("kill", "lose") for at in range(1, len(back) + 1)]
+    # A session that is stopped in the middle, and its restore too.
+    seal = sealed_after(wire)
+    found += [Loss("kill", at, at // 2) for at in range(seal, len(wire) + 1, 7)]
+    # Power is lost in an operation, or a frame is cut; after that the programmer is plugged in again.
+    changing = [at for at, (out, _) in enumerate(wire, 1) if out[0] in (0x02, 0x20, 0x52, 0xD8, 0xC7)]
+    found += [Loss("power", at) for at in changing]
+    found += [Loss(f"cut {length}", at) for at in changing[:6] for length in (1, 7, 8, 10)]
+    return found
+
+
+def sealed_after(wire):
+    """Returns the number of transactions before the first modifying command, when the journal is sealed."""
+    return next(at for at, (out, _) in enumerate(wire) if out == b"\x06")
+
+
+def try_loss(program, loss):
+    """Tries one loss, and returns nothing, or the lines that say what was wrong."""
+    with tempfile.TemporaryDirectory() as folder:
+        old, new = chip_images()
+        bench = Bench(program, folder, "TINY64", old)
+        try:
+            bench.write("new", new)
+            one_loss(bench, loss, old, new)
+            return None
+        except Differs as why:
+            return f"FAILED: {loss}", f"    at: {bench.command}", *(f"    {it}" for it in why.args)
+        finally:
+            bench.close()
+
+
+def one_loss(bench, loss, old, new):
+    if loss.session:
+        stop(bench, ["-w", "new", "--journal", "j"], loss.event, loss.session)
+    else:
+        check("the session", bench.run("-w", "new", "--journal", "j").status, 0)
+        bench.check_chip(new)
+    wire = numbered(reference.session("TINY64", old, new))
+    journal = reference.journal("TINY64", old, CHANGED)
+    if 0 < loss.session <= sealed_after(wire):
+        bench.check_chip(old)
+        begun = bench.path("j").read_bytes()
+        check("the journal is a prefix", begun == journal[: len(begun)] and len(begun) < len(journal), True)
+        bench.expect("--restore", "j", err=UNSEALED)
+        bench.check_nothing_sent()
+        return
+    bench.check_file("j", journal)
+    if loss.restore:
+        stop(bench, ["--restore", "j"], loss.event, loss.restore)
+    got = bench.run("--restore", "j")
+    check("the restore", (got.err, got.out[:1], got.status), ([], [reference.found("TINY64")], 0))
+    bench.check_chip(old)
+    bench.check_file("j", journal)
+
+
+def stop(bench, words, event, at):
+    """Runs the program with an event at a transaction, which must occur, and plugs the programmer in again."""
+    got = bench.run(*words, events={at: event})
+    if event == "kill":
+        if not bench.server.killed:
+            raise Differs(f"the run ended before transaction {at}: {got}")
+        check("exit status of a killed run", got.status, -9)
+        return
+    check("the error", (got.err[:1], got.out, got.status), ([STOPPED], [], 1))
+    bench.plug()
+
+

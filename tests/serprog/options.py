@@ -1,0 +1,243 @@
+"""Cases of each option: what is printed, what is sent, and what the chip and the files hold afterwards.
+
+Expected lines are those that docs/SPECIFICATION.md states. Numbers of transactions are those of reference.py, or are
+counted by hand: TINY64 takes 5 transactions for a probe, 7 for an identification, and 16 for a scan.
+"""
+import random
+
+import reference
+from bench import check
+from chip import SECTOR, protected_range
+
+SIZE = 65536
+FREE = b"\xff" * SIZE
+LAYOUT = b"0:fff first\n8000:ffff upper\n1001:1001 byte\n"
+
+
+def images(seed, numbers=(1, 2, 7, 15)):
+    """Returns two images of TINY64 that differ in these sectors; in the first of them only bits fall."""
+    chance = random.Random(seed)
+    old = bytearray(chance.randbytes(SIZE))
+    old[SECTOR : 2 * SECTOR] = b"\xff" * SECTOR
+    new = bytearray(old)
+    for number in numbers:
+        at = number * SECTOR
+        new[at + 100 : at + 700] = chance.randbytes(600)
+    return bytes(old), bytes(new)
+
+
+def identifies(start):
+    """Without an operation each chip is identified, by the table or by its SFDP."""
+    for part in "TINY64", "W25Q64FV", "W25Q128FV":
+        bench = start(part)
+        bench.expect(out=[reference.found(part)])
+        bench.check_frames(reference.probe(part))
+
+
+def sets_the_clock(start):
+    """spispeed= sets the clock by S_SPI_FREQ before the first transaction. Without it the clock isn't set."""
+    bench = start()
+    bench.expect(keys=",spispeed=2000000", out=[reference.found("TINY64")])
+    clocks = [arguments for opcode, arguments in bench.server.commands if opcode == 0x14]
+    check("S_SPI_FREQ", clocks, [(2_000_000).to_bytes(4, "little")])
+    bench.check_frames(reference.probe("TINY64"))
+    bench.expect(out=[reference.found("TINY64")])
+    check("commands 14h", [it for it in bench.server.commands if it[0] == 0x14], [])
+
+
+def selects_a_chip(start):
+    """cs= selects one of the chips of a programmer by S_SPI_CS, before the first transaction."""
+    bench = start(selects=3)
+    bench.expect(keys=",cs=2", out=[reference.found("TINY64")])
+    check("S_SPI_CS", [it for it in bench.server.commands if it[0] == 0x16], [(0x16, b"\x02")])
+    bench.check_frames(reference.probe("TINY64"))
+    bench.expect(keys=",spispeed=1,cs=0", out=[reference.found("TINY64")])
+    check("S_SPI_CS", [it for it in bench.server.commands if it[0] == 0x16], [(0x16, b"\0")])
+
+
+def keeps_to_the_protocol(start):
+    """Only NOP, SYNCNOP and Q_IFACE are sent before Q_CMDMAP, then only commands that the map has; SPI is selected."""
+    bench = start(lacks=(0x03, 0x04), buses=0x0F)
+    bench.expect(out=[reference.found("TINY64")])
+    opcodes = [it[0] for it in bench.server.commands]
+    at = opcodes.index(0x02)
+    check("commands before Q_CMDMAP", set(opcodes[:at]), {0x00, 0x01, 0x10})
+    check("the first command", opcodes[0], 0x10)
+    check("commands that the map lacks", set(opcodes) - set(bench.server.known()), set())
+    check("S_BUSTYPE", [it for it in bench.server.commands if it[0] == 0x12], [(0x12, b"\x08")])
+    check("the pins", [bool(it[1][0]) for it in bench.server.commands if it[0] == 0x15], [True])
+
+
+def names_the_chip(start):
+    """-c takes the name of the chip that is there, and another one is error 3."""
+    bench = start()
+    bench.expect("-c", "SFDP", out=[reference.found("TINY64")])
+    bench.expect("-c", "W25Q64FV", err=["Error 3: another chip than named."])
+    bench.check_frames(reference.probe("TINY64"))
+
+
+def reads(start):
+    """-r writes all bytes of the chip into a file."""
+    old, _ = images("reads")
+    bench = start(data=old)
+    bench.expect("-r", "out", out=[reference.found("TINY64"), "Read 65536 bytes."])
+    bench.check_file("out", old)
+    bench.check_frames(reference.probe("TINY64") + [reference.read_sector(it) for it in range(16)])
+
+
+def reads_regions(start):
+    """-r with -l and -i reads only the sectors of the regions, and the file has FFh elsewhere."""
+    old, _ = images("reads_regions")
+    bench = start(data=old)
+    bench.write("layout", LAYOUT)
+    bench.expect("-r", "out", "-l", "layout", "-i", "byte,upper",
+                 out=[reference.found("TINY64"), "Read 65536 bytes."])
+    bench.check_file("out", b"\xff" * 0x1001 + old[0x1001:0x1002] + b"\xff" * 0x6FFE + old[0x8000:])
+    numbers = [1, *range(8, 16)]
+    bench.check_frames(reference.probe("TINY64") + [reference.read_sector(it) for it in numbers])
+
+
+def verifies(start):
+    """-v compares, and error 14 has the first address that differs."""
+    old, new = images("verifies")
+    bench = start(data=old)
+    bench.write("same", old)
+    bench.write("other", old[:0x1234] + bytes([old[0x1234] ^ 1]) + new[0x1235:])
+    bench.expect("-v", "same", out=[reference.found("TINY64"), "Verified."])
+    bench.expect("-v", "other", err=["Error 14: bytes differ at 0x001234."])
+    bench.check_chip(old)
+
+
+def verifies_regions(start):
+    """-v with -l and -i compares only the regions."""
+    bench = start(data=FREE)
+    bench.write("layout", LAYOUT)
+    bench.write("image", b"\xff" * 0x1000 + b"\0" * 0x7000 + FREE[0x8000:])
+    bench.expect("-v", "image", "-l", "layout", "-i", "first,upper", out=[reference.found("TINY64"), "Verified."])
+    bench.expect("-v", "image", "-l", "layout", "-i", "byte", err=["Error 14: bytes differ at 0x001001."])
+
+
+def writes(start):
+    """-w writes an image, with the journal of the original chip; what is sent is what the specification states."""
+    for numbers in ((1, 2, 7, 15), range(16), (0,), range(8, 16)):
+        old, new = images(f"writes {numbers}", numbers)
+        bench = start(data=old)
+        bench.write("new", new)
+        plan = reference.session("TINY64", old, new)
+        bench.expect("-w", "new", "--journal", "j", out=[reference.found("TINY64"), reference.done(plan, old, new)])
+        bench.check_chip(new)
+        bench.check_frames(plan)
+        bench.check_file("j", reference.journal("TINY64", old, numbers))
+
+
+def writes_without_verification(start):
+    """-n leaves out the last reads."""
+    old, new = images("writes_without_verification")
+    bench = start(data=old)
+    bench.write("new", new)
+    plan = reference.session("TINY64", old, new, verifies=False)
+    bench.expect("-w", "new", "-n", "--journal", "j", out=[reference.found("TINY64"), reference.done(plan, old, new)])
+    bench.check_chip(new)
+    bench.check_frames(plan)
+
+
+def writes_regions(start):
+    """-w with -l and -i changes only the regions; other bytes of their sectors stay."""
+    old, _ = images("writes_regions")
+    image = bytes(byte ^ 0x55 for byte in old)
+    new = old[:0x1001] + image[0x1001:0x1002] + old[0x1002:]
+    bench = start(data=old)
+    bench.write("layout", LAYOUT)
+    bench.write("image", image)
+    plan = reference.session("TINY64", old, new, [1])
+    bench.expect("-w", "image", "-l", "layout", "-i", "byte", "--journal", "j",
+                 out=[reference.found("TINY64"), reference.done(plan, old, new)])
+    bench.check_chip(new)
+    bench.check_frames(plan)
+    bench.check_file("j", reference.journal("TINY64", old, [1]))
+
+
+def changes_nothing(start):
+    """A chip that holds the image already is only read, and its journal saves no sector."""
+    old, _ = images("changes_nothing")
+    bench = start(data=old)
+    bench.write("new", old)
+    bench.expect("-w", "new", "--journal", "j", out=[
+        "Found SFDP (fe1010), 65536 bytes.", "Done: touched 0, erases 0, programs 0, transactions 23."])
+    bench.check_frames(reference.session("TINY64", old, old))
+    bench.check_file("j", reference.journal("TINY64", old, []))
+
+
+def erases(start):
+    """-E erases the chip, by one chip erase if each sector needs it."""
+    old = bytes(SIZE)
+    bench = start(data=old)
+    bench.expect("-E", "--journal", "j", out=[
+        "Found SFDP (fe1010), 65536 bytes.", "Done: touched 16, erases 1, programs 0, transactions 42."])
+    bench.check_chip(FREE)
+    bench.check_frames(reference.session("TINY64", old, FREE))
+    bench.check_file("j", reference.journal("TINY64", old, range(16)))
+
+
+def erases_regions(start):
+    """-E with -l and -i erases only the regions, with as few erases as possible."""
+    bench = start(data=bytes(SIZE))
+    bench.write("layout", LAYOUT)
+    new = b"\xff" * 0x1000 + b"\0" * 0x7000 + b"\xff" * 0x8000
+    bench.expect("-E", "-l", "layout", "-i", "upper,first", "--journal", "j", out=[
+        "Found SFDP (fe1010), 65536 bytes.", "Done: touched 9, erases 2, programs 0, transactions 31."])
+    bench.check_chip(new)
+    bench.check_frames(reference.session("TINY64", bytes(SIZE), new, [0, *range(8, 16)]))
+
+
+def prints_the_size(start):
+    """--flash-size prints the size in bytes, and nothing else."""
+    for part, size in ("TINY64", "65536"), ("W25Q64FV", "8388608"), ("W25Q128FV", "16777216"):
+        bench = start(part)
+        bench.expect("--flash-size", out=[size])
+        bench.check_frames(reference.probe(part))
+
+
+def shows_protection(start):
+    """--wp-status prints the protected range, and whether it is locked."""
+    bench = start("W25Q64FV")
+    for status, protected, mode in (("0440", "0x000000,0x7e0000", "open"), ("8400", "0x7e0000,0x020000", "locked"),
+                                    ("5800", "undefined", "open"), ("1c01", "0x000000,0x800000", "locked"),
+                                    ("0000", "0x000000,0x000000", "open"), ("2401", "0x000000,0x020000", "locked")):
+        bench.chip.status[:] = bytes.fromhex(status)
+        bench.expect("--wp-status", out=[f"Range: {protected}", f"Mode: {mode}"])
+        bench.check_frames(reference.probe("W25Q64FV") + [reference.READ_STATUS_2])
+    start().expect("--wp-status", err=["Error 6: no protection on this chip."])
+
+
+def lists_ranges(start):
+    """--wp-list prints each range that can be protected once, in the order of the least bits that select it."""
+    size, seen = 1 << 23, []
+    for bits in range(64):
+        if bits & 0x17 != 0x16:
+            first, after = protected_range(bytes([(bits & 0x1F) << 2, (bits & 0x20) << 1]), size)
+            it = (first, after - first) if after > first else (0, 0)
+            seen += [it] * (it not in seen)
+    check("ranges", len(seen), 40)
+    bench = start("W25Q64FV")
+    bench.expect("--wp-list", out=[f"0x{first:06x},0x{length:06x}" for first, length in seen])
+    start().expect("--wp-list", err=["Error 6: no protection on this chip."])
+
+
+def protects(start):
+    """--wp-range protects exactly a range, and its journal restores the protection bits."""
+    bench = start("W25Q64FV", status=b"\x04\x40")
+    bench.expect("--wp-range", "0,0x800000", "--journal", "j", out=[
+        "Found W25Q64FV (ef4017), 8388608 bytes.", "Done: touched 0, erases 0, programs 0, transactions 7."])
+    check("status bytes", bytes(bench.chip.status), b"\x1c\0")
+    bench.check_file("j", reference.journal("W25Q64FV", bytes(1 << 23), [], b"\x04\x40"))
+    bench.check_frames(reference.identify("W25Q64FV") + reference.write_status(b"\x1c\0"))
+    bench.expect("--restore", "j", out=[
+        "Found W25Q64FV (ef4017), 8388608 bytes.", "Done: touched 0, erases 0, programs 0, transactions 7."])
+    check("status bytes", bytes(bench.chip.status), b"\x04\x40")
+    bench.expect("--wp-range", "0x1000,0x1000", "--journal", "k", err=["Error 8: range not offered."])
+
+
+CASES = [identifies, sets_the_clock, selects_a_chip, keeps_to_the_protocol, names_the_chip, reads, reads_regions,
+         verifies, verifies_regions, writes, writes_without_verification, writes_regions, changes_nothing, erases,
+         erases_regions, prints_the_size, shows_protection, lists_ranges, protects]

@@ -1,0 +1,144 @@
+"""What flashnor sends and writes, computed from docs/SPECIFICATION.md for a chip that is never busy.
+
+A plan is a list of transactions, each the bytes sent and the number of bytes received. `frames` makes the bytes of the
+serprog protocol from it. None of this is taken from the program.
+"""
+import hashlib
+
+from chip import CMP, ERASES, PAGE, PARTS, READ_DATA, READ_ID, READ_SFDP, READ_UNIQUE, SECTOR
+
+POLL = (b"\x05", 1)
+READ_STATUS_2 = (b"\x35", 1)
+WRITE_ENABLE = (b"\x06", 0)
+PROTECTION_1 = 0x7C
+
+
+def command(opcode, address=None, dummies=0):
+    """Returns an opcode, with three address bytes if an address is given, and dummy bytes."""
+    return bytes([opcode]) + (b"" if address is None else address.to_bytes(3, "big")) + bytes(dummies)
+
+
+def frames(plan):
+    """Returns the serprog frames of a plan (O_SPIOP). Data is read twice."""
+    found = bytearray()
+    for out, replies in plan:
+        frame = b"\x13" + len(out).to_bytes(3, "little") + replies.to_bytes(3, "little") + out
+        found += frame * (2 if out[0] == READ_DATA else 1)
+    return bytes(found)
+
+
+def probe(part):
+    """Returns the plan of a probe. A part that the table doesn't have is identified by its SFDP."""
+    plan = [POLL, (command(READ_ID), 3)]
+    if part == "TINY64":
+        plan += [(command(READ_SFDP, at, 1), length) for at, length in ((0, 8), (8, 8), (16, 36))]
+    return plan
+
+
+def identify(part):
+    """Returns the plan of the first step of a session or a restore."""
+    return probe(part) + [READ_STATUS_2, (command(READ_UNIQUE, 0, 1), 8)]
+
+
+def read_sector(number):
+    return command(READ_DATA, number * SECTOR), SECTOR
+
+
+def operation(out):
+    """Returns the plan of an operation of a chip that is never busy."""
+    return [WRITE_ENABLE, (out, 0), POLL]
+
+
+def write_status(status):
+    return operation(bytes([0x01]) + status)
+
+
+def without_protection(status):
+    """Returns status bytes with all protection bits clear."""
+    return bytes([status[0] & ~PROTECTION_1 & 0xFC, status[1] & ~CMP])
+
+
+def sector_of(data, number):
+    return data[number * SECTOR : (number + 1) * SECTOR]
+
+
+def erases(raised, size):
+    """Returns the plan that erases these sectors, in ascending order."""
+    raised, plan = set(raised), []
+    if len(raised) == size // SECTOR:
+        return operation(b"\xc7")
+    left = sorted(raised)
+    while left:
+        for opcode, length in sorted(ERASES.items(), key=lambda it: -it[1]):
+            count = length // SECTOR
+            block = range(left[0] // count * count, left[0] // count * count + count)
+            if raised.issuperset(block):
+                break
+        plan += operation(command(opcode, block[0] * SECTOR))
+        left = [it for it in left if it not in block]
+    return plan
+
+
+def programs(number, old, target):
+    """Returns the plan that programs a sector: for each page one span, from its first to its last difference."""
+    plan = []
+    for at in range(0, SECTOR, PAGE):
+        differ = [at + i for i in range(PAGE) if old[at + i] != target[at + i]]
+        if differ:
+            first, after = differ[0], differ[-1] + 1
+            plan += operation(command(0x02, number * SECTOR + first) + target[first:after])
+    return plan
+
+
+def change(old, target, numbers, verifies=True):
+    """Returns the plan of the steps erase, program and verify, for these sectors of an unprotected chip."""
+    touched = [it for it in numbers if sector_of(old, it) != sector_of(target, it)]
+    raised = [it for it in touched
+              if any(new & ~was for was, new in zip(sector_of(old, it), sector_of(target, it)))]
+    plan = erases(raised, len(old))
+    for number in touched:
+        was = sector_of(old, number)
+        if number in raised:
+            was = b"\xff" * SECTOR
+        else:
+            plan.append(read_sector(number))
+        plan += programs(number, was, sector_of(target, number))
+    return plan + [read_sector(it) for it in touched] * verifies
+
+
+def session(part, old, target, numbers=None, verifies=True):
+    """Returns the plan of a session on an unprotected chip. `numbers` are the sectors with an included address."""
+    numbers = range(len(old) // SECTOR) if numbers is None else numbers
+    return identify(part) + [read_sector(it) for it in numbers] + change(old, target, numbers, verifies)
+
+
+def restore(part, now, old, saved):
+    """Returns the plan of a restore on an unprotected chip that holds `now`, of a journal that saved these sectors."""
+    return identify(part) + [read_sector(it) for it in saved] + change(now, old, saved)
+
+
+def touched(old, target):
+    return [it for it in range(len(old) // SECTOR) if sector_of(old, it) != sector_of(target, it)]
+
+
+def journal(part, old, saved, status=b"\0\0", unique=bytes(8)):
+    """Returns a journal of format 2 that saves these sectors of a chip (man/flashnor-journal.5)."""
+    found = b"NORUNDO2" + PARTS[part].id + unique + status + len(old).to_bytes(4, "little")
+    for number in saved:
+        found += number.to_bytes(4, "little") + sector_of(old, number)
+    found += b"\xff" * 4
+    return found + hashlib.sha256(found).digest()
+
+
+def done(plan, old, target):
+    """Returns the line that a session or a restore with this plan prints."""
+    erased = sum(out[0] in (*ERASES, 0xC7) for out, _ in plan)
+    programmed = sum(out[0] == 0x02 for out, _ in plan)
+    return f"Done: touched {len(touched(old, target))}, erases {erased}, programs {programmed}, " \
+        f"transactions {len(plan)}."
+
+
+def found(part):
+    """Returns the line that names a chip."""
+    name = "SFDP" if part == "TINY64" else part
+    return f"Found {name} ({PARTS[part].id.hex()}), {PARTS[part].size} bytes."

@@ -1,0 +1,241 @@
+"""Cases of --unlock, of --restore, of refusals, and of usage faults. The lines are those of docs/SPECIFICATION.md."""
+import reference
+from bench import check
+from chip import SECTOR
+from options import FREE, SIZE, images
+
+LARGE = 1 << 23
+FOUND = "Found W25Q64FV (ef4017), 8388608 bytes."
+LAST = LARGE // SECTOR - 1
+LAYOUT = b"7ff000:7fffff last\n0:fff first\n"
+
+
+def large_images():
+    """Returns two images of a W25Q64FV: only the last byte differs, and falls."""
+    return b"\xff" * LARGE, b"\xff" * (LARGE - 1) + b"\0"
+
+
+def unlocks(start):
+    """--unlock clears the protection bits, and restores them after the last program."""
+    old, new = large_images()
+    bench = start("W25Q64FV", data=old, status=b"\x04\0")
+    bench.write("new", new)
+    bench.write("layout", LAYOUT)
+    bench.expect("-w", "new", "--unlock", "-l", "layout", "-i", "last", "--journal", "j", out=[
+        FOUND, "Done: touched 1, erases 0, programs 1, transactions 16."])
+    bench.check_chip(new, b"\x04\0")
+    bench.check_file("j", reference.journal("W25Q64FV", old, [LAST], b"\x04\0"))
+    last = [reference.read_sector(LAST)]
+    bench.check_frames(reference.identify("W25Q64FV") + last + reference.write_status(b"\0\0") + last
+                       + reference.operation(bytes.fromhex("027fffff00")) + reference.write_status(b"\x04\0") + last)
+
+
+def refuses_protected(start):
+    """Without --unlock a protected sector is error 10, and nothing is changed."""
+    old, new = large_images()
+    bench = start("W25Q64FV", data=old, status=b"\x04\0")
+    bench.write("new", new)
+    bench.write("layout", LAYOUT)
+    bench.expect("-w", "new", "-l", "layout", "-i", "last", "--journal", "j", err=["Error 10: protected at 0x7ff000."])
+    bench.check_frames(reference.identify("W25Q64FV") + [reference.read_sector(LAST)])
+    bench.check_chip(old, b"\x04\0")
+
+
+def refuses_locked(start):
+    """A status that is locked is error 9, for --unlock and for --wp-range."""
+    old, new = large_images()
+    for status in b"\x84\0", b"\x04\x01":
+        bench = start("W25Q64FV", data=old, status=status)
+        bench.write("new", new)
+        bench.write("layout", LAYOUT)
+        bench.expect("-w", "new", "--unlock", "-l", "layout", "-i", "last", "--journal", "j",
+                     err=["Error 9: status locked."])
+        bench.expect("--wp-range", "0,0", "--journal", "k", err=["Error 9: status locked."])
+        bench.check_chip(old, status)
+
+
+def restores(start):
+    """--restore restores the original chip, and reads and writes only the saved sectors."""
+    old, new = images("restores")
+    bench = start(data=new)
+    bench.write("j", reference.journal("TINY64", old, (1, 2, 7, 15)))
+    plan = reference.restore("TINY64", new, old, (1, 2, 7, 15))
+    bench.expect("--restore", "j", out=[reference.found("TINY64"), reference.done(plan, old, new)])
+    bench.check_chip(old)
+    bench.check_frames(plan)
+    bench.expect("--restore", "j", out=[
+        "Found SFDP (fe1010), 65536 bytes.", "Done: touched 0, erases 0, programs 0, transactions 11."])
+    bench.check_file("j", reference.journal("TINY64", old, (1, 2, 7, 15)))
+
+
+def restores_the_named_chip(start):
+    """--restore with -c probes for the name before it restores."""
+    old, new = images("restores_the_named_chip")
+    bench = start(data=new)
+    bench.write("j", reference.journal("TINY64", old, (1, 2, 7, 15)))
+    bench.expect("--restore", "j", "-c", "W25Q64FV", err=["Error 3: another chip than named."])
+    bench.check_frames(reference.probe("TINY64"))
+    plan = reference.restore("TINY64", new, old, (1, 2, 7, 15))
+    bench.expect("--restore", "j", "-c", "SFDP", out=[reference.found("TINY64"), reference.done(plan, old, new)])
+    bench.check_frames(reference.probe("TINY64") + plan)
+    bench.check_chip(old)
+
+
+def restores_no_other(start):
+    """--restore refuses a damaged journal (15), another chip (16), another device (20) and another status (17)."""
+    old, new = images("restores_no_other")
+    unique = bytes.fromhex("d1d2d3d4d5d6d7d8")
+    bench = start(data=new, unique=unique)
+    whole = reference.journal("TINY64", old, [1], unique=unique)
+    bench.write("short", whole[:-1])
+    bench.write("large", reference.journal("W25Q64FV", bytes(LARGE), []))
+    bench.write("device", reference.journal("TINY64", old, [1]))
+    bench.write("status", reference.journal("TINY64", old, [1], b"\x80\0", unique))
+    bench.expect("--restore", "short", err=["Error 15: journal fault 1."])
+    bench.check_nothing_sent()
+    bench.expect("--restore", "large", err=["Error 16: another chip than the journal's."])
+    bench.expect("--restore", "device", err=["Error 20: another unit than the journal's."])
+    bench.expect("--restore", "status", err=["Error 17: status differs from the journal's."])
+    bench.check_chip(new)
+
+
+def keeps_old_journals(start):
+    """A journal that exists already is file fault 4, stays as it is, and nothing is sent."""
+    old, new = images("keeps_old_journals")
+    bench = start(data=old)
+    bench.write("new", new)
+    for content in b"", reference.journal("TINY64", new, [1]):
+        bench.write("j", content)
+        bench.expect("-w", "new", "--journal", "j", err=["File fault 4: j."])
+        bench.check_file("j", content)
+        bench.check_nothing_sent()
+    bench.expect("-r", "j", err=["File fault 4: j."])
+    bench.check_file("j", content)
+
+
+def refuses_images(start):
+    """An image of another length is error 4, and a missing file is file fault 1. The chip isn't changed."""
+    old, new = images("refuses_images")
+    bench = start(data=old)
+    bench.write("short", new[:-1])
+    bench.expect("-w", "short", "--journal", "j", err=["Error 4: image of 65535 bytes, chip of 65536 bytes."])
+    bench.expect("-v", "short", err=["Error 4: image of 65535 bytes, chip of 65536 bytes."])
+    bench.expect("-w", "none", "--journal", "k", err=["File fault 1: none."])
+    bench.check_nothing_sent()
+    bench.check_absent("k")
+    bench.check_chip(old)
+
+
+def refuses_regions(start):
+    """A wrong layout is a layout fault, and a region outside the chip is error 5. The chip isn't changed."""
+    bench = start(data=bytes(SIZE))
+    bench.write("layout", b"0:fff a\n10000:10fff b\n")
+    bench.write("wrong", b"0:fff a\n2000:1000 b\n")
+    bench.expect("-E", "-l", "layout", "-i", "b", "--journal", "j", err=["Error 5: region outside the chip."])
+    bench.expect("-E", "-l", "wrong", "-i", "a", "--journal", "k", err=["Layout fault 3 at line 2."])
+    bench.check_nothing_sent()
+    bench.expect("-E", "-l", "layout", "-i", "c", "--journal", "k", err=["Layout fault 8."])
+    bench.check_absent("k")
+    bench.check_chip(bytes(SIZE))
+
+
+def needs_a_chip(start):
+    """No chip is error 1, and a chip with neither a known ID nor SFDP is error 2."""
+    bench = start(data=FREE)
+    bench.chip.transfer = lambda out, replies: (b"\0" if out == b"\x05" else b"\xff") * replies
+    bench.expect(err=["Error 1: no chip."])
+    bench.expect("-E", "--journal", "j", err=["Error 1: no chip."])
+    bench.chip.transfer = lambda out, replies: (b"\x01\x02\x03" if out == b"\x9f" else b"\0" * replies)
+    bench.expect(err=["Error 2: unknown chip, SFDP fault 1."])
+
+
+def waits_for_the_chip(start):
+    """A chip with real durations is written, restored, and waited for if an earlier erase is still in progress."""
+    old, new = images("waits_for_the_chip")
+    bench = start(data=old, scale=1.0)
+    bench.write("new", new)
+    got = bench.run("-w", "new", "--journal", "j")
+    check("the last word", (got.status, got.err, got.out[:1]), (0, [], [reference.found("TINY64")]))
+    bench.chip.wait()
+    bench.check_chip(new)
+    # An erase of a saved sector, as a session that was killed leaves it.
+    bench.chip.transfer(b"\x06", 0)
+    bench.chip.transfer(bytes.fromhex("20002000"), 0)
+    check("the erase is in progress", bench.chip.is_busy(), True)
+    got = bench.run("--restore", "j")
+    check("the restore", (got.status, got.err, got.out[:1]), (0, [], [reference.found("TINY64")]))
+    bench.chip.wait()
+    bench.check_chip(old)
+    check("transactions that the busy chip ignored", bench.chip.ignored, 0)
+
+
+def uses_small_programmers(start):
+    """A programmer with the least limits that suffice is used: 260 bytes sent, 4,096 received."""
+    old, new = images("uses_small_programmers")
+    for traits in ({"longest_write": 260, "longest_read": 4096}, {"longest_write": 0, "longest_read": 0},
+                   {"lacks": (0x08, 0x11, 0x12), "buffer": 267}, {"lacks": (0x03, 0x04, 0x05, 0x08, 0x14, 0x15)}):
+        bench = start(data=old, **traits)
+        bench.write("new", new)
+        plan = reference.session("TINY64", old, new)
+        bench.expect("-w", "new", "--journal", "j", out=[reference.found("TINY64"), reference.done(plan, old, new)])
+        bench.check_chip(new)
+        bench.check_frames(plan)
+
+
+def takes_stale_bytes(start):
+    """Bytes that an earlier client left unread don't disturb a run."""
+    for stale in b"\x06", b"\x15\x06" * 20, bytes(range(256)) * 8:
+        bench = start(stale=stale)
+        bench.expect(out=[reference.found("TINY64")])
+
+
+# The text of -p, or other arguments, with the number of the usage fault.
+WRONG_PROGRAMMERS = (
+    "dummy:emulate=TINY64", "serprog", "serprog:", "serprog:dev=", "serprog:spispeed=1", "serprog:dev=DEV,",
+    "serprog:dev=DEV,dev=DEV", "serprog:dev=DEV,image=x", "serprog:dev=DEV,spispeed=0", "serprog:dev=DEV,spispeed=1M",
+    "serprog:dev=DEV,spispeed=4294967296", "serprog:dev=DEV,spispeed=", "serprog:dev=DEV,cs=256", "serprog:dev=DEV,cs=",
+    "serprog:dev=DEV,cs=1,cs=1")
+WRONG_ARGUMENTS = ((4, "-E --flash-size"), (5, "--wp-range 1 --journal j"), (6, "-E"), (6, "--flash-size --journal j"),
+                   (7, "-r out -l layout"), (7, "--wp-status -l layout -i a"), (8, "-r out -n"), (8, "-v x --unlock"))
+
+
+def refuses_arguments(start):
+    """Wrong arguments are usage faults, and nothing is sent."""
+    bench = start()
+    for text in WRONG_PROGRAMMERS:
+        got = bench.finish(bench.start_words([bench.program, "-p", bench.device(text)]))
+        bench.compare(got, [], ["Usage fault 3."])
+    for fault, words in WRONG_ARGUMENTS:
+        bench.expect(*words.split(), err=[f"Usage fault {fault}."])
+    bench.compare(bench.finish(bench.start_words([bench.program, "--flash-size"])), [], ["Usage fault 2."])
+    for words in ["-L"], ["--rehearse", "1"], ["--none"]:
+        got = bench.run(*words)
+        check("the last line", (got.out, got.err[-1:], got.status), ([], ["Usage fault 1."], 1))
+    bench.check_nothing_sent()
+
+
+def helps_with_the_device(start):
+    """ip= and a baud rate, as flashrom takes them, are refused with a line that says what to give instead."""
+    bench = start()
+    got = bench.finish(bench.start_words([bench.program, "-p", "serprog:ip=127.0.0.1:2000"]))
+    bench.compare(got, [], ["ip= is not supported. Give a device: -p serprog:dev=PATH.", "Usage fault 3."])
+    got = bench.run(keys=":115200")
+    stty = bench.device("stty -F DEV 115200 raw -echo clocal -hupcl min 0 time 50")
+    bench.compare(got, [], [f"dev= takes no baud rate. Set it with stty: {stty}", "Usage fault 3."])
+    bench.check_nothing_sent()
+
+
+def prints_help(start):
+    """-h prints the help to standard output, with the options, and sends nothing."""
+    bench = start()
+    got = bench.finish(bench.start_words([bench.program, "-h"]))
+    check("exit status and standard error", (got.status, got.err), (0, []))
+    help_text = "\n".join(got.out)
+    options = "-p -c -r -w -v -E --flash-size --wp-status --wp-list --wp-range --restore -l -i -n --unlock --journal"
+    check("options that the help lacks", [it for it in options.split() if it not in help_text], [])
+    bench.check_nothing_sent()
+
+
+CASES = [unlocks, refuses_protected, refuses_locked, restores, restores_the_named_chip, restores_no_other,
+         keeps_old_journals, refuses_images, refuses_regions, needs_a_chip, waits_for_the_chip, uses_small_programmers,
+         takes_stale_bytes, refuses_arguments, helps_with_the_device, prints_help]

@@ -1,0 +1,65 @@
+#!/usr/bin/env python3
+"""tests/serprog/self.py: whether run.py passes with a right program, and fails with a wrong one.
+
+The program is stand_in.py, which makes a mistake that the environment names. For each mistake one case, or a loss, must
+fail. The last line is `N passed, M failed`.
+"""
+import os
+import subprocess
+import sys
+from concurrent.futures import ThreadPoolExecutor
+from pathlib import Path
+
+HERE = Path(__file__).resolve().parent
+
+# A mistake, and the case that must detect it.
+MISTAKES = {
+    "opens anything": "needs_a_character_device",
+    "does not lock": "holds_its_lock",
+    "synchronizes once": "takes_stale_bytes",
+    "takes any version": "needs_version_1",
+    "takes small limits": "needs_wide_limits",
+    "reads once": "reads_twice",
+    "verifies anything": "verifies",
+    "restores any device": "restores_no_other",
+    "restores nothing": "restores",
+    "saves nothing": "writes",
+    "seals late": "writes",
+    "does not enable writes": "erases",
+    "overwrites journals": "keeps_old_journals",
+}
+RIGHT = sorted(set(MISTAKES.values()))
+
+
+def run(mistake, names):
+    """Runs cases with a mistake of the program, and returns the exit status and the lines."""
+    words = [sys.executable, HERE / "run.py", HERE / "stand_in.py", *names]
+    done = subprocess.run(words, env=dict(os.environ, MISTAKE=mistake), stdout=subprocess.PIPE, text=True, check=False)
+    return done.returncode, done.stdout.splitlines()
+
+
+def detects(mistake):
+    """Returns whether the case of a mistake fails, and no other thing does."""
+    name = MISTAKES[mistake]
+    status, lines = run(mistake, [name])
+    return status == 1 and any(it.startswith(f"FAILED: {name}:") for it in lines) and lines[-1] == "0 passed, 1 failed"
+
+
+def main():
+    status, lines = run("", RIGHT)
+    passed = int(status == 0 and lines[-1] == f"{len(RIGHT)} passed, 0 failed")
+    failed = 1 - passed
+    if failed:
+        print(*lines, "FAILED: the right program", sep="\n")
+    with ThreadPoolExecutor(os.cpu_count()) as pool:
+        for mistake, is_detected in zip(MISTAKES, pool.map(detects, MISTAKES)):
+            passed += is_detected
+            failed += not is_detected
+            if not is_detected:
+                print(f"FAILED: the case {MISTAKES[mistake]} doesn't detect a program that {mistake}")
+    print(f"{passed} passed, {failed} failed")
+    return int(failed > 0)
+
+
+if __name__ == "__main__":
+    sys.exit(main())

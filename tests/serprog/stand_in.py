@@ -1,0 +1,289 @@
+#!/usr/bin/env python3
+"""A stand-in for flashnor-serprog, for tests of the tests: they must pass with it, and fail with each of its mistakes.
+
+self.py runs them. The stand-in knows the options that the cases use, and leaves out what they don't. The environment
+variable MISTAKE names the mistake that it makes. Don't use it on a chip.
+"""
+import hashlib
+import sys
+from pathlib import Path
+
+import reference
+from chip import CMP, PARTS, SECTOR, SRP0, SRP1, protected_range
+from stand_in_link import HELP, MISTAKE, Fault, Link, Stopped, arguments, check_usage, probe
+
+RESTORE = " Then restore the chip with --restore and the journal."
+UNPLUG = "Disconnect the programmer from power for a second before the next run."
+
+
+def read_file(name):
+    try:
+        return Path(name).read_bytes()
+    except OSError:
+        raise Fault(f"File fault 1: {name}.") from None
+
+
+def regions(given):
+    """Returns the included addresses as ranges, or None for the whole chip."""
+    if "-l" not in given:
+        return None
+    found = {}
+    for number, line in enumerate(read_file(given["-l"]).decode().splitlines(), 1):
+        addresses, name = line.split()
+        start, end = (int(it, 16) for it in addresses.split(":"))
+        if end < start:
+            raise Fault(f"Layout fault 3 at line {number}.")
+        found[name] = range(start, end + 1)
+    if any(it not in found for it in given["-i"].split(",")):
+        raise Fault("Layout fault 8.")
+    return [found[it] for it in given["-i"].split(",")]
+
+
+def included_sectors(ranges, size):
+    if ranges is None:
+        return list(range(size // SECTOR))
+    if any(it[-1] >= size for it in ranges):
+        raise Fault("Error 5: region outside the chip.")
+    return sorted({at for it in ranges for at in range(it[0] // SECTOR, it[-1] // SECTOR + 1)})
+
+
+def mixed(old, new, ranges):
+    """Returns the new bytes inside the ranges, and the old ones outside."""
+    if ranges is None:
+        return new
+    found = bytearray(old)
+    for it in ranges:
+        found[it.start : it.stop] = new[it.start : it.stop]
+    return bytes(found)
+
+
+class Job:
+    """A run on a chip."""
+
+    def __init__(self, link, given):
+        self.link, self.given = link, given
+        self.ranges = regions(given)
+
+    def found(self, name=None):
+        self.part = probe(self.link, name)
+        self.size = PARTS[self.part].size
+        return reference.found(self.part)
+
+    def scan(self, numbers, fill=b"\xff"):
+        """Returns the bytes of these sectors, with FFh elsewhere."""
+        found = bytearray(fill * self.size)
+        for number in numbers:
+            found[number * SECTOR : (number + 1) * SECTOR] = self.link.transfer(*reference.read_sector(number))
+        return bytes(found)
+
+    def read(self):
+        line = self.found(self.given.get("-c"))
+        name = self.given["-r"]
+        if Path(name).exists() and Path(name).read_bytes()[:7] == b"NORUNDO":
+            raise Fault(f"File fault 4: {name}.")
+        data = self.scan(included_sectors(self.ranges, self.size))
+        Path(name).write_bytes(mixed(b"\xff" * self.size, data, self.ranges))
+        return line, f"Read {self.size} bytes."
+
+    def verify(self):
+        image = read_file(self.given["-v"])
+        line = self.found(self.given.get("-c"))
+        self.check_length(image)
+        data = self.scan(included_sectors(self.ranges, self.size))
+        wanted = mixed(data, image, self.ranges)
+        if data != wanted and MISTAKE != "verifies anything":
+            at = next(at for at in range(self.size) if data[at] != wanted[at])
+            raise Fault(f"Error 14: bytes differ at 0x{at:06x}.")
+        return line, "Verified."
+
+    def check_length(self, image):
+        if len(image) != self.size:
+            raise Fault(f"Error 4: image of {len(image)} bytes, chip of {self.size} bytes.")
+
+    def open_status(self):
+        """Reads status 2 and the unique ID, and returns the non-volatile status bits."""
+        second = self.link.transfer(b"\x35", 1)
+        self.unique = self.link.transfer(*reference.identify("TINY64")[-1])
+        return bytes([self.link.status]) + second
+
+    def change(self):
+        """-w or -E."""
+        image = read_file(self.given["-w"]) if "-w" in self.given else None
+        line = self.found(self.given.get("-c"))
+        image = b"\xff" * self.size if image is None else image
+        self.check_length(image)
+        numbers = included_sectors(self.ranges, self.size)
+        status = self.open_status()
+        old = self.scan(numbers)
+        target = mixed(old, image, self.ranges)
+        saved = [it for it in numbers if reference.sector_of(old, it) != reference.sector_of(target, it)]
+        self.check_protection(saved, status)
+        self.put_journal(old, [] if MISTAKE == "saves nothing" else saved, status)
+        self.apply(old, target, saved, status, "-n" not in self.given)
+        return line, self.done(saved)
+
+    def check_protection(self, saved, status):
+        self.lifts = False
+        first, after = protected_range(status, self.size) if PARTS[self.part].has_protection else (0, 0)
+        hit = [it for it in saved if it * SECTOR < after and first < (it + 1) * SECTOR]
+        if hit and "--unlock" not in self.given:
+            raise Fault(f"Error 10: protected at 0x{hit[0] * SECTOR:06x}.")
+        self.lifts = bool(hit)
+        if hit:
+            self.check_locked(status)
+
+    @staticmethod
+    def check_locked(status):
+        if status[0] & SRP0 or status[1] & SRP1:
+            raise Fault("Error 9: status locked.")
+
+    def put_journal(self, old, saved, status):
+        whole = reference.journal(self.part, old, saved, status, self.unique)
+        Path(self.given["--journal"]).write_bytes(whole[:-1] if MISTAKE == "seals late" else whole)
+
+    def apply(self, old, target, saved, status, verifies):
+        steps = reference.change(old, target, saved, verifies)
+        last = len(saved) if verifies else 0
+        if self.lifts:
+            steps = reference.write_status(reference.without_protection(status)) + steps[: len(steps) - last] \
+                + reference.write_status(status) + steps[len(steps) - last :]
+        if MISTAKE == "does not enable writes":
+            steps = [it for it in steps if it[0] != b"\x06"]
+        self.steps = steps
+        self.link.run(steps)
+
+    def done(self, saved):
+        erased = sum(out[0] in (0x20, 0x52, 0xD8, 0xC7) for out, _ in self.steps)
+        programmed = sum(out[0] == 0x02 for out, _ in self.steps)
+        return f"Done: touched {len(saved)}, erases {erased}, programs {programmed}, transactions {self.link.count}."
+
+    def restore(self):
+        name = self.given["--restore"]
+        whole = read_file(name)
+        if hashlib.sha256(whole[:-32]).digest() != whole[-32:]:
+            raise Fault("Error 15: journal fault 1.")
+        return self.restore_from(whole)
+
+    def restore_from(self, whole):
+        if "-c" in self.given:
+            self.found(self.given["-c"])
+        self.link.count = 0
+        line = self.found()
+        if whole[8:11] != PARTS[self.part].id:
+            raise Fault("Error 16: another chip than the journal's.")
+        status = self.open_status()
+        if whole[11:19] != self.unique and MISTAKE != "restores any device":
+            raise Fault("Error 20: another unit than the journal's.")
+        if not PARTS[self.part].has_protection and whole[19:21] != status:
+            raise Fault("Error 17: status differs from the journal's.")
+        saved, records = [], whole[25:-36]
+        target = bytearray(b"\xff" * self.size)
+        for at in range(0, len(records), SECTOR + 4):
+            number = int.from_bytes(records[at : at + 4], "little")
+            saved.append(number)
+            target[number * SECTOR : (number + 1) * SECTOR] = records[at + 4 : at + 4 + SECTOR]
+        now = self.scan(saved)
+        changed = [it for it in saved if reference.sector_of(now, it) != reference.sector_of(target, it)]
+        self.lifts = False
+        self.apply(now, bytes(target), [] if MISTAKE == "restores nothing" else changed, status, True)
+        if whole[19:21] != status:
+            self.link.run(reference.write_status(whole[19:21]))
+        return line, self.done(changed)
+
+    def protection(self):
+        """--wp-status, --wp-list and --wp-range."""
+        line = self.found(self.given.get("-c"))
+        if not PARTS[self.part].has_protection:
+            raise Fault("Error 6: no protection on this chip.")
+        if "--wp-range" in self.given:
+            return line, self.protect()
+        return self.list_ranges() if "--wp-list" in self.given else self.show_protection()
+
+    def show_protection(self):
+        second = self.link.transfer(b"\x35", 1)
+        status = bytes([self.link.status, second[0]])
+        first, after = protected_range(status, self.size)
+        text = f"0x{first if after > first else 0:06x},0x{after - first:06x}"
+        if status[0] & 0x40 and status[0] >> 2 & 7 == 6:
+            text = "undefined"
+        return f"Range: {text}", f"Mode: {'locked' if status[0] & SRP0 or status[1] & SRP1 else 'open'}"
+
+    def codes(self):
+        """Returns each range that can be protected, with the least bits that select it."""
+        found = {}
+        for bits in range(64):
+            if bits & 0x17 != 0x16:
+                status = bytes([(bits & 0x1F) << 2, (bits & 0x20) << 1])
+                first, after = protected_range(status, self.size)
+                found.setdefault((first, after - first) if after > first else (0, 0), status)
+        return found
+
+    def list_ranges(self):
+        return [f"0x{first:06x},0x{length:06x}" for first, length in self.codes()]
+
+    def protect(self):
+        status = self.open_status()
+        first, length = (int(it, 0) for it in self.given["--wp-range"].split(","))
+        if (first, length) not in self.codes():
+            raise Fault("Error 8: range not offered.")
+        code = self.codes()[first, length]
+        new = bytes([status[0] & 0x80 | code[0], status[1] & ~CMP | code[1]])
+        if new != status:
+            self.check_locked(status)
+        self.put_journal(b"\xff" * self.size, [], status)
+        self.steps = reference.write_status(new) if new != status else []
+        self.link.run(self.steps)
+        return self.done([])
+
+
+def job_of(given):
+    """Returns the function that does the operation."""
+    for words, job in ((("-r",), Job.read), (("-v",), Job.verify), (("-w", "-E"), Job.change),
+                       (("--restore",), Job.restore), (("--wp-status", "--wp-list", "--wp-range"), Job.protection)):
+        if any(it in given for it in words):
+            return job
+    if "--flash-size" in given:
+        return lambda job: [job.found(given.get("-c")) and str(job.size)]
+    return lambda job: [job.found(given.get("-c"))]
+
+
+def run(words):
+    given = arguments(words)
+    if "-h" in given:
+        return [HELP]
+    keys = check_usage(given)
+    for option in ("-w", "-v", "-l", "--restore"):
+        if option in given:
+            read_file(given[option])
+    regions(given)
+    if "--restore" in given and len(Path(given["--restore"]).read_bytes()) % (SECTOR + 4) not in (61,):
+        raise Fault("Error 15: journal fault 1.")
+    journal = given.get("--journal")
+    if journal and Path(journal).exists() and MISTAKE != "overwrites journals":
+        raise Fault(f"File fault 4: {journal}.")
+    job = Job(Link(keys["dev"], keys), given)
+    if journal:
+        Path(journal).touch()
+    try:
+        return job_of(given)(job)
+    except Stopped as why:
+        if "two reads" in str(why):
+            advice = "Lower the clock (spispeed=), shorten the wires, and try again."
+        else:
+            advice = UNPLUG + (RESTORE if journal or "--restore" in given else "")
+        raise Fault("Error 12: stopped.", f"Cause: {why}. {advice}") from None
+
+
+def main():
+    try:
+        for line in run(sys.argv[1:]):
+            print(line)
+    except Fault as why:
+        for line in why.args:
+            print(line, file=sys.stderr)
+        return 1
+    return 0
+
+
+if __name__ == "__main__":
+    sys.exit(main())

@@ -1,0 +1,243 @@
+"""The arguments and the wire of the stand-in (stand_in.py)."""
+import fcntl
+import os
+import re
+import stat
+
+import reference
+from chip import PARTS
+
+MISTAKE = os.environ.get("MISTAKE", "")
+STTY = "stty -F {} raw -echo clocal -hupcl min 0 time 50"
+ROW = bytes.fromhex("10100010000010101000000010001010")
+FIRMWARE = ". Install other firmware on it."
+OPERATIONS = ("-r", "-w", "-v", "-E", "--flash-size", "--wp-status", "--wp-list", "--wp-range", "--restore")
+TAKE_VALUES = ("-p", "-c", "-r", "-w", "-v", "--wp-range", "--restore", "-l", "-i", "--journal")
+HELP = "options: -h -n --unlock -E --flash-size --wp-status --wp-list " + " ".join(TAKE_VALUES)
+
+
+class Fault(Exception):
+    """Lines of standard error. The exit status is 1."""
+
+
+class Stopped(Exception):
+    """The cause of error 12."""
+
+
+def usage(number, *lines):
+    return Fault(*lines, f"Usage fault {number}.")
+
+
+def arguments(words):
+    """Returns the options with their values."""
+    found, words = {}, list(words)
+    while words:
+        word = words.pop(0)
+        if word not in (*TAKE_VALUES, "-E", "-n", "--unlock", "--flash-size", "--wp-status", "--wp-list", "-h"):
+            raise usage(1, f"unexpected argument {word}")
+        found[word] = words.pop(0) if word in TAKE_VALUES else ""
+    return found
+
+
+def programmer_keys(text):
+    """Returns the keys of -p."""
+    if text.startswith("serprog:ip="):
+        raise usage(3, "ip= is not supported. Give a device: -p serprog:dev=PATH.")
+    found = {}
+    for part in text.removeprefix("serprog:").split(","):
+        key, _, value = part.partition("=")
+        rule = {"dev": ".+", "spispeed": "0*[1-9][0-9]{0,9}", "cs": "[0-9]{1,3}"}.get(key)
+        if not rule or key in found or not re.fullmatch(rule, value) or (key != "dev" and len(value) > 10):
+            raise usage(3)
+        found[key] = value
+    if not text.startswith("serprog:") or "dev" not in found or int(found.get("cs", 0)) > 255 or \
+            int(found.get("spispeed", 1)) > 0xFFFFFFFF:
+        raise usage(3)
+    baud = re.search(":([0-9]+)$", found["dev"])
+    if baud:
+        line = STTY.replace("{}", "{} " + baud[1]).format(found["dev"][: baud.start()])
+        raise usage(3, f"dev= takes no baud rate. Set it with stty: {line}")
+    return found
+
+
+def check_usage(given):
+    """Raises the first usage fault of these options, and returns the keys of -p."""
+    if "-p" not in given:
+        raise usage(2)
+    keys = programmer_keys(given["-p"])
+    asked = [it for it in OPERATIONS if it in given]
+    changes = any(it in given for it in ("-w", "-E", "--wp-range"))
+    has_regions = any(it in given for it in ("-r", "-w", "-v", "-E"))
+    if len(asked) > 1:
+        raise usage(4)
+    if "--wp-range" in given and not re.fullmatch("[0-9a-fx]+,[0-9a-fx]+", given["--wp-range"]):
+        raise usage(5)
+    if changes != ("--journal" in given):
+        raise usage(6)
+    if ("-l" in given) != ("-i" in given) or ("-l" in given and not has_regions):
+        raise usage(7)
+    if ("-n" in given or "--unlock" in given) and not ("-w" in given or "-E" in given):
+        raise usage(8)
+    return keys
+
+
+class Link:
+    """A programmer at a device."""
+
+    def __init__(self, path, keys):
+        self.path, self.count, self.status = path, 0, 0
+        self.device = self.open(path)
+        self.synchronize()
+        self.identify(keys)
+
+    @staticmethod
+    def open(path):
+        if not os.path.exists(path):
+            raise Fault(f"Programmer fault 1: {path} cannot be opened. Check its name, and that you may read and write "
+                        "it.")
+        if not stat.S_ISCHR(os.stat(path).st_mode) and MISTAKE != "opens anything":
+            raise Fault(f"Programmer fault 2: {path} is not a character device. Name the serial port of the "
+                        "programmer.")
+        device = os.open(path, os.O_RDWR | os.O_NOCTTY)
+        try:
+            if MISTAKE != "does not lock":
+                fcntl.flock(device, fcntl.LOCK_EX | fcntl.LOCK_NB)
+        except BlockingIOError:
+            raise Fault(f"Programmer fault 3: {path} is in use by another program. End that program first.") from None
+        return device
+
+    def send(self, content):
+        try:
+            os.write(self.device, content)
+        except OSError as why:
+            raise Stopped(f"the port failed: {why.strerror}") from None
+
+    def receive(self, length):
+        found = b""
+        while len(found) < length:
+            try:
+                got = os.read(self.device, length - len(found))
+            except OSError as why:
+                raise Stopped(f"the port failed: {why.strerror}") from None
+            if not got:
+                raise Stopped("the programmer is silent")
+            found += got
+        return found
+
+    def find(self, wanted):
+        last = b""
+        for _ in range(1 << 16):
+            last = (last + self.receive(1))[-len(wanted) :]
+            if last == wanted:
+                return
+        raise Stopped("the programmer did not reply to SYNCNOP as it must")
+
+    def synchronize(self):
+        try:
+            self.send(b"\x10")
+            self.find(b"\x15\x06")
+            if MISTAKE != "synchronizes once":
+                self.send(ROW)
+                self.find(b"".join(b"\x15\x06" if it else b"\x06" for it in ROW))
+        except Stopped as why:
+            self.refuse(str(why))
+
+    def refuse(self, text):
+        if "silent" in text:
+            raise Fault(f"Programmer fault 4: {text}. Check its cable, and set up the port: {STTY.format(self.path)}")
+        raise Fault(f"Programmer fault 5: {text}. Disconnect the programmer from power, connect it again, and set up "
+                    f"the port: {STTY.format(self.path)}")
+
+    def exchange(self, frame, length):
+        self.send(frame)
+        first = self.receive(1)[0]
+        if first == 0x15:
+            raise Stopped(f"the programmer refused command {frame[0]:02X}h")
+        if first != 6:
+            raise Stopped(f"the programmer answered {first:02X}h, which is neither ACK nor NAK")
+        return self.receive(length)
+
+    def identify(self, keys):
+        version = int.from_bytes(self.exchange(b"\x01", 2), "little")
+        if version != 1 and MISTAKE != "takes any version":
+            raise Fault(f"Programmer fault 6: the programmer speaks version {version} of serprog, and only version 1 "
+                        "is known" + FIRMWARE)
+        self.map = int.from_bytes(self.exchange(b"\x02", 32), "little")
+        self.need(0x13, FIRMWARE)
+        self.select_spi()
+        self.check_limits()
+        if "spispeed" in keys:
+            self.need(0x14, ". Leave spispeed= out.")
+            self.exchange(b"\x14" + int(keys["spispeed"]).to_bytes(4, "little"), 4)
+        if self.has(0x15):
+            self.exchange(b"\x15\x01", 0)
+        if "cs" in keys:
+            try:
+                self.exchange(b"\x16" + bytes([int(keys["cs"])]), 0)
+            except Stopped:
+                self.map &= ~(1 << 0x16)
+                self.need(0x16, ". Leave cs= out.")
+
+    def has(self, opcode):
+        return self.map >> opcode & 1
+
+    def need(self, opcode, advice):
+        if not self.has(opcode):
+            raise Fault(f"Programmer fault 7: the programmer lacks command {opcode:02X}h, which is needed here{advice}")
+
+    def select_spi(self):
+        buses = self.exchange(b"\x05", 1)[0] if self.has(0x05) else 8
+        if not buses & 8 or (buses != 8 and not self.has(0x12)):
+            raise Fault(f"Programmer fault 8: the programmer cannot be set to SPI: its types of bus are {buses:02X}h"
+                        + FIRMWARE)
+        if self.has(0x12):
+            self.exchange(b"\x12\x08", 0)
+
+    def check_limits(self):
+        def limit(opcode, length):
+            return int.from_bytes(self.exchange(bytes([opcode]), length), "little") or 1 << 24 if self.has(opcode) \
+                else 1 << 24
+        sends, reads = limit(0x08, 3), limit(0x11, 3)
+        if sends < 260 and MISTAKE != "takes small limits":
+            raise Fault(f"Programmer fault 9: the programmer sends at most {sends} bytes in a transaction, and a page "
+                        "program needs 260" + FIRMWARE)
+        if reads < 4096:
+            raise Fault(f"Programmer fault 9: the programmer reads at most {reads} bytes in a transaction, and a "
+                        "sector needs 4096" + FIRMWARE)
+        size = limit(0x04, 2)
+        if size < 267 and not self.has(0x08):
+            raise Fault(f"Programmer fault 9: the serial buffer of the programmer has {size} bytes, and a page program "
+                        "needs 267" + FIRMWARE)
+
+    def transfer(self, out, length):
+        self.count += 1
+        lengths = len(out).to_bytes(3, "little") + length.to_bytes(3, "little")
+        reply = self.exchange(b"\x13" + lengths + out, length)
+        if out[0] == 3 and MISTAKE != "reads once" and self.exchange(b"\x13" + lengths + out, length) != reply:
+            raise Stopped("two reads of the same bytes differ")
+        return reply
+
+    def run(self, plan):
+        """Carries out a plan, and polls as long as the chip is busy."""
+        reply = b""
+        for out, length in plan:
+            reply = self.transfer(out, length)
+            while out == b"\x05" and reply[0] & 1:
+                reply = self.transfer(out, length)
+        return reply
+
+
+def probe(link, name=None):
+    """Returns the part that is there. Afterwards `link.status` has the bits of status 1 that are non-volatile."""
+    link.status = link.run([(b"\x05", 1)])[0] & 0xFC
+    found = link.transfer(b"\x9f", 3)
+    if found in (b"\xff" * 3, b"\0" * 3):
+        raise Fault("Error 1: no chip.")
+    part = next((it for it in PARTS if PARTS[it].id == found), None)
+    if part in (None, "TINY64"):
+        headers = [link.transfer(*it) for it in reference.probe("TINY64")[2:]]
+        if headers[0][:4] != b"SFDP":
+            raise Fault("Error 2: unknown chip, SFDP fault 1.")
+    if name not in (None, "SFDP" if part == "TINY64" else part):
+        raise Fault("Error 3: another chip than named.")
+    return part
