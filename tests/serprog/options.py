@@ -82,7 +82,7 @@ def reads(start):
     bench = start(data=old)
     bench.expect("-r", "out", out=[reference.found("TINY64"), "Read 65536 bytes."])
     bench.check_file("out", old)
-    bench.check_frames(reference.probe("TINY64") + [reference.read_sector(it) for it in range(16)])
+    bench.check_frames(reference.read_out("TINY64", range(16)))
 
 
 def reads_regions(start):
@@ -93,8 +93,7 @@ def reads_regions(start):
     bench.expect("-r", "out", "-l", "layout", "-i", "byte,upper",
                  out=[reference.found("TINY64"), "Read 65536 bytes."])
     bench.check_file("out", b"\xff" * 0x1001 + old[0x1001:0x1002] + b"\xff" * 0x6FFE + old[0x8000:])
-    numbers = [1, *range(8, 16)]
-    bench.check_frames(reference.probe("TINY64") + [reference.read_sector(it) for it in numbers])
+    bench.check_frames(reference.read_out("TINY64", [1, *range(8, 16)]))
 
 
 def verifies(start):
@@ -175,7 +174,7 @@ def erases(start):
     bench.expect("-E", "--journal", "j", out=[
         "Found SFDP (fe1010), 65536 bytes.", "Done: touched 16, erases 1, programs 0, transactions 42."])
     bench.check_chip(FREE)
-    bench.check_frames(reference.session("TINY64", old, FREE))
+    bench.check_frames(reference.erasure("TINY64", old, FREE, range(16)))
     bench.check_file("j", reference.journal("TINY64", old, range(16)))
 
 
@@ -187,7 +186,7 @@ def erases_regions(start):
     bench.expect("-E", "-l", "layout", "-i", "upper,first", "--journal", "j", out=[
         "Found SFDP (fe1010), 65536 bytes.", "Done: touched 9, erases 2, programs 0, transactions 31."])
     bench.check_chip(new)
-    bench.check_frames(reference.session("TINY64", bytes(SIZE), new, [0, *range(8, 16)]))
+    bench.check_frames(reference.erasure("TINY64", bytes(SIZE), new, [0, *range(8, 16)]))
 
 
 def prints_the_size(start):

@@ -117,6 +117,16 @@ def restore(part, now, old, saved):
     return identify(part) + [read_sector(it) for it in saved] + change(now, old, saved)
 
 
+def read_out(part, numbers):
+    """Returns the plan of -r. The program probes before it creates the file, and again before it reads."""
+    return probe(part) * 2 + [read_sector(it) for it in numbers]
+
+
+def erasure(part, old, target, numbers):
+    """Returns the plan of -E. The program probes for the size of the chip, and then runs a session."""
+    return probe(part) + session(part, old, target, numbers)
+
+
 def touched(old, target):
     return [it for it in range(len(old) // SECTOR) if sector_of(old, it) != sector_of(target, it)]
 

@@ -77,6 +77,7 @@ class Job:
         return bytes(found)
 
     def read(self):
+        self.found(self.given.get("-c"))
         line = self.found(self.given.get("-c"))
         name = self.given["-r"]
         if Path(name).exists() and Path(name).read_bytes()[:7] == b"NORUNDO":
@@ -109,6 +110,9 @@ class Job:
     def change(self):
         """-w or -E."""
         image = read_file(self.given["-w"]) if "-w" in self.given else None
+        if image is None:
+            self.found(self.given.get("-c"))
+            self.link.count = 0
         line = self.found(self.given.get("-c"))
         image = b"\xff" * self.size if image is None else image
         self.check_length(image)
