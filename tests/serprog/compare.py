@@ -6,8 +6,8 @@ sectors change, or with --whole all of them. The programmer is at a bare pseudo-
 way there and back; then it also carries only 1 MB/s. Both must leave the same bytes, and read and verify them.
 
 For each wire the seconds, the transactions, the ways and the bytes of both are printed, and their ratios. The exit
-status is 1 if the bytes of the chip, or of a file, differ. A ratio above the project's goal is marked. It is no failure,
-since it depends on the machine.
+status is 1 if the bytes of the chip, or of a file, differ. A ratio above the project's goal is marked. It is no
+failure, since it depends on the machine.
 """
 import os
 import random

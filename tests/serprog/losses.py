@@ -11,8 +11,9 @@ from bench import Bench, Differs, check
 from chip import SECTOR
 from options import images
 
-# Sector 1 only has bits that fall, the others are erased, 8 to 15 by one erase.
-CHANGED = (1, 2, 8, 9, 10, 11, 12, 13, 14, 15)
+# The sectors that a session changes. Sector 1 only has bits that fall, the others are erased; 8 to 15 by one erase.
+FEW = (1, 2, 12, 13, 14, 15)
+MANY = (1, 2, *range(8, 16))
 UNSEALED = ["Error 15: journal fault 1."]
 STOPPED = "Error 12: stopped."
 
@@ -23,17 +24,18 @@ class Loss(NamedTuple):
     event: str
     session: int
     restore: int = 0
+    changed: tuple = FEW
 
 
-def chip_images():
+def chip_images(changed):
     """Returns the original and the target. They have few bytes in the changed sectors, so that runs are short."""
     old, _ = map(bytearray, images("losses"))
-    for number in CHANGED:
+    for number in changed:
         old[number * SECTOR : (number + 1) * SECTOR] = b"\xff" * SECTOR
         at = number * SECTOR + 256 * (number - 1)
         old[at + 250 : at + 260] = bytes(range(number, number + 10))
     new = bytearray(old)
-    for number in CHANGED[1:]:
+    for number in changed[1:]:
         new[number * SECTOR : (number + 1) * SECTOR] = b"\xff" * SECTOR
     new[SECTOR + 700 : SECTOR + 703] = b"\x00\x10\x00"
     new[2 * SECTOR + 250 : 2 * SECTOR + 262] = bytes(range(12))
@@ -47,19 +49,23 @@ def numbered(plan):
 
 def losses():
     """Returns the losses: at each transaction of a session, and at each of a restore after a session that ended."""
-    old, new = chip_images()
+    old, new = chip_images(FEW)
     wire = numbered(reference.session("TINY64", old, new))
-    back = numbered(reference.restore("TINY64", new, old, CHANGED))
+    back = numbered(reference.restore("TINY64", new, old, FEW))
     found = [Loss(event, at) for event in ("kill", "lose") for at in range(1, len(wire) + 1)]
     found += [Loss(event, 0, at) for event in ("kill", "lose") for at in range(1, len(back) + 1)]
     # A session that is stopped in the middle, and its restore too.
-    seal = sealed_after(wire)
-    found += [Loss("kill", at, at // 2) for at in range(seal, len(wire) + 1, 7)]
-    # Power is lost in an operation, or a frame is cut; after that the programmer is plugged in again.
+    middle = range(sealed_after(wire) + 6, len(wire) + 1, 4)
+    found += [Loss(event, at, at // 2) for event in ("kill", "lose") for at in middle]
+    return found + rare_losses()
+
+
+def rare_losses():
+    """Returns losses of power in an operation, and frames that are cut in it. The programmer is plugged in again."""
+    wire = numbered(reference.session("TINY64", *chip_images(MANY)))
     changing = [at for at, (out, _) in enumerate(wire, 1) if out[0] in (0x02, 0x20, 0x52, 0xD8, 0xC7)]
-    found += [Loss("power", at) for at in changing]
-    found += [Loss(f"cut {length}", at) for at in changing[:6] for length in (1, 7, 8, 10)]
-    return found
+    found = [Loss("power", at, 0, MANY) for at in changing]
+    return found + [Loss(f"cut {length}", at, 0, MANY) for at in changing for length in (1, 7, 8, 10)]
 
 
 def sealed_after(wire):
@@ -70,7 +76,7 @@ def sealed_after(wire):
 def try_loss(program, loss):
     """Tries one loss, and returns nothing, or the lines that say what was wrong."""
     with tempfile.TemporaryDirectory() as folder:
-        old, new = chip_images()
+        old, new = chip_images(loss.changed)
         bench = Bench(program, folder, "TINY64", old)
         try:
             bench.write("new", new)
@@ -89,7 +95,7 @@ def one_loss(bench, loss, old, new):
         check("the session", bench.run("-w", "new", "--journal", "j").status, 0)
         bench.check_chip(new)
     wire = numbered(reference.session("TINY64", old, new))
-    journal = reference.journal("TINY64", old, CHANGED)
+    journal = reference.journal("TINY64", old, loss.changed)
     if 0 < loss.session <= sealed_after(wire):
         bench.check_chip(old)
         begun = bench.path("j").read_bytes()
