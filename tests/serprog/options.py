@@ -156,6 +156,57 @@ def writes_regions(start):
     bench.check_file("j", reference.journal("TINY64", old, [1]))
 
 
+def random_images(chance):
+    """Returns two random images of TINY64: sectors that stay, lose bits, gain bits, are erased or are replaced."""
+    old = bytearray(chance.randbytes(SIZE))
+    for number in chance.sample(range(16), 6):
+        old[number * SECTOR : (number + 1) * SECTOR] = b"\xff" * SECTOR
+    new = bytearray(old)
+    for number in range(16):
+        at = number * SECTOR + chance.randrange(4000)
+        length = chance.randrange(1, (number + 1) * SECTOR - at)
+        was, noise = new[at : at + length], chance.randbytes(length)
+        new[at : at + length] = chance.choice((
+            was, was, noise, bytes(one & other for one, other in zip(was, noise)),
+            bytes(one | other for one, other in zip(was, noise)), b"\xff" * length))
+    return bytes(old), bytes(new)
+
+
+def writes_at_random(start):
+    """-w of random images sends what the specification states, and its journal restores the original chip."""
+    chance = random.Random("writes_at_random")
+    for _ in range(6):
+        old, new = random_images(chance)
+        bench = start(data=old)
+        bench.write("new", new)
+        plan = reference.session("TINY64", old, new)
+        bench.expect("-w", "new", "--journal", "j", out=[reference.found("TINY64"), reference.done(plan, old, new)])
+        bench.check_frames(plan)
+        bench.check_chip(new)
+        bench.check_file("j", reference.journal("TINY64", old, reference.touched(old, new)))
+        plan = reference.restore("TINY64", new, old, reference.touched(old, new))
+        bench.expect("--restore", "j", out=[reference.found("TINY64"), reference.done(plan, old, new)])
+        bench.check_frames(plan)
+        bench.check_chip(old)
+
+
+def writes_large_chips(start):
+    """-w on the chips of the table uses erases of 4, 32 and 64 KiB, and the addresses of the whole chip."""
+    for part in "W25Q64FV", "W25Q128FV":
+        size = 1 << 23 if part == "W25Q64FV" else 1 << 24
+        old = bytearray(b"\xff" * size)
+        old[0x8000:0x28000] = bytes(0x20000)
+        old[size - 300 :] = random.Random(part).randbytes(300)
+        new = b"\xff" * 0x28000 + bytes(old[0x28000 : size - 1]) + b"\0"
+        bench = start(part, data=bytes(old))
+        bench.write("new", new)
+        plan = reference.session(part, bytes(old), new)
+        bench.expect("-w", "new", "--journal", "j", out=[reference.found(part), reference.done(plan, old, new)])
+        bench.check_frames(plan)
+        bench.check_chip(new)
+        bench.check_file("j", reference.journal(part, bytes(old), reference.touched(old, new)))
+
+
 def changes_nothing(start):
     """A chip that holds the image already is only read, and its journal saves no sector."""
     old, _ = images("changes_nothing")
@@ -238,5 +289,6 @@ def protects(start):
 
 
 CASES = [identifies, sets_the_clock, selects_a_chip, keeps_to_the_protocol, names_the_chip, reads, reads_regions,
-         verifies, verifies_regions, writes, writes_without_verification, writes_regions, changes_nothing, erases,
-         erases_regions, prints_the_size, shows_protection, lists_ranges, protects]
+         verifies, verifies_regions, writes, writes_without_verification, writes_regions, writes_at_random,
+         writes_large_chips, changes_nothing, erases, erases_regions, prints_the_size, shows_protection, lists_ranges,
+         protects]
