@@ -111,6 +111,26 @@ def needs_its_step(start):
     bench.check_absent("j")
 
 
+def needs_right_replies(start):
+    """A reply that is neither ACK nor NAK is programmer fault 5, and NAK to a command of the map is fault 11."""
+    advice = f"Disconnect the programmer from power, connect it again, and set up the port: {STTY}"
+    for opcode in 0x01, 0x02, 0x12, 0x15:
+        refuse(start(replies={opcode: b"!"}), "the programmer answered 21h, which is neither ACK nor NAK. " + advice,
+               number=5)
+        refuse(start(replies={opcode: b"\x15"}), f"the programmer refused command {opcode:02X}h. {FIRMWARE}", number=11)
+
+
+def needs_a_port(start):
+    """A device that fails, as one that is unplugged does, is programmer fault 10 with the system's text."""
+    bench = start(replies={0x02: None})
+    got = bench.run("-r", "out")
+    check("standard output, lines and exit status", (got.out, len(got.err), got.status), ([], 1, 1))
+    begins = "Programmer fault 10: the port failed: "
+    ends = bench.device(f". Connect the programmer again, and set up the port: {STTY}")
+    check("the line", (got.err[0][: len(begins)], got.err[0][-len(ends) :]), (begins, ends))
+    bench.check_absent("out")
+
+
 def needs_version_1(start):
     """Another version of the protocol is programmer fault 6."""
     for version in 0, 2, 257:
@@ -199,5 +219,5 @@ def sets_up_terminals(start):
 
 
 CASES = [needs_a_device, needs_a_character_device, locks_the_device, holds_its_lock, needs_an_answer, needs_its_step,
-         needs_version_1, needs_commands, needs_spi, needs_wide_limits, reports_causes, reports_the_port, reads_twice,
-         sets_up_terminals]
+         needs_right_replies, needs_a_port, needs_version_1, needs_commands, needs_spi, needs_wide_limits,
+         reports_causes, reports_the_port, reads_twice, sets_up_terminals]

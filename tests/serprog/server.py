@@ -58,6 +58,8 @@ class Traits:
     is_silent: bool = False
     babbles: bool = False
     stale: bytes = b""
+    # Replies in the place of the right ones, by opcode, except for O_SPIOP. None: the programmer is unplugged.
+    replies: dict = field(default_factory=dict)
     # The transactions in whose replies a bit is flipped, if they read data.
     flips: tuple = ()
     events: dict = field(default_factory=dict)
@@ -128,6 +130,10 @@ class Server:
     def reply(self, opcode, arguments):
         """Returns the reply to a command other than O_SPIOP."""
         traits = self.traits
+        if opcode in traits.replies:
+            if traits.replies[opcode] is None:
+                raise Unplugged
+            return traits.replies[opcode]
         if opcode not in self.known():
             return NAK
         if opcode in (0x08, 0x11):

@@ -87,8 +87,11 @@ class Link:
     def __init__(self, path, keys):
         self.path, self.count, self.status = path, 0, 0
         self.device = self.open(path)
-        self.synchronize()
-        self.identify(keys)
+        try:
+            self.synchronize()
+            self.identify(keys)
+        except Stopped as why:
+            self.refuse(str(why))
 
     @staticmethod
     def open(path):
@@ -133,20 +136,23 @@ class Link:
         raise Stopped("the programmer did not reply to SYNCNOP as it must")
 
     def synchronize(self):
-        try:
-            self.send(b"\x10")
-            self.find(b"\x15\x06")
-            if MISTAKE != "synchronizes once":
-                self.send(ROW)
-                self.find(b"".join(b"\x15\x06" if it else b"\x06" for it in ROW))
-        except Stopped as why:
-            self.refuse(str(why))
+        self.send(b"\x10")
+        self.find(b"\x15\x06")
+        if MISTAKE != "synchronizes once":
+            self.send(ROW)
+            self.find(b"".join(b"\x15\x06" if it else b"\x06" for it in ROW))
 
     def refuse(self, text):
-        if "silent" in text:
-            raise Fault(f"Programmer fault 4: {text}. Check its cable, and set up the port: {STTY.format(self.path)}")
-        raise Fault(f"Programmer fault 5: {text}. Disconnect the programmer from power, connect it again, and set up "
-                    f"the port: {STTY.format(self.path)}")
+        """Raises the programmer fault with this text."""
+        set_up = f"and set up the port: {STTY.format(self.path)}"
+        for begin, number, advice in (
+            ("the programmer is silent", 4, f"Check its cable, {set_up}"),
+            ("the port failed", 10, f"Connect the programmer again, {set_up}"),
+            ("the programmer refused", 11, FIRMWARE.removeprefix(". ")),
+            ("", 5, f"Disconnect the programmer from power, connect it again, {set_up}"),
+        ):
+            if text.startswith(begin):
+                raise Fault(f"Programmer fault {number}: {text}. {advice}")
 
     def exchange(self, frame, length):
         self.send(frame)
