@@ -8,8 +8,8 @@ import reference
 from chip import Chip
 from server import ARGUMENTS, O_SPIOP, Server, Traits, trace_line
 
-# How long a run may take, in seconds.
-LONGEST = 60
+# How long a run may take, in seconds. A run that takes longer hangs, even on a busy machine.
+LONGEST = 300
 
 
 class Differs(Exception):

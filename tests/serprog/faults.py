@@ -8,12 +8,11 @@ import os
 import reference
 from bench import check
 from options import images
-from server import set_terminal
 
 STTY = "stty -F DEV raw -echo clocal -hupcl min 0 time 50"
 FIRMWARE = "Install other firmware on it."
 # For tests of silence, in tenths of a second.
-SOON = 3
+SOON = 10
 UNPLUG = "Disconnect the programmer from power for a second before the next run."
 RESTORE = "Then restore the chip with --restore and the journal."
 CAUSES = {
@@ -211,13 +210,6 @@ def reads_twice(start):
         bench.expect("--restore", f"j{first}", err=["Error 15: journal fault 1."])
 
 
-def sets_up_terminals(start):
-    """A terminal with a time-out of two tenths of a second is used as it was set."""
-    bench = start()
-    set_terminal(bench.server.device, 2)
-    bench.expect(out=[reference.found("TINY64")])
-
-
 CASES = [needs_a_device, needs_a_character_device, locks_the_device, holds_its_lock, needs_an_answer, needs_its_step,
          needs_right_replies, needs_a_port, needs_version_1, needs_commands, needs_spi, needs_wide_limits,
-         reports_causes, reports_the_port, reads_twice, sets_up_terminals]
+         reports_causes, reports_the_port, reads_twice]
