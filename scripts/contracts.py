@@ -6,10 +6,9 @@ records; and of a record, what its fields say.
 import functools
 import re
 
+import rust
 from sources import CRATES, Word, clauses_of, find, source, tokens_of
 
-FUNCTION = re.compile(r"( *)(?:pub(?:\([a-z]+\))? )?(?:const )?(?:unsafe )?fn (\w+)")
-BLOCK = re.compile(r"(?:pub )?(?:unsafe )?(impl|trait)\b")
 OPENING, CLOSING = "([{", ")]}"
 # What ends a premise's reach to the left: `λ x. a → b` is about `b` alone, whatever stands before the dot.
 FENCES = set("| ↦ ; = . ,".split())
@@ -18,18 +17,23 @@ FENCES = set("| ↦ ; = . ,".split())
 class Call:
     """A function: its name, with its type's before it, the trait of which it is, where it stands, and its clauses."""
 
-    def __init__(self, code, name, trait, number, is_test):
-        self.code, self.name, self.trait, self.is_test = code, name, trait, is_test
-        self.place, self.number = f"crates/{code.path}:{number + 1}", number
+    def __init__(self, code, item):
+        self.code, self.item = code, item
+        self.name = f"{item.owner}::{item.name}" if item.owner else item.name
+        self.trait = f"{item.trait}::{item.name}" if item.trait else ""
+        self.is_test = "#[test]" in item.attributes
+        self.place = f"crates/{code.path}:{code.line_of(item.head)}"
 
     @functools.cached_property
     def clauses(self):
         """Its own clauses."""
-        return clauses_of(self.code.header(self.number))[0]
+        return clauses_of(self.code.text_of(self.item))[0]
 
     def is_law(self):
         """Whether it takes nothing and answers nothing: it is there for its clauses."""
-        return self.code.lines[self.number].endswith("()") and bool(self.clauses)
+        words = [token.text for token in self.item.tokens]
+        at = words.index("(")
+        return words[at + 1] == ")" and words[at + 2] in rust.CLAUSES
 
     def promises(self):
         """Returns each clause that holds of it: its own, and those of its trait, each with the file where it stands."""
@@ -37,36 +41,6 @@ class Call:
         if self.trait and self.trait != self.name:
             found += [known for above in calls().get(self.trait, ()) for known in above.promises()]
         return found
-
-
-def owner(block):
-    """Returns the names of the type and of the trait that a block is of, from the text before its brace."""
-    match = BLOCK.match(block)
-    rest = block[match.end() :]
-    if rest.startswith("<"):
-        depth, at = 1, 1
-        while depth:
-            depth += {"<": 1, ">": -1}.get(rest[at], 0)
-            at += 1
-        rest = rest[at:]
-    left, _, right = rest.partition(" for ")
-    names = [re.match(r"\W*(?:\w+::)*(\w+)", part)[1] for part in (left, right) if part]
-    return names[-1], names[0] if match[1] == "trait" or right else ""
-
-
-def calls_in(code):
-    """Returns the functions of a file of src/, those of types and traits too."""
-    found, block, trait = [], "", ""
-    for number, line in enumerate(code.lines):
-        if BLOCK.match(line):
-            block, trait = owner("\n".join(code.lines[number:]).partition("{")[0])
-        elif line.startswith("}"):
-            block, trait = "", ""
-        elif item := FUNCTION.match(line):
-            is_test = number > 0 and code.lines[number - 1].strip() == "#[test]"
-            name = f"{block}::{item[2]}" if block else item[2]
-            found.append(Call(code, name, f"{trait}::{item[2]}" if trait else "", number, is_test))
-    return found
 
 
 @functools.cache
@@ -81,7 +55,8 @@ def calls():
     """Returns all functions by their names, and those of types by their names alone, too."""
     found = {}
     for path in files("src"):
-        for call in calls_in(source(path)):
+        code = source(path)
+        for call in (Call(code, item) for item in code.items if item.kind == "fn"):
             for name in {call.name, call.name.rpartition(":")[2]}:
                 found.setdefault(name, []).append(call)
     return found

@@ -7,6 +7,9 @@ import functools
 import pathlib
 import re
 import sys
+import textwrap
+
+import rust
 
 TOP = pathlib.Path(__file__).resolve().parent.parent
 CRATES = TOP / "crates"
@@ -19,7 +22,7 @@ CONSTRUCTORS = set("Ok Err Some None true false [] ∷ zero suc tt".split())
 # How a line begins that goes on with the one above it.
 CLOSING = " )]}"
 MARKED = re.compile(r"(?:(?:pub|abbrev|unfoldable|pattern|axiom) )+(?:(record|data) )?(\S+)|(\S+) : ")
-CLAUSE = re.compile(r"\b(?:(?:requires|ensures)(?: \w+)?|ghost \w+(?::| =)) \{")
+CLAUSE = re.compile(r"\b(?:(?:requires|ensures)(?:\s+\w+)?|ghost\s+\w+\s*[:=])\s*\{")
 
 
 def fail(message):
@@ -237,56 +240,56 @@ class Code(Source):
 
     def __init__(self, path):
         super().__init__(path)
-        owner = ""
-        for number, line in enumerate(self.lines):
-            if item := re.match(r"(?:pub )?(struct|enum|trait|fn) (\w+)", line):
-                self.take(item[1], item[2], number)
-            elif impl := re.match(r"impl(?:<[^>]*>)? (\w+)[^ ]* \{", line):
-                owner = impl[1]
-            elif method := re.match(r"    pub fn (\w+)", line):
-                self.take_method(f"{owner}::{method[1]}", number)
+        try:
+            self.items = list(rust.items(rust.tokens_of(self.text)))
+        except rust.Unread as unread:
+            start, wrong = unread.args
+            fail(f"crates/{path}:{self.line_of(start)}: {wrong}")
+        for item in self.items:
+            if item.kind in ("struct", "enum", "trait", "fn") and not item.owner:
+                self.take(item, item.name)
+            elif item.kind == "fn" and not item.trait and self.text.startswith("pub", item.head):
+                self.take(item, f"{item.owner}::{item.name}")
         self.take_parts()
 
-    def take(self, kind, name, number):
-        """Takes a type, a trait or a function with its contract, and the comment above it. Of a type that contracts see
-        as a value of another kind, that is told in place of its fields."""
-        start, line = number, self.lines[number]
-        while re.match(r"//|#\[", self.lines[start - 1]):
-            start -= 1
-        comment = [above for above in self.lines[start:number] if above[:2] == "//"]
-        word = self.words[name] = Word(self, kind, name, number + 1, comment)
-        word.whole = self.header(number) if kind == "fn" else self.item(number)
+    def line_of(self, position):
+        """Returns the number of the line with this position, counted from 1."""
+        return self.text.count("\n", 0, position) + 1
+
+    def take(self, item, name):
+        """Takes a type, a trait, a function or a method with its contract, and the comment above it, without the
+        attributes of its parts."""
+        number = self.line_of(item.head)
+        comment = self.comment_above(item, number)
+        word = self.words[name] = Word(self, item.kind, name, number, comment)
+        word.whole = self.text_of(item)
         word.code = re.sub(r" *ghost use .*\n\n?", "", word.whole).splitlines()
-        has_model = f" Model for {name}" in self.text
-        if has_model and (model := re.search(rf"(?m)^impl\b.* Model for {name}\b(?:.*\n)*?}}", self.text)):
-            word.whole = model.group()
-            value = re.search(r".*ghost Value = .*", word.whole).group()
+        self.take_model(word)
+
+    def take_model(self, word):
+        """Gives a type that contracts see as a value of another kind that kind in place of its fields."""
+        models = [item for item in self.items if item.kind == "impl" and rust.block_of(item) == (word.name, "Model")]
+        if models and word.kind != "fn":
+            line = word.code[0]
+            word.whole = self.text_of(models[0])
+            value = re.search(r" *ghost Value = [^;]*;", word.whole).group()
             fields = "{ .. }" if line.endswith("{") else "(..);"
             word.code = [f"{line[:-1]}{fields}", word.whole.splitlines()[0], value, "}"]
 
-    def take_method(self, name, number):
-        """Takes a method with its contract and the comment above it, as it would stand outside of its type."""
-        start = number
-        while re.match(r"    (//|#\[)", self.lines[start - 1]):
+    def comment_above(self, item, number):
+        """Returns the lines of comments right above an item, and among its attributes."""
+        first = start = self.line_of(item.first)
+        while start > 1 and self.lines[start - 2].lstrip().startswith("//"):
             start -= 1
-        comment = [above[4:] for above in self.lines[start:number] if above[4:6] == "//"]
-        word = self.words[name] = Word(self, "fn", name, number + 1, comment)
-        word.whole = self.header(number)
-        word.code = [line[4:] for line in word.whole.splitlines()]
+        above = self.lines[start - 1 : first - 1] + self.lines[first - 1 : number - 1]
+        return [line.strip() for line in above if line.lstrip().startswith("//")]
 
-    def header(self, number):
-        """Returns the text of a function that begins in this line, with its contract and without its body."""
-        start = sum(len(line) + 1 for line in self.lines[:number])
-        end = end_of_header(self.text, start) or fail(f"crates/{self.path}:{number + 1}: this function doesn't end")
-        return self.text[start:end].rstrip()
-
-    def item(self, number):
-        """Returns the text of a type or a trait that begins in this line, without the attributes of its parts."""
-        last = r"\}|\);|(pub )?struct .*[;}]$"
-        end = next((at for at in range(number, len(self.lines)) if re.match(last, self.lines[at])), None)
-        if end is None:
-            fail(f"crates/{self.path}:{number + 1}: this type doesn't end")
-        return "\n".join(line for line in self.lines[number : end + 1] if not re.match(r" +#\[", line))
+    def text_of(self, item):
+        """Returns the text of an item from its first line on, a function's without its body."""
+        start = self.text.rfind("\n", 0, item.head) + 1
+        text = self.text[start : item.body if item.kind == "fn" else item.end].rstrip()
+        kept = [line for line in text.splitlines() if item.kind == "fn" or not re.match(r" +#\[", line)]
+        return textwrap.dedent("\n".join(kept))
 
     def type_of(self, name):
         """Returns the type or trait that a name of Rust's is, or of a library the name."""
@@ -332,29 +335,12 @@ def clauses_of(text):
     clauses, rest, done = [], "", 0
     while match := CLAUSE.search(text, done):
         rest, done = rest + text[done : match.start()], end_of_braces(text, match.end())
-        kind, name = re.match(r"(\w+) ?(\w*)", match.group()).groups()
+        kind, name = re.match(r"(\w+)\s*(\w*)", match.group()).groups()
         clauses.append(Clause(kind, name, text[match.end() : done - 1]))
     rest += text[done:]
     if re.search(r"\b(requires|ensures)\b", rest):
         fail(f"a clause of '{text.splitlines()[0]}' can't be read")
     return clauses, rest
-
-
-def end_of_header(text, start):
-    """Returns the place of the body, or of the semicolon, of the function whose header begins there; 0 for none."""
-    depth = 0
-    while start < len(text):
-        skipped = CLAUSE.match(text, start)
-        if text.startswith("//", start):
-            start = text.index("\n", start)
-        elif skipped:
-            start = end_of_braces(text, skipped.end())
-        elif text[start] in "{;" and not depth:
-            return start
-        else:
-            depth += {"(": 1, "[": 1, ")": -1, "]": -1}.get(text[start], 0)
-            start += 1
-    return 0
 
 
 @functools.cache

@@ -4,6 +4,7 @@ import tempfile
 import unittest
 from unittest import mock
 
+import contracts
 import sources
 import statement
 
@@ -127,15 +128,79 @@ class Contracts(Small):
         self.assertEqual([(clause.kind, clause.name) for clause in clauses], [("ensures", "low"), ("requires", "")])
         self.assertTrue(clauses[0].term.endswith("≡ 3) "))
 
-    def test_a_clause_in_another_form_is_refused(self):
+    def test_a_clause_that_has_no_braces_is_refused(self):
         with self.assertRaises(SystemExit):
-            sources.clauses_of("fn one()\n    ensures low\n    { ⊤ }")
+            sources.clauses_of("fn one()\n    ensures low")
 
     def test_a_type_without_an_end_is_refused(self):
-        self.refuses("one/src/a.rt", "pub struct One {\n    a: u8,\n", "a.rt:1: this type doesn't end")
+        self.refuses("one/src/a.rt", "pub struct One {\n    a: u8,\n", "a.rt:1: this '{' isn't closed")
 
     def test_a_function_without_an_end_is_refused(self):
-        self.refuses("one/src/a.rt", "pub fn one()\n    ensures { ⊤ }\n", "a.rt:1: this function doesn't end")
+        self.refuses("one/src/a.rt", "pub fn one()\n    ensures { ⊤ }\n", "a.rt:1: this item doesn't end")
+
+
+PLAIN = """//! What stands here.
+
+/// True if it is even.
+#[inline]
+pub fn even(x: u64, y: &mut [u8]) -> bool
+    requires { x < 9 }
+    ensures low { result ≡ true }
+{
+    true
+}
+
+impl<T: Law> Law for One<T> {
+    fn law()
+        ensures { ⊤ }
+    {
+    }
+
+    #[test]
+    fn each_is_even() {}
+}
+"""
+# Changes of the layout that change nothing that is said: the text, and what stands in its place.
+HARMLESS = {
+    "a name for a requires": ("requires {", "requires small {"),
+    "a clause's brace on a line of its own": ("ensures low {", "ensures low\n    {"),
+    "a signature on three lines": ("even(x: u64, y: &mut [u8]) ->", "even(\n    x: u64, y: &mut [u8],\n) ->"),
+    "a law's parentheses on two lines": ("fn law()", "fn law(\n    )"),
+    "a comment between an attribute and its function": ("#[inline]\n", "#[inline]\n// {as always}\n"),
+    "a comment between a test's attribute and its function": ("#[test]\n", "#[test]\n    // of each\n"),
+    "another attribute before a test's": ("#[test]\n", "#[test]\n    #[tactic(auto,\n        using(a))]\n"),
+    "a block's head on two lines": ("Law for One<T> {", "Law\n    for One<T>\n{"),
+}
+
+
+class Layout(Small):
+    """Changes of a source's layout that change nothing that it says."""
+
+    def said(self, text):
+        """Returns what is read of the functions of a text."""
+        self.put("one/src/a.rt", text)
+        sources.source.cache_clear()
+        code = sources.source("one/src/a.rt")
+        calls = [contracts.Call(code, item) for item in code.items if item.kind == "fn"]
+        return [(call.name, call.trait, call.is_test, call.is_law(),
+                 [(clause.kind, clause.term) for clause in call.clauses]) for call in calls]
+
+    def test_what_is_read(self):
+        self.assertEqual(self.said(PLAIN), [
+            ("even", "", False, False, [("requires", " x < 9 "), ("ensures", " result ≡ true ")]),
+            ("One::law", "Law::law", False, True, [("ensures", " ⊤ ")]),
+            ("One::each_is_even", "Law::each_is_even", True, False, []),
+        ])
+
+    def test_a_harmless_change_changes_nothing(self):
+        for what, (old, new) in HARMLESS.items():
+            with self.subTest(what):
+                self.assertIn(old, PLAIN)
+                self.assertEqual(self.said(PLAIN.replace(old, new)), self.said(PLAIN))
+
+    def test_a_change_of_a_contract_is_seen(self):
+        for old, new in ("ensures low", "requires"), ("x < 9", "x < 8"), ("fn law()", "fn law(x: u8)"):
+            self.assertNotEqual(self.said(PLAIN.replace(old, new)), self.said(PLAIN), new)
 
 
 if __name__ == "__main__":

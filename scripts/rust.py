@@ -1,0 +1,99 @@
+"""Reads a source of Rattle as tokens, so that no script depends on how lines are broken or where comments are."""
+import collections
+import re
+
+# Strings, names (with the primes that clauses use), numbers, arrows, and single marks. Comments are skipped.
+TOKEN = re.compile(r'//[^\n]*|b?"(?:[^"\\]|\\.)*"|b?\'(?:[^\'\\]|\\.)\'|\w+\'*|\'\w+|::|=>|->|[^\s\w]', re.S)
+Token = collections.namedtuple("Token", "text start end")
+# What an item is: `name` without its type's, `owner` the type or trait of its block, and `trait` that block's trait.
+# `first`, `head`, `body` and `end` are positions in the text: of its first attribute, of its first word after the
+# attributes, of its body or semicolon, and the one after the item.
+Item = collections.namedtuple("Item", "kind name owner trait attributes first head body end tokens")
+KINDS = "fn struct enum trait impl mod use const static type".split()
+CLOSING = {"(": ")", "[": "]", "{": "}"}
+CLAUSES = "requires", "ensures"
+
+
+class Unread(Exception):
+    """A place in a text that can't be read: its position, and what is wrong there."""
+
+
+def tokens_of(text):
+    """Returns the tokens of a text, without comments."""
+    found = (Token(match.group(), *match.span()) for match in TOKEN.finditer(text))
+    return [token for token in found if not token.text.startswith("//")]
+
+
+def closing(tokens, at):
+    """Returns the index of the token that closes the bracket at this index."""
+    opened, depth = tokens[at].text, 0
+    for index in range(at, len(tokens)):
+        depth += {opened: 1, CLOSING[opened]: -1}.get(tokens[index].text, 0)
+        if not depth:
+            return index
+    raise Unread(tokens[at].start, f"this '{opened}' isn't closed")
+
+
+def end_of_head(tokens, at):
+    """Returns the index of the body's brace, or of the semicolon, of the item that has this token. Clauses are part of
+    the head."""
+    first = at
+    while at < len(tokens):
+        word = tokens[at].text
+        if word in CLAUSES:
+            at = closing(tokens, at + 1 if tokens[at + 1].text == "{" else at + 2)
+        elif word in "{;":
+            return at
+        elif word in "([":
+            at = closing(tokens, at)
+        at += 1
+    raise Unread(tokens[first].start, "this item doesn't end")
+
+
+def block_of(item):
+    """Returns the type and the trait of an `impl<..> Trait for Type` or of a trait."""
+    head = [token.text for token in item.tokens]
+    head = head[: head.index("{")] if "{" in head else head
+    names, depth, is_bound = [], 0, False
+    for before, token in zip(["", *head], head):
+        depth += {"<": 1, ">": -1}.get(token, 0)
+        is_bound = is_bound or token == "where" or (token == ":" and not depth)
+        if not depth and not is_bound and re.match(r"[A-Za-z_]", token) and token not in ("impl", "trait", "unsafe"):
+            if before == "::":
+                names.pop()
+            names.append(token)
+    if head[0] == "trait":
+        return names[0], names[0]
+    at = names.index("for") if "for" in names else 0
+    return (names[at + 1], names[0]) if at else (names[0], "")
+
+
+def items(tokens, owner="", trait=""):
+    """Yields the items of a text, and those of its types, traits and modules."""
+    at = 0
+    while at < len(tokens):
+        first, attributes = at, []
+        while at < len(tokens) and tokens[at].text == "#":
+            opened = at + 2 if tokens[at + 1].text == "!" else at + 1
+            end = closing(tokens, opened)
+            attributes.append("".join(token.text for token in tokens[at : end + 1]))
+            at = end + 1
+        if at == len(tokens):
+            return
+        head = at
+        while tokens[at].text in ("pub", "(", "unsafe", "const", "ghost") and tokens[at + 1].text != ":":
+            if tokens[at].text == "const" and tokens[at + 1].text != "fn":
+                break
+            at = closing(tokens, at) + 1 if tokens[at].text == "(" else at + 1
+        kind, name = tokens[at].text, tokens[at + 1].text
+        body = end_of_head(tokens, at)
+        end = closing(tokens, body) if tokens[body].text == "{" else body
+        if kind in KINDS and tokens[head].text != "ghost":
+            item = Item(kind, name, owner, trait, attributes, tokens[first].start, tokens[head].start,
+                        tokens[body].start, tokens[end].end, tokens[at : end + 1])
+            yield item
+            if kind in ("impl", "trait", "mod") and end > body:
+                yield from items(tokens[body + 1 : end], *((owner, trait) if kind == "mod" else block_of(item)))
+        at = end + 1
+        while at < len(tokens) and tokens[at].text == ";":
+            at += 1
