@@ -20,7 +20,8 @@ import sys
 
 sys.dont_write_bytecode = True  # nothing else is to be left in scripts/
 import contracts
-from sources import CRATES, TOP
+import texts
+
 
 PAGES = "docs/PROMISES.md", "docs/TESTING.md", "README.md"
 # The heads of the columns that tell where a promise stands, and of those that name tests. TESTING.md must have the
@@ -276,8 +277,8 @@ def check_names(cell, known, what):
 def check_test(cell):
     """Yields what is wrong with a cell that names tests: functions, goals of the Makefile, and cases of transcripts."""
     yield from check_names(cell, tests(), "test")
-    goals = (TOP / "Makefile").read_text(encoding="utf-8")
-    cases = (CRATES / "transcripts/stdin").read_text(encoding="utf-8")
+    goals = texts.read("Makefile")
+    cases = texts.read("crates/transcripts/stdin")
     for name in re.findall(r"`([^`]*)`", cell):
         if goal := re.fullmatch(r"make (\w+)", name):
             if not re.search(rf"(?m)^{goal[1]}:", goals):
@@ -298,25 +299,11 @@ def checked(head, cell):
 # ---- the pages
 
 
-def cells_of(page):
-    """Returns the cells of a page's tables, each with its line and the head of its column."""
-    found, heads = [], None
-    for number, line in enumerate((TOP / page).read_text(encoding="utf-8").splitlines(), 1):
-        row = [cell.strip() for cell in re.split(r"(?<!\\)\|", line)[1:-1]] if line.startswith("|") else None
-        if row and heads is None:
-            heads = row
-        elif row and not set(line) <= set("|- "):
-            found += [(number, head, cell) for head, cell in zip(heads, row)]
-        elif not row:
-            heads = None
-    return found
-
-
 def main():
     """Tells what the tables name that isn't there, and how much they name."""
     failed, count = 0, 0
     for page in PAGES:
-        cells = cells_of(page)
+        cells = [(number, heads[column], cell) for number, heads, column, cell in texts.cells_of(page)]
         if page == "README.md":  # of its tables only that of promises names what the sources have
             lines = {number for number, head, _ in cells if head in PROMISING}
             cells = [cell for cell in cells if cell[0] in lines]

@@ -97,3 +97,45 @@ def items(tokens, owner="", trait=""):
         at = end + 1
         while at < len(tokens) and tokens[at].text == ";":
             at += 1
+
+
+def number_of(text):
+    """Returns the number that a token is, or None."""
+    plain = re.sub(r"_|[ui](8|16|32|64|size)$", "", text)
+    return int(plain, 0) if re.fullmatch(r"\d+|0x[0-9A-Fa-f]+", plain) else None
+
+
+def number_after(tokens, start):
+    """Returns the first number that follows the tokens of this text somewhere, or None."""
+    words, wanted = [token.text for token in tokens], [token.text for token in tokens_of(start)]
+    places = (at + len(wanted) for at in range(len(words) - len(wanted)) if words[at : at + len(wanted)] == wanted)
+    return next((number for at in places if (number := number_of(words[at])) is not None), None)
+
+
+def arms(tokens, kind):
+    """Yields for each arm of a match on an enum of this name the variant, and the first number or string of the arm."""
+    words, pending = [token.text for token in tokens], []
+    is_arm = False
+    for at, word in enumerate(words):
+        if words[at : at + 2] == [kind, "::"]:
+            end = closing(tokens, at + 3) + 1 if words[at + 3] in CLOSING else at + 3
+            if words[end] in ("=>", "|", "if"):
+                pending, is_arm = ([] if is_arm else pending) + [words[at + 2]], False
+        elif word == "=>":
+            is_arm = bool(pending)
+        elif is_arm and (word[0] == '"' or number_of(word) is not None):
+            yield from ((name, word) for name in pending)
+            pending, is_arm = [], False
+
+
+def numbers_of_variants(tokens):
+    """Returns the numbers of the enums in a text: those of arms, and of variants that are counted from 1 on."""
+    found = set()
+    for item in (item for item in items(tokens) if item.kind == "enum"):
+        found |= {number for _, word in arms(tokens, item.name) if (number := number_of(word)) is not None}
+        words = [token.text for token in item.tokens]
+        if "=" in words and number_after(item.tokens, "=") == 1:
+            depths = [sum({"{": 1, "(": 1, "[": 1, "}": -1, ")": -1, "]": -1}.get(it, 0) for it in words[:at])
+                      for at in range(len(words))]
+            found |= set(range(1, 1 + sum(word == "," and depth == 1 for word, depth in zip(words, depths))))
+    return found

@@ -106,9 +106,9 @@ PLANTS = {
         PATHS, "docs/ARCHITECTURE.md", r"`specs/Within` says", "`specs/Guard` says", "there is no specs/Guard"),
     "an option that flashnor hasn't, beside flashrom's": (
         AGREE, "docs/FLASHROM.md", r"with `--unlock`", "with `--unlocks`",
-        "all options: pages has '--unlocks', parser hasn't"),
+        "all options: pages has '--unlocks', help hasn't"),
     "a common option that flashnor hasn't": (
-        AGREE, "docs/FLASHROM.md", r"`-v FILE`, `-n`", "`-v FILE`, `-N`", "all options: pages has '-N', parser hasn't"),
+        AGREE, "docs/FLASHROM.md", r"`-v FILE`, `-n`", "`-v FILE`, `-N`", "all options: pages has '-N', help hasn't"),
     "a key that flashnor hasn't, beside flashrom's": (
         AGREE, "docs/FLASHROM.md", r"`busy=N`", "`busier=N`",
         "keys with values: FLASHROM has 'busier=N', help hasn't"),
@@ -126,58 +126,50 @@ PLANTS = {
     "a page without its table of tests": (
         ROWS, "docs/TESTING.md", r"\| Behaviour \| Test \|", "| Behaviour | Shown by |",
         "TESTING.md has no table with a column 'Test'"),
-    "a number of stops": (
-        AGREE, "docs/TESTING.md", r"\d+ stops \|", "7 stops |", "and rows has .* for '7'"),
-    "a number of runs without power": (
-        COUNTS, "docs/TESTING.md", r"power fails after each of their transactions \| [\d,]+",
-        "power fails after each of their transactions | 7", "and rows has .* for '7'"),
-    "a run more in a test": (
-        COUNTS, "crates/rows/src/cuts.rt", r", 0, 29\)", ", 0, 30)", "TESTING.md says '.* stops"),
-    "a sentence on runs that isn't there": (
-        COUNTS, "docs/TESTING.md", r"Random sessions, compared", "Sessions, compared",
-        "TESTING.md has no '. Random sessions, compared"),
     "a number of cases": (
-        AGREE, "docs/TESTING.md", r"\d+ cases \|", "7 cases |", r"and cases has \d+ for '7'"),
-    "a case that the page doesn't count": (
-        COUNTS, "tests/cases/help.case", r"\A# ", "# One more.\n$ true\n# ", r"and cases has \d+ for '\d+'"),
-    "a transcript that the page doesn't count": (
-        COUNTS, "crates/transcripts/stdin", r"(?m)^case ", "case one\ncase ", r"and transcripts has \d+ for '\d+'"),
+        AGREE, "docs/TESTING.md", r"\d+ cases \|", "7 cases |", r"TESTING.md says 'about 7 cases', and it is \d+"),
+    "a number of transcripts": (
+        COUNTS, "docs/TESTING.md", r"(examples \| about )\d+ cases", "examples | about 70 cases",
+        r"TESTING.md says 'about 70 cases'"),
+    "a row of counts that isn't there": (
+        COUNTS, "docs/TESTING.md", r"\| Cases of the built", "| Cases of a built",
+        "TESTING.md has no row 'Cases of the built program'"),
     "a version of the Makefile": (
-        AGREE, "Makefile", r"(?m)^VERSION := .*", "VERSION := 9.9", "version: Makefile has '9.9', options.rt hasn't"),
+        AGREE, "Makefile", r"(?m)^VERSION := .*", "VERSION := 9.9", "version: Makefile has '9.9', parser hasn't"),
     "a version of the manual page": (
         AGREE, "man/flashnor.8", r'"flashnor [^"]*"', '"flashnor 9.9"',
-        "version: manual has '9.9', options.rt hasn't"),
+        "version: manual has '9.9', parser hasn't"),
     "a version of what has changed": (
-        AGREE, "CHANGELOG.md", r"(?m)^## \[\d[^]]*", "## [9.9", "version: CHANGELOG has '9.9', options.rt hasn't"),
+        AGREE, "CHANGELOG.md", r"(?m)^## \[\d[^]]*", "## [9.9", "version: CHANGELOG has '9.9', parser hasn't"),
     "a version without its date": (
         AGREE, "CHANGELOG.md", r"(?m)^(## \[\d[^]]*\]) - .*", "## [1.0]", "version: nothing found in CHANGELOG"),
     "a version of the program": (
         AGREE, "crates/nor_words/src/options.rt", r'= "flashnor [^:]*:', '= "flashnor 9.9:',
-        "version: options.rt has '9.9', manual hasn't"),
+        "version: parser has '9.9', manual hasn't"),
     "a message of an error": (
-        AGREE, "man/flashnor.8", r"(?m)^8\trange not", "8\trange never", "manual has 'Error 8: range never offered.'"),
+        AGREE, "man/flashnor.8", r"(?m)^8\trange not", "8\trange never", "manual has 'Error 8: range never offered.', sources hasn't"),
     "an error less": (
         AGREE, "man/flashnor.8", r"(?m)^18\t.*\n", "", "manual hasn't"),
     "a usage fault less": (
-        AGREE, "man/flashnor.8", r"(?m)^10\t.*\n", "", "numbers of Usage faults: words.rt has '10', manual hasn't"),
+        AGREE, "man/flashnor.8", r"(?m)^10\t.*\n", "", "numbers of Usage faults: sources has '10', page hasn't"),
     "an option of a usage fault": (
         AGREE, "man/flashnor.8", r"(?m)^8\t\\-n or", "8\t\\-c or", "options of usage faults: manual has '8 -c'"),
     "a layout fault of another number": (
-        AGREE, "man/flashnor.8", r"(?m)^3\tthe end is", "9\tthe end is", "numbers of Layout faults: manual has '9'"),
+        AGREE, "man/flashnor.8", r"(?m)^3\tthe end is", "9\tthe end is", "numbers of Layout faults: page has '9'"),
     "a file fault in two lines": (
-        AGREE, "man/flashnor.8", r"(?m)^5\tT\{\nhas two", "6\tT{\nhas two", "numbers of File faults: manual has '6'"),
+        AGREE, "man/flashnor.8", r"(?m)^5\tT\{\nhas two", "6\tT{\nhas two", "numbers of File faults: page has '6'"),
     "an SFDP fault of another number": (
         AGREE, "docs/SPECIFICATION.md", r"\| 8 \| the 4 KiB", "| 9 | the 4 KiB",
-        "numbers of SFDP faults: SPECIFICATION has '9'"),
+        "numbers of SFDP faults: page has '9'"),
     "a journal fault of another number": (
         AGREE, "man/flashnor-journal.5", r"(?m)^7\tthe digest", "8\tthe digest",
-        "numbers of Journal faults: journal has '8'"),
+        "numbers of Journal faults: page has '8'"),
     "the length of a journal": (
-        AGREE, "man/flashnor-journal.5", r"takes 61 bytes", "takes 53 bytes", "bytes of a journal of no sector: 61 in"),
+        AGREE, "man/flashnor-journal.5", r"takes 61 bytes", "takes 53 bytes", "bytes of a journal of no sector: 61 in the sources, journal has 53"),
     "an exit status": (
         AGREE, "man/flashnor.8", r"(?m)^1\tThere was", "3\tThere was", "exit statuses: manual has '3'"),
     "a result that isn't printed": (
-        AGREE, "man/flashnor.8", r"(?m)^Mode: open", "Mode: open, idle", "answers: examples has 'Mode: _, idle'"),
+        AGREE, "man/flashnor.8", r"(?m)^Mode: open", "Mode: open, idle", "lines of results: examples has 'Mode: _, idle'"),
     "an equation that the page hasn't": (
         AGREE, "docs/STATEMENT.md", r"(?m)^most_status_writes _ unlock = .*\n", "",
         "STATEMENT.md is to have 'most_status_writes _ unlock = "),

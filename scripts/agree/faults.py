@@ -1,0 +1,96 @@
+"""scripts/agree/faults.py: whether the pages have the printed lines of results and faults that the program has, and the
+numbers of the faults. The lines of results and refusals are read from the sources, since no case prints errors 1, 2 and
+13; the other lines are those that the cases print."""
+import re
+
+import rust
+from texts import finish, help_text, manual, only, printed, quoted, read, rows, rows_of, running, same, tokens
+
+OPTION = r"(?<![^\s])(?:--?[a-zA-Z][-a-z]*|[a-z]+=)"
+
+
+def blank(text):
+    """Returns a text with `_` for each number, name and placeholder in it."""
+    return re.sub(r"(0x)?\{[^}]*\}|\b0x\w+\b|\b[0-9a-f]{6}\b|\b\d+\b|\b[A-Z][A-Z0-9]*\b(?! fault)", "_", text)
+
+
+def line_of(number, reason):
+    """Returns the line of an error."""
+    return f"Error {number}: {blank(reason)}."
+
+
+def refusals():
+    """Returns the lines of the errors of the library."""
+    numbers, reasons = {}, {}
+    for name, word in rust.arms(tokens("nor_call/src/refusal.rt"), "Refusal"):
+        (reasons if word[0] == '"' else numbers)[name] = word.strip('"')
+    return {line_of(numbers.get(name), reasons.get(name, "")) for name in {*numbers, *reasons}}
+
+
+def take_lines(page):
+    """Compares the lines of faults, and those that a page shows anywhere."""
+    errors = same("lines of errors", sources=refusals(),
+                  manual={line_of(*row) for row in rows(page, "Refusals").items()})
+    fault = r"(?:Usage|Layout|File) fault (?:\d+|K)(?:: [^\"\n]*| at line \w+)?\."
+    titles = " ".join(part.title for part in page if part.section == "ERRORS")
+    same("lines of other faults", manual={blank(line) for line in re.findall(fault, titles)},
+         cases={re.sub(r": .*\.$", ": _.", blank(line)) for line in re.findall(f"(?m)^{fault}$", printed())})
+    shown = {"README": " ".join(read("README.md").split()), "manual": " ".join(part.text for part in page),
+             "journal": " ".join(part.text for part in manual("man/flashnor-journal.5"))}
+    only("errors shown", "sources", errors, **{
+        text: {line_of(*error) for error in re.findall(r"Error (\d+): ([a-zA-Z][a-zA-Z0-9 ,']*)\.", " ".join(words.split()))}
+        for text, words in shown.items()})
+
+
+def take_answers():
+    """Compares the lines of results: SPECIFICATION has those of the program, and the examples have no others."""
+    words = [token.text for token in tokens("flashnor/src/printing.rt")]
+    lines = {words[at + 5].strip('"') for at in range(len(words)) if words[at : at + 3] == ["writeln", "!", "("]}
+    inserted = "|".join(word[1:-1] for word in words if re.fullmatch(r'"[a-z]+"', word))
+
+    def filled(line):
+        return re.sub(rf"\b(?:{inserted})\b", "_", blank(line))
+    jobs = [text for row in rows_of("docs/SPECIFICATION.md", "Job") for text in quoted(row[1])]
+    answers = same("lines of results", program={filled(line) for line in lines},
+                   SPECIFICATION={filled(line) for line in jobs})
+    examples = "".join(re.findall(r"(?ms)^```$(.*?)^```$", read("README.md")))
+    for path in ("man/flashnor.8", "man/flashnor-journal.5"):
+        examples += "".join(re.findall(r"(?ms)^\.EX$(.*?)^\.EE$", read(path)))
+    begun = "|".join({re.split(r"\W", line)[0] for line in lines} - {""})
+    only("lines of results", "the program", answers, examples={
+        filled(line) for line in re.findall(rf"(?m)^(?:{begun})\b.*", examples)})
+
+
+def take_numbers(page):
+    """Compares the numbers of each kind of fault with those that its source has."""
+    journal = manual("man/flashnor-journal.5")
+    sfdp = [row[0] for row in rows_of("docs/SPECIFICATION.md", "SFDP fault")]
+    for kind, path, found in (
+            ("Usage", "nor_words/src/words.rt", rows(page, "Usage faults")),
+            ("Layout", "nor_layout/src/fault.rt", rows(page, "Layout faults")),
+            ("File", "flashnor/src/messages.rt", rows(page, "File faults")),
+            ("SFDP", "nor_probe/src/sfdp.rt", sfdp),
+            ("Journal", "nor_journal/src/fault.rt", rows(journal, "FAULTS"))):
+        same(f"numbers of {kind} faults", sources={str(it) for it in rust.numbers_of_variants(tokens(path))}, page=found)
+
+
+def take_options(page):
+    """Checks that the manual page names no option at a usage fault that the help doesn't name there."""
+    found = {name: {f"{number} {option}" for number, text in faults for option in re.findall(OPTION, text)}
+             for name, faults in (("help", re.findall(r"(?m)^Usage fault (\d+): (.*)", help_text(None))),
+                                  ("manual", rows(page, "Usage faults").items()))}
+    only("options of usage faults", "help", found.pop("help"), **found)
+
+
+def main():
+    """Compares all of these."""
+    page = manual("man/flashnor.8")
+    take_lines(page)
+    take_answers()
+    take_numbers(page)
+    take_options(page)
+    finish()
+
+
+if __name__ == "__main__":
+    main()

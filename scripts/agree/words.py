@@ -1,0 +1,116 @@
+"""scripts/agree/words.py [PROGRAM]: whether the pages and the completion have the options, keys, chips and version that
+the program has. The completion is run. Options in the examples of README and of the manual pages aren't looked at, since
+`make runs` runs these."""
+import re
+import subprocess
+import sys
+import tempfile
+
+from sources import TOP
+from texts import cells_of, finish, help_text, manual, only, printed, quoted, read, rows_of, running, same, strings, tags
+from texts import tokens
+
+OPTION = r"(?<![^\s(`|])--?[a-zA-Z][-a-z]*"
+COMPLETE = """COMP_WORDBREAKS=' ' COMP_LINE=$2 COMP_POINT=${#2} COMP_WORDS=($2) COMP_CWORD=$((${#COMP_WORDS[@]} - 1))
+[[ $2 != *' ' ]] || { COMP_WORDS+=(''); COMP_CWORD=$((COMP_CWORD + 1)); }
+. "$1"; _flashnor; printf '%s\\n' "${COMPREPLY[@]}" """
+
+
+def completed(line):
+    """Returns what the completion offers behind a line, in a directory that has one directory, `there`."""
+    with tempfile.TemporaryDirectory() as folder:
+        (TOP / folder / "there").mkdir()
+        words = ["bash", "-c", COMPLETE, "complete", TOP / "completion/flashnor.bash", f"flashnor {line}"]
+        ran = subprocess.run(words, cwd=folder, capture_output=True, encoding="utf-8", check=True)
+    return set(ran.stdout.split())
+
+
+def in_bytes(text):
+    """Returns the bytes of a size such as `64 KiB`."""
+    number, unit = text.split()
+    return int(number) * {"KiB": 1 << 10, "MiB": 1 << 20}[unit]
+
+
+def take_options(told, page):
+    """Compares options, with the names of their values."""
+    listed = re.search(r"(?ms)^Options:\n(.*?)\n\n", told)[1]
+    options = {" ".join(option).strip() for option in re.findall(r"(?m)^ +(-[-a-zA-Z]+)(?: <(.*?)>)?", listed)}
+    synopsis = " ".join(part.text for part in page if part.section == "SYNOPSIS")
+    synopsis = re.sub(r"(?m)^\.\S+|dummy:\S*", lambda it: "TEXT" if it[0][0] == "d" else "", synopsis)
+    same("options", help=options, manual=tags(page, "OPTIONS"),
+         synopsis=re.findall(r"-[-a-zA-Z]+(?: [A-Z][A-Z,.]*)?", " ".join(synopsis.split())))
+    names = {option.split()[0] for option in options}
+    same("all options", help=names, completion=completed("-"))
+    offered = {name: completed(f"{name} ") for name in names}
+    same("options with values", help={option.split()[0] for option in options if " " in option},
+         completion={name for name in names if not any(word[0] == "-" for word in offered[name])})
+    same("options with files", help={option.split()[0] for option in options if option.endswith(" FILE")},
+         completion={name for name in names if "there" in offered[name]})
+    flashrom = "docs/FLASHROM.md"
+    ours = " ".join(cell for _, heads, column, cell in cells_of(flashrom) if heads[column] == "flashnor")
+    ours += re.sub(r"(?m)^\|.*", "", read(flashrom)) + read("docs/SPECIFICATION.md") + read("docs/DECISIONS.md")
+    only("all options", "help", names, manual=re.findall(OPTION, running(page)), help=re.findall(OPTION, told),
+         pages=[option for text in quoted(ours) for option in re.findall(OPTION, text)])
+
+
+def take_keys(told, page):
+    """Compares the keys of `-p`, with the names of their values."""
+    keys = re.findall(r"(?m)^  ([a-z]+=[A-Z]+) ", told)
+    same("keys with values", help=keys, manual=tags(page, "PROGRAMMER"))
+    only("keys with values", "help", keys, FLASHROM=[
+        text for _, heads, column, cell in cells_of("docs/FLASHROM.md") if heads[column] == "flashnor"
+        for text in quoted(cell) if re.fullmatch(r"[a-z]+=[A-Z]+", text)])
+    names = {key.partition("=")[0] for key in keys}
+    words = [token.text for token in tokens("nor_words/src/settings.rt")]
+    same("keys", parser={word.strip('"') for word, after in zip(words, words[1:]) if (word[0], after) == ('"', "=>")},
+         help=names, completion={word[len("dummy:") : -1] for word in completed("-p dummy:")})
+    same("keys with files", help={key.partition("=")[0] for key in keys if key.endswith("=FILE")},
+         completion={name for name in names if f"dummy:{name}=there" in completed(f"-p dummy:{name}=")})
+
+
+def take_chips(told, page, program):
+    """Compares the known and the emulated chips, and the names for `-c`."""
+    cases, chip = printed(), r"(?m)^(\w+ [0-9a-f]{6} \d+)$"
+    listed = subprocess.run([program, "-L"], capture_output=True, encoding="utf-8", check=True).stdout if program else cases
+    table = [f"{name} {number.replace(' ', '').lower()} {in_bytes(size)}"
+             for name, number, size, *_ in rows_of("docs/SPECIFICATION.md", "Name")]
+    known = same("known chips", printed=re.findall(chip, listed), SPECIFICATION=table,
+                 row=re.findall(r"\w+ [0-9a-f]{6} \d+", read("docs/SPECIFICATION.md")))
+    made = set(re.findall(r"emulate=(\w+)(?: -c \w+)?\nFound \w+ \(\w+\), (\d+) bytes", cases))
+    shown = {name: {(chip, str(in_bytes(size))) for chip, size in re.findall(r"(\w+) \((\d+ [KM]iB)", text)}
+             for name, text in (("help", told), ("manual", running(page)), ("README", read("README.md")))}
+    same("emulated chips", printed=made, **shown)
+    same("names of emulated chips", printed={name for name, _ in made},
+         completion={word.partition("=")[2] for word in completed("-p dummy:emulate=")})
+    same("names for -c", printed={"SFDP", *(line.split()[0] for line in known)}, completion=completed("-c "),
+         manual=re.findall(r"\b[A-Z][A-Z0-9]{3,}\b", tags(page, "OPTIONS").get("-c NAME", "")))
+
+
+def take_versions(told):
+    """Compares the version, which the program prints in its help, and the kit, if one is installed."""
+    makefile = subprocess.run(["make", "-s", "--no-print-directory", "--eval", "told: ; @echo $(VERSION)", "told"], cwd=TOP,
+                              capture_output=True, encoding="utf-8", check=True).stdout
+    same("version", parser=re.findall(r"(?m)^flashnor ([\d.]+):", "\n".join(strings("nor_words/src/options.rt"))),
+         help=re.findall(r"\Aflashnor ([^:]*):", told), Makefile=[makefile.strip()],
+         manual=re.findall(r'(?m)^\.TH .*"flashnor ([^"]*)"', read("man/flashnor.8")),
+         CHANGELOG=re.findall(r"(?m)^## \[(\d[^]]*)\] - \d{4}-\d\d-\d\d$", read("CHANGELOG.md"))[:1])
+    try:
+        kit = subprocess.run(["rt", "version"], capture_output=True, encoding="utf-8", check=True).stdout
+    except FileNotFoundError:
+        return
+    same("kit", rt=[kit.strip()], README=re.findall(r"rattle-kit-[^`]*", read("README.md")))
+
+
+def main():
+    """Compares all of these."""
+    program = next(iter(sys.argv[1:]), None)
+    told, page = help_text(program), manual("man/flashnor.8")
+    take_options(told, page)
+    take_keys(told, page)
+    take_chips(told, page, program)
+    take_versions(told)
+    finish()
+
+
+if __name__ == "__main__":
+    main()

@@ -1,0 +1,141 @@
+"""Reads the pages and what the program prints, and compares them: for scripts/agree/ and scripts/promises.py."""
+import collections
+import re
+import subprocess
+import sys
+
+import rust
+from sources import CRATES, TOP
+
+Part = collections.namedtuple("Part", "section title text")
+differing = []
+
+
+# ---- the comparisons
+
+
+def differs(message):
+    """Prints a difference, and notes it."""
+    print(f"DIFFERS: {message}")
+    differing.append(message)
+
+
+def only(what, owner, known, **texts):
+    """Checks that each of these texts has something of a subject, and nothing that its owner doesn't have."""
+    for text, found in texts.items():
+        if not found:
+            differs(f"{what}: nothing found in {text}")
+        for line in sorted(set(found) - set(known)):
+            differs(f"{what}: {text} has '{line}', {owner} hasn't")
+
+
+def same(what, **texts):
+    """Checks that all texts have the same of a subject as the first one, and returns that."""
+    (first, known), *others = texts.items()
+    if not known:
+        differs(f"{what}: nothing found in {first}")
+    for text, found in others:
+        only(what, first, known, **{text: found})
+        only(what, text, found, **{first: known})
+    print(f"{what}: {len(set(known))} in {' '.join(texts)}")
+    return known
+
+
+def finish():
+    """Ends the script, with status 1 if anything differed."""
+    sys.exit(len(differing) > 0)
+
+
+# ---- the pages
+
+
+def read(path):
+    """Returns the text of a file."""
+    return (TOP / path).read_text(encoding="utf-8")
+
+
+def quoted(text):
+    """Returns what stands between backticks."""
+    return re.findall(r"`([^`]*)`", text)
+
+
+def cells_of(page):
+    """Returns the cells of a page's tables, each with its line, the heads of its table and the number of its column."""
+    found, heads = [], None
+    for number, line in enumerate(read(page).splitlines(), 1):
+        row = [cell.strip() for cell in re.split(r"(?<!\\)\|", line)[1:-1]] if line.startswith("|") else None
+        if row and heads is None:
+            heads = row
+        elif row and not set(line) <= set("|- "):
+            found += [(number, heads, column, cell) for column, cell in enumerate(row[: len(heads)])]
+        elif not row:
+            heads = None
+    return found
+
+
+def rows_of(page, head):
+    """Returns the rows of the tables of a page whose first column has this head."""
+    rows = collections.defaultdict(list)
+    for number, heads, _, cell in cells_of(page):
+        if heads[0] == head:
+            rows[number].append(cell)
+    return list(rows.values())
+
+
+def manual(path):
+    """Returns the sections and parts of a manual page, without fonts."""
+    text = re.sub(r"\\f[BIR]|\\%", "", read(path)).replace("\\-", "-").replace("\\(dq", '"')
+    parts, section = [], ""
+    for kind, title, body in re.findall(r"(?m)^\.S([HS]) (.*)\n((?:(?!\.S[HS] ).*\n)*)", text):
+        section = title if kind == "H" else section
+        parts.append(Part(section, title, body))
+    return parts
+
+
+def tags(parts, section):
+    """Returns the tagged paragraphs of a section of a manual page: each tag with its text."""
+    text = "".join(part.text for part in parts if part.section == section)
+    return {tag: " ".join(body.split()) for tag, body in
+            re.findall(r"(?m)^\.TP.*\n(.*)\n((?:(?!\.(?:TP|PP|SS)).*\n)*)", text)}
+
+
+def rows(parts, title):
+    """Returns the numbered rows of the tables of a part of a manual page: the number, and the next cell."""
+    text = "".join(part.text for part in parts if part.title.startswith(title))
+    text = re.sub(r"T\{\n(.*?)\nT\}", lambda cell: cell[1].replace("\n", " "), text, flags=re.S)
+    return dict(re.findall(r"(?m)^(\d+)\t([^\t\n]*)", text))
+
+
+def running(parts):
+    """Returns the text of a manual page in one line, without its examples."""
+    text = re.sub(r"(?ms)^\.EX$.*?^\.EE$", "", "".join(part.text for part in parts))
+    return " ".join(re.sub(r"(?m)^\.\S+|T[{}]", " ", text).split())
+
+
+# ---- what the program prints
+
+
+def printed():
+    """Returns what the cases print, which `make runs` compares with the program."""
+    cases = "".join(path.read_text(encoding="utf-8") for path in sorted((TOP / "tests/cases").glob("*.case")))
+    return re.sub(r"(?m)^! ", "", cases)
+
+
+def help_text(program):
+    """Returns the help, as the program or its case prints it."""
+    if program:
+        return subprocess.run([program, "-h"], capture_output=True, encoding="utf-8", check=True).stdout
+    return re.sub(r"(?m)^\| ?", "", re.search(r"(?m)^after help:\n((?:\|.*\n)*)", printed())[1])
+
+
+# ---- the sources
+
+
+def tokens(path):
+    """Returns the tokens of a source below crates/."""
+    return rust.tokens_of((CRATES / path).read_text(encoding="utf-8"))
+
+
+def strings(path):
+    """Returns the strings of a source below crates/."""
+    return [token.text[1:-1] for token in tokens(path) if token.text[0] == '"']
