@@ -25,6 +25,10 @@ IN_COMPLETIONS = $(INTO)/share/bash-completion/completions/flashnor
 # What `make dist` packs.
 VERSION := 1.0
 DIST := out/flashnor-$(VERSION)
+MANUALS := man/flashnor.8 man/flashnor-journal.5
+COMPLETION := completion/flashnor.bash
+# README, the licence if there is one, and each page that README or a manual page names.
+PAGES = README.md $(wildcard LICEN[CS]E*) $(sort $(shell grep -ohE '[A-Za-z_]+(/[A-Za-z_]+)*\.md' README.md $(MANUALS)))
 
 # The cases that `make storm` runs: their seed, or the first and the last one (1-6), and how many of each.
 SEED := 1
@@ -103,7 +107,7 @@ install: $(BUILT) ## puts program, manual pages and completion below PREFIX and 
 	install -D -m 755 '$(PROGRAM)' '$(IN_BIN)'
 	install -D -m 644 man/flashnor.8 '$(IN_MAN)'
 	install -D -m 644 man/flashnor-journal.5 '$(IN_MAN5)'
-	install -D -m 644 completion/flashnor.bash '$(IN_COMPLETIONS)'
+	install -D -m 644 $(COMPLETION) '$(IN_COMPLETIONS)'
 
 uninstall: ## removes these files again
 	rm -f '$(IN_BIN)' '$(IN_MAN)' '$(IN_MAN5)' '$(IN_COMPLETIONS)'
@@ -119,15 +123,15 @@ sweep: $(BUILT) ## runs the program with each of its allocations refused in turn
 kill: $(BUILT) ## kills the program at each of its calls on files, and makes each fail (with a C compiler)
 	@tests/kill/run.sh '$(PROGRAM)'
 
-# For who has no prover: the proved program with its pages, what it was proved with, and their sums. A program that was
-# built in another way has no page of what it was proved with, or one of another program.
+# For users without a prover: the proved program, PROVED-WITH, the pages in their directories, and the sum of each file.
+# A program that was built in another way has no PROVED-WITH, or that of another program.
 dist: $(BUILT) ## packs an archive with the program, its pages, and what it was proved with
 	@cd '$(dir $(PROGRAM))' && tail -n 1 PROVED-WITH 2> /dev/null | sha256sum --check --status 2> /dev/null || \
 	  $(MAKE) --no-print-directory -C '$(CURDIR)' build
 	@rm -rf $(DIST) && mkdir -p $(DIST)
-	@cp '$(PROGRAM)' '$(dir $(PROGRAM))PROVED-WITH' man/flashnor.8 man/flashnor-journal.5 docs/SPECIFICATION.md \
-	  completion/flashnor.bash README.md CHANGELOG.md $(DIST)
-	@cd $(DIST) && sha256sum -- * > SHA256SUMS
+	@cp '$(PROGRAM)' '$(dir $(PROGRAM))PROVED-WITH' $(DIST)
+	@cp --parents $(MANUALS) $(COMPLETION) $(sort $(PAGES)) $(DIST)
+	@cd $(DIST) && find * -type f -exec sha256sum -- {} + > ../SHA256SUMS && mv ../SHA256SUMS .
 	@tar --sort=name --owner=0 --group=0 --numeric-owner -C out -czf $(DIST).tar.gz flashnor-$(VERSION)
 	@echo $(DIST).tar.gz
 

@@ -1,12 +1,14 @@
 #!/usr/bin/env python3
 """tests/make.py: whether the Makefile does what it must.
 
-It works on no program that is older than its sources, an archive tells what its program was proved with, `make quick`
-takes no crate for compiled that was not, and `make demo` runs the first example of README. All of it is tried on a copy
+It works on no program that is older than its sources, an archive has all pages that its pages link to and says what its
+program was proved with, `make quick` takes no crate for compiled that was not, and `make demo` runs the first example of
+README. All of it is tried on a copy
 of the repository in a folder with a blank in its name, with an `rt` that proves nothing and builds a program that says
 how many were built. The last line is `N passed, M failed`.
 """
 import os
+import re
 import shutil
 import subprocess
 import sys
@@ -16,6 +18,7 @@ from pathlib import Path
 TOP = Path(__file__).resolve().parent.parent
 PROGRAM = Path("crates/flashnor/out/flashnor")
 SOURCE = Path("crates/nor_chip/src/lib.rt")
+MANUALS = "man/flashnor.8", "man/flashnor-journal.5"
 RT = """#!/bin/sh
 case $1 in
     version) echo 'a kit' ;;
@@ -86,13 +89,14 @@ class Tree:
         """Returns those of the targets that would build the program first."""
         return [it for it in targets if "rt run" in self.make("-n", it)[1]]
 
+    def archive(self):
+        """Makes an archive, and returns the directory with its files."""
+        self.run("tar", "-C", self.work, "-xf", self.make("dist")[1].splitlines()[-1])
+        return next(self.work.glob("flashnor-*"))
+
     def packed(self):
-        """Makes an archive, and returns its page of what the program was proved with, and what its program prints."""
-        status, said = self.make("dist")
-        if status != 0:
-            return said
-        self.run("tar", "-C", self.work, "-xf", said.splitlines()[-1])
-        folder = next(self.work.glob("flashnor-*"))
+        """Makes an archive, and returns what it says of the proof, and what its program prints."""
+        folder = self.archive()
         sums = self.run("sh", "-c", f"cd '{folder}' && sha256sum --check --quiet SHA256SUMS && tail -n 1 PROVED-WITH | "
                                     "sha256sum --check --quiet")
         page = (folder / "PROVED-WITH").read_text(encoding="utf-8").splitlines()
@@ -167,6 +171,33 @@ def packed(tree, expect):
     expect("no page", tree.packed(), ["a kit", f"commit {third}", str(count + 3)])
 
 
+def lacking(folder):
+    """Returns what the files of an archive need and the archive lacks: pages that they link to, and sums."""
+    needed = {"flashnor", "PROVED-WITH", "README.md", "completion/flashnor.bash", *MANUALS}
+    for page in ("README.md", *MANUALS):
+        text = (folder / page).read_text(encoding="utf-8") if (folder / page).exists() else ""
+        needed |= {*re.findall(r"\]\(([^):#]+)\)", text), *re.findall(r"\bdocs/\w+\.md", text)}
+    files = {str(it.relative_to(folder)) for it in folder.rglob("*") if it.is_file()} - {"SHA256SUMS"}
+    summed = {line.split("  ", 1)[1] for line in (folder / "SHA256SUMS").read_text(encoding="utf-8").splitlines()}
+    return sorted(needed - files) + sorted(files - summed)
+
+
+def complete(tree, expect):
+    """An archive has each page that its pages link to, and the licence if there is one."""
+    folder = tree.archive()
+    expect("what an archive lacks", lacking(folder), [])
+    expect("a licence that isn't there", sorted(it.name for it in folder.glob("LICEN*")), [])
+    shutil.rmtree(folder)
+    tree.edit("LICENSE", "Free.\n")
+    tree.edit("man/flashnor-journal.5", "See docs/MORE.md.\n")
+    (tree.top / "docs/MORE.md").write_text("More.\n", encoding="utf-8")
+    folder = tree.archive()
+    expect("what an archive with a licence lacks", lacking(folder), [])
+    expect("the new files of an archive", [(folder / it).is_file() for it in ("LICENSE", "docs/MORE.md")], [True, True])
+    (tree.top / "docs/MORE.md").unlink()
+    expect("an archive whose page is missing", tree.make("dist")[0] != 0, True)
+
+
 def shown(tree, expect):
     """`make demo` prints the first example of README and runs it, even if nothing is built; and how to go on."""
     readme = (TOP / "README.md").read_text(encoding="utf-8")
@@ -182,13 +213,15 @@ def shown(tree, expect):
 
 
 def wrong(tree, expect):
-    """A Makefile whose program needs no sources is told."""
+    """The trials detect a Makefile whose program needs no sources, and one that packs too few pages."""
     path = tree.top / "Makefile"
     text = path.read_text(encoding="utf-8")
     path.write_text(text.replace("$(BUILT): $(SOURCES)", "$(BUILT):"), encoding="utf-8")
     tree.make("build")
     tree.edit()
     expect("a Makefile that forgets the sources", tree.would_build(*TARGETS), [])
+    path.write_text(re.sub(r"(?m)^PAGES = .*", "PAGES = README.md docs/FAQ.md", text), encoding="utf-8")
+    expect("a Makefile that packs few pages", "docs/PROMISES.md" in lacking(tree.archive()), True)
 
 
 def main():
@@ -202,7 +235,7 @@ def main():
         if got != wanted:
             print(f"FAILED: make.py: {what}: wanted {wanted}, got {got}")
 
-    for trial in (stale, installed, packed, shown, wrong):
+    for trial in (stale, installed, packed, complete, shown, wrong):
         with tempfile.TemporaryDirectory() as work:
             trial(Tree(Path(work)), expect)
     print(f"{counts[True]} passed, {counts[False]} failed")
