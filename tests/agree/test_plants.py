@@ -13,6 +13,8 @@ TOP = pathlib.Path(__file__).resolve().parent.parent.parent
 FOLDERS = "crates scripts docs man completion tests".split()
 
 AGREE = ["bash", "scripts/agree.sh"]
+WORDS, FAULTS, LIMITS = (["env", "PYTHONPATH=scripts", "python3", f"scripts/agree/{part}.py"]
+                         for part in ("words", "faults", "limits"))
 ROWS = ["python3", "scripts/promises.py"]
 PATHS = ["python3", "scripts/paths.py"]
 COUNTS = ["python3", "scripts/counts.py"]
@@ -60,7 +62,8 @@ PLANTS = {
         ROWS, "docs/PROMISES.md", r"`session`, `restore`: `unwritten`, `spares`",
         "`session`: `unwritten`, `restore`: `spares`", "two colons between names"),
     "a parenthesis that is open": (
-        ROWS, "docs/PROMISES.md", r"`done` \(`IsReported`\) \|", "`done` (`IsReported` |", "a parenthesis isn't closed"),
+        ROWS, "docs/PROMISES.md", r"`done` \(`IsReported`\) \|", "`done` (`IsReported` |",
+        "a parenthesis isn't closed"),
     "a test that isn't there": (
         ROWS, "docs/PROMISES.md", r"`a_busy_chip_is_waited_for`", "`a_busy_chip_waits`",
         "there is no test `a_busy_chip_waits`"),
@@ -104,13 +107,32 @@ PLANTS = {
         PATHS, "crates/nor_read/src/lib.rt", r"`wp_status`", "`wp_state`", "there is no wp_state"),
     "a page's definitions in another crate": (
         PATHS, "docs/ARCHITECTURE.md", r"`specs/Within` says", "`specs/Guard` says", "there is no specs/Guard"),
+    "an option that the help hasn't": (
+        WORDS, "tests/cases/help.case", r"(?m)^\|       --unlock .*\n", "",
+        "options: manual has '--unlock', help hasn't"),
+    "an option that the completion offers": (
+        WORDS, "completion/flashnor.bash", r"--journal --rehearse -h", "--journal --rehearse --force -h",
+        "all options: completion has '--force', help hasn't"),
+    "an option whose files the completion doesn't offer": (
+        WORDS, "completion/flashnor.bash", r"-w \| -v \| -l \| --restore\) _f", "-w | -v | -l) _f",
+        "options with files: help has '--restore', completion hasn't"),
+    "a key that the parser hasn't": (
+        WORDS, "crates/nor_words/src/settings.rt", r'"busy" =>', '"delay" =>', "keys: parser has 'delay', help hasn't"),
+    "a name that the completion offers for -c": (
+        WORDS, "completion/flashnor.bash", r"W25Q128FV SFDP ;;", "W25Q128JV SFDP ;;",
+        "names for -c: completion has 'W25Q128JV', printed hasn't"),
+    "an ID of a known chip": (
+        WORDS, "docs/SPECIFICATION.md", r"EF 40 18", "EF 40 19",
+        "known chips: SPECIFICATION has 'W25Q128FV ef4019 16777216'"),
+    "a size of an emulated chip": (
+        WORDS, "README.md", r"TINY64 \(64 KiB", "TINY64 (32 KiB", "emulated chips: README has .*32768"),
     "an option that flashnor hasn't, beside flashrom's": (
         AGREE, "docs/FLASHROM.md", r"with `--unlock`", "with `--unlocks`",
         "all options: pages has '--unlocks', help hasn't"),
     "a common option that flashnor hasn't": (
-        AGREE, "docs/FLASHROM.md", r"`-v FILE`, `-n`", "`-v FILE`, `-N`", "all options: pages has '-N', help hasn't"),
+        WORDS, "docs/FLASHROM.md", r"`-v FILE`, `-n`", "`-v FILE`, `-N`", "all options: pages has '-N', help hasn't"),
     "a key that flashnor hasn't, beside flashrom's": (
-        AGREE, "docs/FLASHROM.md", r"`busy=N`", "`busier=N`",
+        WORDS, "docs/FLASHROM.md", r"`busy=N`", "`busier=N`",
         "keys with values: FLASHROM has 'busier=N', help hasn't"),
     "a glossary's name that isn't there": (
         PATHS, "docs/GLOSSARY.md", r"`CanGiveBack`", "`CanGiveBacks`",
@@ -137,39 +159,53 @@ PLANTS = {
     "a version of the Makefile": (
         AGREE, "Makefile", r"(?m)^VERSION := .*", "VERSION := 9.9", "version: Makefile has '9.9', parser hasn't"),
     "a version of the manual page": (
-        AGREE, "man/flashnor.8", r'"flashnor [^"]*"', '"flashnor 9.9"',
+        WORDS, "man/flashnor.8", r'"flashnor [^"]*"', '"flashnor 9.9"',
         "version: manual has '9.9', parser hasn't"),
     "a version of what has changed": (
-        AGREE, "CHANGELOG.md", r"(?m)^## \[\d[^]]*", "## [9.9", "version: CHANGELOG has '9.9', parser hasn't"),
+        WORDS, "CHANGELOG.md", r"(?m)^## \[\d[^]]*", "## [9.9", "version: CHANGELOG has '9.9', parser hasn't"),
     "a version without its date": (
-        AGREE, "CHANGELOG.md", r"(?m)^(## \[\d[^]]*\]) - .*", "## [1.0]", "version: nothing found in CHANGELOG"),
+        WORDS, "CHANGELOG.md", r"(?m)^(## \[\d[^]]*\]) - .*", "## [1.0]", "version: nothing found in CHANGELOG"),
     "a version of the program": (
-        AGREE, "crates/nor_words/src/options.rt", r'= "flashnor [^:]*:', '= "flashnor 9.9:',
+        WORDS, "crates/nor_words/src/options.rt", r'= "flashnor [^:]*:', '= "flashnor 9.9:',
         "version: parser has '9.9', manual hasn't"),
     "a message of an error": (
-        AGREE, "man/flashnor.8", r"(?m)^8\trange not", "8\trange never", "manual has 'Error 8: range never offered.', sources hasn't"),
+        AGREE, "man/flashnor.8", r"(?m)^8\trange not", "8\trange never",
+        "manual has 'Error 8: range never offered.', sources hasn't"),
+    "a message of an error in the sources": (
+        FAULTS, "crates/nor_call/src/refusal.rt", r'"range not offered"', '"range unknown"',
+        "sources has 'Error 8: range unknown.', manual hasn't"),
+    "an error that a page shows": (
+        FAULTS, "README.md", r"Error 12: stopped", "Error 12: halted", "errors shown: README has 'Error 12: halted.'"),
     "an error less": (
-        AGREE, "man/flashnor.8", r"(?m)^18\t.*\n", "", "manual hasn't"),
+        FAULTS, "man/flashnor.8", r"(?m)^18\t.*\n", "", "manual hasn't"),
     "a usage fault less": (
-        AGREE, "man/flashnor.8", r"(?m)^10\t.*\n", "", "numbers of Usage faults: sources has '10', page hasn't"),
+        FAULTS, "man/flashnor.8", r"(?m)^10\t.*\n", "", "numbers of Usage faults: sources has '10', page hasn't"),
     "an option of a usage fault": (
-        AGREE, "man/flashnor.8", r"(?m)^8\t\\-n or", "8\t\\-c or", "options of usage faults: manual has '8 -c'"),
+        FAULTS, "man/flashnor.8", r"(?m)^8\t\\-n or", "8\t\\-c or", "options of usage faults: manual has '8 -c'"),
     "a layout fault of another number": (
-        AGREE, "man/flashnor.8", r"(?m)^3\tthe end is", "9\tthe end is", "numbers of Layout faults: page has '9'"),
+        FAULTS, "man/flashnor.8", r"(?m)^3\tthe end is", "9\tthe end is", "numbers of Layout faults: page has '9'"),
     "a file fault in two lines": (
-        AGREE, "man/flashnor.8", r"(?m)^5\tT\{\nhas two", "6\tT{\nhas two", "numbers of File faults: page has '6'"),
+        FAULTS, "man/flashnor.8", r"(?m)^5\tT\{\nhas two", "6\tT{\nhas two", "numbers of File faults: page has '6'"),
     "an SFDP fault of another number": (
-        AGREE, "docs/SPECIFICATION.md", r"\| 8 \| the 4 KiB", "| 9 | the 4 KiB",
+        FAULTS, "docs/SPECIFICATION.md", r"\| 8 \| the 4 KiB", "| 9 | the 4 KiB",
         "numbers of SFDP faults: page has '9'"),
     "a journal fault of another number": (
-        AGREE, "man/flashnor-journal.5", r"(?m)^7\tthe digest", "8\tthe digest",
+        FAULTS, "man/flashnor-journal.5", r"(?m)^7\tthe digest", "8\tthe digest",
         "numbers of Journal faults: page has '8'"),
     "the length of a journal": (
-        AGREE, "man/flashnor-journal.5", r"takes 61 bytes", "takes 53 bytes", "bytes of a journal of no sector: 61 in the sources, journal has 53"),
+        AGREE, "man/flashnor-journal.5", r"takes 61 bytes", "takes 53 bytes",
+        "bytes of a journal of no sector: 61 in the sources, journal has 53"),
+    "a limit of the sources": (
+        LIMITS, "crates/nor_layout/src/region.rt", r"REGIONS: usize = 64", "REGIONS: usize = 65",
+        "regions: 65 in the sources, SPECIFICATION has 64"),
+    "a limit that no page has": (
+        LIMITS, "docs/SPECIFICATION.md", r"65,536 polls in a row", "many polls in a row",
+        "polls: 65,536 in the sources, and no page has '# polls in a row'"),
     "an exit status": (
-        AGREE, "man/flashnor.8", r"(?m)^1\tThere was", "3\tThere was", "exit statuses: manual has '3'"),
+        LIMITS, "man/flashnor.8", r"(?m)^1\tThere was", "3\tThere was", "exit statuses: manual has '3'"),
     "a result that isn't printed": (
-        AGREE, "man/flashnor.8", r"(?m)^Mode: open", "Mode: open, idle", "lines of results: examples has 'Mode: _, idle'"),
+        FAULTS, "man/flashnor.8", r"(?m)^Mode: open", "Mode: open, idle",
+        "lines of results: examples has 'Mode: _, idle'"),
     "an equation that the page hasn't": (
         AGREE, "docs/STATEMENT.md", r"(?m)^most_status_writes _ unlock = .*\n", "",
         "STATEMENT.md is to have 'most_status_writes _ unlock = "),
@@ -183,7 +219,21 @@ PLANTS = {
 
 if shutil.which("rt"):
     PLANTS["another kit"] = (
-        AGREE, "README.md", r"rattle-kit-\w+", "rattle-kit-none", "kit: README has 'rattle-kit-none .*', rt hasn't")
+        WORDS, "README.md", r"rattle-kit-\w+", "rattle-kit-none", "kit: README has 'rattle-kit-none .*', rt hasn't")
+
+# Changes of the sources' layout that change nothing that they say: the file, the pattern, and the text in its place.
+HARMLESS = {
+    "a requires with a name": ("crates/nor_journal/src/records.rt", r"requires \{ 4100", "requires there { 4100"),
+    "a signature on three lines": (
+        "crates/nor_words/src/numbers.rt", r"read_unique\(text: &str\)", "read_unique(\n    text: &str\n)"),
+    "a comment between an attribute and its fn": (
+        "crates/rows/src/once.rt", r"#\[test\]\n(?=fn a_stop_ends_each_call)", "#[test]\n// {each} of them\n"),
+    "a constant on three lines": ("crates/nor_layout/src/region.rt", r"usize = 64;", "usize =\n    // most\n    64;"),
+    "a message in another form": (
+        "crates/nor_call/src/refusal.rt", r'f\.write_str\("stopped"\)',
+        '{\n                "stopped".fmt(f)\n            }'),
+    "a key on two lines": ("crates/nor_words/src/settings.rt", r'"busy" =>', '"busy"\n                =>'),
+}
 
 
 class Trees:
@@ -237,6 +287,13 @@ class Plants(unittest.TestCase):
                 self.assertTrue(any(re.search(wanted, line) for line in lines), "\n".join(lines))
                 before = right[tuple(words)][1]
                 self.assertFalse(any(re.search(wanted, line) for line in before), f"told without a fault: {wanted}")
+
+    def test_each_harmless_change_is_accepted(self):
+        with tempfile.TemporaryDirectory() as folder:
+            trees = Trees(folder, 1)
+            for name, change in HARMLESS.items():
+                with self.subTest(name):
+                    self.assertEqual(trees.run(AGREE, *change), (0, []))
 
 
 if __name__ == "__main__":
