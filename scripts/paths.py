@@ -1,10 +1,10 @@
 #!/usr/bin/env python3
 """scripts/paths.py: whether the files and names that the pages name are there.
 
-The pages are README.md, CONTRIBUTING.md, CHANGELOG.md, docs/, the README files of tests/, the manual pages, and the head
-(`//!`) of each file of crates/*/src. What is looked for is a word that ends as a file's name does, or that begins with
-a folder's name; a part `*` or `NAME` stands for anything. `specs/Chip` and the like are files of a crate that the line
-or its title names, in a head of that crate. In heads and on the pages of NAMING each name between backticks must be the
+The pages are README.md, CONTRIBUTING.md, CHANGELOG.md, docs/, the README files of tests/, the manual pages, and the
+head (`//!`) of each file of crates/*/src. A word is looked for if it ends as a file's name does, or begins with a
+folder's name; a part `*` or `NAME` stands for anything. `specs/Chip` and the like are files of a crate that the line or
+its title names, in a head of that crate. In heads and on the pages of NAMING each name between backticks must be the
 name of something, too. Each missing file or name is printed with its line, and then the status is 1.
 """
 import fnmatch
@@ -16,6 +16,7 @@ import sys
 
 sys.dont_write_bytecode = True  # nothing else is to be left in scripts/
 import contracts
+import texts
 from sources import CRATES, TOP
 
 FOLDERS = "crates docs scripts tests man completion specs src proofs must-fail".split()
@@ -116,7 +117,7 @@ def check(page):
 @functools.cache
 def names():
     """Returns what a name between backticks may be: a name of the sources, a file or a folder, or a library."""
-    libraries = (TOP / "crates.txt").read_text(encoding="utf-8").replace(":", " ").split()
+    libraries = texts.read("crates.txt").replace(":", " ").split()
     return contracts.names() | {pathlib.PurePath(path).stem for path in there()} | set(libraries)
 
 
@@ -128,8 +129,8 @@ def check_names(page):
 
 
 def gaps():
-    """Yields each crate that ARCHITECTURE.md doesn't name in backticks, and each file of crates/*/src without a head."""
-    text = (TOP / "docs/ARCHITECTURE.md").read_text(encoding="utf-8")
+    """Yields each crate that ARCHITECTURE.md doesn't name, and each file of crates/*/src without a head."""
+    text = texts.read("docs/ARCHITECTURE.md")
     for crate in sorted(names_of_crates()):
         if f"`{crate}`" not in text:
             yield f"docs/ARCHITECTURE.md names no crate {crate}"
@@ -142,18 +143,15 @@ def main():
     """Tells what the pages name that isn't there, and how much they name."""
     told = {page: list(check(page)) for page in pages()}
     named = {page: list(check_names(page)) for page in told if page.suffix == ".rt" or page.name in NAMING}
-    missing = 0
     for page in told:
         for number, name in filter(None, [*told[page], *named.get(page, [])]):
-            print(f"DIFFERS: paths: {page.relative_to(TOP)}:{number}: there is no {name}")
-            missing += 1
+            texts.differs(f"paths: {page.relative_to(TOP)}:{number}: there is no {name}")
     for gap in gaps():
-        print(f"DIFFERS: paths: {gap}")
-        missing += 1
+        texts.differs(f"paths: {gap}")
     print(f"paths: {sum(map(len, told.values()))} in pages and heads, {sum(map(len, named.values()))} names in heads")
-    return missing
+    texts.finish()
 
 
 if __name__ == "__main__":
     sys.stdout.reconfigure(encoding="utf-8")
-    sys.exit(main() > 0)
+    main()

@@ -22,12 +22,10 @@ sys.dont_write_bytecode = True  # nothing else is to be left in scripts/
 import contracts
 import texts
 
-
 PAGES = "docs/PROMISES.md", "docs/TESTING.md", "README.md"
 # The heads of the columns that tell where a promise stands, and of those that name tests. TESTING.md must have the
 # first of the latter, each other page one of the former.
-PROMISING = ("Call, clause",)
-TESTING = "Test", "Command"
+PROMISING, TESTING = ["Call, clause"], ["Test", "Command"]
 NAME = re.compile(r"[A-Za-z_]\w*(::\w+)?")
 JOINING = set(", and with".split()) | {","}
 
@@ -107,34 +105,27 @@ def is_type(name):
 
 def parts_of(cell):
     """Returns the names, marks and words of a cell, where what stands in parentheses behind a name is that name's."""
-    levels, owners = [[]], []
+    levels = [[]]
     for name, mark, word in re.findall(r"`([^`]*)`|([(),;:])|([^\s`(),;:]+)", cell):
         if mark == "(":
-            last = levels[-1][-1] if levels[-1] else None
-            owners.append(last if isinstance(last, Name) else None)
             levels.append([])
-        elif mark == ")" and owners:
-            inside, last = levels.pop(), owners.pop()
-            if last:
-                last.inside = inside
+        elif mark == ")" and levels[1:]:
+            inside = levels.pop()
+            if levels[-1] and isinstance(levels[-1][-1], Name):
+                levels[-1][-1].inside = inside
             else:
                 levels[-1] += inside
         else:
             levels[-1].append(Name(name) if name else mark or word)
-    if owners:
+    if levels[1:]:
         raise Wrong("a parenthesis isn't closed")
     return levels[0]
 
 
 def split(parts, mark):
     """Returns the parts between such marks."""
-    found = [[]]
-    for part in parts:
-        if part == mark:
-            found.append([])
-        else:
-            found[-1].append(part)
-    return found
+    marks = [-1, *(at for at, part in enumerate(parts) if part == mark), len(parts)]
+    return [parts[start + 1 : end] for start, end in zip(marks, marks[1:])]
 
 
 def names_of(parts):
@@ -181,8 +172,7 @@ def clause(of, found, name):
 
 def first_that_holds(problems):
     """Raises the first of some problems where there is one for each."""
-    problems = list(problems)
-    if all(problems):
+    if all(problems := list(problems)):
         raise Wrong(problems[0])
 
 
@@ -269,7 +259,7 @@ def tests():
 
 def check_names(cell, known, what):
     """Yields what is wrong with the names of a cell that have to be these."""
-    for name in re.findall(r"`([^`]*)`", cell):
+    for name in texts.quoted(cell):
         if NAME.fullmatch(name) and name not in known:
             yield f"there is no {what} `{name}`"
 
@@ -279,7 +269,7 @@ def check_test(cell):
     yield from check_names(cell, tests(), "test")
     goals = texts.read("Makefile")
     cases = texts.read("crates/transcripts/stdin")
-    for name in re.findall(r"`([^`]*)`", cell):
+    for name in texts.quoted(cell):
         if goal := re.fullmatch(r"make (\w+)", name):
             if not re.search(rf"(?m)^{goal[1]}:", goals):
                 yield f"the Makefile has no goal `{goal[1]}`"
@@ -301,25 +291,22 @@ def checked(head, cell):
 
 def main():
     """Tells what the tables name that isn't there, and how much they name."""
-    failed, count = 0, 0
+    count = 0
     for page in PAGES:
-        cells = [(number, heads[column], cell) for number, heads, column, cell in texts.cells_of(page)]
+        cells = [(number, heads[column], cell, heads) for number, heads, column, cell in texts.cells_of(page)]
         if page == "README.md":  # of its tables only that of promises names what the sources have
-            lines = {number for number, head, _ in cells if head in PROMISING}
-            cells = [cell for cell in cells if cell[0] in lines]
-        needed = TESTING[:1] if page == "docs/TESTING.md" else PROMISING
-        if not any(head in needed for _, head, _ in cells):
-            print(f"DIFFERS: promises: {page} has no table with a column '{needed[0]}'")
-            failed += 1
-        for number, head, cell in cells:
-            count += len(re.findall(r"`[^`]*`", cell))
+            cells = [cell for cell in cells if PROMISING[0] in cell[3]]
+        needed = TESTING[0] if page == "docs/TESTING.md" else PROMISING[0]
+        if not any(head == needed for _, head, _, _ in cells):
+            texts.differs(f"promises: {page} has no table with a column '{needed}'")
+        for number, head, cell, _ in cells:
+            count += len(texts.quoted(cell))
             for problem in checked(head, cell):
-                print(f"DIFFERS: promises: {page}:{number}: {problem}")
-                failed += 1
+                texts.differs(f"promises: {page}:{number}: {problem}")
     print(f"promises: {count} names in the tables of {' '.join(PAGES)}")
-    return failed
+    texts.finish()
 
 
 if __name__ == "__main__":
     sys.stdout.reconfigure(encoding="utf-8")
-    sys.exit(main() > 0)
+    main()

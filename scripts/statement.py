@@ -230,7 +230,7 @@ def page():
     numbers, done, seen, contents, lines = itertools.count(1), set(), set(), [], []
     for (title, (_, end, most)), count_word, (contracts, uses) in zip(PARTS.items(), ("one", "two", "three"), parts):
         if count(uses) > most:
-            fail(f"part {count_word} has {count(uses)} lines, and {most} at most in PARTS of scripts/statement_parts.py")
+            fail(f"part {count_word} has {count(uses)} lines, at most {most} in PARTS of scripts/statement_parts.py")
         groups = sections({word: uses[word] for word in uses if word not in contracts}, done)
         groups = [(subject + ", further" * (subject in seen), words) for subject, words in groups]
         seen |= {subject for subject, _ in groups}

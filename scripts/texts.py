@@ -121,10 +121,15 @@ def printed():
     return re.sub(r"(?m)^! ", "", cases)
 
 
+def printed_by(*words):
+    """Returns what a command prints."""
+    return subprocess.run(words, cwd=TOP, capture_output=True, encoding="utf-8", check=True).stdout
+
+
 def help_text(program):
     """Returns the help, as the program or its case prints it."""
     if program:
-        return subprocess.run([program, "-h"], capture_output=True, encoding="utf-8", check=True).stdout
+        return printed_by(program, "-h")
     return re.sub(r"(?m)^\| ?", "", re.search(r"(?m)^after help:\n((?:\|.*\n)*)", printed())[1])
 
 

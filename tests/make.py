@@ -1,9 +1,9 @@
 #!/usr/bin/env python3
 """tests/make.py: whether the Makefile does what it must.
 
-It works on no program that is older than its sources, an archive has all pages that its pages link to and says what its
-program was proved with, `make quick` takes no crate for compiled that was not, and `make demo` runs the first example of
-README. All of it is tried on a copy
+It works on no program that is older than its sources, an archive has all pages that its pages link to and says what
+its program was proved with, `make quick` takes no crate for compiled that was not, and `make demo` runs the first
+example of README. All of it is tried on a copy
 of the repository in a folder with a blank in its name, with an `rt` that proves nothing and builds a program that says
 how many were built. The last line is `N passed, M failed`.
 """

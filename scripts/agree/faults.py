@@ -4,7 +4,7 @@ numbers of the faults. The lines of results and refusals are read from the sourc
 import re
 
 import rust
-from texts import finish, help_text, manual, only, printed, quoted, read, rows, rows_of, running, same, tokens
+from texts import finish, help_text, manual, only, printed, quoted, read, rows, rows_of, same, tokens
 
 OPTION = r"(?<![^\s])(?:--?[a-zA-Z][-a-z]*|[a-z]+=)"
 
@@ -35,11 +35,11 @@ def take_lines(page):
     titles = " ".join(part.title for part in page if part.section == "ERRORS")
     same("lines of other faults", manual={blank(line) for line in re.findall(fault, titles)},
          cases={re.sub(r": .*\.$", ": _.", blank(line)) for line in re.findall(f"(?m)^{fault}$", printed())})
-    shown = {"README": " ".join(read("README.md").split()), "manual": " ".join(part.text for part in page),
+    shown = {"README": read("README.md"), "manual": " ".join(part.text for part in page),
              "journal": " ".join(part.text for part in manual("man/flashnor-journal.5"))}
+    error = r"Error (\d+): ([a-zA-Z][a-zA-Z0-9 ,']*)\."
     only("errors shown", "sources", errors, **{
-        text: {line_of(*error) for error in re.findall(r"Error (\d+): ([a-zA-Z][a-zA-Z0-9 ,']*)\.", " ".join(words.split()))}
-        for text, words in shown.items()})
+        name: {line_of(*found) for found in re.findall(error, " ".join(text.split()))} for name, text in shown.items()})
 
 
 def take_answers():
@@ -71,7 +71,8 @@ def take_numbers(page):
             ("File", "flashnor/src/messages.rt", rows(page, "File faults")),
             ("SFDP", "nor_probe/src/sfdp.rt", sfdp),
             ("Journal", "nor_journal/src/fault.rt", rows(journal, "FAULTS"))):
-        same(f"numbers of {kind} faults", sources={str(it) for it in rust.numbers_of_variants(tokens(path))}, page=found)
+        numbers = {str(number) for number in rust.numbers_of_variants(tokens(path))}
+        same(f"numbers of {kind} faults", sources=numbers, page=found)
 
 
 def take_options(page):

@@ -1,7 +1,7 @@
 """scripts/agree/limits.py: whether the numbers on the pages are those of the sources.
 
-LIMITS has for each number what it is, its value, and the words around it on the pages, with `#` for the number. At least
-one page must have them, and wherever they are the number must be the value.
+For each number there is its value, and the words around it on the pages with `#` in place of it. At least one page must
+have these words, and wherever they are the number must be the value.
 """
 import re
 
@@ -56,25 +56,25 @@ def limits():
     return [
         ("bytes of an image", image, r"(?:image is read up to|I is at most|its length is reported as) #"),
         ("bytes of a journal", constant(files, "MOST_JOURNAL_BYTES"), "journal up to #"),
-        ("bytes of a layout", constant(files, "MOST_LAYOUT_BYTES"), r"layout(?:'s file)? (?:has at most|of more than) #"),
+        ("size of a layout", constant(files, "MOST_LAYOUT_BYTES"), "layout(?:'s file)? (?:has at most|of more than) #"),
         ("regions", constant(region, "REGIONS"), "(?:more than|at most) # regions"),
         ("bytes of a name", constant(region, "NAME_LEN"), "1 to # visible"),
         ("bytes of a sector", sector, r"(?:sector \(|sector\*? is |number and its |multiple of )#"),
         ("greatest sector", constant(chip, "MOST_SECTORS") - 1, "a number past #"),
         ("bytes of a record", sector + mark, "# (?:for )?each"),
-        ("bytes of a journal of no sector", constant("nor_journal/src/head.rt", "HEAD") + mark + digest, "takes # bytes"),
+        ("bytes of an empty journal", constant("nor_journal/src/head.rt", "HEAD") + mark + digest, "takes # bytes"),
         ("stops", constant("nor_words/src/stops.rt", "MOST_STOPS"), "1 to # (?:of them|numbers)"),
         ("digits of a stop", numeral("text", "10"), "1 to # decimal digits up to 18"),
         ("greatest stop", 2**64 - 1, "1 to 20 decimal digits up to #"),
         ("digits of a place", len(str(2**32 - 1)), "1 to # decimal digits up to 4"),
         ("greatest place", 2**32 - 1, "1 to 10 decimal digits up to #"),
         ("hexadecimal digits of a place", numeral("digits", "16"), "1 to # hexadecimal digits"),
-        ("hexadecimal digits in a layout", constant("nor_layout/src/address.rt", "DIGITS"), "1 to # hexadecimal digits"),
+        ("digits in a layout", constant("nor_layout/src/address.rt", "DIGITS"), "1 to # hexadecimal digits"),
         ("hexadecimal digits of unique", 2 * unique, r"(?:number, |ID of the chip, |unique= \| )# hexadecimal"),
         ("greatest busy", numeral("text", "10", "20"), r"(?:polls from |number from |operation, |BUSY \()0 to #"),
         ("polls", polls, "# polls in a row"),
         ("polls of an operation", polls, "BUSY is clear, at most #"),
-        ("transactions of a probe", bound("nor_probe/specs/Found.antt", "most_probe"), "command and at most # transactions"),
+        ("transactions of a probe", bound("nor_probe/specs/Found.antt", "most_probe"), "and at most # transactions"),
         ("transactions of an opening", bound("nor_save/specs/Opening.antt", "most_opening"), r"# \+ s \+ 2t"),
         ("transactions of an operation", bound("nor_driver/specs/Operations.antt", "most_operation"), r"\+ #\(e \+ p"),
         ("KiB of the smallest chip", constant("nor_probe/src/sfdp.rt", "LEAST_BITS") >> 13, "from # KiB to"),

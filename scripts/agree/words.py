@@ -1,28 +1,26 @@
 """scripts/agree/words.py [PROGRAM]: whether the pages and the completion have the options, keys, chips and version that
-the program has. The completion is run. Options in the examples of README and of the manual pages aren't looked at, since
-`make runs` runs these."""
+the program has. The completion is run. The examples of README and of the manual pages aren't read: `make runs` runs
+them."""
 import re
-import subprocess
 import sys
 import tempfile
 
 from sources import TOP
-from texts import cells_of, finish, help_text, manual, only, printed, quoted, read, rows_of, running, same, strings, tags
-from texts import tokens
+from texts import cells_of, finish, help_text, manual, only, printed, printed_by, quoted, read, rows_of, running
+from texts import same, strings, tags, tokens
 
 OPTION = r"(?<![^\s(`|])--?[a-zA-Z][-a-z]*"
 COMPLETE = """COMP_WORDBREAKS=' ' COMP_LINE=$2 COMP_POINT=${#2} COMP_WORDS=($2) COMP_CWORD=$((${#COMP_WORDS[@]} - 1))
 [[ $2 != *' ' ]] || { COMP_WORDS+=(''); COMP_CWORD=$((COMP_CWORD + 1)); }
-. "$1"; _flashnor; printf '%s\\n' "${COMPREPLY[@]}" """
+. "$1"; cd "$0"; _flashnor; printf '%s\\n' "${COMPREPLY[@]}" """
 
 
 def completed(line):
     """Returns what the completion offers behind a line, in a directory that has one directory, `there`."""
     with tempfile.TemporaryDirectory() as folder:
         (TOP / folder / "there").mkdir()
-        words = ["bash", "-c", COMPLETE, "complete", TOP / "completion/flashnor.bash", f"flashnor {line}"]
-        ran = subprocess.run(words, cwd=folder, capture_output=True, encoding="utf-8", check=True)
-    return set(ran.stdout.split())
+        said = printed_by("bash", "-c", COMPLETE, folder, TOP / "completion/flashnor.bash", f"flashnor {line}")
+    return set(said.split())
 
 
 def in_bytes(text):
@@ -71,7 +69,7 @@ def take_keys(told, page):
 def take_chips(told, page, program):
     """Compares the known and the emulated chips, and the names for `-c`."""
     cases, chip = printed(), r"(?m)^(\w+ [0-9a-f]{6} \d+)$"
-    listed = subprocess.run([program, "-L"], capture_output=True, encoding="utf-8", check=True).stdout if program else cases
+    listed = printed_by(program, "-L") if program else cases
     table = [f"{name} {number.replace(' ', '').lower()} {in_bytes(size)}"
              for name, number, size, *_ in rows_of("docs/SPECIFICATION.md", "Name")]
     known = same("known chips", printed=re.findall(chip, listed), SPECIFICATION=table,
@@ -88,14 +86,13 @@ def take_chips(told, page, program):
 
 def take_versions(told):
     """Compares the version, which the program prints in its help, and the kit, if one is installed."""
-    makefile = subprocess.run(["make", "-s", "--no-print-directory", "--eval", "told: ; @echo $(VERSION)", "told"], cwd=TOP,
-                              capture_output=True, encoding="utf-8", check=True).stdout
+    makefile = printed_by("make", "-s", "--no-print-directory", "--eval", "told: ; @echo $(VERSION)", "told")
     same("version", parser=re.findall(r"(?m)^flashnor ([\d.]+):", "\n".join(strings("nor_words/src/options.rt"))),
          help=re.findall(r"\Aflashnor ([^:]*):", told), Makefile=[makefile.strip()],
          manual=re.findall(r'(?m)^\.TH .*"flashnor ([^"]*)"', read("man/flashnor.8")),
          CHANGELOG=re.findall(r"(?m)^## \[(\d[^]]*)\] - \d{4}-\d\d-\d\d$", read("CHANGELOG.md"))[:1])
     try:
-        kit = subprocess.run(["rt", "version"], capture_output=True, encoding="utf-8", check=True).stdout
+        kit = printed_by("rt", "version")
     except FileNotFoundError:
         return
     same("kit", rt=[kit.strip()], README=re.findall(r"rattle-kit-[^`]*", read("README.md")))

@@ -194,7 +194,7 @@ PLANTS = {
         "numbers of Journal faults: page has '8'"),
     "the length of a journal": (
         AGREE, "man/flashnor-journal.5", r"takes 61 bytes", "takes 53 bytes",
-        "bytes of a journal of no sector: 61 in the sources, journal has 53"),
+        "bytes of an empty journal: 61 in the sources, journal has 53"),
     "a limit of the sources": (
         LIMITS, "crates/nor_layout/src/region.rt", r"REGIONS: usize = 64", "REGIONS: usize = 65",
         "regions: 65 in the sources, SPECIFICATION has 64"),
