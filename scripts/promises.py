@@ -165,9 +165,7 @@ def clause(of, found, name):
     if not having:
         raise Wrong(f"`{of}` has no clause `{name.text}`: {told(found)}")
     if name.inside:
-        first_that_holds(
-            inside_of(contracts.reached(thing.clauses[name.text], True), {}, name) for thing in having
-        )
+        first_that_holds(inside_of(contracts.reached(it.clauses[name.text], True), {}, name) for it in having)
 
 
 def first_that_holds(problems):
@@ -178,28 +176,19 @@ def first_that_holds(problems):
 
 def inside_of(says, clauses, name):
     """Returns what is wrong with what stands in parentheses behind a name, which says these definitions and has these
-    clauses."""
+    clauses. Behind a definition or a call and a colon stand what that says and its clauses."""
+    known = {*clauses, *(word.name for word in says), *(field for word in says for field in contracts.fields(word))}
     for item in split(name.inside, ";"):
-        sides = split(item, ":")
-        left, right = names_of(sides[0]), [found for side in sides[1:] for found in names_of(side)]
-        for found in left:
-            known = {word.name for word in says} | {field for word in says for field in contracts.fields(word)}
-            is_call = right and any(call.promises() for call in contracts.calls().get(found.text, ()))
-            if found.text not in known and found.text not in clauses and not is_call:
-                return f"`{name.text}` doesn't say `{found.text}`"
-            if problem := within(says, found, right):
-                return problem
-    return None
-
-
-def within(says, owner, names):
-    """Returns what is wrong with names that stand behind a definition, or a call, and a colon."""
-    words = [word for word in says if word.name == owner.text]
-    found = [thing_of_word(word) for word in words] or things(owner.text)
-    for name in names:
-        said = {word.name for thing in found for word in thing.says}
-        if not any(name.text in thing.clauses for thing in found) and name.text not in said:
-            return f"`{owner.text}` has no `{name.text}`: {told(found)}"
+        left, *others = split(item, ":")
+        right = [found.text for side in others for found in names_of(side)]
+        for owner in (found.text for found in names_of(left)):
+            is_call = right and any(call.promises() for call in contracts.calls().get(owner, ()))
+            if owner not in known and not is_call:
+                return f"`{name.text}` doesn't say `{owner}`"
+            found = [thing_of_word(word) for word in says if word.name == owner] or things(owner)
+            having = {it for thing in found for it in (*thing.clauses, *(word.name for word in thing.says))}
+            if lacking := [it for it in right if it not in having]:
+                return f"`{owner}` has no `{lacking[0]}`: {told(found)}"
     return None
 
 
@@ -235,17 +224,12 @@ def check_phrases(parts):
 
 
 def check_promise(cell):
-    """Yields what is wrong with a cell that tells where a promise stands."""
+    """Yields what is wrong first with a cell that tells where a promise stands."""
     try:
-        items = split(parts_of(cell), ";")
-    except Wrong as wrong:
-        items = []
-        yield str(wrong)
-    for item in items:
-        try:
+        for item in split(parts_of(cell), ";"):
             check_item(item)
-        except Wrong as wrong:
-            yield str(wrong)
+    except Wrong as wrong:
+        yield str(wrong)
 
 
 # ---- the other cells

@@ -135,7 +135,6 @@ def numbers_of_variants(tokens):
         found |= {number for _, word in arms(tokens, item.name) if (number := number_of(word)) is not None}
         words = [token.text for token in item.tokens]
         if "=" in words and number_after(item.tokens, "=") == 1:
-            depths = [sum({"{": 1, "(": 1, "[": 1, "}": -1, ")": -1, "]": -1}.get(it, 0) for it in words[:at])
-                      for at in range(len(words))]
-            found |= set(range(1, 1 + sum(word == "," and depth == 1 for word, depth in zip(words, depths))))
+            variants = [word for word, after in zip(words, words[1:]) if word.isidentifier() and after in (",", "=", "}")]
+            found |= set(range(1, 1 + len(variants)))
     return found

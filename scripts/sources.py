@@ -278,11 +278,10 @@ class Code(Source):
 
     def comment_above(self, item, number):
         """Returns the lines of comments right above an item, and among its attributes."""
-        first = start = self.line_of(item.first)
-        while start > 1 and self.lines[start - 2].lstrip().startswith("//"):
+        start = self.line_of(item.first) - 1
+        while start and self.lines[start - 1].lstrip().startswith("//"):
             start -= 1
-        above = self.lines[start - 1 : first - 1] + self.lines[first - 1 : number - 1]
-        return [line.strip() for line in above if line.lstrip().startswith("//")]
+        return [line.strip() for line in self.lines[start : number - 1] if line.lstrip().startswith("//")]
 
     def text_of(self, item):
         """Returns the text of an item from its first line on, a function's without its body."""

@@ -13,10 +13,8 @@ import texts
 # What the gate prints, as its parts put it.
 LOG = """agree: fine
 storm: a line before
-Seed 1. sessions: 300 accepted, 20 refused with 4
 sessions on a bus that lies: 130
 stops inside a transaction: 51 of sessions, 64 of restores, 20 that lost the power
-Seed 2. sessions: 310 accepted
 sessions on a bus that lies: 120
 stops inside a transaction: 60 of sessions, 70 of restores, 21 that lost the power
 storm: 1000 passed, 0 failed
@@ -88,13 +86,9 @@ class Counts(unittest.TestCase):
     def test_each_number_of_the_log_that_is_another_is_refused(self):
         for old, new in [("1000 passed", "999 passed"), ("lies: 120", "lies: 12"), ("7 alloc", "8 alloc"),
                          ("2 own", "3 own"), ("1000 runs", "1001 runs"), ("two/restore: 9", "three/restore: 9"),
-                         ("machines: 77", "machines: 7"), ("51 of", "52 of"), ("third_job", "third job")]:
+                         ("machines: 77", "machines: 7"), ("51 of", "52 of"), ("third_job", "third job"),
+                         ("storm: 1000", "storm: no"), ("sweep: 20", "sweep: no"), ("kill: 1205", "kill: no")]:
             self.assertIn("DIFFERS: counts: ", self.told(self.page, LOG.replace(old, new, 1)), f"{old} as {new}")
-
-    def test_a_part_that_is_missing_in_the_log_is_refused(self):
-        for part in "storm", "sweep", "kill":
-            log = re.sub(rf"(?m)^{part}:.*\n", "", LOG)
-            self.assertIn(f"DIFFERS: counts: the log has no line '{part}: N passed'", self.told(self.page, log))
 
     def test_a_part_that_was_skipped_is_told(self):
         log = re.sub(r"(?m)^(one|two|kill).*\n", "", LOG) + "skipped: kill, since there is no C compiler (cc)\n"
