@@ -1,9 +1,9 @@
 #!/usr/bin/env bash
 # scripts/agree.sh [PROGRAM]: whether the pages say what the sources say and what the program prints.
 #
-# Each part prints what it compared, and a line `DIFFERS: ..` for each difference; then the status is 1. What is looked
-# for must be found, so a text that was put otherwise is a difference too. The help and the list of chips are those that
-# the program prints; without a program they are those of tests/cases, which `make runs` compares with it.
+# Each part prints what it compared, and a line `DIFFERS: ..` for each difference; then the status is 1. A text that is
+# found nowhere is a difference too. The help and the list of chips are taken from the program. Without a program they
+# are taken from tests/cases, which `make runs` compares with the program.
 set -uo pipefail
 export LC_ALL=C PYTHONUTF8=1 PYTHONPATH=scripts PYTHONDONTWRITEBYTECODE=1
 program=${1:+$(realpath "$1")}

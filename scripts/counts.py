@@ -1,10 +1,10 @@
 #!/usr/bin/env python3
 """scripts/counts.py [LOG]: whether the table of counts in docs/TESTING.md is right.
 
-The cases of tests/cases and of crates/transcripts are counted. The numbers of Storm, Sweep and Kill are read from LOG,
-which is all that the gate printed; without it, and if a part was skipped, they aren't compared. A number behind `about`
-may be wrong by a tenth, every other one must be exact. The tests of crates/rows assert their numbers themselves, so the
-page has these rounded and nothing here reads them. Each difference is printed, and then the status is 1.
+The script counts the cases of tests/cases and of crates/transcripts. It reads the numbers of Storm, Sweep and Kill from
+LOG, the output of the gate. Without LOG, or if a part was skipped, these aren't compared. A number after `about` may be
+wrong by a tenth; all others must be exact. The rounded numbers of Rows aren't compared, since its tests assert the
+exact ones. Each difference is printed, and then the status is 1.
 """
 import pathlib
 import re
@@ -30,7 +30,7 @@ def of_sources():
 
 
 def of_storm(log):
-    """Returns the numbers of Storm: how many cases, and one in how many of them was run on a faulty bus too."""
+    """Returns the numbers of Storm. The second one is the number of cases for each case on a faulty bus."""
     cases = int(re.search(r"(?m)^storm: (\d+) passed", log)[1])
     faulty = sum(map(int, re.findall(r"(?m)^sessions on a bus that lies: (\d+)$", log)))
     cut = r"(?m)^stops inside a transaction: (\d+) of sessions, (\d+) of restores, (\d+) that lost the power$"
@@ -64,7 +64,7 @@ def of_kill(log):
 
 
 def compare(name, numbers):
-    """Compares the numbers of a row of the page with these."""
+    """Compares the numbers of a row of the page with the given ones."""
     cells = [row[1] for row in texts.rows_of(PAGE, "What is counted") if row[0] == name]
     if len(cells) != 1:
         texts.differs(f"counts: {PAGE} has no row '{name}' in its table of counts")

@@ -1,13 +1,13 @@
-"""Reads a source of Rattle as tokens, so that no script depends on how lines are broken or where comments are."""
+"""Reads a Rattle source as tokens, so that no script depends on line breaks or on the positions of comments."""
 import collections
 import re
 
-# Strings, names (with the primes that clauses use), numbers, arrows, and single marks. Comments are skipped.
+# Comments, strings, characters, names (clauses use primes) and numbers, lifetimes, arrows, and single marks.
 TOKEN = re.compile(r'//[^\n]*|b?"(?:[^"\\]|\\.)*"|b?\'(?:[^\'\\]|\\.)\'|\w+\'*|\'\w+|::|=>|->|[^\s\w]', re.S)
 Token = collections.namedtuple("Token", "text start end")
-# What an item is: `name` without its type's, `owner` the type or trait of its block, and `trait` that block's trait.
-# `first`, `head`, `body` and `end` are positions in the text: of its first attribute, of its first word after the
-# attributes, of its body or semicolon, and the one after the item.
+# An item: `owner` is the type or trait of the block that contains it, and `trait` the trait that this block implements.
+# Four fields are positions in the text: `first` of the first attribute, `head` of the first word after the attributes,
+# `body` of the body or the semicolon, and `end` after the item.
 Item = collections.namedtuple("Item", "kind name owner trait attributes first head body end tokens")
 KINDS = "fn struct enum trait impl mod use const static type".split()
 CLOSING = {"(": ")", "[": "]", "{": "}"}
@@ -15,7 +15,7 @@ CLAUSES = "requires", "ensures"
 
 
 class Unread(Exception):
-    """A place in a text that can't be read: its position, and what is wrong there."""
+    """A text that can't be read: the position of the mistake, and its description."""
 
 
 def tokens_of(text):
@@ -25,7 +25,7 @@ def tokens_of(text):
 
 
 def closing(tokens, at):
-    """Returns the index of the token that closes the bracket at this index."""
+    """Returns the index of the token that closes the bracket at the given index."""
     opened, depth = tokens[at].text, 0
     for index in range(at, len(tokens)):
         depth += {opened: 1, CLOSING[opened]: -1}.get(tokens[index].text, 0)
@@ -35,8 +35,8 @@ def closing(tokens, at):
 
 
 def end_of_head(tokens, at):
-    """Returns the index of the body's brace, or of the semicolon, of the item that has this token. Clauses are part of
-    the head."""
+    """Returns the index of the brace of the body, or of the semicolon, of the item that contains the given token. The
+    head includes the clauses."""
     first = at
     while at < len(tokens):
         word = tokens[at].text
@@ -100,20 +100,20 @@ def items(tokens, owner="", trait=""):
 
 
 def number_of(text):
-    """Returns the number that a token is, or None."""
+    """Returns the value of a token that is a number, or None."""
     plain = re.sub(r"_|[ui](8|16|32|64|size)$", "", text)
     return int(plain, 0) if re.fullmatch(r"\d+|0x[0-9A-Fa-f]+", plain) else None
 
 
 def number_after(tokens, start):
-    """Returns the first number that follows the tokens of this text somewhere, or None."""
+    """Returns the first number that follows the tokens of the given text, or None."""
     words, wanted = [token.text for token in tokens], [token.text for token in tokens_of(start)]
     places = (at + len(wanted) for at in range(len(words) - len(wanted)) if words[at : at + len(wanted)] == wanted)
     return next((number for at in places if (number := number_of(words[at])) is not None), None)
 
 
 def arms(tokens, kind):
-    """Yields for each arm of a match on an enum of this name the variant, and the first number or string of the arm."""
+    """Yields the variant and the first number or string of each arm of a match on the given enum."""
     words, pending = [token.text for token in tokens], []
     is_arm = False
     for at, word in enumerate(words):
@@ -129,12 +129,13 @@ def arms(tokens, kind):
 
 
 def numbers_of_variants(tokens):
-    """Returns the numbers of the enums in a text: those of arms, and of variants that are counted from 1 on."""
+    """Returns the numbers of the variants of all enums: the numbers in arms, or, after `= 1`, the numbers from 1."""
     found = set()
     for item in (item for item in items(tokens) if item.kind == "enum"):
         found |= {number for _, word in arms(tokens, item.name) if (number := number_of(word)) is not None}
         words = [token.text for token in item.tokens]
         if "=" in words and number_after(item.tokens, "=") == 1:
-            variants = [word for word, after in zip(words, words[1:]) if word.isidentifier() and after in (",", "=", "}")]
+            ends = zip(words, words[1:])
+            variants = [word for word, after in ends if word.isidentifier() and after in (",", "=", "}")]
             found |= set(range(1, 1 + len(variants)))
     return found

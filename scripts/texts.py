@@ -1,4 +1,4 @@
-"""Reads the pages and what the program prints, and compares them: for scripts/agree/ and scripts/promises.py."""
+"""Reads the pages and the printed lines of the program, and compares them. The other scripts import it."""
 import collections
 import re
 import subprocess
@@ -21,7 +21,7 @@ def differs(message):
 
 
 def only(what, owner, known, **texts):
-    """Checks that each of these texts has something of a subject, and nothing that its owner doesn't have."""
+    """Checks that each text has entries on the subject `what`, and none that the text named `owner` lacks."""
     for text, found in texts.items():
         if not found:
             differs(f"{what}: nothing found in {text}")
@@ -30,7 +30,7 @@ def only(what, owner, known, **texts):
 
 
 def same(what, **texts):
-    """Checks that all texts have the same of a subject as the first one, and returns that."""
+    """Checks that all texts have the same entries on the subject `what` as the first text, and returns these."""
     (first, known), *others = texts.items()
     if not known:
         differs(f"{what}: nothing found in {first}")
@@ -55,7 +55,7 @@ def read(path):
 
 
 def quoted(text):
-    """Returns what stands between backticks."""
+    """Returns the texts in backticks."""
     return re.findall(r"`([^`]*)`", text)
 
 
@@ -74,7 +74,7 @@ def cells_of(page):
 
 
 def rows_of(page, head):
-    """Returns the rows of the tables of a page whose first column has this head."""
+    """Returns the rows of those tables of a page whose first column has the given head."""
     rows = collections.defaultdict(list)
     for number, heads, _, cell in cells_of(page):
         if heads[0] == head:
@@ -116,18 +116,18 @@ def running(parts):
 
 
 def printed():
-    """Returns what the cases print, which `make runs` compares with the program."""
+    """Returns the cases with their printed lines, which `make runs` compares with the program."""
     cases = "".join(path.read_text(encoding="utf-8") for path in sorted((TOP / "tests/cases").glob("*.case")))
     return re.sub(r"(?m)^! ", "", cases)
 
 
 def printed_by(*words):
-    """Returns what a command prints."""
+    """Returns the standard output of a command."""
     return subprocess.run(words, cwd=TOP, capture_output=True, encoding="utf-8", check=True).stdout
 
 
 def help_text(program):
-    """Returns the help, as the program or its case prints it."""
+    """Returns the help that the program prints, or, without a program, its case."""
     if program:
         return printed_by(program, "-h")
     return re.sub(r"(?m)^\| ?", "", re.search(r"(?m)^after help:\n((?:\|.*\n)*)", printed())[1])

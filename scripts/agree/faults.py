@@ -1,6 +1,6 @@
-"""scripts/agree/faults.py: whether the pages have the printed lines of results and faults that the program has, and the
-numbers of the faults. The lines of results and refusals are read from the sources, since no case prints errors 1, 2 and
-13; the other lines are those that the cases print."""
+"""scripts/agree/faults.py: whether the pages have the lines that the program prints for results and faults, and the
+numbers of the faults. Results and errors are read from the sources, since no case prints errors 1, 2 and 13. All other
+lines are read from the cases."""
 import re
 
 import rust
@@ -28,7 +28,7 @@ def refusals():
 
 
 def take_lines(page):
-    """Compares the lines of faults, and those that a page shows anywhere."""
+    """Compares the lines of faults with the manual page, and checks the errors that pages show anywhere."""
     errors = same("lines of errors", sources=refusals(),
                   manual={line_of(*row) for row in rows(page, "Refusals").items()})
     fault = r"(?:Usage|Layout|File) fault (?:\d+|K)(?:: [^\"\n]*| at line \w+)?\."
@@ -43,7 +43,7 @@ def take_lines(page):
 
 
 def take_answers():
-    """Compares the lines of results: SPECIFICATION has those of the program, and the examples have no others."""
+    """Compares the lines of results with SPECIFICATION, and checks that the examples have no other lines."""
     words = [token.text for token in tokens("flashnor/src/printing.rt")]
     lines = {words[at + 5].strip('"') for at in range(len(words)) if words[at : at + 3] == ["writeln", "!", "("]}
     inserted = "|".join(word[1:-1] for word in words if re.fullmatch(r'"[a-z]+"', word))
@@ -62,7 +62,7 @@ def take_answers():
 
 
 def take_numbers(page):
-    """Compares the numbers of each kind of fault with those that its source has."""
+    """Compares the numbers of each kind of fault on its page and in its source."""
     journal = manual("man/flashnor-journal.5")
     sfdp = [row[0] for row in rows_of("docs/SPECIFICATION.md", "SFDP fault")]
     for kind, path, found in (
@@ -84,7 +84,7 @@ def take_options(page):
 
 
 def main():
-    """Compares all of these."""
+    """Compares all lines and numbers."""
     page = manual("man/flashnor.8")
     take_lines(page)
     take_answers()

@@ -1,7 +1,7 @@
 """scripts/agree/limits.py: whether the numbers on the pages are those of the sources.
 
-For each number there is its value, and the words around it on the pages with `#` in place of it. At least one page must
-have these words, and wherever they are the number must be the value.
+The list in `limits` has the value of each number, and the words around the number on the pages, with `#` in its place.
+At least one page must have these words, and every page that has them must have the value there.
 """
 import re
 
@@ -40,18 +40,18 @@ def numeral(*start):
 
 
 def bound(path, name):
-    """Returns a number that a definition of specs/ is."""
+    """Returns the value of a definition of specs/ that is a number."""
     return int(source(path).word(name).code[-1].split()[-1])
 
 
 def limits():
-    """Returns the numbers: for each what it is, its value, and its words on the pages."""
+    """Returns the name, the value and the words of each number."""
     chip, files, region = "nor_chip/src/config.rt", "flashnor/src/files.rt", "nor_layout/src/region.rt"
     sector, digest = constant(chip, "SECTOR_LEN"), constant("nor_journal/src/records.rt", "DIGEST")
     image, polls = constant(files, "MOST_IMAGE_BYTES"), constant("nor_driver/src/waits.rt", "MOST_POLLS")
     unique = rust.number_after(item("nor_words/src/numbers.rt", "read_unique"), "[u8;")
     few = re.search(r"\bfew\s*:\s*ending\.status\s*≤\s*(\d+)", (CRATES / "flashnor/specs/Run.antt").read_text("utf-8"))
-    # A record begins with the sector's number, and the end mark stands in place of such a number.
+    # A record begins with the sector's number in four bytes. The end mark takes the place of such a number.
     mark = 4
     return [
         ("bytes of an image", image, r"(?:image is read up to|I is at most|its length is reported as) #"),
@@ -84,7 +84,7 @@ def limits():
 
 
 def compare(what, value, words, texts):
-    """Compares a number wherever a page has the words around it."""
+    """Compares a number on each page that has the words around it."""
     front, back = words.split("#")
     found = [(name, number) for name, text in texts.items()
              for number in re.findall(rf"{front}\b(\d[\d,]*\b){back}", text)]

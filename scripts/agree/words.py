@@ -1,6 +1,7 @@
 """scripts/agree/words.py [PROGRAM]: whether the pages and the completion have the options, keys, chips and version that
 the program has. The completion is run. The examples of README and of the manual pages aren't read: `make runs` runs
 them."""
+import pathlib
 import re
 import sys
 import tempfile
@@ -16,9 +17,9 @@ COMPLETE = """COMP_WORDBREAKS=' ' COMP_LINE=$2 COMP_POINT=${#2} COMP_WORDS=($2) 
 
 
 def completed(line):
-    """Returns what the completion offers behind a line, in a directory that has one directory, `there`."""
+    """Returns what the completion offers after a line, in a directory that contains only the directory `there`."""
     with tempfile.TemporaryDirectory() as folder:
-        (TOP / folder / "there").mkdir()
+        pathlib.Path(folder, "there").mkdir()
         said = printed_by("bash", "-c", COMPLETE, folder, TOP / "completion/flashnor.bash", f"flashnor {line}")
     return set(said.split())
 
@@ -99,7 +100,7 @@ def take_versions(told):
 
 
 def main():
-    """Compares all of these."""
+    """Compares options, keys, chips and versions."""
     program = next(iter(sys.argv[1:]), None)
     told, page = help_text(program), manual("man/flashnor.8")
     take_options(told, page)
