@@ -12,7 +12,7 @@ use Rattle.nor_journal.specs.Text.{Content as Journal}
 use Rattle.nor_session.specs.Headline.{CanGiveBack}
 use Rattle.nor_words.specs.Text.{Text}
 use Rattle.flashnor.specs.Left.{LeavesAsLong, MayFind}
-use Rattle.flashnor.specs.Stored.{IsFileFound}
+use Rattle.nor_lines.specs.Stored.{IsFileFound}
 use Rattle.flashnor.specs.Undone.{NameOne}
 use Rattle.flashnor.proofs.Stays.{known_at_rest}
 

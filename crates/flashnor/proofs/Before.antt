@@ -12,7 +12,7 @@ use Rattle.nor_words.specs.declared.job.Task.TheVariants as task
 use Rattle.nor_words.specs.declared.programmer.Programmer.{Programmer}
 use Rattle.flashnor.specs.Roles.{HasOwnTrace, HaveOneRole, named_by}
 use Rattle.flashnor.specs.Run.{KeepsChange, KeepsFiles, StayBut}
-use Rattle.flashnor.specs.Stored.{AreTwo, IsNot, LeavesNoMoreOf, MakesNothing, StaysOf}
+use Rattle.nor_lines.specs.Stored.{AreTwo, IsNot, LeavesNoMoreOf, MakesNothing, StaysOf}
 use Rattle.flashnor.specs.Tasks.{journal_by, journal_of, keeps_journal, made_by, puts_back}
 use Rattle.flashnor.proofs.Stays.{StayApart, apart, known_after, known_at_rest, not_after, not_that, stays_same}
 

@@ -17,9 +17,10 @@ use Rattle.nor_words.specs.declared.job.Change.{Change}
 use Rattle.nor_words.specs.declared.programmer.Emulated.{Emulated}
 use Rattle.nor_files.specs.Files.{FilesState, View}
 use Rattle.flashnor.specs.Changes.{GivesUp, HasKeptChange, HasMadeChange, TellsDone}
-use Rattle.flashnor.specs.Requests.{AreRangesOf, IsBufferOf, request_for}
+use Rattle.nor_lines.specs.Requests.{AreRangesOf, request_for}
+use Rattle.flashnor.specs.Requests.{IsBufferOf}
 use Rattle.flashnor.specs.Run.{ChangesChip}
-use Rattle.flashnor.specs.declared.answers.Answer.{Answer}
+use Rattle.nor_lines.specs.declared.answers.Answer.{Answer}
 
 pub does_change : (view : View) (after : FilesState) (chip : Emulated) (named : Option ChipName) (change : Change) (request : Request)
     (ranges : Option (List Span)) (image : List ℕ) (old new : BusState) (outcome : Result Answer Refusal)

@@ -8,14 +8,15 @@ use Rattle.nor_words.specs.declared.job.ChipJob.{ChipJob}
 use Rattle.nor_words.specs.declared.job.Job.TheVariants as job
 use Rattle.nor_words.specs.declared.words.UsageFault.{UsageFault}
 use Rattle.nor_words.specs.declared.words.UsageFault.TheVariants as usage
-use Rattle.flashnor.specs.Endings.{HasPrinted, PrintsAnswer, all_written}
+use Rattle.flashnor.specs.Endings.{HasPrinted, all_written}
+use Rattle.nor_lines.specs.Printing.{PrintsAnswer}
 use Rattle.nor_files.specs.Files.{AreAtRest, FilesState, View}
 use Rattle.flashnor.specs.Run.{EndsJob, FailsJob, AnswersWords, HoldsChange, HoldsResult, HoldsTask, IsCalled, IsToldAs, IsStatus, KeepsFiles, Succeeds}
 use Rattle.flashnor.proofs.Stays.{stays_same}
-use Rattle.flashnor.specs.declared.answers.Answer.{Answer}
+use Rattle.nor_lines.specs.declared.answers.Answer.{Answer}
 use Rattle.flashnor.specs.declared.holding.Unwritten.{Unwritten}
-use Rattle.flashnor.specs.declared.messages.Fault.{Fault}
-use Rattle.flashnor.specs.declared.messages.Fault.TheVariants as end
+use Rattle.nor_lines.specs.declared.messages.Fault.{Fault}
+use Rattle.nor_lines.specs.declared.messages.Fault.TheVariants as end
 use Rattle.flashnor.specs.declared.printing.Ending.{Ending}
 use Rattle.flashnor.specs.declared.run.Work.{Work}
 use Rattle.flashnor.specs.Tasks.{keeps_journal, puts_back}

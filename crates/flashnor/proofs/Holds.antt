@@ -5,11 +5,11 @@ use Rattle.std.specs.Borrow.{Bor}
 use Rattle.nor_files.specs.Calls.{Holds, IsPlaced, Reads}
 use Rattle.nor_files.specs.Files.{FilesState, Found, IsKnown, IsSettled, KnownStay, Name}
 use Rattle.nor_words.specs.Text.{Text}
-use Rattle.flashnor.specs.Files.{IsHoldingFault}
-use Rattle.flashnor.specs.Stored.{IsFileFound}
-use Rattle.flashnor.specs.declared.messages.Fault.{Fault}
-use Rattle.flashnor.specs.declared.messages.Fault.TheVariants as end
-use Rattle.flashnor.specs.declared.messages.FileFault.TheVariants as file
+use Rattle.nor_lines.specs.Files.{IsHoldingFault}
+use Rattle.nor_lines.specs.Stored.{IsFileFound}
+use Rattle.nor_lines.specs.declared.messages.Fault.{Fault}
+use Rattle.nor_lines.specs.declared.messages.Fault.TheVariants as end
+use Rattle.nor_lines.specs.declared.messages.FileFault.TheVariants as file
 use Rattle.flashnor.proofs.Stays.{known_after}
 
 -- ---- a file that is missing

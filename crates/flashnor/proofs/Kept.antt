@@ -29,12 +29,13 @@ use Rattle.flashnor.specs.Chips.{ArePutBack, IsContentOf, OpensChip}
 use Rattle.flashnor.specs.Endings.{all_written}
 use Rattle.flashnor.specs.Holding.{AreAmid, AreHeld, AreReady, IsReady, Settles, StandsFor, was}
 use Rattle.flashnor.specs.Left.{IsNoFileOf, IsOpenedFrom, LeadsBack, LeavesAsLong, MayFind, Opened}
-use Rattle.flashnor.specs.Requests.{AreRangesOf, IsBufferOf, request_for}
+use Rattle.nor_lines.specs.Requests.{AreRangesOf, request_for}
+use Rattle.flashnor.specs.Requests.{IsBufferOf}
 use Rattle.flashnor.specs.Roles.{HaveOneRole, image_of, layout_of, named_by}
 use Rattle.flashnor.specs.Run.{DoesJob, HoldsChange, HoldsTask, IsViewBut, KeepsChange, KeepsFiles}
-use Rattle.flashnor.specs.Stored.{AreTwo, IsNot}
+use Rattle.nor_lines.specs.Stored.{AreTwo, IsNot}
 use Rattle.flashnor.specs.Tasks.{journal_of, keeps_journal, made_by, puts_back}
-use Rattle.flashnor.specs.declared.answers.Answer.{Answer}
+use Rattle.nor_lines.specs.declared.answers.Answer.{Answer}
 use Rattle.flashnor.specs.declared.holding.Held.{Held}
 use Rattle.flashnor.specs.declared.holding.Unwritten.{Unwritten}
 use Rattle.flashnor.proofs.Before.{image_made, status_made}

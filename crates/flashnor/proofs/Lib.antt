@@ -1,9 +1,7 @@
 pub mod Shown
 pub mod Ready
-pub mod Included
 pub mod Doing
 pub mod Stays
-pub mod Unread
 pub mod Traced
 pub mod Before
 pub mod Reopened

@@ -6,8 +6,8 @@ use Rattle.nor_files.specs.Files.Failure.{Unread}
 use Rattle.nor_words.specs.Text.{Text}
 use Rattle.nor_words.specs.declared.job.ChipJob.{ChipJob}
 use Rattle.flashnor.specs.Roles.{FailsRoles, file_in}
-use Rattle.flashnor.specs.declared.messages.Fault.TheVariants as end
-use Rattle.flashnor.specs.declared.messages.FileFault.TheVariants as file
+use Rattle.nor_lines.specs.declared.messages.Fault.TheVariants as end
+use Rattle.nor_lines.specs.declared.messages.FileFault.TheVariants as file
 use Rattle.flashnor.specs.declared.roles.Role.{Role}
 
 module _ (nature : Nature) (job : ChipJob) (name : Bor Text) (fails : nature.fails (Unread name.now) ≡ true) where

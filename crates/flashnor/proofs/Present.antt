@@ -5,10 +5,10 @@ use Rattle.nor_files.specs.Files.{View}
 use Rattle.nor_words.specs.Text.{Text}
 use Rattle.nor_words.specs.declared.programmer.Programmer.{Programmer}
 use Rattle.flashnor.specs.Chips.{FailsToHold, FailsToOpen}
-use Rattle.flashnor.specs.Files.{IsHoldingFault, IsOpeningFault}
-use Rattle.flashnor.specs.declared.messages.Fault.{Fault}
-use Rattle.flashnor.specs.declared.messages.Fault.TheVariants as end
-use Rattle.flashnor.specs.declared.messages.FileFault.TheVariants as file
+use Rattle.nor_lines.specs.Files.{IsHoldingFault, IsOpeningFault}
+use Rattle.nor_lines.specs.declared.messages.Fault.{Fault}
+use Rattle.nor_lines.specs.declared.messages.Fault.TheVariants as end
+use Rattle.nor_lines.specs.declared.messages.FileFault.TheVariants as file
 
 -- the fault of a chip's file that can't be opened is a fault of a file that can't be locked and read
 opens_not : (view : View) (name : Text) (len : ℕ) (fault : Fault) → IsOpeningFault view name len fault

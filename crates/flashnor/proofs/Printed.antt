@@ -1,38 +1,18 @@
 -- The text that several writes print.
-use Rattle.std.proofs.Common.{◌≡◌, ◌∙◌, ℕ, ◌+◌, ◌<◌, Bool, List, [], ◌∷◌, ◌++◌, Option, None, Some, Result, Ok, Err}
-use Rattle.std.proofs.Common.{IfSome, add-one, append-nil, arith, false, flat_map, get_or, length, refl, sym, take}
-use Rattle.std.proofs.Common.{true}
-use Rattle.std.proofs.Math.Seq.{take-suc}
-use Rattle.std.proofs.lemmas.Grind.{flat_map-append}
+use Rattle.std.proofs.Common.{◌≡◌, ◌∙◌, ℕ, Bool, List, Option, None, Some, Result, Ok, Err, IfSome, arith, false, refl}
+use Rattle.std.proofs.Common.{sym, true}
 use Rattle.std.specs.Fmt.{option_append}
 use Rattle.std.specs.Io.KnownBytes.{Appends}
-use Rattle.std.proofs.KnownBytes.{Appends-trans}
-use Rattle.nor_probe.specs.declared.table.Part.{Part}
 use Rattle.nor_words.specs.declared.words.UsageFault.TheVariants as usage
-use Rattle.flashnor.specs.AnswerLines.{chip_line}
-use Rattle.flashnor.specs.Endings.{EndsBadly, EndsWell, HasPrinted, IsAnswered, PrintsAnswer, lines_told}
+use Rattle.nor_lines.proofs.Printed.{appends_then}
+use Rattle.flashnor.specs.Endings.{EndsBadly, EndsWell, HasPrinted, lines_told}
+use Rattle.nor_lines.specs.Printing.{IsAnswered, PrintsAnswer}
 use Rattle.flashnor.specs.FaultLines.{lines_of_unwritten}
-use Rattle.flashnor.specs.declared.answers.Answer.{Answer}
+use Rattle.nor_lines.specs.declared.answers.Answer.{Answer}
 use Rattle.flashnor.specs.declared.holding.Unwritten.{Unwritten}
-use Rattle.flashnor.specs.declared.messages.Fault.{Fault}
-use Rattle.flashnor.specs.declared.messages.Fault.TheVariants as end
+use Rattle.nor_lines.specs.declared.messages.Fault.{Fault}
+use Rattle.nor_lines.specs.declared.messages.Fault.TheVariants as end
 use Rattle.flashnor.specs.declared.printing.Ending.{Ending}
-
-pub appends_then : (a b c : Option (List ℕ)) (first second : List ℕ) → Appends a b first → Appends b c second
-    → Appends a c (first ++ second)
-appends_then = Appends-trans
-
--- ---- the table of chips
-
--- the line of one more chip was printed
-pub chips_then : (a b c : Option (List ℕ)) (items : List Part) (i : ℕ) (none : Part) → i < length items
-    → Appends a b (flat_map chip_line (take i items)) → Appends b c (chip_line (get_or items i none))
-    → Appends a c (flat_map chip_line (take (i + 1) items))
-chips_then a b c items i none below one two =
-    rw (add-one, take-suc items i none below, flat_map-append chip_line (take i items) (get_or items i none ∷ []), append-nil (chip_line (get_or items i none)))
-    (appends_then a b c (flat_map chip_line (take i items)) (chip_line (get_or items i none)) one two)
-
--- ---- ends of runs
 
 -- if a line is known, it and the lines after it were printed
 pub tells_both : (line : Option (List ℕ)) (a b c : Option (List ℕ)) (others : List ℕ) → IfSome line (Appends a b) → Appends b c others

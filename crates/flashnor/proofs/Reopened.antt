@@ -11,7 +11,7 @@ use Rattle.nor_words.specs.declared.programmer.Programmer.{Programmer}
 use Rattle.flashnor.specs.Found.{emulated_part}
 use Rattle.flashnor.specs.Holding.{IsAmid, LeavesAmid, Settles, was}
 use Rattle.flashnor.specs.Left.{LeavesAsLong, MayFind, Opened}
-use Rattle.flashnor.specs.Stored.{AreOfFile}
+use Rattle.nor_lines.specs.Stored.{AreOfFile}
 use Rattle.flashnor.proofs.Shown.{size_with}
 
 -- ---- files of the right length

@@ -7,7 +7,7 @@ use Rattle.nor_files.specs.Files.{Nature, Stays, is_lawful}
 use Rattle.nor_journal.specs.Vault.{VaultState}
 use Rattle.nor_words.specs.Text.{Text}
 use Rattle.flashnor.specs.Changes.{IsKeptFile}
-use Rattle.flashnor.specs.Stored.{AreTwo, IsNot, MakesNothing}
+use Rattle.nor_lines.specs.Stored.{AreTwo, IsNot, MakesNothing}
 
 pub stays_same : (name : Name) (files : FilesState) → Stays name files files
 stays_same name files = record { out = refl; seen = refl; leaves = λ left can. can }

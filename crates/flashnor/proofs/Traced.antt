@@ -5,10 +5,10 @@ use Rattle.nor_files.specs.Calls.{Reads}
 use Rattle.nor_files.specs.Files.{FilesState, Found, KnownStay, Name, OthersStay, Stays, View, is_lawful}
 use Rattle.nor_words.specs.Text.{Text}
 use Rattle.nor_words.specs.declared.job.ChipJob.{ChipJob}
-use Rattle.flashnor.specs.Files.{IsMaking}
+use Rattle.nor_lines.specs.Files.{IsMaking}
 use Rattle.flashnor.specs.Run.{FailsTraced, IsViewBut}
-use Rattle.flashnor.specs.declared.messages.Fault.{Fault}
-use Rattle.flashnor.specs.Stored.{IsMissing, IsNot, MakesNothing}
+use Rattle.nor_lines.specs.declared.messages.Fault.{Fault}
+use Rattle.nor_lines.specs.Stored.{IsMissing, IsNot, MakesNothing}
 use Rattle.flashnor.proofs.Stays.{apart_swapped, known_after, lawful_after, not_after}
 
 pub view_but : (trace : Option (Bor Text)) (name : Bor Text) (old mid : FilesState) → trace ≡ Some name

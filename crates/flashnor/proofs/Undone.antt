@@ -34,11 +34,11 @@ use Rattle.flashnor.specs.Chips.{ArePutBack, IsConfigWith}
 use Rattle.flashnor.specs.Endings.{all_written}
 use Rattle.flashnor.specs.Found.{emulated_part}
 use Rattle.flashnor.specs.Left.{IsOpenedFrom, KeepsRestorable, LeadsBack, LeavesRestorable, MayFind, Opened}
-use Rattle.flashnor.specs.Stored.{ArePut, IsRead, LeavesNoMoreOf}
+use Rattle.nor_lines.specs.Stored.{ArePut, IsRead, LeavesNoMoreOf}
 use Rattle.flashnor.specs.Undone.{HaveOneChip, LeavesFirst, NameOne, Restores, RestoresFirst}
-use Rattle.flashnor.specs.declared.answers.Answer.{Answer}
+use Rattle.nor_lines.specs.declared.answers.Answer.{Answer}
 use Rattle.flashnor.specs.declared.holding.Unwritten.{Unwritten}
-use Rattle.flashnor.specs.declared.messages.Fault.{Fault}
+use Rattle.nor_lines.specs.declared.messages.Fault.{Fault}
 use Rattle.flashnor.proofs.Reopened.{of_gone, opened_many, opened_size}
 use Rattle.flashnor.proofs.Stays.{known_at_rest, lawful_after, not_that}
 use Rattle.flashnor.proofs.Traced.{reads_before}

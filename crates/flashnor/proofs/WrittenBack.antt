@@ -9,7 +9,7 @@ use Rattle.nor_words.specs.Text.{Text}
 use Rattle.nor_words.specs.declared.programmer.Programmer.{Programmer}
 use Rattle.flashnor.specs.Chips.{ArePutBack}
 use Rattle.flashnor.specs.Holding.{AreAmid, AreReady, IsReady, LeavesAmid, Settles}
-use Rattle.flashnor.specs.Stored.{ArePut, AreTwo, Happens, IsNot, IsToldOf}
+use Rattle.nor_lines.specs.Stored.{ArePut, AreTwo, Happens, IsNot, IsToldOf}
 use Rattle.flashnor.proofs.Stays.{known_after, lawful_after, not_after, not_that, settled_after}
 
 -- each file stays if its name is apart from the given one

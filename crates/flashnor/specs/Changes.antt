@@ -30,10 +30,10 @@ use Rattle.nor_words.specs.Text.{Text}
 use Rattle.nor_words.specs.declared.job.JournalUse.{JournalUse}
 use Rattle.nor_words.specs.declared.job.JournalUse.TheVariants as uses
 use Rattle.nor_files.specs.Files.{FilesState, IsSettled, View, is_lawful}
-use Rattle.flashnor.specs.Stored.{IsMissing}
+use Rattle.nor_lines.specs.Stored.{IsMissing}
 use Rattle.flashnor.specs.Tasks.{journal_of}
-use Rattle.flashnor.specs.declared.answers.Answer.{Answer}
-use Rattle.flashnor.specs.declared.answers.Answer.TheVariants as answer
+use Rattle.nor_lines.specs.declared.answers.Answer.{Answer}
+use Rattle.nor_lines.specs.declared.answers.Answer.TheVariants as answer
 
 -- ---- sessions
 

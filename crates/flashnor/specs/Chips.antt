@@ -15,12 +15,12 @@ use Rattle.nor_words.specs.declared.programmer.Emulated.{Emulated}
 use Rattle.nor_words.specs.declared.programmer.Programmer.{Programmer}
 use Rattle.nor_words.specs.Text.{Text}
 use Rattle.nor_files.specs.Files.{FilesState, View}
-use Rattle.flashnor.specs.Stored.{AreOfFile, ArePut}
-use Rattle.flashnor.specs.Files.{IsHoldingFault, IsOpeningFault}
+use Rattle.nor_lines.specs.Stored.{AreOfFile, ArePut}
+use Rattle.nor_lines.specs.Files.{IsHoldingFault, IsOpeningFault}
 use Rattle.flashnor.specs.Found.{emulated_part}
 use Rattle.flashnor.specs.declared.chips.Content.{Content}
-use Rattle.flashnor.specs.declared.messages.Fault.{Fault}
-use Rattle.flashnor.specs.declared.messages.Fault.TheVariants as end
+use Rattle.nor_lines.specs.declared.messages.Fault.{Fault}
+use Rattle.nor_lines.specs.declared.messages.Fault.TheVariants as end
 
 -- the configuration of an emulated chip, with the given unique ID, or eight zero bytes if none is given
 abbrev pub IsConfigWith : Emulated → Option (List ℕ) → Config → Type 0

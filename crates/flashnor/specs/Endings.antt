@@ -1,52 +1,29 @@
 -- The output of a run, and its exit status.
-use Rattle.std.specs.Prelude.{◌≡◌, ◌≢◌, ◌≤◌, ◌⊎◌, ◌↔◌, ℕ, Bool, true, false, ⊤, List, Option, Some, None, Result, Ok, Err, IfSome}
+use Rattle.std.specs.Prelude.{◌≡◌, ◌≤◌, ◌↔◌, ℕ, Bool, true, false, List, Option, Some, None, Result, Ok, Err, IfSome}
 use Rattle.std.specs.Borrow.{Bor}
 use Rattle.std.specs.Fmt.{option_append}
 use Rattle.std.specs.Io.KnownBytes.{Appends}
-use Rattle.std.specs.IoError.{error_kind}
 use Rattle.std.specs.declared.io.Error.{Error}
-use Rattle.std.specs.declared.io.ErrorKind.TheVariants as Kinds
-use Rattle.clap.specs.Words.{kind_of}
-use Rattle.clap.specs.declared.error.kind.ErrorKind.TheVariants as kind
-use Rattle.nor_words.specs.declared.words.UsageFault.TheVariants as usage
 use Rattle.nor_words.specs.Text.{Text}
-use Rattle.flashnor.specs.AnswerLines.{AreLines}
-use Rattle.flashnor.specs.FaultLines.{line_of, lines_of_unwritten}
-use Rattle.flashnor.specs.declared.answers.Answer.{Answer}
+use Rattle.nor_lines.specs.FaultLines.{line_of}
+use Rattle.nor_lines.specs.Messages.{IsOfWords}
+use Rattle.nor_lines.specs.Printing.{IsAnswered, PrintsAnswer}
+use Rattle.flashnor.specs.FaultLines.{lines_of_unwritten}
+use Rattle.nor_lines.specs.declared.answers.Answer.{Answer}
 use Rattle.flashnor.specs.declared.holding.Unwritten.{Unwritten}
-use Rattle.flashnor.specs.declared.messages.Fault.{Fault}
-use Rattle.flashnor.specs.declared.messages.Fault.TheVariants as end
-use Rattle.flashnor.specs.declared.messages.FileFault.TheVariants as file
+use Rattle.nor_lines.specs.declared.messages.Fault.{Fault}
+use Rattle.nor_lines.specs.declared.messages.Fault.TheVariants as end
+use Rattle.nor_lines.specs.declared.messages.FileFault.TheVariants as file
 use Rattle.flashnor.specs.declared.printing.Ending.{Ending}
 
 -- every file was written
 abbrev pub all_written : Unwritten
 all_written = record { image = None; status = None; trace = None }
 
--- if the contents of a writer are known, they grew by one of these texts
-abbrev pub Prints : (List ℕ → Type 0) → (old new : Option (List ℕ)) → Type 0
-Prints IsText old new = (text : List ℕ) × IsText text × Appends old new text
-
--- Holds if a run has no fault before its files are written back: it has an answer, or the arguments ask for help.
-abbrev pub IsAnswered : Result Answer Fault → Type 0
-IsAnswered (Ok found) = ⊤
-IsAnswered (Err (end.Usage (usage.Words error))) = kind_of error ≡ kind.DisplayHelp
-IsAnswered (Err fault) = ⊥
-
--- the lines of the answer were printed; nothing is known about the parser's help text
-abbrev pub PrintsAnswer : Result Answer Fault → (old new : Option (List ℕ)) → Type 0
-PrintsAnswer (Ok found) old new = Prints (AreLines found) old new
-PrintsAnswer outcome old new = IsAnswered outcome
-
 -- the lines of the run's fault, if known, followed by those of files that could not be written
 abbrev pub lines_told : Result Answer Fault → Unwritten → Option (List ℕ)
 lines_told (Ok found) unwritten = Some (lines_of_unwritten unwritten)
 lines_told (Err fault) unwritten = option_append (line_of fault) (Some (lines_of_unwritten unwritten))
-
--- the arguments could not be collected: out of memory, or not UTF-8
-abbrev pub IsOfWords : Error → Fault → Type 0
-IsOfWords error fault = ((error_kind error ≡ Kinds.OutOfMemory) × (fault ≡ end.Usage usage.Memory))
-    ⊎ ((error_kind error ≢ Kinds.OutOfMemory) × (fault ≡ end.NoText))
 
 -- The end of a run without a fault of its own, after its answer or help was printed or could not be. Only lines of
 -- files that could not be written are printed to standard error. The status is 0 if and only if the answer or help was

@@ -1,44 +1,10 @@
--- The printed lines of faults, character by character.
-use Rattle.std.specs.Prelude.{ℕ, List, [], ◌∷◌, ◌++◌, Option, Some, None, codes, decimal}
+-- The printed lines of files that could not be written.
+use Rattle.std.specs.Prelude.{ℕ, List, [], ◌++◌, Option, Some, None, codes}
 use Rattle.std.specs.Borrow.{Bor}
-use Rattle.std.specs.Fmt.{with_newline}
-use Rattle.std.specs.List.{concat}
-use Rattle.nor_layout.specs.Faults.{line_of_fault, number_of_fault as layout_number}
-use Rattle.nor_call.specs.Refusal.{number_of}
-use Rattle.nor_call.specs.Texts.{refusal_text}
-use Rattle.nor_words.specs.Faults.{usage_fault_text as usage_text}
 use Rattle.nor_words.specs.Text.{Text}
-use Rattle.flashnor.specs.Escapes.{escaped}
-use Rattle.flashnor.specs.Messages.{file_number}
+use Rattle.nor_lines.specs.FaultLines.{file_text}
+use Rattle.nor_lines.specs.declared.messages.FileFault.TheVariants as file
 use Rattle.flashnor.specs.declared.holding.Unwritten.{Unwritten}
-use Rattle.flashnor.specs.declared.messages.Fault.{Fault}
-use Rattle.flashnor.specs.declared.messages.Fault.TheVariants as end
-use Rattle.flashnor.specs.declared.messages.FileFault.{FileFault}
-use Rattle.flashnor.specs.declared.messages.FileFault.TheVariants as file
-
--- the text for the line of a layout that has a fault, if the fault is in one line
-abbrev pub place : Option ℕ → List ℕ
-place (Some number) = codes " at line " ++ decimal number
-place None = []
-
--- the text of a failure of the file of this name, with its control characters escaped
-abbrev pub file_text : FileFault → Text → List ℕ
-file_text fault name =
-    concat (codes "File fault " ∷ decimal (file_number fault) ∷ codes ": " ∷ escaped name ∷ codes "." ∷ [])
-
--- the text of each fault, if it is known; that of a usage fault contains the parser's message
-abbrev pub text_of : Fault → Option (List ℕ)
-text_of (end.Usage fault) = usage_text fault
-text_of end.NoText = Some (codes "error: invalid UTF-8 was detected in one or more arguments\n\nUsage fault 1.")
-text_of (end.Layout fault) =
-    Some (concat (codes "Layout fault " ∷ decimal (layout_number fault) ∷ place (line_of_fault fault) ∷ codes "." ∷ []))
-text_of (end.File fault name) = Some (file_text fault name.now)
-text_of (end.Refused refusal) =
-    Some (concat (codes "Error " ∷ decimal (number_of refusal) ∷ codes ": " ∷ refusal_text refusal ∷ codes "." ∷ []))
-
--- the line of a fault: its text and a line feed
-abbrev pub line_of : Fault → Option (List ℕ)
-line_of fault = with_newline (text_of fault)
 
 -- the line of a file that could not be written, if there is one
 abbrev pub line_of_unwritten : Option (Bor Text) → List ℕ

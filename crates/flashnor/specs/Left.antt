@@ -13,7 +13,7 @@ use Rattle.nor_session.specs.Headline.{CanGiveBack}
 use Rattle.nor_words.specs.declared.programmer.Programmer.{Programmer}
 use Rattle.nor_words.specs.Text.{Text}
 use Rattle.flashnor.specs.Chips.{IsContentOf, OpensChip}
-use Rattle.flashnor.specs.Stored.{IsNot, IsRead, LeavesNoMoreOf}
+use Rattle.nor_lines.specs.Stored.{IsNot, IsRead, LeavesNoMoreOf}
 use Rattle.flashnor.specs.declared.chips.Content.{Content}
 
 -- The contents that a later run may find of a file, if one is named: those that a host crash may leave. If the file was

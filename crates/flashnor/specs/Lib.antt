@@ -1,11 +1,5 @@
-pub mod Messages
-pub mod Lines
-pub mod AnswerLines
-pub mod Escapes
 pub mod FaultLines
 pub mod Endings
-pub mod Stored
-pub mod Files
 pub mod Chips
 pub mod Holding
 pub mod Left

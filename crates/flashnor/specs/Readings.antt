@@ -20,8 +20,8 @@ use Rattle.nor_words.specs.declared.programmer.Programmer.{Programmer}
 use Rattle.flashnor.specs.Chips.{allowance_of}
 use Rattle.nor_files.specs.Files.{View, is_lawful}
 use Rattle.flashnor.specs.Found.{HasName, IsEmulatedFound, emulated_part}
-use Rattle.flashnor.specs.declared.answers.Answer.{Answer}
-use Rattle.flashnor.specs.declared.answers.Answer.TheVariants as answer
+use Rattle.nor_lines.specs.declared.answers.Answer.{Answer}
+use Rattle.nor_lines.specs.declared.answers.Answer.TheVariants as answer
 
 -- The errors of identification of an emulated chip: another name than the given one, or fewer transactions than
 -- identification may take. No other error occurs on a ready bus.

@@ -1,64 +1,11 @@
--- The request of a job, and the faults of reading its layout and image.
-use Rattle.std.specs.Prelude.{◌≡◌, ◌≤◌, ◌⊎◌, [], ℕ, true, false, List, Option, Some, None, Err, length, replicate}
-use Rattle.nor_layout.specs.declared.fault.LayoutFault.{LayoutFault}
-use Rattle.nor_layout.specs.declared.fault.LayoutFault.TheVariants as layout
-use Rattle.nor_layout.specs.declared.ranges.Span.{Span}
-use Rattle.nor_layout.specs.declared.region.Region.{Region}
-use Rattle.nor_layout.specs.Grammar.{IsLayout}
-use Rattle.nor_layout.specs.Included.{are_known, is_included}
-use Rattle.nor_layout.specs.Ranges.{contains}
-use Rattle.nor_layout.specs.Text.{AsksMemory, layout_says}
-use Rattle.nor_probe.specs.declared.table.ChipName.{ChipName}
-use Rattle.nor_call.specs.declared.request.Request.{Request}
-use Rattle.nor_call.specs.declared.request.What.{What}
-use Rattle.nor_call.specs.declared.request.What.TheVariants as what
-use Rattle.nor_words.specs.declared.job.Change.{Change}
-use Rattle.nor_words.specs.declared.job.Regions.{Regions}
+-- The buffer of a session.
+use Rattle.std.specs.Prelude.{◌≡◌, [], ℕ, List, replicate}
 use Rattle.nor_words.specs.declared.job.Wanted.{Wanted}
 use Rattle.nor_words.specs.declared.job.Wanted.TheVariants as wanted
 use Rattle.nor_words.specs.declared.programmer.Emulated.{Emulated}
-use Rattle.flashnor.specs.Stored.{IsRead}
+use Rattle.nor_lines.specs.Stored.{IsRead}
 use Rattle.nor_files.specs.Files.{View}
-use Rattle.flashnor.specs.Files.{IsReadingFault, IsTooLong}
 use Rattle.flashnor.specs.Found.{emulated_part}
-use Rattle.flashnor.specs.declared.messages.Fault.{Fault}
-use Rattle.flashnor.specs.declared.messages.Fault.TheVariants as end
-
--- the kind of work that a session is asked for
-abbrev pub what_of : Wanted → What
-what_of (wanted.Write image) = what.Write
-what_of wanted.Erase = what.Erase
-what_of (wanted.Range start len) = what.WpRange start len
-
--- the request of a change, for the named chip and the given ranges
-abbrev pub request_for : Change → Option ChipName → Option (List Span) → Request
-request_for change named ranges = record {
-  what = what_of change.wanted;
-  named = named;
-  included = ranges;
-  unlock = change.unlock;
-  verify = change.verify;
-}
-
--- The text is a layout, each name is one of its regions, and the ranges contain the addresses of all named regions.
-pub record AreIncluded (text names : List ℕ) (ranges : List Span) : Type 0 where
-  pub regions : List Region
-  pub layout : IsLayout text regions
-  pub known : are_known regions names ≡ true
-  pub union : (a : ℕ) → contains ranges a ≡ is_included regions names a
-
--- The ranges are those of the named regions in the layout's file, which has at most 16 MiB.
-pub record AreOfLayout (view : View) (regions : Regions) (ranges : List Span) : Type 0 where
-  pub text : List ℕ
-  pub read : IsRead view regions.layout.now 16777217 text
-  pub whole : length text ≤ 16777216
-  pub included : AreIncluded text regions.names.now ranges
-
--- there are ranges if and only if regions are named
-abbrev pub AreRangesOf : View → Option Regions → Option (List Span) → Type 0
-AreRangesOf view None ranges = ranges ≡ None
-AreRangesOf view (Some regions) None = ⊥
-AreRangesOf view (Some regions) (Some ranges) = AreOfLayout view regions ranges
 
 -- The buffer of a session: for a write the image, of which at most one byte more is read than the largest chip has. For
 -- an erase it is FFh for each byte of the chip, otherwise empty.
@@ -66,35 +13,3 @@ abbrev pub IsBufferOf : View → Emulated → Wanted → List ℕ → Type 0
 IsBufferOf view chip (wanted.Write image) bytes = IsRead view image.now 16777217 bytes
 IsBufferOf view chip wanted.Erase bytes = bytes ≡ replicate (emulated_part chip).size 255
 IsBufferOf view chip (wanted.Range start len) bytes = bytes ≡ []
-
--- The text is no layout, for any regions. `first` is the first fault of its lines.
-pub record IsNoLayout (text : List ℕ) (fault : LayoutFault) : Type 0 where
-  pub none : (regions : List Region) → ¬ IsLayout text regions
-  pub first : layout_says text ≡ Err fault
-
--- The text is a layout, and one of the names is not among its regions.
-pub record AreUnknown (text names : List ℕ) : Type 0 where
-  pub regions : List Region
-  pub layout : IsLayout text regions
-  pub unknown : are_known regions names ≡ false
-
--- why the names include nothing: the text is no layout, a name is unknown, or memory ran out
-abbrev pub IncludesNone : (text names : List ℕ) → LayoutFault → Type 0
-IncludesNone text names layout.Memory = AsksMemory text
-IncludesNone text names layout.NoRegion = AreUnknown text names
-IncludesNone text names fault = IsNoLayout text fault
-
--- A layout fault: the layout's file has at most 16 MiB, and this is why the named regions include nothing of it.
-pub record IsLayoutFault (view : View) (regions : Regions) (fault : LayoutFault) : Type 0 where
-  pub text : List ℕ
-  pub read : IsRead view regions.layout.now 16777217 text
-  pub whole : length text ≤ 16777216
-  pub why : IncludesNone text regions.names.now fault
-
--- the faults of including regions: those of the layout's text and names, of reading its file, and of a file of more
--- than 16 MiB
-abbrev pub FailsToInclude : View → Option Regions → Fault → Type 0
-FailsToInclude view None fault = ⊥
-FailsToInclude view (Some regions) (end.Layout fault) = IsLayoutFault view regions fault
-FailsToInclude view (Some regions) fault =
-    IsReadingFault view regions.layout.now 16777217 fault ⊎ IsTooLong view regions.layout.now 16777216 fault

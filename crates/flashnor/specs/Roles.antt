@@ -10,11 +10,11 @@ use Rattle.nor_words.specs.declared.job.Wanted.{Wanted}
 use Rattle.nor_words.specs.declared.job.Wanted.TheVariants as wanted
 use Rattle.nor_files.specs.Files.{Nature}
 use Rattle.nor_files.specs.Files.Failure.{Printed, Shared, Unread}
-use Rattle.flashnor.specs.Stored.{AreTwo}
+use Rattle.nor_lines.specs.Stored.{AreTwo}
 use Rattle.flashnor.specs.Tasks.{journal_of, puts_back}
-use Rattle.flashnor.specs.declared.messages.Fault.{Fault}
-use Rattle.flashnor.specs.declared.messages.Fault.TheVariants as end
-use Rattle.flashnor.specs.declared.messages.FileFault.TheVariants as file
+use Rattle.nor_lines.specs.declared.messages.Fault.{Fault}
+use Rattle.nor_lines.specs.declared.messages.Fault.TheVariants as end
+use Rattle.nor_lines.specs.declared.messages.FileFault.TheVariants as file
 use Rattle.flashnor.specs.declared.roles.Named.{Named}
 use Rattle.flashnor.specs.declared.roles.Role.{Role}
 use Rattle.flashnor.specs.declared.roles.Role.TheVariants as role

@@ -34,24 +34,26 @@ use Rattle.nor_words.specs.declared.job.Wanted.{Wanted}
 use Rattle.nor_words.specs.declared.job.Wanted.TheVariants as wanted
 use Rattle.nor_words.specs.declared.programmer.Emulated.{Emulated}
 use Rattle.nor_words.specs.declared.programmer.Programmer.{Programmer}
-use Rattle.flashnor.specs.AnswerLines.{AreLines}
+use Rattle.nor_lines.specs.AnswerLines.{AreLines}
 use Rattle.flashnor.specs.Changes.{HasMadeChange, HasRestored, TellsDone, TellsRestored}
 use Rattle.flashnor.specs.Chips.{ArePutBack, FailsToHold, FailsToOpen, IsContentOf, StartsBus}
-use Rattle.flashnor.specs.Endings.{HasPrinted, Prints, all_written}
-use Rattle.flashnor.specs.Stored.{IsNot, IsRead, IsToldOf, StaysOf}
+use Rattle.flashnor.specs.Endings.{HasPrinted, all_written}
+use Rattle.nor_lines.specs.Printing.{Prints}
+use Rattle.nor_lines.specs.Stored.{IsNot, IsRead, IsToldOf, StaysOf}
 use Rattle.flashnor.specs.Left.{KeepsFirst, KeepsRestorable, LeadsBack, Opened}
 use Rattle.flashnor.specs.Roles.{FailsRoles, HaveOneRole}
 use Rattle.flashnor.specs.Tasks.{made_by, puts_back}
 use Rattle.nor_files.specs.Files.{AllStay, AreAtRest, FilesState, IsKnown, IsSettled, Name, Stays, View}
-use Rattle.flashnor.specs.Files.{IsMaking, IsReadingFault, IsSharingFault}
+use Rattle.nor_lines.specs.Files.{IsMaking, IsReadingFault, IsSharingFault}
 use Rattle.flashnor.specs.Readings.{HasLookedUp, HasReadOut, HasTold, HasVerified, ListsRanges, TellsFound, TellsGuarded, TellsSize}
-use Rattle.flashnor.specs.Requests.{AreRangesOf, FailsToInclude, IsBufferOf, request_for}
-use Rattle.flashnor.specs.declared.answers.Answer.{Answer}
-use Rattle.flashnor.specs.declared.answers.Answer.TheVariants as answer
+use Rattle.nor_lines.specs.Requests.{AreRangesOf, FailsToInclude, request_for}
+use Rattle.flashnor.specs.Requests.{IsBufferOf}
+use Rattle.nor_lines.specs.declared.answers.Answer.{Answer}
+use Rattle.nor_lines.specs.declared.answers.Answer.TheVariants as answer
 use Rattle.flashnor.specs.declared.chips.Content.{Content}
 use Rattle.flashnor.specs.declared.holding.Unwritten.{Unwritten}
-use Rattle.flashnor.specs.declared.messages.Fault.{Fault}
-use Rattle.flashnor.specs.declared.messages.Fault.TheVariants as end
+use Rattle.nor_lines.specs.declared.messages.Fault.{Fault}
+use Rattle.nor_lines.specs.declared.messages.Fault.TheVariants as end
 use Rattle.flashnor.specs.declared.printing.Ending.{Ending}
 
 -- ---- calls

@@ -12,9 +12,9 @@ use Rattle.nor_words.specs.declared.job.Task.TheVariants as task
 use Rattle.nor_words.specs.declared.programmer.Programmer.{Programmer}
 use Rattle.flashnor.specs.Left.{LeadsBack, LeavesOnly, MayFind, Opened}
 use Rattle.flashnor.specs.Run.{AnswersJob}
-use Rattle.flashnor.specs.declared.answers.Answer.{Answer}
+use Rattle.nor_lines.specs.declared.answers.Answer.{Answer}
 use Rattle.flashnor.specs.declared.holding.Unwritten.{Unwritten}
-use Rattle.flashnor.specs.declared.messages.Fault.{Fault}
+use Rattle.nor_lines.specs.declared.messages.Fault.{Fault}
 
 -- The files that a run finds after an earlier run ended, was killed, or was interrupted by a host crash: no file is
 -- open for a vault or a log. The journal is one that may be left. Each file of the chip is too, unless it was missing

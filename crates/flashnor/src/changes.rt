@@ -7,22 +7,21 @@ ghost use Rattle.nor_journal.specs.Vault.{IsFresh};
 ghost use Rattle.nor_probe.specs.Found.{most_probe};
 ghost use Rattle.nor_probe.specs.Known.{IsModelled};
 ghost use Rattle.flashnor.specs.Changes.{HasMadeChange, HasKeptChange, HasRehearsed, HasRestored, Passes, ProbeRefuses};
-ghost use Rattle.flashnor.specs.Requests.{FailsToInclude, IsBufferOf};
+ghost use Rattle.nor_lines.specs.Requests.{FailsToInclude};
+ghost use Rattle.flashnor.specs.Requests.{IsBufferOf};
 ghost use Rattle.flashnor.specs.Run.{ChangesChip, DoesRestore, FailsToKeep, FailsToRead, FailsToRestore};
 ghost use Rattle.flashnor.specs.Tasks.{journal_of};
-ghost use Rattle.flashnor.specs.Files.{IsSharingFault};
-ghost use Rattle.flashnor.specs.Stored.{IsNot, IsRead, MakesNothing};
+ghost use Rattle.nor_lines.specs.Stored.{IsNot, MakesNothing};
 
-use crate::answers::{Answer, Outcome};
 use crate::chips::erased;
-use crate::files::{MOST_IMAGE_BYTES, MOST_JOURNAL_BYTES, make, read_file};
-use crate::holding::unheld;
-use crate::messages::Fault;
 use crate::readings::find;
-use crate::requests::{read_included, request_for};
 use nor_chip::{Bus, Meter};
 use nor_files::Store;
 use nor_journal::{Journal, MemVault, Vault};
+use nor_lines::{
+    Answer, Fault, MOST_IMAGE_BYTES, Outcome, make, read_file, read_included, read_journal,
+    request_for,
+};
 use nor_probe::ChipName;
 use nor_session::{Refusal, Request, rehearse, restore, session};
 use nor_words::{Change, Emulated, JournalUse, Wanted};
@@ -156,22 +155,6 @@ pub fn restore_chip<'a, R: Store, B: Bus>(
     match Journal::read(&text) {
         Ok(journal) => Ok(restore_named(bus, named, &journal)),
         Err(fault) => Err(Fault::Refused(Refusal::BadJournal(fault))),
-    }
-}
-
-// Locks and reads the journal in the file of this name.
-fn read_journal<'a, R: Store>(rt: &mut R, journal: &'a str) -> Result<Vec<u8>, Fault<'a>>
-    ensures same { AreUntouched (R.state rt.old) (R.state rt.new) }
-    ensures ok { IfOk result (λ bytes. IsRead (R.state rt.old).view journal.now 16793662 bytes.items) }
-    ensures err { IfErr result (IsSharingFault (R.state rt.old).view journal.now 16793662) }
-{
-    match rt.share(journal) {
-        Ok(()) => {}
-        Err(fault) => return Err(unheld(fault, journal)),
-    }
-    match read_file(rt, journal, MOST_JOURNAL_BYTES) {
-        Ok(bytes) => Ok(bytes),
-        Err(fault) => Err(fault),
     }
 }
 

@@ -3,18 +3,16 @@ ghost use Rattle.std.specs.Prelude.{◌≡◌, IfErr, IfSome, IsSome, IsSomeAnd,
 ghost use Rattle.nor_files.specs.Files.{AreAtRest, Name, Stays, is_lawful};
 ghost use Rattle.nor_files.specs.Files.Failure.{There};
 ghost use Rattle.flashnor.specs.Roles.{HasOwnTrace};
-ghost use Rattle.flashnor.specs.Files.{IsMaking};
+ghost use Rattle.nor_lines.specs.Files.{IsMaking};
 ghost use Rattle.flashnor.specs.Run.{FailsBefore, FailsJob, KeepsFiles};
-ghost use Rattle.flashnor.specs.Stored.{Happens, IsNot};
+ghost use Rattle.nor_lines.specs.Stored.{Happens, IsNot};
 ghost use Rattle.flashnor.specs.Tasks.{journal_by};
 
 use crate::changes::read_wanted;
 use crate::chips::read_content;
-use crate::files::create_log;
-use crate::messages::{Fault, FileFault};
-use crate::requests::read_included;
 use crate::roles::has_own_trace;
 use nor_files::Store;
+use nor_lines::{Fault, FileFault, create_log, read_included};
 use nor_words::{Change, ChipJob, JournalUse, Task};
 
 /// Returns the file of the task's journal if it already exists and the task is to create it.

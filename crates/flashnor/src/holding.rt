@@ -5,17 +5,16 @@ ghost use Rattle.nor_files.specs.Calls.{LeaveNoMore};
 ghost use Rattle.nor_files.specs.Files.{AreAtRest, IsSettled, KnownStay, Name, OthersStay, Stays, is_lawful};
 ghost use Rattle.nor_files.specs.Files.Failure.{Unwritten as FailsWrite};
 ghost use Rattle.flashnor.specs.Chips.{ArePutBack, FailsToHold, IsContentOf};
-ghost use Rattle.flashnor.specs.Files.{IsHoldingFault, IsUnheldFault};
+ghost use Rattle.nor_lines.specs.Files.{IsHoldingFault};
 ghost use Rattle.flashnor.specs.Found.{emulated_part};
 ghost use Rattle.flashnor.specs.Holding.{AreAmid, AreHeld, AreReady, IsHeld, IsReady, IsReadyFile};
 ghost use Rattle.flashnor.specs.Holding.{LeavesAmid, LeavesFileAmid, Settles, StandsFor};
-ghost use Rattle.flashnor.specs.Stored.{AreTwo, Happens, IsFileFound, IsNot, IsRead, IsToldOf};
+ghost use Rattle.nor_lines.specs.Stored.{AreTwo, Happens, IsFileFound, IsNot, IsRead, IsToldOf};
 
 use crate::chips::{Content, content_of, read_whole};
-use crate::files::{reading, taken, unmade, unread};
-use crate::messages::{Fault, FileFault};
 use nor_chip::{Bus, SimBus};
 use nor_files::{HoldFault, Store};
+use nor_lines::{Fault, FileFault, reading, taken, unheld, unmade, unread};
 use nor_words::Programmer;
 use std::io;
 
@@ -111,17 +110,6 @@ fn read_held<'a, R: Store>(rt: &mut R, name: &'a str, len: u32) -> Result<Vec<u8
     match rt.sync_folder(name) {
         Ok(()) => Ok(bytes),
         Err(_) => Err(unmade(name)),
-    }
-}
-
-/// Returns the fault of a file that can't be locked or opened to be written.
-pub fn unheld(fault: HoldFault, name: &str) -> Fault<'_>
-    ensures { IsUnheldFault fault name.now result }
-{
-    match fault {
-        HoldFault::Unread(error) => reading(error, name),
-        HoldFault::Unheld => unmade(name),
-        HoldFault::Busy => taken(name),
     }
 }
 

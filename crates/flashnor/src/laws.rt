@@ -6,9 +6,9 @@ ghost use Rattle.nor_words.specs.declared.programmer.Programmer.{Programmer};
 ghost use Rattle.flashnor.specs.Endings.{all_written};
 ghost use Rattle.flashnor.specs.Left.{LeadsBack, Opened};
 ghost use Rattle.flashnor.specs.Undone.{LeavesFirst, RestoresFirst};
-ghost use Rattle.flashnor.specs.declared.answers.Answer.{Answer};
+ghost use Rattle.nor_lines.specs.declared.answers.Answer.{Answer};
 ghost use Rattle.flashnor.specs.declared.holding.Unwritten.{Unwritten};
-ghost use Rattle.flashnor.specs.declared.messages.Fault.{Fault};
+ghost use Rattle.nor_lines.specs.declared.messages.Fault.{Fault};
 
 use nor_files::Store;
 

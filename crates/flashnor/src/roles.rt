@@ -3,12 +3,11 @@ ghost use Rattle.std.specs.Prelude.{◌≡◌, true, IfErr, OnOk};
 ghost use Rattle.flashnor.specs.Roles.{FailsRoles, HasOwnTrace, HaveOneRole, file_in, image_of, is_written, layout_of};
 ghost use Rattle.flashnor.specs.Roles.{must_differ, named_by};
 ghost use Rattle.flashnor.specs.Tasks.{journal_of};
-ghost use Rattle.flashnor.specs.Stored.{AreTwo};
+ghost use Rattle.nor_lines.specs.Stored.{AreTwo};
 
-use crate::files::{taken, unread};
-use crate::messages::Fault;
 use crate::run::puts_back;
 use nor_files::Store;
+use nor_lines::{Fault, taken, unread};
 use nor_words::{Change, ChipJob, JournalUse, Regions, Task, Wanted};
 
 // The files that a task names, in addition to those of the chip and the trace.

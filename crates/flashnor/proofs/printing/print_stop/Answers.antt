@@ -1,6 +1,0 @@
-use Rattle.flashnor.specs.Lines.{line}
-use Rattle.flashnor.proofs.printing.print_stop.Goals as goal
-
-pub returns : goal.returns
-unfolding line
-returns g c = rw c.how_it_went-how.ensures at c.writeln.ensures.bytes

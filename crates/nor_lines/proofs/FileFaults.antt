@@ -1,0 +1,20 @@
+-- A file that fails while it is read ends the run with its own fault, or with out of memory.
+use Rattle.std.proofs.Common.{ℕ, arith}
+use Rattle.nor_words.specs.Text.{Text}
+use Rattle.nor_files.specs.Files.{View}
+use Rattle.nor_files.specs.Files.Failure.{Unread}
+use Rattle.nor_lines.specs.Files.{IsOpeningFault, IsReadingFault, IsSharingFault, IsUnreadFault}
+use Rattle.nor_lines.specs.Stored.{Happens}
+use Rattle.nor_lines.specs.declared.messages.Fault.{Fault}
+
+module _ (view : View) (name : Text) (size : ℕ) (unread : Happens view (Unread name)) where
+  pub unread_reading : (fault : Fault) → IsUnreadFault name fault → IsReadingFault view name size fault
+  unread_reading fault is = grind arith
+
+  pub unread_opening : (fault : Fault) → IsUnreadFault name fault → IsOpeningFault view name size fault
+  unread_opening fault is = grind arith
+
+-- the fault of a journal that can't be read is a fault of one that can't be locked and read
+pub reading_shares : (view : View) (name : Text) (most : ℕ) (fault : Fault) → IsReadingFault view name most fault
+    → IsSharingFault view name most fault
+reading_shares view name most fault is = grind arith

@@ -1,0 +1,105 @@
+-- The printed lines of each answer, character by character.
+use Rattle.std.specs.Prelude.{◌≡◌, ℕ, Bool, List, [], ◌∷◌, ◌++◌, Option, Some, None, codes, decimal, flat_map, if◌then◌else◌}
+use Rattle.std.specs.Iterator.{Drains}
+use Rattle.nor_chip.specs.Offered.{GivesNextSet}
+use Rattle.nor_chip.specs.declared.guard.walk.Offered.{Offered}
+use Rattle.nor_probe.specs.Table.{chips, name_text}
+use Rattle.nor_probe.specs.declared.probes.Found.{Found}
+use Rattle.nor_probe.specs.declared.table.ChipName.{ChipName}
+use Rattle.nor_probe.specs.declared.table.ChipName.TheVariants.{Sfdp}
+use Rattle.nor_probe.specs.declared.table.Part.{Part}
+use Rattle.nor_read.specs.declared.protection.Protection.{Protection}
+use Rattle.nor_call.specs.declared.report.Report.{Report}
+use Rattle.nor_session.specs.declared.rehearsals.Rehearsal.{Rehearsal}
+use Rattle.nor_call.specs.Texts.{hex_digits}
+use Rattle.nor_lines.specs.Lines.{id_digits, line}
+use Rattle.nor_lines.specs.declared.answers.Answer.{Answer}
+use Rattle.nor_lines.specs.declared.answers.Answer.TheVariants as answer
+
+-- the line of a chip of the table: name, ID, size in bytes
+abbrev pub chip_line : Part → List ℕ
+chip_line part = line (name_text part.name ∷ codes " " ∷ id_digits part.id ∷ codes " " ∷ decimal part.size ∷ [])
+
+-- the line of a name
+abbrev pub name_line : ChipName → List ℕ
+name_line name = line (name_text name ∷ [])
+
+-- the lines of the chips in the table, and the name of chips known by their SFDP only
+abbrev pub chip_lines : List ℕ
+chip_lines = flat_map chip_line chips ++ name_line Sfdp
+
+-- the line of the chip that was identified
+abbrev pub found_line : Found → List ℕ
+found_line found = line (codes "Found " ∷ name_text found.name ∷ codes " (" ∷ id_digits found.id ∷ codes "), "
+    ∷ decimal found.size ∷ codes " bytes." ∷ [])
+
+-- the line of a chip's size in bytes
+abbrev pub size_line : ℕ → List ℕ
+size_line size = line (decimal size ∷ [])
+
+-- the lines of a chip that was read out
+abbrev pub read_lines : Report → List ℕ
+read_lines report = found_line report.found ++ line (codes "Read " ∷ decimal report.found.size ∷ codes " bytes." ∷ [])
+
+-- the lines of a chip whose included bytes are those of the image
+abbrev pub verified_lines : Report → List ℕ
+verified_lines report = found_line report.found ++ line (codes "Verified." ∷ [])
+
+-- the line of the counts of a change or restore
+abbrev pub counts_line : Report → List ℕ
+counts_line report = line (codes "Done: touched " ∷ decimal report.touched ∷ codes ", erases " ∷ decimal report.erases
+    ∷ codes ", programs " ∷ decimal report.programs
+    ∷ codes ", transactions " ∷ decimal report.transactions ∷ codes "." ∷ [])
+
+-- the lines of a change or restore
+abbrev pub done_lines : Report → List ℕ
+done_lines report = found_line report.found ++ counts_line report
+
+-- `ended` or `stopped`, for the session of a rehearsal
+abbrev pub how_it_went : Bool → List ℕ
+how_it_went ended = if ended then codes "ended" else codes "stopped"
+
+abbrev pub stop_line : Bool → List ℕ
+stop_line ended = line (codes "Rehearsal: session " ∷ how_it_went ended ∷ codes "." ∷ [])
+
+-- the line of the number of restores in a rehearsal
+abbrev pub restores_line : ℕ → List ℕ
+restores_line restores = line (codes "Restores: " ∷ decimal restores ∷ codes "." ∷ [])
+
+abbrev pub given_back_line : List ℕ
+given_back_line = line (codes "Chip as before." ∷ [])
+
+-- the lines of a rehearsal
+abbrev pub rehearsal_lines : Rehearsal → List ℕ
+rehearsal_lines rehearsal = stop_line rehearsal.ended ++ (restores_line rehearsal.restores ++ given_back_line)
+
+-- the line of the protected range: its first address and its length in bytes
+abbrev pub protected_line : Option (ℕ × ℕ) → List ℕ
+protected_line (Some (start, len)) = line (codes "Range: 0x" ∷ hex_digits 6 start ∷ codes ",0x" ∷ hex_digits 6 len ∷ [])
+protected_line None = line (codes "Range: undefined" ∷ [])
+
+-- the lines of the protected range and of whether the status is locked
+abbrev pub protection_lines : Protection → List ℕ
+protection_lines protection = protected_line protection.range
+    ++ line (codes "Mode: " ∷ (if protection.locked then codes "locked" else codes "open") ∷ [])
+
+-- the line of a range that can be protected
+abbrev pub range_line : ℕ × ℕ → List ℕ
+range_line range = line (codes "0x" ∷ hex_digits 6 range.0 ∷ codes ",0x" ∷ hex_digits 6 range.1 ∷ [])
+
+-- the lines of all ranges of an iterator, one line each
+abbrev pub AreRangeLines : Offered → List ℕ → Type 0
+AreRangeLines walk text =
+    (ranges : List (ℕ × ℕ)) × Drains GivesNextSet walk ranges × (text ≡ flat_map range_line ranges)
+
+-- the lines of each answer
+abbrev pub AreLines : Answer → List ℕ → Type 0
+AreLines answer.Chips text = text ≡ chip_lines
+AreLines (answer.Found found) text = text ≡ found_line found
+AreLines (answer.Size size) text = text ≡ size_line size
+AreLines (answer.Read report) text = text ≡ read_lines report
+AreLines (answer.Verified report) text = text ≡ verified_lines report
+AreLines (answer.Done report) text = text ≡ done_lines report
+AreLines (answer.Rehearsed rehearsal) text = text ≡ rehearsal_lines rehearsal
+AreLines (answer.Protection protection) text = text ≡ protection_lines protection
+AreLines (answer.Ranges walk) text = AreRangeLines walk text

@@ -1,0 +1,9 @@
+pub mod Messages
+pub mod Lines
+pub mod AnswerLines
+pub mod Escapes
+pub mod FaultLines
+pub mod Printing
+pub mod Stored
+pub mod Files
+pub mod Requests

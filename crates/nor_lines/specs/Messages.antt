@@ -1,0 +1,23 @@
+-- The numbers of faults in messages, and the fault of arguments that could not be collected.
+use Rattle.std.specs.Prelude.{◌≡◌, ◌≢◌, ◌⊎◌, ℕ}
+use Rattle.std.specs.IoError.{error_kind}
+use Rattle.std.specs.declared.io.Error.{Error}
+use Rattle.std.specs.declared.io.ErrorKind.TheVariants as Kinds
+use Rattle.nor_words.specs.declared.words.UsageFault.TheVariants as usage
+use Rattle.nor_lines.specs.declared.messages.Fault.{Fault}
+use Rattle.nor_lines.specs.declared.messages.Fault.TheVariants as end
+use Rattle.nor_lines.specs.declared.messages.FileFault.{FileFault}
+use Rattle.nor_lines.specs.declared.messages.FileFault.TheVariants as file
+
+-- the number of each file fault
+abbrev pub file_number : FileFault → ℕ
+file_number file.Read = 1
+file_number file.Write = 2
+file_number file.Length = 3
+file_number file.Exists = 4
+file_number file.Taken = 5
+
+-- the arguments could not be collected: out of memory, or not UTF-8
+abbrev pub IsOfWords : Error → Fault → Type 0
+IsOfWords error fault = ((error_kind error ≡ Kinds.OutOfMemory) × (fault ≡ end.Usage usage.Memory))
+    ⊎ ((error_kind error ≢ Kinds.OutOfMemory) × (fault ≡ end.NoText))

@@ -1,0 +1,25 @@
+-- What is printed for the result of a run.
+use Rattle.std.specs.Prelude.{◌≡◌, ℕ, ⊤, List, Option, Result, Ok, Err}
+use Rattle.std.specs.Io.KnownBytes.{Appends}
+use Rattle.clap.specs.Words.{kind_of}
+use Rattle.clap.specs.declared.error.kind.ErrorKind.TheVariants as kind
+use Rattle.nor_words.specs.declared.words.UsageFault.TheVariants as usage
+use Rattle.nor_lines.specs.AnswerLines.{AreLines}
+use Rattle.nor_lines.specs.declared.answers.Answer.{Answer}
+use Rattle.nor_lines.specs.declared.messages.Fault.{Fault}
+use Rattle.nor_lines.specs.declared.messages.Fault.TheVariants as end
+
+-- if the contents of a writer are known, they grew by one of these texts
+abbrev pub Prints : (List ℕ → Type 0) → (old new : Option (List ℕ)) → Type 0
+Prints IsText old new = (text : List ℕ) × IsText text × Appends old new text
+
+-- Holds if a run has no fault before its files are written back: it has an answer, or the arguments ask for help.
+abbrev pub IsAnswered : Result Answer Fault → Type 0
+IsAnswered (Ok found) = ⊤
+IsAnswered (Err (end.Usage (usage.Words error))) = kind_of error ≡ kind.DisplayHelp
+IsAnswered (Err fault) = ⊥
+
+-- the lines of the answer were printed; nothing is known about the parser's help text
+abbrev pub PrintsAnswer : Result Answer Fault → (old new : Option (List ℕ)) → Type 0
+PrintsAnswer (Ok found) old new = Prints (AreLines found) old new
+PrintsAnswer outcome old new = IsAnswered outcome

@@ -1,0 +1,181 @@
+//! The files of a run that are read, locked, created or truncated, and the faults of files.
+ghost use Rattle.std.specs.Prelude.{◌≡◌, ◌↔◌, true, IfOk, IfErr, OnOk, OnErr, None, Some};
+ghost use Rattle.std.specs.IoError.{error_kind};
+ghost use Rattle.std.specs.declared.io.ErrorKind.TheVariants as Kinds;
+ghost use Rattle.nor_files.specs.Calls.{Lends, LendsNone};
+ghost use Rattle.nor_files.specs.Faults.{IsMakeFault};
+ghost use Rattle.nor_files.specs.Files.{AreUntouched, IsKnown, OthersStay, View, is_lawful};
+ghost use Rattle.nor_journal.specs.Vault.{IsFresh};
+ghost use Rattle.nor_lines.specs.Stored.{IsRead};
+ghost use Rattle.nor_lines.specs.Files.{IsReadingFault, IsMaking, IsSharingFault, IsUnheldFault, IsUnreadFault};
+ghost use Rattle.nor_lines.specs.declared.messages.Fault.TheVariants as Faults;
+ghost use Rattle.nor_lines.specs.declared.messages.FileFault.TheVariants as FileFaults;
+ghost use Rattle.nor_call.specs.declared.refusal.Refusal.TheVariants as Refusals;
+
+use crate::messages::{Fault, FileFault};
+use nor_files::{HoldFault, MakeFault, Store};
+use nor_session::Refusal;
+use std::io;
+use std::io::{BufWriter, ErrorKind};
+
+/// The greatest number of bytes read from an image: one more than the largest chip has, so that a longer image is
+/// detected.
+pub const MOST_IMAGE_BYTES: u64 = 16_777_217;
+
+/// The greatest number of bytes read from a journal: one more than the longest journal has, which saves all sectors of
+/// the largest chip.
+pub const MOST_JOURNAL_BYTES: u64 = 16_793_662;
+
+/// The greatest length of a layout file, in bytes.
+pub const MOST_LAYOUT_BYTES: u64 = 16_777_216;
+
+/// Reads at most `most` bytes of a file.
+///
+/// Returns file fault 1 if the file is missing or can't be read, or error 18 if memory runs out.
+#[tactic(auto, using(crate::proofs::FileFaults::unread_reading))]
+pub fn read_file<'a, R: Store>(rt: &R, name: &'a str, most: u64) -> Result<Vec<u8>, Fault<'a>>
+    ensures ok { IfOk result (λ bytes. IsRead ((R.state rt.now).view) name.now most bytes.items) }
+    ensures err { IfErr result (IsReadingFault ((R.state rt.now).view) name.now most) }
+{
+    match rt.read_named(name, most) {
+        Ok(Some(bytes)) => Ok(bytes),
+        Ok(None) => Err(unread(name)),
+        Err(error) => Err(reading(error, name)),
+    }
+}
+
+/// Returns the fault of a file that can't be opened or read: error 18 if memory ran out, otherwise file fault 1.
+pub fn reading(error: io::Error, name: &str) -> Fault<'_>
+    ensures file { IsUnreadFault name.now result }
+    ensures memory { result ≡ Faults.Refused Refusals.Memory ↔ error_kind error ≡ Kinds.OutOfMemory }
+{
+    match error.kind() {
+        ErrorKind::OutOfMemory => Fault::Refused(Refusal::Memory),
+        _ => unread(name),
+    }
+}
+
+/// Returns the fault of a file that is missing or can't be read: file fault 1.
+pub fn unread(name: &str) -> Fault<'_>
+    ensures { result ≡ Faults.File FileFaults.Read name.entry }
+{
+    let fault = FileFault::Read;
+    Fault::File { fault, name }
+}
+
+/// Creates or empties the file of this name, and returns a vault in it. A journal is never emptied: it is file fault 4.
+/// `making` lists the other faults.
+pub fn empty<'a, R: Store>(rt: &mut R, name: &'a str) -> Result<R::Filed, Fault<'a>>
+    ensures nature { (R.state rt.new).view.nature ≡ (R.state rt.old).view.nature }
+    ensures fresh { IfOk result (λ vault. IsFresh (R.Filed.state vault)) }
+    ensures lends { is_lawful (R.state rt.old).view ≡ true
+        → OnOk result (Lends name.now (R.state rt.old) (R.state rt.new)) }
+    ensures others { is_lawful (R.state rt.old).view ≡ true
+        → OthersStay name.now (R.state rt.old) (R.state rt.new) }
+    ensures err { IfErr result (IsMaking (R.state rt.old).view name.now) }
+{
+    match rt.vault_in(name) {
+        Ok(vault) => Ok(vault),
+        Err(fault) => Err(making(fault, name)),
+    }
+}
+
+/// Creates the file of this name, and returns a vault in it. If the file exists it is left as it is: file fault 4.
+/// `making` lists the other faults.
+pub fn make<'a, R: Store>(rt: &mut R, name: &'a str) -> Result<R::Filed, Fault<'a>>
+    ensures nature { (R.state rt.new).view.nature ≡ (R.state rt.old).view.nature }
+    ensures fresh { IfOk result (λ vault. IsFresh (R.Filed.state vault)) }
+    ensures lends { is_lawful (R.state rt.old).view ≡ true
+        → OnOk result (Lends name.now (R.state rt.old) (R.state rt.new)) }
+    ensures missing { IsKnown name.now (R.state rt.old).view
+        → OnOk result ((R.state rt.old).view.seen name.now ≡ None) }
+    ensures fails { is_lawful (R.state rt.old).view ≡ true
+        → OnErr result (LendsNone name.now (R.state rt.old) (R.state rt.new)) }
+    ensures others { is_lawful (R.state rt.old).view ≡ true
+        → OthersStay name.now (R.state rt.old) (R.state rt.new) }
+    ensures err { IfErr result (IsMaking (R.state rt.old).view name.now) }
+{
+    match rt.vault_in_new(name) {
+        Ok(vault) => Ok(vault),
+        Err(fault) => Err(making(fault, name)),
+    }
+}
+
+/// Creates or empties the file of this name, and returns a buffered writer to it. A journal is never emptied: it is
+/// file fault 4. `making` lists the other faults.
+pub fn create_log<'a, R: Store>(rt: &mut R, name: &'a str) -> Result<BufWriter<R::Log>, Fault<'a>>
+    ensures nature { (R.state rt.new).view.nature ≡ (R.state rt.old).view.nature }
+    ensures others { is_lawful (R.state rt.old).view ≡ true
+        → OthersStay name.now (R.state rt.old) (R.state rt.new) }
+    ensures err { IfErr result (IsMaking (R.state rt.old).view name.now) }
+{
+    let file = match rt.log_in(name) {
+        Ok(file) => file,
+        Err(fault) => return Err(making(fault, name)),
+    };
+    BufWriter::new(rt.alloc(), file).map_err(|_| Fault::Refused(Refusal::Memory))
+}
+
+/// Returns the fault of a file that can't be created or emptied.
+///
+/// - file fault 4 if the file exists and must be new, or is a journal, which is never emptied
+/// - file fault 5 if another process has locked the file
+/// - error 18 if memory ran out
+/// - otherwise file fault 2
+pub fn making(fault: MakeFault, name: &str) -> Fault<'_>
+    ensures { (view : View) → IsMakeFault view.nature name.now fault → IsMaking view name.now result }
+{
+    match fault {
+        MakeFault::There => {
+            let fault = FileFault::Exists;
+            Fault::File { fault, name }
+        }
+        MakeFault::Busy => taken(name),
+        MakeFault::Unmade(_) => unmade(name),
+        MakeFault::Memory => Fault::Refused(Refusal::Memory),
+    }
+}
+
+/// Returns the fault of a file that is in use: another role of the run has it, another run has locked it, or the
+/// program prints to it (file fault 5).
+pub fn taken(name: &str) -> Fault<'_>
+    ensures { result ≡ Faults.File FileFaults.Taken name.entry }
+{
+    let fault = FileFault::Taken;
+    Fault::File { fault, name }
+}
+
+/// Returns the fault of a file that can't be created, emptied or written (file fault 2).
+pub fn unmade(name: &str) -> Fault<'_>
+    ensures { result ≡ Faults.File FileFaults.Write name.entry }
+{
+    let fault = FileFault::Write;
+    Fault::File { fault, name }
+}
+
+/// Locks and reads the journal in the file of this name. Another run may read it, but not change it.
+pub fn read_journal<'a, R: Store>(rt: &mut R, journal: &'a str) -> Result<Vec<u8>, Fault<'a>>
+    ensures same { AreUntouched (R.state rt.old) (R.state rt.new) }
+    ensures ok { IfOk result (λ bytes. IsRead (R.state rt.old).view journal.now 16793662 bytes.items) }
+    ensures err { IfErr result (IsSharingFault (R.state rt.old).view journal.now 16793662) }
+{
+    match rt.share(journal) {
+        Ok(()) => {}
+        Err(fault) => return Err(unheld(fault, journal)),
+    }
+    match read_file(rt, journal, MOST_JOURNAL_BYTES) {
+        Ok(bytes) => Ok(bytes),
+        Err(fault) => Err(fault),
+    }
+}
+
+/// Returns the fault of a file that can't be locked or opened to be written.
+pub fn unheld(fault: HoldFault, name: &str) -> Fault<'_>
+    ensures { IsUnheldFault fault name.now result }
+{
+    match fault {
+        HoldFault::Unread(error) => reading(error, name),
+        HoldFault::Unheld => unmade(name),
+        HoldFault::Busy => taken(name),
+    }
+}

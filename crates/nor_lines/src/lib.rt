@@ -1,0 +1,35 @@
+//! What programs print about a chip and about a fault, and the files that their jobs read and create.
+//!
+//! Two programs use this crate, so a line and the number of a fault are the same in both. The crate sends nothing to a
+//! chip.
+//!
+//! - `answers.rt`: the result of a job
+//! - `messages.rt`: the faults that end a run with status 1, and their texts
+//! - `escapes.rt`: file names with their control characters escaped
+//! - `printing.rt`: prints answers, help and faults
+//! - `files.rt`: reads, locks and creates the files of a job, and makes the faults of files
+//! - `requests.rt`: the request of a change, and its included addresses
+//! - `streams.rt`: keeps the descriptors 0, 1 and 2 open, and prints by lines
+//!
+//! `specs/AnswerLines.antt` and `specs/FaultLines.antt` define each printed line, `specs/Files.antt` the faults of
+//! files.
+#![tactic(auto)]
+
+mod answers;
+mod escapes;
+mod files;
+mod messages;
+mod printing;
+mod requests;
+mod streams;
+
+pub use answers::{Answer, Outcome};
+pub use escapes::Escaped;
+pub use files::{
+    MOST_IMAGE_BYTES, create_log, empty, make, read_file, read_journal, reading, taken, unheld,
+    unmade, unread,
+};
+pub use messages::{Fault, FileFault};
+pub use printing::{help_of, print_answer, print_fault, print_help};
+pub use requests::{read_included, request_for};
+pub use streams::{DIRECTORY, Streams, by_line, keep_streams};

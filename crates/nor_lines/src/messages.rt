@@ -1,0 +1,129 @@
+//! The faults that end a run with status 1, and their texts.
+ghost use Rattle.std.specs.Prelude.{◌≡◌, Some};
+
+use crate::escapes::Escaped;
+use nor_layout::LayoutFault;
+use nor_session::Refusal;
+use nor_words::UsageFault;
+use std::alloc::AllocError;
+use std::io::ErrorKind;
+use std::{fmt, io};
+
+/// The failure of a file.
+#[derive(Clone, Copy)]
+pub enum FileFault {
+    /// The file is missing, can't be looked up or read, or is a layout of more than 16 MiB.
+    Read = 1,
+    /// The file can't be created, emptied, locked, written or synced, or it is the trace and lost a line.
+    Write,
+    /// The image has another length than the chip, or the status file does not have two bytes.
+    Length,
+    /// The journal of a change already exists, or a file that would be emptied is a journal.
+    Exists,
+    /// The file has another role in the run, another run has locked it, or the program prints to it.
+    Taken,
+}
+
+impl FileFault {
+    ghost use Rattle.nor_lines.specs.Messages.{file_number};
+
+    /// Returns the number that its message contains.
+    pub fn number(self) -> u8
+        ensures { result ≡ file_number self }
+    {
+        self as u8
+    }
+}
+
+/// The fault that ends a run with status 1, displayed as its text on standard error. An argument fault that asks for
+/// help is printed to standard output and does not set status 1.
+#[derive(Drop)]
+pub enum Fault<'a> {
+    /// A fault of the arguments, or a request for help.
+    Usage(UsageFault),
+    /// Arguments that are not UTF-8, so that nothing can be parsed. It has the number of arguments that the parser
+    /// refuses.
+    NoText,
+    /// A layout, or the names of its regions, that can't be used.
+    Layout(LayoutFault),
+    /// A failure of the file of this name.
+    File { fault: FileFault, name: &'a str },
+    /// An error of a call, or error 18 if memory ran out while files were read.
+    Refused(Refusal),
+}
+
+impl Fault<'_> {
+    ghost use Rattle.nor_lines.specs.Messages.{IsOfWords};
+
+    /// Returns the fault of arguments that could not be collected: out of memory, or not UTF-8.
+    pub fn of_words(error: &io::Error) -> Fault<'static>
+        ensures { IsOfWords error.now result }
+    {
+        match error.kind() {
+            ErrorKind::OutOfMemory => Fault::Usage(UsageFault::Memory),
+            _ => Fault::NoText,
+        }
+    }
+}
+
+impl From<LayoutFault> for Fault<'_> {
+    ghost use Rattle.nor_lines.specs.declared.messages.Fault.TheVariants.{Layout};
+
+    ghost from_gives = { λ layout fault. fault ≡ Layout layout };
+
+    fn from(fault: LayoutFault) -> Self {
+        Fault::Layout(fault)
+    }
+}
+
+impl From<AllocError> for Fault<'_> {
+    ghost use Rattle.nor_lines.specs.declared.messages.Fault.TheVariants.{Refused};
+    ghost use Rattle.nor_call.specs.declared.refusal.Refusal.TheVariants.{Memory};
+
+    ghost from_gives = { λ _ fault. fault ≡ Refused Memory };
+
+    fn from(_: AllocError) -> Self {
+        Fault::Refused(Refusal::Memory)
+    }
+}
+
+// Written out because a derived text has no contract.
+impl fmt::Display for Fault<'_> {
+    ghost use Rattle.nor_lines.specs.FaultLines.{text_of};
+
+    ghost output = { text_of };
+
+    fn fmt<W: fmt::Write>(&self, f: &mut fmt::Formatter<W>) -> fmt::Result {
+        match self {
+            Fault::Usage(fault) => write!(f, "{fault}"),
+            Fault::NoText => f.write_str(
+                "error: invalid UTF-8 was detected in one or more arguments\n\nUsage fault 1.",
+            ),
+            Fault::Layout(fault) => {
+                write!(f, "Layout fault {}{}.", fault.number(), Place(fault.line()))
+            }
+            Fault::File { fault, name } => {
+                let name = Escaped(name);
+                write!(f, "File fault {}: {name}.", fault.number())
+            }
+            Fault::Refused(refusal) => write!(f, "Error {}: {refusal}.", refusal.number()),
+        }
+    }
+}
+
+// The number of the line with a layout's fault, if the fault is in one line.
+#[derive(Drop)]
+struct Place(Option<usize>);
+
+impl fmt::Display for Place {
+    ghost use Rattle.nor_lines.specs.FaultLines.{place};
+
+    ghost output = { λ shown. Some (place shown.0) };
+
+    fn fmt<W: fmt::Write>(&self, f: &mut fmt::Formatter<W>) -> fmt::Result {
+        match self.0 {
+            Some(line) => write!(f, " at line {line}"),
+            None => Ok(()),
+        }
+    }
+}

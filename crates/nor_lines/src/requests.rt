@@ -1,0 +1,75 @@
+//! The request of a change, and the addresses of the regions it includes.
+ghost use Rattle.std.specs.Prelude.{◌≡◌, IfOk, IfErr, option_copied};
+ghost use Rattle.nor_lines.specs.Requests.{AreIncluded, AreRangesOf, FailsToInclude, IncludesNone, request_for, what_of};
+
+use crate::files::{MOST_LAYOUT_BYTES, read_file};
+use crate::messages::{Fault, FileFault};
+use nor_files::Store;
+use nor_layout::{Layout, LayoutFault, Ranges};
+use nor_probe::ChipName;
+use nor_session::{Request, What};
+use nor_words::{Change, Regions, Wanted};
+use std::alloc::Global;
+
+/// Returns the addresses of the named regions, or `None` if no regions are given. Reads the layout from its file.
+///
+/// Returns one of these faults:
+///
+/// - file fault 1 if the file can't be read, or has more than 16 MiB
+/// - a layout fault if the layout or the names of the regions are wrong, or if memory runs out while they are parsed
+/// - error 18 if memory runs out while the file is read
+pub fn read_included<'a, R: Store>(
+    rt: &R,
+    regions: Option<Regions<'a>>,
+) -> Result<Option<Ranges>, Fault<'a>>
+    ensures ok { IfOk result (AreRangesOf ((R.state rt.now).view) regions.entry) }
+    ensures err { IfErr result (FailsToInclude ((R.state rt.now).view) regions.entry) }
+{
+    let Some(Regions { layout, names }) = regions else {
+        return Ok(None);
+    };
+    let text = read_file(rt, layout, MOST_LAYOUT_BYTES + 1)?;
+    if text.len() as u64 > MOST_LAYOUT_BYTES {
+        let (fault, name) = (FileFault::Read, layout);
+        return Err(Fault::File { fault, name });
+    }
+    let included = included_in(rt.alloc(), &text, names)?;
+    Ok(Some(included))
+}
+
+// Returns the addresses of the named regions of a layout.
+#[tactic(auto, using(crate::proofs::Included::is_unread, crate::proofs::Included::is_unknown))]
+fn included_in(alloc: Global, text: &[u8], names: &str) -> Result<Ranges, LayoutFault>
+    ensures ok { IfOk result (AreIncluded text.now names.now) }
+    ensures err { IfErr result (IncludesNone text.now names.now) }
+{
+    Layout::read(alloc, text)?.include(names)
+}
+
+/// Returns the request of a change. If `named` is given the chip must have that name; `included` are the included
+/// addresses.
+pub fn request_for(
+    change: &Change<'_>,
+    named: Option<ChipName>,
+    included: Option<Ranges>,
+) -> Request
+    ensures { result ≡ request_for change.now named included }
+{
+    Request {
+        what: what_of(change.wanted),
+        named,
+        included,
+        unlock: change.unlock,
+        verify: change.verify,
+    }
+}
+
+fn what_of(wanted: Wanted<'_>) -> What
+    ensures { result ≡ what_of wanted.entry }
+{
+    match wanted {
+        Wanted::Write { .. } => What::Write,
+        Wanted::Erase => What::Erase,
+        Wanted::Range { start, len } => What::WpRange { start, len },
+    }
+}

@@ -1,0 +1,41 @@
+//! The standard streams: a program may be started with some of them closed.
+
+use std::alloc::Global;
+use std::io::{LineWriter, Write};
+use std::rt::Files;
+use std::{fs, io};
+
+/// A directory that always exists, and to which nothing can be written.
+pub const DIRECTORY: &str = "/";
+
+// Room for the line of a file fault with a path of 4,096 bytes, even if each byte is escaped as four characters.
+const LINE_BYTES: usize = 32_768;
+
+/// Files that keep the descriptors 0, 1 and 2 in use as long as they are open.
+#[derive(Drop)]
+pub struct Streams<F> {
+    _input: F,
+    _output: F,
+    _errors: F,
+}
+
+/// Opens a directory three times, before any other file is opened.
+///
+/// Each of the descriptors 0, 1 and 2 that was closed then refers to the directory, and printing to it fails. Otherwise
+/// the next file opened would get that descriptor, and printed lines would overwrite its first bytes.
+pub fn keep_streams<R: Files>(files: &R) -> io::Result<Streams<R::File>> {
+    Ok(Streams {
+        _input: fs::open(files, DIRECTORY)?,
+        _output: fs::open(files, DIRECTORY)?,
+        _errors: fs::open(files, DIRECTORY)?,
+    })
+}
+
+/// Returns a writer that sends each line of up to `LINE_BYTES` bytes in one write, so that it is not mixed with the
+/// lines of other programs. If there is no memory for its buffer, a line is sent in pieces.
+pub fn by_line<W: Write + Copy + Drop>(alloc: Global, stream: W) -> LineWriter<W> {
+    match LineWriter::with_capacity(alloc, LINE_BYTES, stream) {
+        Ok(writer) => writer,
+        Err(_) => LineWriter::with_capacity(alloc, 0, stream).unwrap(),
+    }
+}
