@@ -12,7 +12,7 @@ ghost use Rattle.nor_words.specs.Programmer.{has_stop, is_programmer_text};
 ghost use Rattle.nor_words.specs.Stops.{stops_of};
 ghost use Rattle.nor_words.specs.Text.{reads};
 
-use crate::job::{Change, ChipJob, Job, JournalUse, Regions, Task, Wanted};
+use crate::job::{Asked, Change, ChipJob, Job, JournalUse, Operation, Regions, Task, Wanted};
 use crate::numbers::read_range;
 use crate::programmer::Programmer;
 use crate::stops::{MOST_STOPS, read_stops};
@@ -20,6 +20,9 @@ use crate::words::UsageFault;
 use arrayvec::ArrayVec;
 use clap::ArgMatches;
 use nor_probe::ChipName;
+
+// A value of `-p` without a fault.
+const ANY_CHIP: &str = "dummy:emulate=TINY64";
 
 /// The values of the options that take one, and for each flag whether it is set.
 #[derive(Clone, Copy)]
@@ -99,6 +102,31 @@ impl<'a> Given<'a> {
                 task: self.task(meaning.range, meaning.stops),
             })),
             _ => Ok(Job::List),
+        }
+    }
+
+    /// Returns what the options ask a program for hardware for, or fault 2.
+    pub fn asked(self) -> Result<Asked<'a>, UsageFault> {
+        match self.programmer {
+            Some(programmer) => Ok(Asked {
+                programmer,
+                operation: self.operation(),
+            }),
+            None => Err(UsageFault::NoProgrammer),
+        }
+    }
+
+    // Returns the operation that the options ask for, or the first of the faults 4 to 9 that they have.
+    fn operation(self) -> Result<Operation<'a>, UsageFault> {
+        // The faults of the other options are the same for each emulated chip without a `stop=`, so any will do.
+        let emulated = Given {
+            programmer: Some(ANY_CHIP),
+            ..self
+        };
+        match emulated.job() {
+            Ok(Job::Chip(ChipJob { named, task, .. })) => Ok(Operation { named, task }),
+            Ok(Job::List) => Err(UsageFault::TwoOperations),
+            Err(fault) => Err(fault),
         }
     }
 

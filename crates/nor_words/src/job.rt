@@ -2,6 +2,7 @@
 
 use crate::programmer::Programmer;
 use crate::stops::MOST_STOPS;
+use crate::words::UsageFault;
 use arrayvec::ArrayVec;
 use nor_probe::ChipName;
 
@@ -18,6 +19,24 @@ pub enum Job<'a> {
 #[derive(Drop)]
 pub struct ChipJob<'a> {
     pub programmer: Programmer<'a>,
+    /// `-c NAME`: the name that the chip must have.
+    pub named: Option<ChipName>,
+    pub task: Task<'a>,
+}
+
+/// What the arguments ask a program for hardware for.
+#[derive(Drop)]
+pub struct Asked<'a> {
+    /// The value of `-p`, which isn't parsed.
+    pub programmer: &'a str,
+    /// The operation, or the first of the usage faults 4 to 9. If the program finds that the value of `-p` is wrong,
+    /// that is usage fault 3, and comes first.
+    pub operation: Result<Operation<'a>, UsageFault>,
+}
+
+/// An operation on a chip that is not emulated.
+#[derive(Drop)]
+pub struct Operation<'a> {
     /// `-c NAME`: the name that the chip must have.
     pub named: Option<ChipName>,
     pub task: Task<'a>,

@@ -11,7 +11,7 @@
 //! assert!(rt; matches!(request_of(rt.alloc(), &[]), Err(UsageFault::NoProgrammer)));
 //! ```
 //!
-//! - `words.rt`: `request_of`, and the usage faults
+//! - `words.rt`: `request_of`, `operation_of` for programs for hardware, and the usage faults
 //! - `options.rt`: the options, as `clap` parses them and as the help shows them
 //! - `given.rt`: the values of the options; the job that they ask for, or the first fault that they have
 //! - `job.rt`: the types of a job
@@ -32,7 +32,9 @@ mod settings;
 mod stops;
 mod words;
 
-pub use job::{Change, ChipJob, Job, JournalUse, Regions, Task, Wanted};
+pub use job::{Asked, Change, ChipJob, Job, JournalUse, Operation, Regions, Task, Wanted};
+pub use numbers::read_number;
+pub use options::Help;
 pub use programmer::{Emulated, Programmer};
 pub use stops::MOST_STOPS;
-pub use words::{UsageFault, request_of};
+pub use words::{UsageFault, operation_of, request_of};

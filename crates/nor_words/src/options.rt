@@ -180,6 +180,33 @@ pub fn make_options<'a>(alloc: Global) -> Result<Command<'a>, AllocError>
     chosen.arg(help_option(alloc))
 }
 
+/// The name of a program, and the lines of its help around the options.
+#[derive(Clone, Copy)]
+pub struct Help {
+    /// The name of the program.
+    pub program: &'static str,
+    /// The first line of the help.
+    pub about: &'static str,
+    /// The end of the help, below the options.
+    pub notes: &'static str,
+}
+
+/// Returns the `clap` command of a program for hardware: all options except `-L` and `--rehearse`, which need no chip
+/// or an emulated one. Fails only if memory runs out.
+pub fn make_hardware_options<'a>(alloc: Global, help: Help) -> Result<Command<'a>, AllocError> {
+    let mut command = Command::new(alloc, help.program)
+        .no_binary_name(true)
+        .disable_help_flag(true)
+        .about(help.about)
+        .after_help(help.notes);
+    for choice in choices() {
+        if !matches!(choice.name, "list" | "rehearse") {
+            command = command.arg(choice.option(alloc))?;
+        }
+    }
+    command.arg(help_option(alloc))
+}
+
 // Returns the command without options. The help option of `clap` itself is disabled.
 fn new_command<'a>(alloc: Global) -> Command<'a>
     ensures { app_of result ≡ no_options }

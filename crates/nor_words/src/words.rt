@@ -3,8 +3,8 @@ ghost use Rattle.std.specs.Prelude.{◌≡◌, MatchResult, map, string_bytes};
 ghost use Rattle.nor_words.specs.Words.{IsJob, IsFault};
 
 use crate::given::Given;
-use crate::job::Job;
-use crate::options::make_options;
+use crate::job::{Asked, Job};
+use crate::options::{Help, make_hardware_options, make_options};
 use clap::Error as WordsError;
 use clap::error::ErrorKind;
 use std::alloc::{AllocError, Global};
@@ -104,4 +104,16 @@ pub fn request_of<'a>(alloc: Global, words: &'a [String]) -> Result<Job<'a>, Usa
 {
     let matches = make_options(alloc)?.try_get_matches_from(words)?;
     Given::of(&matches).job()
+}
+
+/// Returns what the arguments ask a program for hardware for, or one of the usage faults 1, 2 and 10. `words` has the
+/// arguments without the program's name. The options are those of flashnor except `-L` and `--rehearse`. The value of
+/// `-p` isn't parsed. Fault 10, out of memory, may be returned for any arguments.
+pub fn operation_of<'a>(
+    alloc: Global,
+    help: Help,
+    words: &'a [String],
+) -> Result<Asked<'a>, UsageFault> {
+    let matches = make_hardware_options(alloc, help)?.try_get_matches_from(words)?;
+    Given::of(&matches).asked()
 }
