@@ -1,0 +1,79 @@
+//! Opens the device of a programmer and identifies the programmer.
+
+use crate::port::DevicePort;
+use crate::progress::Shown;
+use crate::setting::Setting;
+use crate::trouble::ProgrammerFault;
+use nor_files::LockFile;
+use nor_serprog::{
+    Answer, Failure, HandshakeFault, Link, Paced, Port, Programmer, ReadTwice, SerprogBus,
+};
+use std::fs;
+use std::fs::{File, OpenOptions};
+use std::os::unix::fs::FileTypeExt;
+
+/// The bus to a chip at a serial programmer: polls are paced, data is read twice, and a terminal shows the progress.
+pub type ChipBus<'a> = Shown<'a, ReadTwice<Paced<SerprogBus<DevicePort>, &'a HostRuntime>>>;
+
+/// Opens and locks the device, identifies the programmer, and selects the chip if `cs=` is given. Sends no transaction.
+pub fn connect<'a>(
+    rt: &'a HostRuntime,
+    setting: Setting<'_>,
+) -> Result<ChipBus<'a>, ProgrammerFault> {
+    let device = open_device(rt, setting.device)?;
+    let Ok(same_device) = device.try_clone() else {
+        return Err(ProgrammerFault::NotOpened);
+    };
+    let mut link = Link::new(DevicePort::new(device));
+    let programmer = Programmer::identify(&mut link, setting.hertz).map_err(
+        ProgrammerFault::Handshake,
+    )?;
+    if let Some(chip_select) = setting.chip_select {
+        select_chip(&mut DevicePort::new(same_device), chip_select)?;
+    }
+    let bus = SerprogBus::new(link, programmer);
+    Ok(Shown::new(ReadTwice::new(Paced::new(bus, rt)), rt))
+}
+
+// Opens the device and locks it against a second run. A file that isn't a character device is not opened, because the
+// first bytes sent would overwrite it.
+fn open_device(rt: &HostRuntime, name: &str) -> Result<File, ProgrammerFault> {
+    match fs::metadata(rt, name) {
+        Ok(metadata) if metadata.file_type().is_char_device() => {}
+        Ok(_) => return Err(ProgrammerFault::NoDevice),
+        Err(_) => return Err(ProgrammerFault::NotOpened),
+    }
+    let Ok(device) = OpenOptions::new().read(true).write(true).open(rt, name) else {
+        return Err(ProgrammerFault::NotOpened);
+    };
+    match device.lock_alone() {
+        Ok(true) => Ok(device),
+        Ok(false) => Err(ProgrammerFault::InUse),
+        Err(_) => Err(ProgrammerFault::NotOpened),
+    }
+}
+
+const S_SPI_CS: u8 = 0x16;
+
+// Selects the chip select with S_SPI_CS (serprog protocol, flashrom's Documentation/serprog-protocol.txt, 16h). The
+// programmer must be in step: each reply was read.
+fn select_chip(port: &mut DevicePort, chip_select: u8) -> Result<(), ProgrammerFault> {
+    match exchange_select(port, chip_select) {
+        Ok(()) => Ok(()),
+        Err(Failure::Refused(opcode)) => {
+            Err(ProgrammerFault::Handshake(HandshakeFault::Lacks(opcode)))
+        }
+        Err(failure) => Err(ProgrammerFault::Handshake(HandshakeFault::Failure(failure))),
+    }
+}
+
+fn exchange_select<P: Port>(port: &mut P, chip_select: u8) -> Result<(), Failure<P::Cause>> {
+    port.send(&[S_SPI_CS, chip_select]).map_err(Failure::Port)?;
+    let mut first = [0];
+    port.receive(&mut first).map_err(Failure::Port)?;
+    match Answer::of(first[0]) {
+        Answer::Ack => Ok(()),
+        Answer::Nak => Err(Failure::Refused(S_SPI_CS)),
+        Answer::Other(byte) => Err(Failure::Strange(byte)),
+    }
+}

@@ -1,0 +1,42 @@
+//! The texts of the help.
+
+use nor_words::Help;
+
+/// The name of the program, and the lines of its help around the options.
+pub const HELP: Help = Help {
+    program: "flashnor_serprog",
+    about: "flashnor_serprog 1.0: programs SPI NOR flash at a serial programmer, and can restore it.",
+    notes: NOTES,
+};
+
+// Its lines have at most 80 columns.
+const NOTES: &str = "\
+TEXT of -p is serprog: and then KEY=VALUE, between commas, each key at most once:
+  dev=PATH      The serial port of the programmer; this key is required
+  spispeed=HZ   The clock in hertz, at most; without it the programmer's own
+  cs=N          The chip select of the programmer, 0 to 255
+
+Set up the port before each run, or the run may hang:
+  stty -F PATH raw -echo clocal -hupcl min 0 time 50
+
+Each read of the chip is sent twice, and a difference stops the run. A journal
+holds the old content and status of all that a change touches, and --restore
+needs it: keep it until you have accepted the change.
+
+After a run that was killed, disconnect the programmer from power for a second
+before the next run.
+
+Examples: read the chip; write an image and keep a journal; restore the chip:
+  flashnor_serprog -p serprog:dev=/dev/ttyACM0 -r chip.bin
+  flashnor_serprog -p serprog:dev=/dev/ttyACM0 -w new.bin --journal j
+  flashnor_serprog -p serprog:dev=/dev/ttyACM0 --restore j
+
+Usage fault 1: the words aren't options, or one lacks its value
+Usage fault 2: there is no -p
+Usage fault 3: the text of -p isn't serprog: with known keys, dev= among them
+Usage fault 4: there is more than one operation
+Usage fault 5: --wp-range needs two numbers, decimal or 0x..
+Usage fault 6: -w, -E, --wp-range need --journal, and nothing else takes it
+Usage fault 7: -l and -i need each other, and one of -r, -w, -v, -E
+Usage fault 8: -n and --unlock need -w or -E
+Usage fault 10: out of memory";

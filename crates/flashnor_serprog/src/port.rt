@@ -1,0 +1,56 @@
+//! The device of a programmer, as a port.
+ghost use Rattle.nor_serprog.specs.Device.{unknown_port};
+
+use nor_serprog::Port;
+use std::fs::File;
+use std::io::{ErrorKind, Read, Write};
+use std::{fmt, io};
+
+/// Why a port failed.
+#[derive(Debug, Drop)]
+pub enum PortFault {
+    /// A read returned no byte, because none arrived in the time that `stty` set.
+    Silent,
+    /// The system returned an error.
+    System(io::Error),
+}
+
+impl fmt::Display for PortFault {
+    fn fmt<W: fmt::Write>(&self, f: &mut fmt::Formatter<W>) -> fmt::Result {
+        match self {
+            PortFault::Silent => f.write_str("no byte arrived"),
+            PortFault::System(error) => write!(f, "{error}"),
+        }
+    }
+}
+
+/// The device of a programmer, about which nothing is assumed.
+#[derive(Drop)]
+pub struct DevicePort {
+    file: File,
+}
+
+impl DevicePort {
+    /// Returns a port over this device, which is open for reading and writing.
+    pub fn new(file: File) -> DevicePort {
+        DevicePort { file }
+    }
+}
+
+impl Port for DevicePort {
+    type Cause = PortFault;
+
+    ghost state = { λ _. unknown_port };
+
+    fn send(&mut self, bytes: &[u8]) -> Result<(), PortFault> {
+        self.file.write_all(bytes).map_err(PortFault::System)
+    }
+
+    fn receive(&mut self, bytes: &mut [u8]) -> Result<(), PortFault> {
+        match self.file.read_exact(bytes) {
+            Ok(()) => Ok(()),
+            Err(error) if error.kind() == ErrorKind::UnexpectedEof => Err(PortFault::Silent),
+            Err(error) => Err(PortFault::System(error)),
+        }
+    }
+}

@@ -1,0 +1,147 @@
+//! A bus that prints on a terminal how far a job is.
+ghost use Rattle.std.specs.Prelude.{◌≡◌};
+
+use nor_chip::{Bus, Stopped, is_changing};
+use std::fs;
+use std::os::unix::fs::FileTypeExt;
+
+// What a transaction is for. A job begins these steps in this order, and leaves some out.
+#[derive(Clone, Copy)]
+enum Step {
+    Identify,
+    Scan,
+    Erase,
+    Program,
+    Protect,
+    ReadBack,
+}
+
+// The number of transactions of each step so far.
+#[derive(Clone, Copy, Default)]
+struct Counts {
+    identify: u64,
+    scan: u64,
+    erase: u64,
+    program: u64,
+    protect: u64,
+    read_back: u64,
+}
+
+impl Counts {
+    // Counts one more transaction of this step, and returns their number.
+    fn count(&mut self, step: Step) -> u64 {
+        let count = match step {
+            Step::Identify => &mut self.identify,
+            Step::Scan => &mut self.scan,
+            Step::Erase => &mut self.erase,
+            Step::Program => &mut self.program,
+            Step::Protect => &mut self.protect,
+            Step::ReadBack => &mut self.read_back,
+        };
+        *count = count.saturating_add(1);
+        *count
+    }
+}
+
+impl Step {
+    fn as_str(self) -> &'static str {
+        match self {
+            Step::Identify => "identify",
+            Step::Scan => "scan: sectors read",
+            Step::Erase => "erase: erases sent",
+            Step::Program => "program: pages sent",
+            Step::Protect => "protect: status writes sent",
+            Step::ReadBack => "read back: sectors read",
+        }
+    }
+}
+
+// The number of transactions of one step after which a line is printed.
+const LINE_EACH: u64 = 256;
+
+/// A bus that prints a line to standard error when a step of a job begins, and after each 256 transactions of a step.
+/// It prints nothing if standard error is not a character device.
+///
+/// A step is recognized by the opcode of a transaction. Before the first modifying command the line `SEALED` is printed:
+/// a session sends none before its journal is sealed. The bus has the state of the bus inside.
+#[derive(Drop)]
+pub struct Shown<'a, B> {
+    bus: B,
+    rt: &'a HostRuntime,
+    visible: bool,
+    changing: bool,
+    counts: Counts,
+}
+
+impl<'a, B: Bus + Drop> Shown<'a, B> {
+    /// Returns a bus that shows the progress of `bus`.
+    pub fn new(bus: B, rt: &'a HostRuntime) -> Shown<'a, B> {
+        Shown {
+            bus,
+            rt,
+            visible: is_terminal(rt),
+            changing: false,
+            counts: Counts::default(),
+        }
+    }
+
+    /// Returns the bus inside.
+    pub fn inner(&self) -> &B {
+        &self.bus
+    }
+}
+
+// Returns whether standard error is a character device.
+fn is_terminal(rt: &HostRuntime) -> bool {
+    match fs::metadata(rt, "/proc/self/fd/2") {
+        Ok(metadata) => metadata.file_type().is_char_device(),
+        Err(_) => false,
+    }
+}
+
+impl<B> Shown<'_, B> {
+    // Prints a line if this transaction begins a step or ends a row of 256.
+    fn show(&mut self, out: &[u8])
+        ensures { self.new.bus ≡ self.old.bus }
+    {
+        if !self.visible {
+            return;
+        }
+        if is_changing(out) && !self.changing {
+            self.changing = true;
+            let _ = eprintln!(self.rt; "SEALED: the chip is changed from here on.");
+        }
+        let Some(step) = step_of(out, self.changing) else {
+            return;
+        };
+        let count = self.counts.count(step);
+        if count % LINE_EACH == 1 {
+            let text = step.as_str();
+            let _ = eprintln!(self.rt; "{text} {count}");
+        }
+    }
+}
+
+// Returns the step that a transaction belongs to. A poll and a write enable belong to any.
+fn step_of(out: &[u8], changing: bool) -> Option<Step> {
+    match out {
+        [0x9F, ..] => Some(Step::Identify),
+        [0x03, ..] if changing => Some(Step::ReadBack),
+        [0x03, ..] => Some(Step::Scan),
+        [0x20 | 0x52 | 0xD8 | 0xC7, ..] => Some(Step::Erase),
+        [0x02, ..] => Some(Step::Program),
+        [0x01, ..] => Some(Step::Protect),
+        _ => None,
+    }
+}
+
+impl<B: Bus> Bus for Shown<'_, B> {
+    ghost state = { λ shown. B.state shown.bus };
+
+    ghost reaches = { λ shown honest. B.reaches shown.bus honest };
+
+    fn transfer(&mut self, out: &[u8], reply: &mut [u8]) -> Result<(), Stopped> {
+        self.show(out);
+        self.bus.transfer(out, reply)
+    }
+}

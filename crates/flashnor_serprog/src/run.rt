@@ -1,0 +1,196 @@
+//! A run of the program: from its arguments to its exit status.
+ghost use Rattle.std.specs.Prelude.{◌≡◌, ◌≤◌, IsOk};
+ghost use Rattle.nor_lines.specs.AnswerLines.{AreLines};
+ghost use Rattle.nor_lines.specs.Printing.{Prints};
+ghost use Rattle.flashnor_serprog.specs.Jobs.{changes};
+
+use crate::connect::{ChipBus, connect};
+use crate::help::HELP;
+use crate::jobs::perform;
+use crate::roles::have_one_role;
+use crate::setting::Setting;
+use crate::sources::{Sources, read_sources};
+use crate::trouble::{StopLine, Trouble};
+use nor_files::{Disk, Store};
+use nor_lines::{Answer, DIRECTORY, Fault, help_of, print_answer, print_fault, print_help, unread};
+use nor_session::Refusal;
+use nor_words::{Asked, Operation, Task, UsageFault, operation_of};
+use std::alloc::{AllocError, Global};
+use std::env::Args;
+use std::io;
+use std::io::Write;
+
+/// Performs the job given by the program's arguments, prints results to `output` and faults to `errors`, and returns
+/// the exit status: 0, or 1 after any fault.
+///
+/// The first of the arguments is the program's name, which is skipped. If the system could not provide the arguments,
+/// `given` is an error, which is printed as a fault too.
+pub fn run_words<O: Write, E: Write>(
+    rt: &HostRuntime,
+    given: io::Result<Args>,
+    output: &mut O,
+    errors: &mut E,
+) -> u8
+    ensures { result ≤ 1 }
+{
+    match given {
+        Ok(args) => match words_behind_name(rt.alloc(), args) {
+            Ok(words) => run(rt, words.as_slice(), output, errors),
+            Err(_) => end_badly(errors, &Fault::Usage(UsageFault::Memory)),
+        },
+        Err(error) => end_badly(errors, &Fault::of_words(&error)),
+    }
+}
+
+/// Ends a run that could not keep the descriptors of the standard streams in use. Opens no file, prints the fault, and
+/// returns the exit status, which is 1.
+pub fn end_without_streams<E: Write>(errors: &mut E) -> u8
+    ensures { result ≡ 1 }
+{
+    end_badly(errors, &unread(DIRECTORY))
+}
+
+// Returns the arguments that follow the program's name.
+fn words_behind_name(alloc: Global, args: Args) -> Result<Vec<String>, AllocError> {
+    args.skip(1).collect(alloc)
+}
+
+// Prints a fault, and returns the exit status.
+fn end_badly<E: Write>(errors: &mut E, fault: &Fault<'_>) -> u8
+    ensures { result ≡ 1 }
+{
+    print_fault(errors, fault);
+    1
+}
+
+// Performs the job given by the arguments, without the program's name.
+fn run<O: Write, E: Write>(rt: &HostRuntime, words: &[String], output: &mut O, errors: &mut E) -> u8
+    ensures { result ≤ 1 }
+{
+    let mut files = Disk::new(rt);
+    match prepare(rt, &mut files, words) {
+        Ok(prepared) => run_prepared(&mut files, prepared, output, errors),
+        Err(trouble) => end_early(output, errors, &trouble),
+    }
+}
+
+// Prints what ended a run before its first transaction: a fault to `errors`, or the help to `output`.
+fn end_early<O: Write, E: Write>(output: &mut O, errors: &mut E, trouble: &Trouble<'_>) -> u8
+    ensures { result ≤ 1 }
+{
+    if let Trouble::Fault(fault) = trouble
+        && let Some(help) = help_of(fault)
+    {
+        return status_of(print_help(output, help));
+    }
+    let _ = writeln!(errors, "{trouble}");
+    1
+}
+
+// Returns the exit status of a run that printed its answer or help, or could not.
+fn status_of(printed: io::Result<()>) -> u8
+    ensures few { result ≤ 1 }
+    ensures printed { result ≡ 0 → IsOk printed }
+{
+    if printed.is_ok() { 0 } else { 1 }
+}
+
+// A job whose files were read and whose programmer was identified.
+#[derive(Drop)]
+struct Prepared<'a, 'b> {
+    operation: Operation<'a>,
+    sources: Sources,
+    bus: ChipBus<'b>,
+}
+
+// Parses the arguments, reads the files that the job needs, and identifies the programmer.
+fn prepare<'a, 'b, R: Store>(
+    rt: &'b HostRuntime,
+    files: &mut R,
+    words: &'a [String],
+) -> Result<Prepared<'a, 'b>, Trouble<'a>> {
+    let (setting, operation) = read_words(rt.alloc(), words)?;
+    have_one_role(files, setting.device, &operation.task)?;
+    let sources = read_sources(files, &operation.task)?;
+    match connect(rt, setting) {
+        Ok(bus) => Ok(Prepared {
+            operation,
+            sources,
+            bus,
+        }),
+        Err(fault) => Err(Trouble::Programmer {
+            fault,
+            device: setting.device,
+        }),
+    }
+}
+
+// Returns the programmer and the operation that the arguments ask for, or the first of their usage faults.
+fn read_words<'a>(
+    alloc: Global,
+    words: &'a [String],
+) -> Result<(Setting<'a>, Operation<'a>), Trouble<'a>> {
+    let Asked {
+        programmer,
+        operation,
+    } = operation_of(alloc, HELP, words).map_err(of_usage)?;
+    let setting = Setting::read(programmer).map_err(Trouble::Setting)?;
+    let operation = operation.map_err(of_usage)?;
+    Ok((setting, operation))
+}
+
+fn of_usage<'a>(fault: UsageFault) -> Trouble<'a> {
+    Trouble::Fault(Fault::Usage(fault))
+}
+
+// Performs a job and prints its result.
+fn run_prepared<R: Store, O: Write, E: Write>(
+    files: &mut R,
+    prepared: Prepared<'_, '_>,
+    output: &mut O,
+    errors: &mut E,
+) -> u8
+    ensures { result ≤ 1 }
+{
+    let Prepared {
+        operation,
+        sources,
+        mut bus,
+    } = prepared;
+    match perform(files, &mut bus, &operation, sources) {
+        Ok(answer) => end_well(output, answer),
+        Err(fault) => {
+            let status = end_badly(errors, &fault);
+            if let Fault::Refused(Refusal::Stopped) = &fault {
+                print_cause(errors, &bus, changes(&operation.task));
+            }
+            status
+        }
+    }
+}
+
+// Prints an answer, and returns the exit status, which is 0 only if all lines were printed.
+fn end_well<O: Write>(output: &mut O, answer: Answer) -> u8
+    ensures few { result ≤ 1 }
+    ensures printed { result ≡ 0 → Prints (AreLines answer) (O.contents output.old) (O.contents output.new) }
+{
+    status_of(print_answer(output, answer))
+}
+
+// True if the task may change the chip.
+fn changes(task: &Task<'_>) -> bool
+    ensures { result ≡ changes task.now }
+{
+    matches!(task, Task::Change(_) | Task::Restore { .. })
+}
+
+// Prints the line of the cause of error 12.
+fn print_cause<E: Write>(errors: &mut E, bus: &ChipBus<'_>, changes: bool) {
+    let twice = bus.inner();
+    let line = StopLine {
+        differed: twice.differed(),
+        failure: twice.inner().inner().cause(),
+        changes,
+    };
+    let _ = writeln!(errors, "{line}");
+}

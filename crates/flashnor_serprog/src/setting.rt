@@ -1,0 +1,107 @@
+//! The value of the option `-p`.
+
+use nor_words::read_number;
+
+/// The programmer that the value of `-p` describes: `serprog:` and then settings `key=value`, separated by commas, in
+/// any order, each key at most once. `dev=` is required.
+#[derive(Clone, Copy)]
+pub struct Setting<'a> {
+    /// `dev=PATH`: the device of the programmer.
+    pub device: &'a str,
+    /// `spispeed=HZ`: the clock in hertz, from 1 to 4,294,967,295.
+    pub hertz: Option<u32>,
+    /// `cs=N`: the chip select of the programmer.
+    pub chip_select: Option<u8>,
+}
+
+/// Why the value of `-p` describes no programmer.
+#[derive(Clone, Copy)]
+pub enum WrongSetting<'a> {
+    /// It has the key `ip=`, and this program opens devices only.
+    Network,
+    /// The device is followed by a colon and a baud rate, which `stty` sets.
+    BaudRate { device: &'a str, rate: &'a str },
+    /// Anything else: another prefix, an unknown key, a wrong value, a key twice, or no `dev=`.
+    Other,
+}
+
+// The settings that were taken in so far, by their keys.
+#[derive(Clone, Copy, Default)]
+struct Settings<'a> {
+    device: Option<&'a str>,
+    hertz: Option<u32>,
+    chip_select: Option<u8>,
+}
+
+impl<'a> Setting<'a> {
+    /// Parses the value of `-p`. A setting ends at the next comma, and its key at the first `=`.
+    pub fn read(text: &'a str) -> Result<Setting<'a>, WrongSetting<'a>> {
+        let Some(list) = text.strip_prefix("serprog:") else {
+            return Err(WrongSetting::Other);
+        };
+        let mut settings = Settings::default();
+        for setting in list.split(',') {
+            settings.take_in(setting)?;
+        }
+        let Some(device) = settings.device else {
+            return Err(WrongSetting::Other);
+        };
+        refuse_rate(device)?;
+        Ok(Setting {
+            device,
+            hertz: settings.hertz,
+            chip_select: settings.chip_select,
+        })
+    }
+}
+
+impl<'a> Settings<'a> {
+    // Takes in one more setting.
+    fn take_in(&mut self, setting: &'a str) -> Result<(), WrongSetting<'a>> {
+        let taken = match setting.split_once('=') {
+            Some(("dev", value)) => set(&mut self.device, filled(value)),
+            Some(("spispeed", value)) => set(&mut self.hertz, read_hertz(value)),
+            Some(("cs", value)) => set(&mut self.chip_select, read_select(value)),
+            Some(("ip", _)) => return Err(WrongSetting::Network),
+            _ => None,
+        };
+        match taken {
+            Some(()) => Ok(()),
+            None => Err(WrongSetting::Other),
+        }
+    }
+}
+
+// Returns a clock in hertz, or `None` if the value isn't one. 0 isn't one: serprog has no such clock.
+fn read_hertz(value: &str) -> Option<u32> {
+    let hertz = u32::try_from(read_number(value)?).ok()?;
+    if hertz == 0 { None } else { Some(hertz) }
+}
+
+fn read_select(value: &str) -> Option<u8> {
+    u8::try_from(read_number(value)?).ok()
+}
+
+// Returns the name of a file, or `None` if it is empty.
+fn filled(name: &str) -> Option<&str> {
+    if name.is_empty() { None } else { Some(name) }
+}
+
+// Stores the value that was read. Returns `None`, and changes nothing, if a value is stored already or none was read.
+fn set<T: Copy>(place: &mut Option<T>, read: Option<T>) -> Option<()> {
+    if place.is_some() {
+        return None;
+    }
+    *place = Some(read?);
+    Some(())
+}
+
+// Refuses a device that ends with a colon and a number, which is flashrom's form of a baud rate.
+fn refuse_rate(device: &str) -> Result<(), WrongSetting<'_>> {
+    match device.rsplit_once(':') {
+        Some((device, rate)) if read_number(rate).is_some() => {
+            Err(WrongSetting::BaudRate { device, rate })
+        }
+        _ => Ok(()),
+    }
+}

@@ -1,0 +1,220 @@
+//! What ends a run with status 1, and the lines for it.
+
+use crate::port::PortFault;
+use crate::setting::WrongSetting;
+use nor_lines::{Escaped, Fault};
+use nor_serprog::{Failure, HandshakeFault};
+use std::fmt;
+
+/// What ends a run before the first transaction.
+#[derive(Drop)]
+pub enum Trouble<'a> {
+    /// A fault that flashnor has too, with flashnor's line.
+    Fault(Fault<'a>),
+    /// The value of `-p` describes no programmer.
+    Setting(WrongSetting<'a>),
+    /// The programmer at this device can't be used.
+    Programmer {
+        fault: ProgrammerFault,
+        device: &'a str,
+    },
+}
+
+impl<'a> From<Fault<'a>> for Trouble<'a> {
+    fn from(fault: Fault<'a>) -> Trouble<'a> {
+        Trouble::Fault(fault)
+    }
+}
+
+impl fmt::Display for Trouble<'_> {
+    fn fmt<W: fmt::Write>(&self, f: &mut fmt::Formatter<W>) -> fmt::Result {
+        match self {
+            Trouble::Fault(fault) => write!(f, "{fault}"),
+            Trouble::Setting(wrong) => write!(f, "{wrong}Usage fault 3."),
+            Trouble::Programmer { fault, device } => {
+                let advice = Advice {
+                    help: fault.help(),
+                    device,
+                };
+                write!(f, "Programmer fault {}: ", fault.number())?;
+                match fault {
+                    ProgrammerFault::Handshake(HandshakeFault::Failure(failure)) => {
+                        write!(f, "{}. {advice}", FailureText(failure))
+                    }
+                    ProgrammerFault::Handshake(fault) => write!(f, "{fault}. {advice}"),
+                    _ => write!(f, "{} {}. {advice}", Escaped(device), fault.reason()),
+                }
+            }
+        }
+    }
+}
+
+// The line that helps, before the line of usage fault 3.
+impl fmt::Display for WrongSetting<'_> {
+    fn fmt<W: fmt::Write>(&self, f: &mut fmt::Formatter<W>) -> fmt::Result {
+        match self {
+            WrongSetting::Network => {
+                f.write_str("ip= is not supported. Give a device: -p serprog:dev=PATH.\n")
+            }
+            WrongSetting::BaudRate { device, rate } => writeln!(
+                f,
+                "dev= takes no baud rate. Set it with stty: stty -F {} {rate} {MODES}",
+                Escaped(device)
+            ),
+            WrongSetting::Other => Ok(()),
+        }
+    }
+}
+
+// The modes of a terminal device that make it a port, for `stty`.
+const MODES: &str = "raw -echo clocal -hupcl min 0 time 50";
+
+/// Why the programmer can't be used. Nothing was sent to the chip.
+#[derive(Drop)]
+pub enum ProgrammerFault {
+    /// 1: the device is missing, or can't be opened or locked.
+    NotOpened,
+    /// 2: the name is not that of a character device.
+    NoDevice,
+    /// 3: another process has locked the device.
+    InUse,
+    /// 4 to 11: the programmer can't be identified, or lacks what is needed.
+    Handshake(HandshakeFault<PortFault>),
+}
+
+/// What to do after a programmer fault.
+#[derive(Clone, Copy)]
+enum Remedy {
+    /// Only this.
+    Do(&'static str),
+    /// This, and set up the port with `stty`.
+    DoAndSetUp(&'static str),
+}
+
+impl ProgrammerFault {
+    /// Returns the number that the fault's line contains: 1 to 11.
+    pub fn number(&self) -> u8 {
+        match self {
+            ProgrammerFault::NotOpened => 1,
+            ProgrammerFault::NoDevice => 2,
+            ProgrammerFault::InUse => 3,
+            ProgrammerFault::Handshake(fault) => number_of(fault),
+        }
+    }
+
+    // Returns what is wrong with the device, after its name. The faults of a handshake have their own texts.
+    fn reason(&self) -> &'static str {
+        match self {
+            ProgrammerFault::NotOpened => "cannot be opened",
+            ProgrammerFault::NoDevice => "is not a character device",
+            ProgrammerFault::InUse => "is in use by another program",
+            ProgrammerFault::Handshake(_) => "cannot be used",
+        }
+    }
+
+    fn help(&self) -> Remedy {
+        match self {
+            ProgrammerFault::NotOpened => {
+                Remedy::Do("Check its name, and that you may read and write it.")
+            }
+            ProgrammerFault::NoDevice => Remedy::Do("Name the serial port of the programmer."),
+            ProgrammerFault::InUse => Remedy::Do("End that program first."),
+            ProgrammerFault::Handshake(fault) => help_for(fault),
+        }
+    }
+}
+
+fn number_of(fault: &HandshakeFault<PortFault>) -> u8 {
+    match fault {
+        HandshakeFault::Failure(Failure::Port(PortFault::Silent)) => 4,
+        HandshakeFault::Failure(Failure::Port(PortFault::System(_))) => 10,
+        HandshakeFault::Failure(Failure::Refused(_)) => 11,
+        HandshakeFault::Failure(_) => 5,
+        HandshakeFault::Version(_) => 6,
+        HandshakeFault::Lacks(_) => 7,
+        HandshakeFault::NotSpi(_) => 8,
+        HandshakeFault::WriteLimit(_) => 9,
+        HandshakeFault::ReadLimit(_) => 9,
+        HandshakeFault::SmallBuffer(_) => 9,
+    }
+}
+
+fn help_for(fault: &HandshakeFault<PortFault>) -> Remedy {
+    match fault {
+        HandshakeFault::Failure(Failure::Port(PortFault::Silent)) => {
+            Remedy::DoAndSetUp("Check its cable, and set up the port:")
+        }
+        HandshakeFault::Failure(Failure::Port(PortFault::System(_))) => {
+            Remedy::DoAndSetUp("Connect the programmer again, and set up the port:")
+        }
+        HandshakeFault::Failure(Failure::Refused(_)) => Remedy::Do("Install other firmware on it."),
+        HandshakeFault::Failure(_) => Remedy::DoAndSetUp(
+            "Disconnect the programmer from power, connect it again, and set up the port:",
+        ),
+        HandshakeFault::Lacks(0x14) => Remedy::Do("Leave spispeed= out."),
+        HandshakeFault::Lacks(0x16) => Remedy::Do("Leave cs= out."),
+        _ => Remedy::Do("Install other firmware on it."),
+    }
+}
+
+// A remedy for the programmer at this device.
+#[derive(Drop)]
+struct Advice<'a> {
+    help: Remedy,
+    device: &'a str,
+}
+
+impl fmt::Display for Advice<'_> {
+    fn fmt<W: fmt::Write>(&self, f: &mut fmt::Formatter<W>) -> fmt::Result {
+        match self.help {
+            Remedy::Do(what) => f.write_str(what),
+            Remedy::DoAndSetUp(what) => {
+                write!(f, "{what} stty -F {} {MODES}", Escaped(self.device))
+            }
+        }
+    }
+}
+
+// The text of a failure of an exchange. Silence has a text of its own.
+#[derive(Drop)]
+struct FailureText<'a>(&'a Failure<PortFault>);
+
+impl fmt::Display for FailureText<'_> {
+    fn fmt<W: fmt::Write>(&self, f: &mut fmt::Formatter<W>) -> fmt::Result {
+        match self.0 {
+            Failure::Port(PortFault::Silent) => f.write_str("the programmer is silent"),
+            failure => write!(f, "{failure}"),
+        }
+    }
+}
+
+/// The line after that of error 12: why the bus stopped, and what to do.
+#[derive(Drop)]
+pub struct StopLine<'a> {
+    /// True if two reads of the same bytes differed.
+    pub differed: bool,
+    /// Why a transaction failed, if one did.
+    pub failure: Option<&'a Failure<PortFault>>,
+    /// True if the job may have changed the chip.
+    pub changes: bool,
+}
+
+impl fmt::Display for StopLine<'_> {
+    fn fmt<W: fmt::Write>(&self, f: &mut fmt::Formatter<W>) -> fmt::Result {
+        f.write_str("Cause: ")?;
+        match self.failure {
+            Some(failure) => write!(f, "{}. {UNPLUG}", FailureText(failure))?,
+            None if self.differed => write!(f, "{DIFFERED}")?,
+            None => f.write_str("unknown.")?,
+        }
+        if self.changes {
+            f.write_str(" Then restore the chip with --restore and the journal.")?;
+        }
+        Ok(())
+    }
+}
+
+const UNPLUG: &str = "Disconnect the programmer from power for a second before the next run.";
+
+const DIFFERED: &str =
+    "two reads of the same bytes differ. Lower the clock (spispeed=), shorten the wires, and try again.";
