@@ -14,7 +14,7 @@ use crate::trouble::{StopLine, Trouble};
 use nor_files::{Disk, Store};
 use nor_lines::{Answer, DIRECTORY, Fault, help_of, print_answer, print_fault, print_help, unread};
 use nor_session::Refusal;
-use nor_words::{Asked, Operation, Task, UsageFault, operation_of};
+use nor_words::{HardwareJob, Operation, Task, UsageFault, operation_of};
 use std::alloc::{AllocError, Global};
 use std::env::Args;
 use std::io;
@@ -130,7 +130,7 @@ fn read_words<'a>(
     alloc: Global,
     words: &'a [String],
 ) -> Result<(Setting<'a>, Operation<'a>), Trouble<'a>> {
-    let Asked {
+    let HardwareJob {
         programmer,
         operation,
     } = operation_of(alloc, HELP, words).map_err(of_usage)?;

@@ -12,7 +12,7 @@ ghost use Rattle.nor_words.specs.Programmer.{has_stop, is_programmer_text};
 ghost use Rattle.nor_words.specs.Stops.{stops_of};
 ghost use Rattle.nor_words.specs.Text.{reads};
 
-use crate::job::{Asked, Change, ChipJob, Job, JournalUse, Operation, Regions, Task, Wanted};
+use crate::job::{Change, ChipJob, HardwareJob, Job, JournalUse, Operation, Regions, Task, Wanted};
 use crate::numbers::read_range;
 use crate::programmer::Programmer;
 use crate::stops::{MOST_STOPS, read_stops};
@@ -106,9 +106,9 @@ impl<'a> Given<'a> {
     }
 
     /// Returns what the options ask a program for hardware for, or fault 2.
-    pub fn asked(self) -> Result<Asked<'a>, UsageFault> {
+    pub fn hardware_job(self) -> Result<HardwareJob<'a>, UsageFault> {
         match self.programmer {
-            Some(programmer) => Ok(Asked {
+            Some(programmer) => Ok(HardwareJob {
                 programmer,
                 operation: self.operation(),
             }),

@@ -26,7 +26,7 @@ pub struct ChipJob<'a> {
 
 /// What the arguments ask a program for hardware for.
 #[derive(Drop)]
-pub struct Asked<'a> {
+pub struct HardwareJob<'a> {
     /// The value of `-p`, which isn't parsed.
     pub programmer: &'a str,
     /// The operation, or the first of the usage faults 4 to 9. If the program finds that the value of `-p` is wrong,

@@ -32,7 +32,7 @@ mod settings;
 mod stops;
 mod words;
 
-pub use job::{Asked, Change, ChipJob, Job, JournalUse, Operation, Regions, Task, Wanted};
+pub use job::{Change, ChipJob, HardwareJob, Job, JournalUse, Operation, Regions, Task, Wanted};
 pub use numbers::read_number;
 pub use options::Help;
 pub use programmer::{Emulated, Programmer};

@@ -3,7 +3,7 @@ ghost use Rattle.std.specs.Prelude.{◌≡◌, MatchResult, map, string_bytes};
 ghost use Rattle.nor_words.specs.Words.{IsJob, IsFault};
 
 use crate::given::Given;
-use crate::job::{Asked, Job};
+use crate::job::{HardwareJob, Job};
 use crate::options::{Help, make_hardware_options, make_options};
 use clap::Error as WordsError;
 use clap::error::ErrorKind;
@@ -113,7 +113,7 @@ pub fn operation_of<'a>(
     alloc: Global,
     help: Help,
     words: &'a [String],
-) -> Result<Asked<'a>, UsageFault> {
+) -> Result<HardwareJob<'a>, UsageFault> {
     let matches = make_hardware_options(alloc, help)?.try_get_matches_from(words)?;
-    Given::of(&matches).asked()
+    Given::of(&matches).hardware_job()
 }
