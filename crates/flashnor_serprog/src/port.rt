@@ -1,4 +1,5 @@
 //! The device of a programmer, as a port.
+ghost use Rattle.std.proofs.lemmas.Bool.{false≢true};
 ghost use Rattle.nor_serprog.specs.Device.{unknown_port};
 
 use nor_serprog::Port;
@@ -41,6 +42,8 @@ impl Port for DevicePort {
     type Cause = PortFault;
 
     ghost state = { λ _. unknown_port };
+
+    ghost reaches = { λ _ honest. absurd (false≢true honest) };
 
     fn send(&mut self, bytes: &[u8]) -> Result<(), PortFault> {
         self.file.write_all(bytes).map_err(PortFault::System)

@@ -1,4 +1,5 @@
 //! A port over a device file, such as a serial port that stty has set up.
+ghost use Rattle.std.proofs.lemmas.Bool.{false≢true};
 ghost use Rattle.nor_serprog.specs.Device.{unknown_port};
 
 use crate::fault::Fault;
@@ -38,6 +39,8 @@ impl<F: Read + Write> Port for DevicePort<F> {
     type Cause = io::Error;
 
     ghost state = { λ _. unknown_port };
+
+    ghost reaches = { λ _ honest. absurd (false≢true honest) };
 
     fn send(&mut self, bytes: &[u8]) -> io::Result<()> {
         self.file.write_all(bytes)

@@ -1,4 +1,5 @@
 //! A port and wires to a simulated chip, so that the example needs no hardware.
+ghost use Rattle.std.proofs.lemmas.Bool.{false≢true};
 ghost use Rattle.nor_serprog.specs.Device.{unknown_port};
 
 use crate::own::Wires;
@@ -80,6 +81,8 @@ impl Port for PlayedPort {
     type Cause = io::Error;
 
     ghost state = { λ _. unknown_port };
+
+    ghost reaches = { λ _ honest. absurd (false≢true honest) };
 
     fn send(&mut self, bytes: &[u8]) -> io::Result<()> {
         for byte in bytes {

@@ -1,5 +1,6 @@
 //! A serprog programmer in memory, in front of a simulated chip.
 
+ghost use Rattle.std.proofs.lemmas.Bool.{false≢true};
 ghost use Rattle.nor_serprog.specs.Device.{unknown_port};
 
 use arrayvec::ArrayVec;
@@ -177,6 +178,8 @@ impl Port for Model {
     type Cause = Cause;
 
     ghost state = { λ _. unknown_port };
+
+    ghost reaches = { λ _ honest. absurd (false≢true honest) };
 
     fn send(&mut self, bytes: &[u8]) -> Result<(), Cause> {
         let cut = self.fault == Some(Fault::Cut) && self.operations == self.fault_at;
