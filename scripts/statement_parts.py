@@ -14,7 +14,7 @@ PARTS = {
 stopped, the vault has a journal from which the chip can be made the first one (`leads_back`). Reading gives that journal
 (`only`). A restore from it leaves, wherever it is stopped, a chip of which that holds still (`within`); nothing but a stop
 keeps it from ending (`only_stops`); and the one that ends has left the first chip, each byte and each kept bit (`back`).""",
-        665,
+        672,
     ),
     "what is promised beside it": (
         {
@@ -45,7 +45,7 @@ sealed, files that open to the first chip; and from then on one journal that giv
 open to (`LeavesWayBack`). A restore leaves its journal as it was, and what it could give back it still can
 (`LeavesRestorable`). If such a run ends with an answer (`Answer`) and has written all files, they hold the chip that was
 asked for, or the restored one, and a crash of the host loses neither that chip nor the journal (`HoldsResult`). Which
-addresses the regions of a layout have is said by `AreIncluded` in crates/flashnor/specs/Requests.antt. `run_over` promises
+addresses the regions of a layout have is said by `AreIncluded` in crates/nor_lines/specs/Requests.antt. `run_over` promises
 this of each job on a chip.""",
         375,
     ),
@@ -86,8 +86,8 @@ SUBJECTS = {
     "Sessions one after the other, and files that are written over": "nor_session: specs/WrittenOver specs/InTurn",
     "Files": "nor_files: specs/Files specs/Calls",
     "What a run is asked for": "nor_words: specs/Text src/programmer specs/Programmer src/job",
-    "A chip in files": "flashnor: specs/Found src/chips specs/Stored specs/Chips specs/Tasks specs/Requests specs/Changes "
-        "src/holding specs/Endings nor_chip: specs/Start",
+    "A chip in files": "flashnor: specs/Found src/chips nor_lines: specs/Stored flashnor: specs/Chips specs/Tasks "
+        "nor_lines: specs/Requests flashnor: specs/Requests specs/Changes src/holding specs/Endings nor_chip: specs/Start",
     "What is left of them": "flashnor: specs/Left specs/Run src/run",
 }
 

@@ -24,31 +24,30 @@ over_port port sent heard = record {
   heard = heard;
 }
 
-module _ {P C : Type 0} {over : Ghosts P C} where
-  -- The link to the programmer.
-  abbrev pub link_of : SerprogBus P C over → Link P C
-  link_of bus = bus.link
+-- The link to the programmer.
+abbrev pub link_of : {P C : Type 0} {over : Ghosts P C} → SerprogBus P C over → Link P C
+link_of bus = bus.link
 
-  -- The port to the programmer.
-  abbrev pub port_in : SerprogBus P C over → P
-  port_in bus = bus.link.port
+-- The port to the programmer.
+abbrev pub port_in : {P C : Type 0} {over : Ghosts P C} → SerprogBus P C over → P
+port_in bus = bus.link.port
 
-  -- The modifying commands that were sent, or that the bus tried to send.
-  abbrev pub sent_of : SerprogBus P C over → Sent
-  sent_of bus = bus.sent
+-- The modifying commands that were sent, or that the bus tried to send.
+abbrev pub sent_of : {P C : Type 0} {over : Ghosts P C} → SerprogBus P C over → Sent
+sent_of bus = bus.sent
 
-  -- The reply to the last poll showed that the chip is ready.
-  abbrev pub heard_of : SerprogBus P C over → Bool
-  heard_of bus = bus.heard
+-- The reply to the last poll showed that the chip is ready.
+abbrev pub heard_of : {P C : Type 0} {over : Ghosts P C} → SerprogBus P C over → Bool
+heard_of bus = bus.heard
 
-  -- The cause of the last transaction that failed.
-  abbrev pub cause_of : SerprogBus P C over → Option (Failure C)
-  cause_of bus = bus.cause
+-- The cause of the last transaction that failed.
+abbrev pub cause_of : {P C : Type 0} {over : Ghosts P C} → SerprogBus P C over → Option (Failure C)
+cause_of bus = bus.cause
 
-  -- The programmer is in step, so the bus sends the next transaction.
-  abbrev pub is_ready : SerprogBus P C over → Bool
-  is_ready bus = is_in_step bus.link
+-- The programmer is in step, so the bus sends the next transaction.
+abbrev pub is_ready : {P C : Type 0} {over : Ghosts P C} → SerprogBus P C over → Bool
+is_ready bus = is_in_step bus.link
 
-  -- The state of the bus.
-  abbrev pub state_of : SerprogBus P C over → BusState
-  state_of bus = over_port (over.state bus.link.port) bus.sent bus.heard
+-- The state of the bus.
+abbrev pub state_of : {P C : Type 0} {over : Ghosts P C} → SerprogBus P C over → BusState
+state_of {over = over} bus = over_port (over.state bus.link.port) bus.sent bus.heard
