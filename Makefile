@@ -1,6 +1,7 @@
 # `make help` lists what there is to make; README.md and docs/TESTING.md say how long it takes.
 
 PROGRAM := crates/flashnor/out/flashnor
+HARDWARE := crates/flashnor_serprog/out/flashnor_serprog
 BENCH := crates/bench/out/bench
 SCRATCH := $(CURDIR)/out/demo
 WORDS := -p dummy:emulate=TINY64,image=chip.bin -w new.bin --rehearse 25
@@ -34,8 +35,8 @@ PAGES = README.md $(wildcard LICEN[CS]E*) $(sort $(shell grep -ohE '[A-Za-z_]+(/
 SEED := 1
 COUNT := 1000
 
-.PHONY: all help build toolchain demo try files bench compare storm sweep kill runs install uninstall dist agree \
-  statement lint quick check price clean
+.PHONY: all help build toolchain demo try files bench compare storm sweep kill runs serprog install uninstall dist \
+  agree statement lint quick check price clean
 
 all: build ## proves the program and all below it, and builds it
 
@@ -98,10 +99,12 @@ bench: toolchain ## measures the parts, each beside plain work of the same size;
 	@$(BENCH) session
 	@$(BENCH) read
 
-compare: $(BUILT) ## runs the program beside flashrom and beside a chip of QEMU, where these are installed
+compare: $(BUILT) ## runs the programs beside flashrom and beside a chip of QEMU, where these are installed
 	@scripts/compare.sh '$(PROGRAM)'
 	@scripts/compare/rows.sh '$(PROGRAM)'
 	@scripts/compare/qemu.py '$(PROGRAM)'
+	@cd crates/flashnor_serprog && rt run -- -h > /dev/null
+	@tests/serprog/compare.py '$(HARDWARE)'
 
 install: $(BUILT) ## puts program, manual pages and completion below PREFIX and DESTDIR
 	install -D -m 755 '$(PROGRAM)' '$(IN_BIN)'
@@ -137,6 +140,11 @@ dist: $(BUILT) ## packs an archive with the program, its pages, and what it was 
 
 runs: $(BUILT) ## runs the program on each case of tests/cases and on the examples of the pages
 	@tests/run.py '$(PROGRAM)'
+
+# The help proves and builds the program first.
+serprog: toolchain ## runs the program for serial programmers on the cases of tests/serprog
+	@cd crates/flashnor_serprog && rt run -- -h > /dev/null
+	@tests/serprog/run.py '$(HARDWARE)'
 
 agree: ## compares help, pages and completion with what the sources say
 	@bash scripts/agree.sh
