@@ -31,7 +31,7 @@ Examples: read the chip; write an image and keep a journal; restore the chip:
   flashnor_serprog -p serprog:dev=/dev/ttyACM0 -w new.bin --journal j
   flashnor_serprog -p serprog:dev=/dev/ttyACM0 --restore j
 
-Usage fault 1: the words aren't options, or one lacks its value
+Usage fault 1: an argument is not an option, or an option lacks its value
 Usage fault 2: there is no -p
 Usage fault 3: the text of -p isn't serprog: with known keys, dev= among them
 Usage fault 4: there is more than one operation

@@ -8,7 +8,7 @@ use clap::{Arg, ArgAction, Command};
 use std::alloc::{AllocError, Global};
 
 // The first line of the help, above the options.
-const ABOUT: &str = "flashnor 1.0: programs SPI NOR flash, and can give back what it changed.";
+const ABOUT: &str = "flashnor 1.0: programs SPI NOR flash, and can restore what it changed.";
 
 // The end of the help, below the options. Its lines have at most 80 columns.
 const NOTES: &str = "\
@@ -19,7 +19,7 @@ TEXT of -p is dummy: and then KEY=VALUE, between commas, each key at most once:
   status=FILE   The file of its two status bytes; without one both are 00
   stop=N        Stop after N transactions; not with --rehearse
   trace=FILE    Write a line for each transaction into this file
-  unique=HEX    Its own number, 16 hexadecimal digits; without it all are 0
+  unique=HEX    The chip's unique ID, 16 hexadecimal digits; else all are 0
   busy=N        How many polls answer BUSY after each operation, 0 to 65535
   power=HH      Each stop is a loss of power: what is being written becomes HH
 
@@ -27,17 +27,17 @@ A journal holds the old content and status of all that a change touches, and
 --restore needs it.
 
 A rehearsal changes no file but the trace. The first number of --rehearse stops
-the change after so many transactions, the second the restore that follows, the
-third the next restore, and so on. A last restore isn't stopped, and then the
-chip is as it was before.
+the change after that many transactions, the second stops the restore that
+follows, the third the next restore, and so on. The last restore isn't stopped,
+and the chip is then as it was before.
 
-Examples: write an image and keep a journal; give the old content back; rehearse
-that, stopped after 2060 transactions, and its restore, stopped after 9:
+Examples: write an image and keep a journal; restore the old content; rehearse
+the write, stopped after 2060 transactions, and its restore, stopped after 9:
   flashnor -p dummy:emulate=W25Q64FV,image=chip.bin -w new.bin --journal j
   flashnor -p dummy:emulate=W25Q64FV,image=chip.bin --restore j
   flashnor -p dummy:emulate=W25Q64FV,image=chip.bin -w new.bin --rehearse 2060,9
 
-Usage fault 1: the words aren't options, or one lacks its value
+Usage fault 1: an argument is not an option, or an option lacks its value
 Usage fault 2: there is no -p, which all but -L need
 Usage fault 3: the text of -p isn't dummy: with known keys, emulate= among them
 Usage fault 4: there is more than one operation
@@ -47,6 +47,29 @@ Usage fault 7: -l and -i need each other, and one of -r, -w, -v, -E
 Usage fault 8: -n and --unlock need -w or -E
 Usage fault 9: --rehearse needs 1 to 64 numbers, and no stop= beside it
 Usage fault 10: out of memory
+
+File fault 1: the file can't be read
+File fault 2: it can't be created, written or synced
+File fault 3: it has a wrong length
+File fault 4: it exists (--journal), or is a journal
+File fault 5: it has two roles, or another run has locked it
+
+Layout fault 1: there is no colon, or no space between END and NAME
+Layout fault 2: an address isn't 1 to 8 hexadecimal digits
+Layout fault 3: the end is below the start
+Layout fault 4: the name isn't 1 to 32 visible ASCII characters
+Layout fault 5: an earlier line has this name
+Layout fault 6: there are more than 64 regions
+Layout fault 7: out of memory
+Layout fault 8: a name of -i is no region
+
+Error 15: journal fault 1: the journal ends too early
+Error 15: journal fault 2: the file doesn't begin as a journal does
+Error 15: journal fault 3: no chip has this size
+Error 15: journal fault 4: the chip has no sector of this number
+Error 15: journal fault 5: the sector number isn't above the one before it
+Error 15: journal fault 6: bytes follow the digest
+Error 15: journal fault 7: the digest differs: the file is damaged
 
 The manual page, flashnor(8), says what each fault asks for.";
 
@@ -132,7 +155,7 @@ static CHOICES: [Choice; 18] = [
         letter: None,
         name: "restore",
         value: Some("FILE"),
-        help: "Give back what a journal holds",
+        help: "Restore the chip from a journal",
     },
     Choice {
         letter: None,
@@ -168,7 +191,7 @@ static CHOICES: [Choice; 18] = [
         letter: None,
         name: "unlock",
         value: None,
-        help: "Lift protection, and give it back; with -w or -E",
+        help: "Lift protection, and restore it; with -w or -E",
     },
 ];
 
