@@ -214,7 +214,7 @@ module _ (programmer : Programmer) (file : Text) (start : FilesState) (first : O
           pick programmer.status other.status _ _ status 2 mid new same.status rest still' found.read.status.is_found
           found.read.status.whole kept.status can_status is.two
 
-      -- the bus that would be opened if no file were moved aside that the restore found
+      -- the bus that a later run would open if none of the files that the restore found were moved aside
       abbrev state : BusState
       state = record later {
         chip = record later.chip {

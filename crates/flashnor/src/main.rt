@@ -14,7 +14,7 @@
 //! - `laws.rt`: the law about a change and the restores that follow it
 //! - `printing.rt`: prints the end of a run, and chooses the exit status
 //!
-//! What another program prints and reads in the same way is in the crate `nor_lines`.
+//! The crate `nor_lines` has the code for what `flashnor_serprog` prints and reads in the same way.
 #![tactic(auto)]
 
 mod changes;

@@ -33,7 +33,7 @@ pub record PutsAt {T : Type 0} (key : Text) (read : Text → Option T) (setting 
 abbrev pub Adds : Text → (old new : Settings) → Type 0
 Adds setting old new = EachKey (λ T key is_value read place. PutsAt key read setting (place old) (place new))
 
--- The setting can't be added: its key is unknown or was taken in before, or its value isn't one of its key.
+-- The setting can't be added: its key is unknown or already has a value, or its value isn't valid for its key.
 abbrev pub IsRefused : Text → Settings → Type 0
 IsRefused setting said = EachKey (λ T key is_value read place.
     has_key key setting ≡ true → is_value (value_of setting) ≡ true → is_some (place said) ≡ true)

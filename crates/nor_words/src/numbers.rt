@@ -70,7 +70,7 @@ fn has_digits(text: &str, radix: u32) -> bool
     text.bytes().all(|digit| char::from(digit).is_digit(radix))
 }
 
-/// Returns the eight bytes that `text` is, in 16 hexadecimal digits. Returns `None` for any other text.
+/// Decodes a text of 16 hexadecimal digits to eight bytes. Returns `None` for any other text.
 pub fn read_unique(text: &str) -> Option<[u8; 8]>
     ensures { result ≡ unique_number text.now }
 {

@@ -7,7 +7,8 @@ use std::alloc::Global;
 use std::io::{self, BufWriter, ErrorKind, Write};
 use std::process::Abort;
 
-// A log that accepts `good` writes, then refuses every other one. It accepts flushes if `flushes` is true.
+// A log that accepts `good` writes, and then in turn refuses one and accepts one. It accepts flushes if `flushes` is
+// true.
 #[derive(Drop)]
 struct Failing<'a> {
     lines: &'a mut Vec<u8>,
