@@ -11,6 +11,8 @@
 //! - `fault.rt`: the errors that end the example
 #![tactic(auto)]
 
+ghost use Rattle.std.specs.Prelude.{◌≡◌, false};
+
 mod device;
 mod fault;
 mod own;
@@ -19,8 +21,8 @@ mod played;
 use device::DevicePort;
 use fault::Fault;
 use nor_chip::{Bus, Config, Delays, Meter, SimBus};
-use nor_files::{Disk, MakeFault, Store, VaultedFile};
-use nor_journal::{FileVault, Journal, Vault};
+use nor_files::{Disk, MakeFault, Store};
+use nor_journal::{Journal, Vault};
 use nor_probe::probe;
 use nor_read::{read_out, verify};
 use nor_serprog::{HandshakeFault, Link, Paced, Port, Programmer, ReadTwice, SerprogBus};
@@ -44,18 +46,22 @@ fn main(rt: HostRuntime) -> Result<(), Fault> {
 fn identify_chip<P: Port<Cause = std::io::Error> + Drop>(
     rt: &HostRuntime,
     port: P,
-) -> Result<(), Fault> {
+) -> Result<(), Fault>
+    requires { (port : P) → (P.state port).honest ≡ false }
+{
     let mut bus = open(rt, port)?;
     let found = probe(&mut bus, None)?;
     println!(rt; "A chip of {} bytes.", found.size)?;
     Ok(())
 }
 
-// Opens a bus over this port.
+// Opens a bus over this port. No port of the example is honest, so nothing is promised of its programmer.
 fn open<P: Port + Drop>(
     rt: &HostRuntime,
     port: P,
-) -> Result<PortBus<'_, P>, HandshakeFault<P::Cause>> {
+) -> Result<PortBus<'_, P>, HandshakeFault<P::Cause>>
+    requires { (port : P) → (P.state port).honest ≡ false }
+{
     let mut link = Link::new(port);
     let programmer = Programmer::identify(&mut link, None)?;
     let bus = ReadTwice::new(SerprogBus::new(link, programmer));
@@ -84,17 +90,9 @@ fn erased_chip(alloc: Global) -> Result<SimBus, Fault> {
     Ok(chip)
 }
 
-// Creates a file that does not exist yet, and returns a vault in it.
-fn create_new<'a>(
-    rt: &'a HostRuntime,
-    name: &str,
-) -> Result<FileVault<VaultedFile<'a, HostRuntime>>, MakeFault> {
-    Disk::new(rt).vault_in_new(name)
-}
-
 // Reads the chip out into a new file.
 fn back_up<B: Bus>(rt: &HostRuntime, bus: &mut B) -> Result<(), Fault> {
-    let mut backup = create_new(rt, "chip.bin")?;
+    let mut backup = Disk::new(rt).vault_in_new("chip.bin")?;
     let report = read_out(bus, None, None, &mut backup)?;
     backup.seal()?;
     println!(rt; "Read out with {} transactions.", report.transactions)?;
@@ -107,7 +105,7 @@ fn change<B: Bus>(rt: &HostRuntime, bus: &mut B, journal: &str) -> Result<Report
     if let Some(first) = image.first_mut() {
         *first = 0x5A;
     }
-    let mut vault = create_new(rt, journal)?;
+    let mut vault = Disk::new(rt).vault_in_new(journal)?;
     let report = session(bus, &mut vault, &mut image, &Request::write().verified())?;
     Ok(report)
 }
