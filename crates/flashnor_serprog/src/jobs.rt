@@ -32,12 +32,16 @@ pub fn perform<'a, R: Store, B: Bus>(
     match &operation.task {
         Task::Read { file, .. } => read_chip(rt, bus, named, *file, sources.included),
         Task::Change(change) => change_chip(rt, bus, named, change, sources),
-        task => as_fault(look_or_restore(bus, named, task, sources)),
+        task => or_fault(look_or_restore(bus, named, task, sources)),
     }
 }
 
-fn as_fault<'a>(outcome: Outcome) -> Result<Answer, Fault<'a>> {
-    outcome.map_err(Fault::Refused)
+// Returns the result of a call, with its refusal as a fault.
+fn or_fault<'a, T>(outcome: Result<T, Refusal>) -> Result<T, Fault<'a>> {
+    match outcome {
+        Ok(value) => Ok(value),
+        Err(refusal) => Err(Fault::Refused(refusal)),
+    }
 }
 
 // Performs a job that creates no file.
@@ -84,11 +88,11 @@ fn read_chip<'a, R: Store, B: Bus>(
 ) -> Result<Answer, Fault<'a>>
     ensures { OnlyReads (B.state bus.old) (B.state bus.new) }
 {
-    find(bus, named).map_err(Fault::Refused)?;
+    or_fault(find(bus, named))?;
     let mut out = empty(rt, file)?;
     let outcome = read_into(bus, named, included.as_ref(), &mut out);
     rt.hand_back(out);
-    as_fault(outcome)
+    or_fault(outcome)
 }
 
 fn read_into<B: Bus, V: Vault>(
@@ -124,7 +128,7 @@ fn change_chip<'a, R: Store, B: Bus>(
     let mut journal = make(rt, *file)?;
     let outcome = change_with_journal(bus, &mut journal, &mut image, &request);
     rt.hand_back(journal);
-    as_fault(outcome)
+    or_fault(outcome)
 }
 
 // Returns the contents of the chip after an erase: FFh for each byte. Identifies the chip to know its size.
@@ -135,7 +139,7 @@ fn erased_image<'a, B: Bus>(
 ) -> Result<Vec<u8>, Fault<'a>>
     ensures { OnlyReads (B.state bus.old) (B.state bus.new) }
 {
-    let found = find(bus, named).map_err(Fault::Refused)?;
+    let found = or_fault(find(bus, named))?;
     Ok(vec![in alloc; 0xFF; found.size as usize]?)
 }
 

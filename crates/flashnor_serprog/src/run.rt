@@ -133,14 +133,9 @@ fn read_words<'a>(
     let HardwareJob {
         programmer,
         operation,
-    } = operation_of(alloc, HELP, words).map_err(of_usage)?;
-    let setting = Setting::read(programmer).map_err(Trouble::Setting)?;
-    let operation = operation.map_err(of_usage)?;
-    Ok((setting, operation))
-}
-
-fn of_usage<'a>(fault: UsageFault) -> Trouble<'a> {
-    Trouble::Fault(Fault::Usage(fault))
+    } = operation_of(alloc, HELP, words)?;
+    let setting = Setting::read(programmer)?;
+    Ok((setting, operation?))
 }
 
 // Performs a job and prints its result.

@@ -4,6 +4,7 @@ use crate::port::PortFault;
 use crate::setting::WrongSetting;
 use nor_lines::{Escaped, Fault};
 use nor_serprog::{Failure, HandshakeFault};
+use nor_words::UsageFault;
 use std::fmt;
 
 /// What ends a run before the first transaction.
@@ -23,6 +24,18 @@ pub enum Trouble<'a> {
 impl<'a> From<Fault<'a>> for Trouble<'a> {
     fn from(fault: Fault<'a>) -> Trouble<'a> {
         Trouble::Fault(fault)
+    }
+}
+
+impl<'a> From<UsageFault> for Trouble<'a> {
+    fn from(fault: UsageFault) -> Trouble<'a> {
+        Trouble::Fault(Fault::Usage(fault))
+    }
+}
+
+impl<'a> From<WrongSetting<'a>> for Trouble<'a> {
+    fn from(wrong: WrongSetting<'a>) -> Trouble<'a> {
+        Trouble::Setting(wrong)
     }
 }
 
