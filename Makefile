@@ -103,8 +103,7 @@ compare: $(BUILT) ## runs the programs beside flashrom and beside a chip of QEMU
 	@scripts/compare.sh '$(PROGRAM)'
 	@scripts/compare/rows.sh '$(PROGRAM)'
 	@scripts/compare/qemu.py '$(PROGRAM)'
-	@cd crates/flashnor_serprog && rt run -- -h > /dev/null
-	@tests/serprog/compare.py '$(HARDWARE)'
+	@[ ! -x '$(HARDWARE)' ] || tests/serprog/compare.py '$(HARDWARE)'
 
 install: $(BUILT) ## puts program, manual pages and completion below PREFIX and DESTDIR
 	install -D -m 755 '$(PROGRAM)' '$(IN_BIN)'
