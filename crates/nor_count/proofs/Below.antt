@@ -4,13 +4,13 @@ use Rattle.std.specs.Prelude.{MatchBool, if◌then◌else◌}
 use Rattle.std.proofs.lemmas.Bool.{cases_Bool, cases_eq, or_left, or_right, or_cases, both_ways, false_from_ne_true}
 use Rattle.nor_count.specs.Below.{any_below, count_below}
 
--- two tests are equal if each implies the other
+-- two truth values are equal if each implies the other
 pub same_tests : (p q : Bool) → (p ≡ true → q ≡ true) → (q ≡ true → p ≡ true) → p ≡ q
 same_tests true q to from = sym (to refl)
 same_tests false true to from = from refl
 same_tests false false to from = refl
 
--- `any_below` is true if one number below n passes
+-- `any_below` is true if some number below n passes
 pub any_below-some : (n k : ℕ) (test : ℕ → Bool) → k < n → test k ≡ true → any_below n test ≡ true
 unfolding any_below
 any_below-some zero k test below passes = absurd (omega arith)
@@ -20,7 +20,7 @@ any_below-some (suc n) k test below passes =
       | inr other ↦ or_left _ _ (any_below-some n k test (omega arith) passes)
     ]
 
--- if `any_below` is true, finds a number that passes
+-- if `any_below` is true, some number below n passes
 pub any_below-found : (n : ℕ) (test : ℕ → Bool) → any_below n test ≡ true → (k : ℕ) × (k < n) × (test k ≡ true)
 unfolding any_below
 any_below-found zero test some = absurd cc

@@ -1,4 +1,5 @@
--- Counting a list of the numbers below n results in the same number as counting step by step.
+-- Two ways to count the numbers below n that pass a test have the same result: in the list of these numbers, and step
+-- by step (`IsCount`).
 use Rattle.std.proofs.Common.{ℕ, zero, suc, ◌≡◌, ◌+◌, Bool, cond, sym, ap, ◌∙◌, add-one, arith}
 use Rattle.std.specs.Prelude.{count_by}
 use Rattle.std.specs.List.{range_with_len}
@@ -6,7 +7,7 @@ use Rattle.std.proofs.lemmas.List.FromFn.{sum_by-map-range_with_len_more}
 use Rattle.std.proofs.lemmas.List.Sums.{sum-map}
 use Rattle.nor_count.specs.Counts.{IsCount}
 
--- the count of a range that is one number longer
+-- the count in the list of the numbers below n + 1: the count for n, plus 1 if n passes
 count_by-more : (test : ℕ → Bool) (n : ℕ)
     → count_by test (range_with_len 0 (n + 1)) ≡ count_by test (range_with_len 0 n) + cond (test n) 1 0
 count_by-more test n =

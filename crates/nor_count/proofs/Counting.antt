@@ -6,7 +6,7 @@ use Rattle.nor_count.specs.Below.{any_below, count_below}
 use Rattle.nor_count.proofs.Below.{any_below-found}
 pub use Rattle.nor_count.proofs.Below.{any_below-some, count_below-zero, count_below-more, count_below-most}
 
--- the next number raises the count by 1 if it passes, and by 0 if it fails
+-- if n passes, the count below n + 1 is greater by 1 than that below n; if n fails, both are equal
 pub count_below-with : (n : ℕ) (test : ℕ → Bool) → test n ≡ true → count_below (n + 1) test ≡ count_below n test + 1
 count_below-with n test passes = count_below-more n test ∙ rw passes
 
@@ -15,7 +15,7 @@ count_below-without n test fails =
     let step : count_below (n + 1) test ≡ count_below n test + 0 = count_below-more n test ∙ rw fails in
     omega arith
 
--- the test of one number more
+-- `any_below` for n + 1: some number below n passes, or n does
 pub any_below-more : (n : ℕ) (test : ℕ → Bool) → any_below (n + 1) test ≡ (any_below n test || test n)
 unfolding any_below
 any_below-more n test = ap (λ (m : ℕ). any_below m test) (add-one n)

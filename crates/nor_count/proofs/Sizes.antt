@@ -16,7 +16,7 @@ use Rattle.nor_count.proofs.Below.{same_tests}
 
 -- ---- a number with one bit set is a power of two
 
--- the number of one bits is that of the half plus that of the lowest bit
+-- the number of one bits of n is that of n / 2, plus the lowest bit
 ones_by_half : (n : ℕ) → count_ones n ≡ count_ones (n / 2) + count_ones (n % 2)
 ones_by_half n =
     let whole : n ≡ n / 2 * 2 ^ 1 + n % 2 = omega arith in
@@ -43,7 +43,7 @@ single_one (suc k) n below one =
           (suc half.0, omega (arith, half.1, pow-suc 2 half.0))
     ]
 
--- ---- the nine powers
+-- ---- the nine powers of two from 2^16 to 2^24
 
 power_of : (size : ℕ) → is_chip_size size ≡ true → (k : ℕ) × (16 ≤ k) × (k < 25) × (size ≡ 2 ^ k)
 power_of size holds =
@@ -96,7 +96,7 @@ is_chip_size-power_of_two size holds =
     let found = power_of size holds in
     eq-eqb (count_ones size) 1 (ap count_ones found.3 ∙ count_ones-pow found.0)
 
--- from 64 KiB to 16 MiB, being a power of two and being the size of a chip are the same test
+-- for a size from 64 KiB to 16 MiB, `is_power_of_two` and `is_chip_size` are equal
 pub is_power_of_two-size : (size : ℕ) → 65536 ≤ size → size ≤ 16777216 → is_power_of_two size ≡ is_chip_size size
 is_power_of_two-size size least most =
     same_tests _ _ (λ power. is_chip_size-from size power least most) (is_chip_size-power_of_two size)

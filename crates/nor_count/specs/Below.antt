@@ -1,4 +1,4 @@
--- Whether, and how many, numbers below a bound pass a test.
+-- Whether any number below a bound passes a test, and how many of them do.
 use Rattle.std.specs.Prelude.{ℕ, zero, suc, ◌+◌, ◌||◌, Bool, false, if◌then◌else◌}
 
 -- true if some number below n passes the test

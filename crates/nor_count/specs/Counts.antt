@@ -6,7 +6,7 @@ use Rattle.nor_count.specs.Below.{count_below}
 abbrev pub sector_count : (ℕ → Bool) → ℕ
 sector_count sectors = count_below 4096 sectors
 
--- `count n` is, for every n, how many numbers below n pass the test
+-- for every n, `count n` is how many numbers below n pass the test
 pub record IsCount (test : ℕ → Bool) (count : ℕ → ℕ) : Type 0 where
   pub begins : count 0 ≡ 0
   pub goes : (n : ℕ) → count (n + 1) ≡ count n + (if test n then 1 else 0)

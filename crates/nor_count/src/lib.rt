@@ -1,6 +1,7 @@
 //! Definitions about numbers that the contracts of the other crates use; this crate has no code.
 //!
 //! - `specs/Below.antt`: `any_below` and `count_below`, whether and how many numbers below a bound pass a test
-//! - `specs/Counts.antt`: `sector_count`, the size of a set of sectors, and `IsCount`, a count by its first steps
+//! - `specs/Counts.antt`: `sector_count`, the size of a set of sectors, and `IsCount`, a count given by its value at 0
+//!   and by its steps
 //! - `specs/Size.antt`: `is_chip_size`, the sizes that a chip may have
 #![tactic(auto)]
