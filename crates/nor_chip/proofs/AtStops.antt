@@ -13,7 +13,7 @@ use Rattle.nor_chip.specs.Sim.{TornTo, WornTo, LostTo}
 pub nothing_sent : (chip : Chip) → Step chip [] [] chip
 nothing_sent chip = search arith
 
--- a power failure with a given fill is a power failure
+-- a simulated power failure (`PowerLostWith`) is one that the contract of a bus allows (`PowerLost`)
 pub power_lost : (fill : ℕ) (old new : Chip) → PowerLostWith fill old new → PowerLost old new
 power_lost fill old new lost = grind (arith, lost.bytes)
 

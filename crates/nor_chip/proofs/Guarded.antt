@@ -21,7 +21,7 @@ is_guarded-end chip =
     with_scheme chip.config.scheme chip.config.size (guarded_by chip.config.size (code_of chip.kept))
     (guarded_by-end chip.config.size (code_of chip.kept) (sized_bounds chip.config))
 
--- No address of a sector is protected if its first and last ones aren't.
+-- If neither the first nor the last address of a sector is protected, no address of the sector is.
 pub is_guarded-sector : (chip : Chip) (a : ℕ) → a < chip.config.size
     → is_unit_guarded chip (4096 * (a / 4096)) 4096 ≡ false → is_guarded chip a ≡ false
 is_guarded-sector chip a below free =

@@ -9,7 +9,7 @@ use Rattle.nor_chip.specs.Offer.{GuardsExactly}
 use Rattle.nor_chip.specs.Guard.{guarded_by, named_length, is_undefined, is_complement, is_bottom, names_sectors, bp_of}
 use Rattle.nor_chip.specs.Units.{LieAtAnEnd, HoldsSomewhere, OnFirst, OnLast}
 
--- a number of bytes up to the chip's size: whole KiB, and whole sectors if a 64th of the chip has these
+-- a number of bytes up to the chip's size: whole KiB, and whole sectors if the chip's size is a multiple of 256 KiB
 pub record IsPart (size n : ℕ) : Type 0 where
   pub within : n ≤ size
   pub whole : n % 1024 ≡ 0
@@ -30,7 +30,7 @@ named_length-part size code are = part_of size (names_sectors code) (bp_of code)
 part-rest : (size n : ℕ) → size % 65536 ≡ 0 → IsPart size n → IsPart size (size - n)
 part-rest size n blocks part = grind arith
 
--- the test that `guarded_by` makes
+-- the test that `guarded_by` makes of an address, given the parts of the code
 place_test : ℕ → ℕ → Bool → Bool → Bool → ℕ → Bool
 place_test size named undefined complement bottom a =
     let is_named = if bottom then nat_lt a named else nat_le (size - named) a in
@@ -114,7 +114,7 @@ unfolding place_test
 place_test-exactly size named complement bottom start len within are a =
     let long = are.len_is in let begin = are.start_is in grind (arith, nat_tests)
 
--- A defined code protects exactly this range.
+-- A defined code protects exactly the range that `ArePlaces` describes.
 pub guards_places : (size code start len : ℕ) → IsInBlocks size → is_undefined code ≡ false
     → ArePlaces size (named_length size code) (is_complement code) (is_bottom code) start len
     → GuardsExactly size code start len

@@ -26,8 +26,8 @@ alike-guards size code start len start' len' guards guards' =
     let end = guards (start' + len' - 1) in let end' = guards' (start' + len' - 1) in
     grind (arith, first, first', last, last', begin, begin', end, end')
 
--- a range has one least code: if `code` is the least code of some range, the least code found for the range that `code`
--- protects is `code` itself
+-- If `code` protects a range and is the least code of some range, a search for the least code of the protected range
+-- finds `code`.
 pub least_found : (size code start len start' len' : ℕ) (found : Option ℕ) → IfSome found (IsLeastCode size start' len')
     → IfNone found (IsNotOffered size start' len') → GuardsExactly size code start' len'
     → IsLeastCode size start len code

@@ -11,13 +11,13 @@ encode_with-append t [] ys = refl
 encode_with-append t (b ∷ rest) ys =
     ap (λ (l : List ℕ). slice_index t (b / 16) ∷ slice_index t (b % 16) ∷ l) (encode_with-append t rest ys)
 
--- nothing was left to write
+-- if no byte is left to write, nothing needs to be appended
 pub Appends-none_left : (known : Option (List ℕ)) (rest : List ℕ) → length rest ≡ 0 → Appends known known (encode_lower rest)
 unfolding encode_with
 Appends-none_left known [] none = Appends-nil known
 Appends-none_left known (b ∷ rest) none = absurd (omega (arith, none))
 
--- the digits of a piece were written, then those of the rest
+-- if the digits of a piece were written, and then those of the rest, the digits of all bytes were written
 pub Appends-digits : (old mid new : Option (List ℕ)) (bytes piece later digits : List ℕ) → bytes ≡ piece ++ later → digits ≡ encode_lower piece → Appends old mid digits → Appends mid new (encode_lower later) → Appends old new (encode_lower bytes)
 Appends-digits old mid new bytes piece later digits is are first second =
     let both = Appends-trans old mid new (encode_lower piece) (encode_lower later) (subst (λ (l : List ℕ). Appends old mid l) are first) second in

@@ -9,7 +9,7 @@ use Rattle.nor_chip.specs.Chip.{Chip}
 use Rattle.nor_chip.specs.Step.{last_for, lowered, byte_after}
 use Rattle.nor_chip.specs.Cells.{HasPageProgrammed}
 
--- no byte is sent for an address that none of the bytes goes to
+-- if none of the sent bytes is for an address, `last_for` is `None`
 last_for-apart : (at : ℕ) (sent : List ℕ) (a : ℕ) → ((i : ℕ) → i < length sent → (at + i) % 256 ≢ a % 256)
     → last_for at sent a ≡ None
 unfolding last_for
@@ -29,7 +29,7 @@ last_for-at at (byte ∷ sent) a zero small last here =
 last_for-at at (byte ∷ sent) a (suc i) small last here =
     rw (last_for-at (at + 1) sent a i (omega arith) (omega arith) (omega arith)) refl
 
--- `done` sent bytes were ANDed into the list from index `from`; all other bytes are as they were
+-- the first `done` sent bytes were ANDed into the list from index `from`; all other bytes are as they were
 pub record ClearsFrom (from done : ℕ) (sent old new : List ℕ) : Type 0 where
   pub inside : (i : ℕ) → i < done
       → slice_index new (from + i) ≡ bit_and (slice_index old (from + i)) (slice_index sent i)
@@ -49,7 +49,7 @@ module _ (at : ℕ) (sent : List ℕ) (skipped : ℕ) (front back old mid new : 
     (parted : IsParted at sent skipped front back)
     (first : ClearsFrom (at / 256 * 256 + (at + skipped) % 256) (length front) front old mid)
     (second : ClearsFrom (at / 256 * 256) (length back) back mid new) where
-  -- an address of the page after both parts
+  -- the byte at an address of the page, after both parts were programmed
   in_page : (a : ℕ) → a / 256 ≡ at / 256 → slice_index new a ≡ lowered (slice_index old a) (last_for at sent a)
   in_page a here =
       let p = a % 256 in let start = (at + skipped) % 256 in
@@ -71,7 +71,7 @@ module _ (at : ℕ) (sent : List ℕ) (skipped : ℕ) (front back old mid new : 
         ]
       ]
 
-  -- both parts together are the program of the page
+  -- programming both parts has the effect of one program of the page
   pub programmed : HasPageProgrammed at sent old new
   programmed a = elim (eqb_tells (a / 256) (at / 256)) [
     | inl same ↦ rw same.0 (in_page a same.1)

@@ -6,14 +6,14 @@ use Rattle.std.proofs.Math.ListN.{get_or-eq_default}
 use Rattle.std.proofs.lemmas.Bool.{cases_lt}
 use Rattle.std.specs.Prelude.{slice_index}
 
--- addresses that follow the one that was reached, before the end
+-- `done` steps after `at` the address is `from`; each later address before the end follows without wrapping around
 pub run_on : (at done i from n : ℕ) → (at + done) % n ≡ from → done ≤ i → from + (i - done) < n
     → (at + i) % n ≡ from + (i - done)
 run_on at done i from n place behind small =
     let split : at + i ≡ (from + (i - done)) + n * ((at + done) / n) = omega (arith, mod-add-div (at + done) n) in
     rw (split, add-mul-mod_self_left) (mod-eq_of_lt small)
 
--- after the end, address 0 follows
+-- after the last address comes address 0
 pub run_round : (at done from n : ℕ) → (at + done) % n ≡ from → from < n → (at + (done + (n - from))) % n ≡ 0
 run_round at done from n place within =
     let split : at + (done + (n - from)) ≡ 0 + n * ((at + done) / n + 1) = omega (arith, mod-add-div (at + done) n) in
@@ -31,7 +31,7 @@ written_within a xs ys zs i fits behind within =
     get_or-append_right (take a xs) (ys ++ zs) a i 0 (length-take-le a xs fits) behind
     ∙ get_or_append_left ys zs 0 (i - a) (omega arith)
 
--- a list of copies, read with the same value as the default
+-- reading a list of copies of `x`, with `x` as the default, returns `x` at every index
 pub get_or-replicate_all : {A : Type 0} (n i : ℕ) (x : A) → get_or (replicate n x) i x ≡ x
 get_or-replicate_all n i x = elim (cases_lt i n) [
   | inl within ↦ get_or-replicate n i x x within

@@ -10,6 +10,6 @@ use Rattle.nor_chip.specs.declared.config.Config.{Config}
 pub alike : (one other : Bool) → (one ≡ true → other ≡ true) → (other ≡ true → one ≡ true) → one ≡ other
 alike = same_tests
 
--- the size of a configuration has these properties
+-- the size of a configuration has the properties that `IsInBlocks` lists
 pub sized_bounds : (config : Config) → IsInBlocks config.size
 sized_bounds config = is_chip_size-in_blocks config.size config.sized

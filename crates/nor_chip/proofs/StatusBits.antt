@@ -12,13 +12,13 @@ or_latch n clear = or_disjoint n 2 (omega (arith, and_pow n 1))
 pub or_busy : (n : ℕ) → n % 2 ≡ 0 → bit_or n 1 ≡ n + 1
 or_busy n clear = or_disjoint n 1 (omega (arith, and_pow n 0))
 
--- the non-volatile bits of status 2 are the low seven
+-- status 2 after a status write has only non-volatile bits, which are the low seven
 pub written_lt : (old sent : ℕ) → bit_or (bit_and sent 67) (bit_or (bit_and old 60) (bit_and sent 56)) < 128
 written_lt old sent =
     or_lt 7 (bit_and sent 67) _ (omega (arith, and_le_r sent 67))
     (or_lt 7 (bit_and old 60) _ (omega (arith, and_le_r old 60)) (omega (arith, and_le_r sent 56)))
 
--- the test of WEL
+-- bit 1 of a status byte is WEL
 pub wel_set : (n : ℕ) → (bit_and n 2 == 2) ≡ (n / 2 % 2 == 1)
 wel_set n = let bit = and_pow n 1 in grind (arith, nat_tests)
 
@@ -36,7 +36,7 @@ fixed_one n small = omega (arith, and_pow n 7)
 pub fixed_two : (n : ℕ) → bit_and n 63 ≡ n % 64
 fixed_two n = and_mask n 6
 
--- these bits combined with other protection bits
+-- the bits that are never changed (`fixed`), combined with the protection bits of a code
 pub coded_one : (fixed code : ℕ) → code < 64
     → bit_or (128 * fixed) (bit_and (code * 4 % 256) 124) ≡ 128 * fixed + 4 * (code % 32)
 coded_one fixed code small =

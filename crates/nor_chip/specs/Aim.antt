@@ -1,17 +1,17 @@
--- The addresses that a command can have.
+-- The addresses that decoded commands have.
 use Rattle.std.specs.Prelude.{◌≡◌, ◌<◌, ◌≤◌, ◌+◌, ◌%◌, ℕ, ⊤}
 use Rattle.nor_chip.specs.declared.command.Command.{Command}
 use Rattle.nor_chip.specs.declared.command.Command.TheVariants.{Program, Erase, ReadData, ReadSfdp}
 
--- The range is not empty, consists of whole sectors, and lies on a chip of this size.
+-- The range of `len` bytes from `start` is not empty, consists of whole sectors, and lies on a chip of this size.
 pub record IsUnit (size start len : ℕ) : Type 0 where
   pub start_aligned : start % 4096 ≡ 0
   pub len_aligned : len % 4096 ≡ 0
   pub not_empty : 0 < len
   pub within : start + len ≤ size
 
--- The command's address is below the size; an erase covers whole sectors of the chip. Every decoded command satisfies
--- this.
+-- The command's address is below `size`; an erase covers whole sectors of a chip of this size. That holds for every
+-- command that `command_of` returns for a configuration of this size.
 abbrev pub IsAimed : ℕ → Command → Type 0
 IsAimed size (Program at) = at < size
 IsAimed size (ReadData at) = at < size

@@ -21,41 +21,42 @@ pub record BusState : Type 0 where
   pub sent : Sent
   -- the sectors that were erased
   pub worn : ℕ → Bool
-  -- a stop sends no byte of its transaction and keeps the power, so it leaves the chip as it was
+  -- a stop sends no byte of its transaction and keeps the chip's power, so it leaves the chip as it was
   pub steady : Bool
   -- the bus takes transactions of any length
   pub unlimited : Bool
-  -- the last poll that was replied to showed that the chip is ready
+  -- the last poll that received a reply showed that the chip is ready
   pub heard : Bool
 
--- A bus stays honest or not, steady or not and unlimited or not. The chip on an honest bus is always the same: its ID,
--- size, SFDP and all else that no command changes.
+-- A bus is honest, steady or unlimited after a call if and only if it was so before the call. On an honest bus the
+-- chip's configuration stays the same: its ID, size, SFDP and all else that no command changes.
 pub record KeepsNature (old new : BusState) : Type 0 where
   pub honest : new.honest ≡ old.honest
   pub steady : new.steady ≡ old.steady
   pub unlimited : new.unlimited ≡ old.unlimited
   pub config : old.honest ≡ true → new.chip.config ≡ old.chip.config
 
--- The bus is honest, and takes a transaction that sends `out` and reads this many bytes: it is unlimited, or the
--- transaction sends no more than a page program does, and reads no more than a sector.
+-- The bus is honest, and takes a transaction that sends `out` and reads `replies` bytes: the bus is unlimited, or the
+-- transaction sends at most 260 bytes (a page program) and reads at most 4,096 (a sector).
 pub record IsHonestFor (out : List ℕ) (replies : ℕ) (bus : BusState) : Type 0 where
   pub honest : bus.honest ≡ true
   pub fits : (bus.unlimited ≡ true) ⊎ ((length out ≤ 260) × (replies ≤ 4096))
 
--- On every bus: its nature stays (`KeepsNature`), and modifying commands are recorded.
+-- The effect of a transaction on every bus: the bus keeps its nature (`KeepsNature`), and notes the transaction in its
+-- record if it may modify a chip.
 pub record Sends (out : List ℕ) (old new : BusState) : Type 0 where
   pub nature : KeepsNature old new
   pub sent : Notes out old.sent new.sent
 
--- On every bus, the effect of a transaction on `heard`: none after a stop.
+-- The effect of a transaction on `heard`, on every bus. If the bus stopped, `heard` stays as it was.
 pub record Hears (out answer : List ℕ) (outcome : Result Unit Stopped) (old new : BusState) : Type 0 where
   pub told : OnOk outcome (new.heard ≡ heard_after out answer old.heard)
   pub stopped : OnErr outcome (new.heard ≡ old.heard)
 
--- The effect of a stop. The first `count` bytes of the transaction were sent (none, some or all), the bytes `read` of
--- the reply were read and are lost (none, some or all, and more than were asked for is allowed here), and the chip made
--- the step that these ask for. Then the chip lost its power, or did not. On a steady bus no byte was sent and no power
--- was lost.
+-- The effect of a stop. The first `count` bytes of the transaction were sent (none, some or all). The bytes `read` of
+-- the reply were read and are lost: none, some or all, and the definition also allows more than were asked for. The
+-- chip made the step that these bytes ask for, and then lost its power or kept it. On a steady bus no byte was sent and
+-- the chip is as it was.
 pub record AtStop (out : List ℕ) (old new : BusState) : Type 0 where
   pub count : ℕ
   pub read : List ℕ
@@ -66,20 +67,20 @@ pub record AtStop (out : List ℕ) (old new : BusState) : Type 0 where
   pub none : old.steady ≡ true → count ≡ 0
   pub still : old.steady ≡ true → new.chip ≡ old.chip
 
--- The bus stopped, because it had no transaction left to carry out.
+-- The bus stopped, because it had no transaction left to carry out, and the chip is as a stop may leave it.
 pub record Stops (out : List ℕ) (old new : BusState) : Type 0 where
   pub none_left : old.left ≡ 0
   pub left : new.left ≡ old.left
   pub at_stop : AtStop out old new
 
 -- The transaction was carried out: the chip made one step, one transaction fewer is left, and the sectors of an erase
--- are recorded.
+-- that the chip carried out are recorded.
 pub record Carries (out answer : List ℕ) (old new : BusState) : Type 0 where
   pub left : old.left ≡ new.left + 1
   pub step : Step old.chip out answer new.chip
   pub worn : (s : ℕ) → new.worn s ≡ (old.worn s || wears (done_of old.chip out (length answer)) s)
 
--- The effect of `allow`: this many transactions are left, if the bus is honest. Nothing else changed.
+-- The effect of `allow`: if the bus is honest, `n` transactions are left. Nothing else changed.
 pub record Allows (n : ℕ) (old new : BusState) : Type 0 where
   pub chip : new.chip ≡ old.chip
   pub left : old.honest ≡ true → new.left ≡ n
@@ -107,7 +108,7 @@ unknown_chip = record {
   running = Unknown;
 }
 
--- The state of a bus to a chip outside the model: only the modifying commands sent and the last poll are known. It
+-- The state of a bus to a chip outside the model: only the record of what was sent and the last poll are known. The bus
 -- isn't honest, so nothing is claimed about its chip.
 abbrev pub unknown_bus : Sent → Bool → BusState
 unknown_bus sent heard = record {

@@ -32,8 +32,8 @@ addressed_command config opcode at replies =
     else if opcode == 0xD8 && replies == 0 && config.kinds.k64 then aligned_erase 65536 at
     else Ignored
 
--- The command of a transaction that sends `out` and reads `replies` bytes. A transaction that fits no command is
--- ignored.
+-- The command of a transaction that sends `out` and reads `replies` bytes: `Ignored` if the transaction fits no
+-- command.
 abbrev pub command_of : Config → (out : List ℕ) → (replies : ℕ) → Command
 command_of config [] replies = Ignored
 command_of config (opcode ∷ []) replies = bare_command config opcode replies
@@ -48,7 +48,7 @@ command_of config (opcode ∷ x ∷ y ∷ z ∷ fifth ∷ []) replies =
 command_of config (opcode ∷ x ∷ y ∷ z ∷ fifth ∷ sixth ∷ rest) replies =
     if opcode == 0x02 && replies == 0 then Program (address_of config x y z) else Ignored
 
--- true for the opcodes that change nothing: those that read, and write disable
+-- true for the quiet opcodes: those that read, and write disable (04h), which only clears the write enable latch
 abbrev pub is_quiet_opcode : (opcode : ℕ) → Bool
 is_quiet_opcode opcode =
     opcode == 0x03 || opcode == 0x04 || opcode == 0x05 || opcode == 0x35
@@ -67,7 +67,7 @@ abbrev pub begins_change : (out : List ℕ) → Bool
 begins_change [] = false
 begins_change (opcode ∷ rest) = is_changing_opcode opcode
 
--- true if `out` is empty, or begins with an opcode that changes nothing
+-- true if `out` is empty, or begins with a quiet opcode
 abbrev pub begins_quiet : (out : List ℕ) → Bool
 begins_quiet [] = true
 begins_quiet (opcode ∷ rest) = is_quiet_opcode opcode

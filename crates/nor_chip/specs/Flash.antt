@@ -28,15 +28,16 @@ pub record Begins (runs : Running) (polls : ℕ) (old new : Chip) : Type 0 where
   pub running : new.running ≡ runs
   pub latch : new.latch ≡ not (new.busy == 0)
 
--- The operation in progress was interrupted: each byte that it works on is `fill`. A status write was undone if `fill`
--- is even. If the operation is unknown, nothing changed.
+-- The operation in progress was interrupted. Each byte that it works on is `fill`, and all other bytes are as they
+-- were. A status write was undone if `fill` is even; otherwise the non-volatile bits are as they were. An unknown
+-- operation changed nothing.
 pub record CutsOff (fill : ℕ) (old new : Chip) : Type 0 where
   pub config : new.config ≡ old.config
   pub bytes : (a : ℕ)
       → new.bytes a ≡ (if is_known_running old.running && is_in_work old.running a then fill else old.bytes a)
   pub kept : new.kept ≡ (if fill % 2 == 0 then kept_before old else old.kept)
 
--- The number of polls that show BUSY after each operation stays the same, and an operation sets `busy` to it.
+-- The number of polls that show BUSY after each operation stays the same, and an operation sets `busy` to that number.
 pub record Paces (command : Command) (old new : Flash) : Type 0 where
   pub each : new.each ≡ old.each
   pub busy : is_operation command ≡ true → new.busy ≡ old.each

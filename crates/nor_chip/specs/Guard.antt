@@ -7,28 +7,29 @@ use Rattle.nor_chip.specs.Chip.{Chip, KeptBits}
 abbrev pub code_of : KeptBits → ℕ
 code_of kept = 32 * (kept.two / 64 % 2) + kept.one % 32
 
--- BP2, BP1 and BP0 as a number: they select how many bytes are in the range
+-- BP2, BP1 and BP0 as a number, from which the length of the selected range follows
 abbrev pub bp_of : (code : ℕ) → ℕ
 bp_of code = code % 8
 
--- TB: the selected range is at the start of the chip, not at the end
+-- true if TB is set: the selected range is at the start of the chip, not at the end
 abbrev pub is_bottom : (code : ℕ) → Bool
 is_bottom code = code / 8 % 2 == 1
 
--- SEC: BP counts sectors, not blocks
+-- true if SEC is set: BP counts sectors, not blocks
 abbrev pub names_sectors : (code : ℕ) → Bool
 names_sectors code = code / 16 % 2 == 1
 
--- CMP: all addresses outside the selected range are protected
+-- true if CMP is set: all addresses outside the selected range are protected
 abbrev pub is_complement : (code : ℕ) → Bool
 is_complement code = code / 32 % 2 == 1
 
--- SEC with BP 110: the datasheets don't define it, and the model protects all addresses
+-- true for SEC with BP 110, which the datasheets don't define; the model then protects all addresses
 abbrev pub is_undefined : (code : ℕ) → Bool
 is_undefined code = names_sectors code && bp_of code == 6
 
--- The length of the selected range. With SEC it is 4, 8, 16 or 32 KiB; without SEC it is a 64th of the chip, doubled up
--- to one half. For BP 000 it is 0, for BP 111 the whole chip.
+-- The length in bytes of the selected range: 0 for BP 000, the whole chip for BP 111. With SEC, BP 001 to 101 select 4,
+-- 8, 16, 32 and 32 KiB. Without SEC, BP 001 selects a 64th of the chip; each further step of BP doubles that, up to one
+-- half.
 abbrev pub named_length : (size code : ℕ) → ℕ
 named_length size code =
     if bp_of code == 0 then 0
@@ -44,8 +45,8 @@ abbrev pub is_place_named : (size code a : ℕ) → Bool
 is_place_named size code a =
     if is_bottom code then nat_lt a (named_length size code) else nat_le (size - named_length size code) a
 
--- The code protects the address `a` of a chip of this size: the selected range, or with CMP all other addresses. An
--- undefined code protects all addresses.
+-- True if the code protects the address `a` of a chip of this size: an address of the selected range, or with CMP any
+-- other address of the chip. An undefined code protects all addresses of the chip.
 unfoldable pub guarded_by : (size code a : ℕ) → Bool
 guarded_by size code a =
     nat_lt a size
@@ -56,7 +57,7 @@ guarded_by size code a =
 abbrev pub is_guarded : Chip → (a : ℕ) → Bool
 is_guarded chip a = chip.config.scheme && guarded_by chip.config.size (code_of chip.kept) a
 
--- an address from `start` to `start + len - 1` is protected: the first or the last one, because the protected addresses
--- are at one end of the chip
+-- An address from `start` to `start + len - 1` is protected. Only the first and the last address are tested, because
+-- the protected addresses are at one end of the chip.
 abbrev pub is_unit_guarded : Chip → (start len : ℕ) → Bool
 is_unit_guarded chip start len = is_guarded chip start || is_guarded chip (start + len - 1)

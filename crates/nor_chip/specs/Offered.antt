@@ -11,7 +11,8 @@ size_of walk = walk.size
 abbrev pub next_code : Offered → ℕ
 next_code walk = walk.next
 
--- The next range, with its least code. No code from the last position up to that code is the least code of a range.
+-- The next range, with its least code. From the iterator's position up to that code, no other code is the least code of
+-- a range.
 pub record IsNextSet (old : Offered) (start len : ℕ) (new : Offered) : Type 0 where
   pub code : ℕ
   pub not_passed : next_code old ≤ code
@@ -22,13 +23,14 @@ pub record IsNextSet (old : Offered) (start len : ℕ) (new : Offered) : Type 0 
   pub passed : next_code new ≡ code + 1
   pub size : size_of new ≡ size_of old
 
--- No range is left, and none will come later.
+-- No range is left: neither the next code nor any greater one is the least code of a range. All 64 codes are passed.
 pub record IsAtEnd (old new : Offered) : Type 0 where
   pub none : (code start len : ℕ) → next_code old ≤ code → ¬ IsLeastCode (size_of old) start len code
   pub ended : next_code new ≡ 64
   pub size : size_of new ≡ size_of old
 
--- Each step returns the range with the least code that was not passed, until none is left.
+-- The result of one call of `next`: the range of the first code, from the iterator's position on, that is the least
+-- code of a range; or `None` if no such code is left.
 abbrev pub GivesNextSet : Offered → Option (ℕ × ℕ) → Offered → Type 0
 GivesNextSet old (Some (start, len)) new = IsNextSet old start len new
 GivesNextSet old None new = IsAtEnd old new

@@ -1,5 +1,5 @@
--- Transactions over a bus that may modify a chip, by the bytes that were sent, even if the chip ignored them. (W25Q64FV
--- datasheet, instruction set table.)
+-- The record of the transactions over a bus that may modify a chip. A transaction is recorded by the bytes that it
+-- sends, even if the chip ignores it. (W25Q64FV datasheet, instruction set table.)
 use Rattle.std.specs.Prelude.{◌≡◌, ◌+◌, ◌*◌, ◌/◌, ◌-◌, ◌^◌, ◌==◌, ◌&&◌, ◌||◌, not, ℕ, Bool, true, false, List, [], ◌∷◌, min, nat_le, nat_lt, slice_index_or, if◌then◌else◌}
 use Rattle.nor_chip.specs.declared.sent.Aim.{Aim}
 use Rattle.nor_chip.specs.declared.sent.Sent.{Sent}
@@ -16,11 +16,12 @@ aim_none = record { first = 0; count = 0 }
 abbrev pub aim_unit : (count sector : ℕ) → Aim
 aim_unit count sector = record { first = sector / count * count; count = count }
 
--- the sectors that an opcode targets without an address: all for C7h (chip erase), none for any other opcode
+-- the sectors that an opcode targets if it is sent without an address: all for C7h (chip erase), none for any other
+-- opcode
 abbrev pub bare_aim : (opcode : ℕ) → Aim
 bare_aim opcode = if opcode == 0xC7 then aim_all else aim_none
 
--- the sectors that an opcode targets with an address in this sector
+-- the sectors that an opcode targets if it is sent with an address in this sector
 abbrev pub addressed_aim : (opcode sector : ℕ) → Aim
 addressed_aim opcode sector =
     if opcode == 0x02 || opcode == 0x20 then aim_unit 1 sector
@@ -63,9 +64,9 @@ abbrev pub writes_status : (out : List ℕ) → (one two : ℕ) → Bool
 writes_status (opcode ∷ x ∷ y ∷ []) one two = opcode == 0x01 && x == one && y == two
 writes_status _ one two = false
 
--- True if the model does not know the transaction. The model knows each transaction whose opcode changes nothing, and
--- each that has the form of a modifying command. A real chip may carry out others: 60h erases the chip, 31h writes
--- status 2, and 01h with one byte clears status 2.
+-- True if the model does not know the transaction. The model knows each transaction with a quiet opcode, and each that
+-- has the form of a modifying command. A real chip may carry out others: 60h erases the chip, 31h writes status 2, and
+-- 01h with one byte clears status 2.
 abbrev pub is_strange_to_model : (out : List ℕ) → Bool
 is_strange_to_model out = not (begins_quiet out || is_change out)
 
@@ -87,7 +88,8 @@ is_aimed_at sent s = slice_index_or sent.aimed s false
 abbrev pub has_written : Sent → (one two : ℕ) → Bool
 has_written sent one two = nat_lt two 256 && slice_index_or sent.written (256 * one + two) false
 
--- the numbers of erases, page programs and status writes that were sent; each count ends at the greatest u64
+-- the numbers of erases, page programs and status writes that were sent; a count that reaches the greatest u64 stays
+-- there
 abbrev pub erases_of : Sent → ℕ
 erases_of sent = sent.erases
 
@@ -107,12 +109,12 @@ pub record IsNothing (sent : Sent) : Type 0 where
   pub programs : programs_of sent ≡ 0
   pub status_writes : status_writes_of sent ≡ 0
 
--- `before`, plus one if `is` holds, but at most the greatest u64
+-- `before`, plus one if `is` is true, but at most the greatest u64
 abbrev pub one_more : (is : Bool) → (before : ℕ) → ℕ
 one_more is before = if is then min (before + 1) (2 ^ 64 - 1) else before
 
--- The effect on the record of a transaction that the bus sent, or was asked to send. If it sends nothing, or its opcode
--- changes nothing, the record stays as it was. Any other transaction is added to the record, by its bytes.
+-- The effect on the record of a transaction that the bus sent, or was asked to send. If it sends nothing, or begins
+-- with a quiet opcode, the record stays as it was. Any other transaction is added to the record, by its bytes.
 pub record Notes (out : List ℕ) (old new : Sent) : Type 0 where
   pub quiet : begins_quiet out ≡ true → new ≡ old
   pub stirred : is_stirred new ≡ (is_stirred old || begins_change out)

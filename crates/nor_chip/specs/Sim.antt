@@ -9,8 +9,8 @@ use Rattle.nor_chip.specs.Power.{PowerLostWith}
 use Rattle.nor_chip.specs.Step.{Step, is_operation, done_of, wears}
 use Rattle.nor_chip.specs.Bus.{BusState}
 
--- The state of a simulated bus, which is always honest and takes transactions of any length. It is steady if neither `lose` nor `tear` set an effect of a
--- stop.
+-- The state of a simulated bus. It is always honest, and takes transactions of any length. It is steady if neither
+-- `lose` nor `tear` set an effect of a stop.
 abbrev pub state_of : SimBus → BusState
 state_of bus = record {
   chip = chip_of bus.flash;
@@ -27,7 +27,7 @@ state_of bus = record {
 abbrev pub fill_of : SimBus → Option ℕ
 fill_of bus = bus.fill
 
--- the number of bytes that `tear` set: a stop sends the first bytes of its transaction
+-- the number of bytes that `tear` set: how many of the first bytes of its transaction a stop sends
 abbrev pub torn_of : SimBus → Option ℕ
 torn_of bus = bus.torn
 
@@ -35,7 +35,7 @@ torn_of bus = bus.torn
 abbrev pub pace_of : SimBus → ℕ
 pace_of bus = bus.flash.each
 
--- The chip at a stop, before a power failure: nothing of the transaction was sent, or its first `count` bytes.
+-- The chip after a stop, except for a power failure: nothing of the transaction was sent, or its first `count` bytes.
 abbrev pub TornTo : (torn : Option ℕ) → (out : List ℕ) → (old new : Chip) → Type 0
 TornTo None out old new = new ≡ old
 TornTo (Some count) out old new = Step old (take count out) [] new
@@ -45,8 +45,8 @@ abbrev pub LostTo : (fill : Option ℕ) → (old new : Chip) → Type 0
 LostTo None old new = new ≡ old
 LostTo (Some fill) old new = PowerLostWith fill old new
 
--- A stop changes neither the settings of the bus, nor the number of transactions left, nor its records of what was sent
--- and of the last poll.
+-- A stop keeps the settings of the bus, the number of transactions left, and the records of what was sent and of the
+-- last poll.
 pub record KeepsBus (old new : SimBus) : Type 0 where
   pub fill : fill_of new ≡ fill_of old
   pub torn : torn_of new ≡ torn_of old
@@ -55,19 +55,20 @@ pub record KeepsBus (old new : SimBus) : Type 0 where
   pub sent : new.sent ≡ old.sent
   pub heard : new.heard ≡ old.heard
 
--- the sectors that count as erased after a stop
+-- the sectors that are recorded as erased after a stop
 abbrev pub WornTo : (torn : Option ℕ) → (out : List ℕ) → Chip → (old new : ℕ → Bool) → Type 0
 WornTo None out chip old new = (s : ℕ) → new s ≡ old s
 WornTo (Some count) out chip old new = (s : ℕ) → new s ≡ (old s || wears (done_of chip (take count out) 0) s)
 
--- A stop cut its transaction after some bytes, or did not begin it. Then the chip lost its power, or did not.
+-- The effect of a stop on the chip: `torn` sets how many bytes of the transaction it carries out, and `fill` whether
+-- and how it then loses its power.
 pub record TearsOff (torn fill : Option ℕ) (out : List ℕ) (old new : Chip) : Type 0 where
   pub reached : Chip
   pub torn_off : TornTo torn out old reached
   pub lost : LostTo fill reached new
 
--- The effect of a transaction of a simulated bus, in addition to the contract of a bus: the settings stay. After an
--- operation the set number of polls show BUSY. After a stop the chip is as `tear` and `lose` set.
+-- The effect of a transaction of a simulated bus, in addition to the contract of a bus. The settings stay. After an
+-- operation the chip is busy for the number of polls that was set. After a stop the chip is as `tear` and `lose` set.
 pub record Simulates (out answer : List ℕ) (outcome : Result Unit Stopped) (old new : SimBus) : Type 0 where
   pub fill : fill_of new ≡ fill_of old
   pub torn : torn_of new ≡ torn_of old

@@ -8,22 +8,23 @@ use Rattle.nor_chip.specs.declared.sent.Sent.{Sent}
 use Rattle.nor_chip.specs.Heard.{is_poll}
 use Rattle.nor_chip.specs.Bus.{BusState, IsHonestFor, Stops, Carries}
 
--- the bus inside, the way in which it fails, and how many transactions succeeded
+-- the bus inside (`inner_of`), and the way in which the faulty bus fails (`spoil_of`)
 abbrev pub inner_of : {B : Type 0} → SpoiltBus B → B
 inner_of bus = bus.bus
 
 abbrev pub spoil_of : {B : Type 0} → SpoiltBus B → Spoil
 spoil_of bus = bus.spoil
 
--- the modifying commands that were sent to the faulty bus
+-- the record of what was sent over the faulty bus (`noted_of`), and the number of transactions that succeeded
+-- (`sent_of`)
 abbrev pub noted_of : {B : Type 0} → SpoiltBus B → Sent
 noted_of bus = bus.noted
 
 abbrev pub sent_of : {B : Type 0} → SpoiltBus B → ℕ
 sent_of bus = bus.sent
 
--- The state of a faulty bus. It isn't honest. It records what it is asked to send, even if it drops that, and the last
--- poll by its own replies. All else is the state of the bus inside.
+-- The state of a faulty bus. It isn't honest. It records each transaction that it is asked to send, even one that it
+-- drops, and the last poll by its own replies. All else is the state of the bus inside.
 abbrev pub spoilt_state : {B : Type 0} → (B → BusState) → SpoiltBus B → BusState
 spoilt_state state bus = record (state bus.bus) {
   honest = false;
@@ -31,7 +32,8 @@ spoilt_state state bus = record (state bus.bus) {
   heard = bus.heard;
 }
 
--- the byte that every reply has, if the transaction after the first `sent` is dropped
+-- If the bus drops the transaction that follows the first `sent` ones, the value of each of its reply bytes; otherwise
+-- `None`.
 abbrev pub withheld : Spoil → ℕ → Option ℕ
 withheld (Fill byte) sent = Some byte
 withheld (BusyFrom first) sent = None
@@ -41,7 +43,7 @@ withheld (Low bit) sent = None
 abbrev pub withheld_of : {B : Type 0} → SpoiltBus B → Option ℕ
 withheld_of bus = withheld (spoil_of bus) (sent_of bus)
 
--- the reply byte in place of `byte`, for the transaction after the first `sent`
+-- the reply byte that the bus returns in place of `byte`, in the transaction that follows the first `sent` ones
 abbrev pub spoilt_byte : Spoil → ℕ → List ℕ → ℕ → ℕ
 spoilt_byte (Fill fill) sent out byte = byte
 spoilt_byte (BusyFrom first) sent out byte = if nat_le first (sent + 1) && is_poll out then bit_or byte 1 else byte
@@ -55,14 +57,16 @@ pub record IsWithheld {B : Type 0} (byte : ℕ) (asked answer : List ℕ) (outco
   pub inner : new ≡ old
   pub replies : answer ≡ replicate (length asked) byte
 
--- The transaction was passed on: the bus inside carried it out, and each reply byte was changed.
+-- The transaction was passed on to the bus inside. Each reply byte is `byte_for` of the byte that the bus inside
+-- replied. If that bus is honest, it carried the transaction out.
 pub record IsPassedOn (byte_for : ℕ → ℕ) (out asked answer : List ℕ) (old new : BusState) : Type 0 where
   pub replied : List ℕ
   pub as_many : length answer ≡ length replied
   pub replies : (i : ℕ) → i < length answer → slice_index answer i ≡ byte_for (slice_index replied i)
   pub inner : IsHonestFor out (length asked) old → Carries out replied old new
 
--- The bus inside carried out the transaction, or it stopped. If it is honest, a stop left the reply as it was.
+-- A transaction that is passed on succeeds (`IsPassedOn`), or the bus inside stops. At a stop of an honest bus inside,
+-- the reply is as it was.
 abbrev pub GoesThrough : (ℕ → ℕ) → (out asked answer : List ℕ) → Result Unit Stopped → (old new : BusState) → Type 0
 GoesThrough byte_for out asked answer (Ok done) old new = IsPassedOn byte_for out asked answer old new
 GoesThrough byte_for out asked answer (Err stopped) old new =

@@ -14,10 +14,10 @@ use Rattle.nor_chip.specs.Command.{command_of}
 abbrev pub is_idle : Chip → Bool
 is_idle chip = chip.busy == 0
 
--- The chip carries the command out. A busy chip carries out only the two status reads. An operation needs the write
--- enable latch, a status write an unlocked status. A program or an erase is ignored if an address that it covers is
--- protected. For a program one address is tested: protected ranges begin and end at whole KiB, and a program stays
--- within one page of 256 bytes.
+-- True if the chip carries the command out. A busy chip carries out only the two status reads. An operation also needs
+-- the write enable latch set; a status write needs SRP0 and SRP1 clear. A program or an erase is ignored if an address
+-- that it covers is protected. For a program one address is tested: protected ranges begin and end at whole KiB, and a
+-- program stays within one page of 256 bytes.
 abbrev pub is_carried_out : Chip → Command → Bool
 is_carried_out chip Poll = true
 is_carried_out chip ReadStatus2 = true
@@ -32,8 +32,8 @@ abbrev pub done_of : Chip → (out : List ℕ) → (replies : ℕ) → Command
 done_of chip out replies =
     let command = command_of chip.config out replies in if is_carried_out chip command then command else Ignored
 
--- The reply byte with index `i`: a byte of a status register, the data, the ID, the SFDP or the unique ID. Data
--- continue at address 0 after the chip's end. Past the other ends, and for all other commands, it is FFh.
+-- The reply byte with index `i`. A read of data continues at address 0 after the chip's end. Past the end of the ID, of
+-- the SFDP bytes and of the unique ID, and for all other commands, the reply is FFh.
 abbrev pub reply_byte : Chip → Command → (i : ℕ) → ℕ
 reply_byte chip Poll i = status1_of chip
 reply_byte chip ReadStatus2 i = status2_of chip
@@ -43,8 +43,8 @@ reply_byte chip (ReadSfdp at) i = sfdp_byte chip.config (at + i)
 reply_byte chip ReadUnique i = slice_index_or chip.config.unique i 255
 reply_byte chip _ i = 255
 
--- The last byte that was sent for the address `a` of a page. The first byte sent is for the address `at`, and each
--- further one for the next address. Addresses wrap around at the end of the page.
+-- The last byte sent for the address `a` of the page of `at`, or `None` if none is. The first byte sent is for the
+-- address `at`, each further one for the next address; after the last address of the page comes its first one.
 unfoldable pub last_for : (at : ℕ) → (sent : List ℕ) → (a : ℕ) → Option ℕ
 last_for at [] a = None
 last_for at (byte ∷ sent) a = elim (last_for (at + 1) sent a) [
@@ -64,8 +64,8 @@ byte_after chip (Program at) sent a =
 byte_after chip (Erase start len) sent a = if nat_le start a && nat_lt a (start + len) then 255 else chip.bytes a
 byte_after chip _ sent a = chip.bytes a
 
--- The non-volatile status bits after the command. A status write sets BP, TB, SEC, SRP0, SRP1, QE and CMP as sent. An
--- LB bit that is set stays set, and the reserved bit is not written.
+-- The non-volatile status bits after the command. A status write sets BP, TB, SEC, SRP0, SRP1, QE and CMP as sent. It
+-- can set an LB bit but not clear it, and does not change the reserved bit.
 abbrev pub kept_after : Chip → Command → KeptBits
 kept_after chip (WriteStatus one two) = record {
   one = one / 4;
@@ -80,7 +80,8 @@ is_operation (Program at) = true
 is_operation (Erase start len) = true
 is_operation _ = false
 
--- `busy` after the command: any number below 65,536 after an operation, one less after a poll
+-- `busy` after the command: any number below 65,536 after an operation, one less after a poll (0 stays 0), otherwise
+-- unchanged
 abbrev pub BusyAfter : Chip → Command → (busy : ℕ) → Type 0
 BusyAfter chip (WriteStatus one two) busy = busy < 65536
 BusyAfter chip (Program at) busy = busy < 65536
@@ -106,7 +107,7 @@ running_after chip (Program at) = Runs.Program (at / 256)
 running_after chip (Erase start len) = Runs.Erase start len
 running_after chip _ = chip.running
 
--- The reply to a command that is carried out, and its effect.
+-- The effect of a command that is carried out: its reply, and the chip after it.
 pub record Does (command : Command) (sent : List ℕ) (old : Chip) (answer : List ℕ) (new : Chip) : Type 0 where
   pub replies : (i : ℕ) → i < length answer → slice_index answer i ≡ reply_byte old command i
   pub config : new.config ≡ old.config

@@ -5,7 +5,7 @@ use Rattle.hex.specs.Hex.{encode_lower}
 use Rattle.nor_chip.specs.declared.trace.TraceBus.{TraceBus}
 use Rattle.nor_chip.specs.declared.bus.Stopped.{Stopped}
 
--- the bus inside, the log, and whether a line was lost
+-- the bus inside (`traced_by`), the log (`log_of`), and whether a line was lost (`has_lost`)
 abbrev pub traced_by : {B L : Type 0} → TraceBus B L → B
 traced_by traced = traced.bus
 
@@ -15,7 +15,7 @@ log_of traced = traced.log
 abbrev pub has_lost : {B L : Type 0} → TraceBus B L → Bool
 has_lost traced = traced.lost
 
--- the end of a line, for the bytes received: their digits, or the number of them if there are more than three
+-- the end of a line, for the bytes received: their hexadecimal digits, or their number if there are more than three
 abbrev pub told_of : List ℕ → List ℕ
 told_of answer =
     if length answer == 0 then []
@@ -26,8 +26,8 @@ told_of answer =
 abbrev pub traced_line : (out answer : List ℕ) → List ℕ
 traced_line out answer = encode_lower out ++ told_of answer ++ codes "\n"
 
--- The effect of a transaction on the log. At a stop the log is as it was. If the transaction was carried out and no
--- line was lost, its line was appended, if the log's contents are known. Once a line is lost, that stays recorded.
+-- The effect of a transaction on the log. At a stop the log is as it was. If the bus inside carried the transaction out
+-- and no line is lost, its line was appended to the log's contents, if these are known. A lost line stays recorded.
 pub record Traces {B L : Type 0} (contents : L → Option (List ℕ)) (out answer : List ℕ) (outcome : Result Unit Stopped)
     (old new : TraceBus B L) : Type 0 where
   pub still_lost : has_lost old ≡ true → has_lost new ≡ true

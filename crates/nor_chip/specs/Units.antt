@@ -8,15 +8,16 @@ pub record HoldsSomewhere (test : ℕ → Bool) (start len : ℕ) : Type 0 where
   pub before : place < start + len
   pub holds : test place ≡ true
 
--- the test holds exactly at the addresses of the chip before the border, or exactly at those from the border on
+-- the test holds exactly at the addresses of the chip below the border (`OnFirst`), or exactly at those from the border
+-- on (`OnLast`)
 abbrev pub OnFirst : ℕ → (ℕ → Bool) → ℕ → Type 0
 OnFirst size test border = (a : ℕ) → a < size → test a ≡ nat_lt a border
 
 abbrev pub OnLast : ℕ → (ℕ → Bool) → ℕ → Type 0
 OnLast size test border = (a : ℕ) → a < size → test a ≡ nat_le border a
 
--- The test holds exactly in a range at one end of the chip. The range consists of whole KiB. On a chip of at least 256
--- KiB, a 64th of which is at least a sector, it consists of whole sectors.
+-- The test holds exactly in a range at one end of the chip, which consists of whole KiB. If the chip's size is a
+-- multiple of 256 KiB, the range consists of whole sectors, because a 64th of the chip does.
 pub record LieAtAnEnd (size : ℕ) (test : ℕ → Bool) : Type 0 where
   pub border : ℕ
   pub within : border ≤ size

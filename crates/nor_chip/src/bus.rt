@@ -21,15 +21,16 @@ impl std::error::Error for Stopped {}
 ///
 /// Contracts see a bus as a `BusState`. An *honest* (well-behaved) bus stops if and only if it has no transaction left;
 /// otherwise the chip makes one step. That holds for every transaction of an *unlimited* bus, and on any other honest
-/// bus for transactions that send at most 260 bytes (a page program) and read at most 4,096 (a sector); of a longer one
-/// only the records of what was sent and heard are promised.
+/// bus for transactions that send at most 260 bytes (a page program) and read at most 4,096 (a sector). For a longer
+/// transaction on a bus that isn't unlimited, only `sends` and `hears` hold.
 ///
 /// At a stop a *steady* bus sends nothing and keeps the chip's power. Any other honest bus may at a stop have sent the
-/// first bytes of the transaction (none, some or all) and have read bytes of the reply, which are lost, and the chip may
+/// first bytes of the transaction (none, some or all) and have read bytes of the reply, which are lost. The chip may
 /// then have lost its power.
 ///
-/// A faulty bus may do anything except three things: change its honesty, steadiness or limits, hide sent bytes that may
-/// modify a chip, and hide the BUSY bits that its polls replied.
+/// A faulty bus, which isn't honest, may do anything else, but `sends` and `hears` hold for it too. It stays honest or
+/// not, steady or not and unlimited or not; it records each transaction that may modify a chip; and `heard` follows the
+/// replies to its polls.
 pub trait Bus {
     ghost state: { Self → BusState };
 

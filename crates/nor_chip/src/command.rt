@@ -19,7 +19,7 @@ pub enum Command {
     WriteStatus(u8, u8),
     /// 02h: programs within one page, from this address.
     Program(u32),
-    /// 20h, 52h, D8h or C7h: erases from the first address, the given number of bytes.
+    /// 20h, 52h, D8h or C7h: erases. The fields are the first address and the length in bytes.
     Erase(u32, u32),
     /// 03h: reads from this address.
     ReadData(u32),
@@ -90,7 +90,7 @@ impl Command {
     }
 }
 
-// Returns the address that three bytes name, high byte first, modulo the chip's size.
+// Returns the address that three bytes form, high byte first, modulo the chip's size.
 fn address(config: &Config, x: u8, y: u8, z: u8) -> u32
     ensures { result ≡ address_of config.now x y z }
 {

@@ -4,8 +4,8 @@ ghost use Rattle.nor_chip.specs.Size.{is_chip_size};
 ghost use Rattle.nor_chip.specs.Sfdp.{sfdp_with};
 
 /// The SFDP bytes of `TINY64`, from address 0: the header, one parameter header, and double words 1 to 9 of the basic
-/// flash parameter table (JESD216). They were made for this project. The other emulated chips have the same bytes
-/// except for their size in double word 2, which are not the bytes of the real Winbond chips.
+/// flash parameter table (JESD216). The other emulated chips have the same bytes, except for the size in double word 2.
+/// These bytes were made for this project; a real Winbond chip has others.
 pub const TINY64_SFDP: [u8; 52] = [
     0x53, 0x46, 0x44, 0x50, 0x00, 0x01, 0x00, 0xFF, // signature, revision 1.0, one header
     0x00, 0x00, 0x01, 0x09, 0x10, 0x00, 0x00, 0xFF, // basic table, nine double words, at 10h
@@ -39,7 +39,8 @@ pub const ALL_KINDS: Kinds = Kinds {
 };
 
 /// The properties of a chip that never change: the ID (9Fh), the size in bytes, the erase types, whether the chip has
-/// block protection (`scheme`), the unique ID (4Bh), and the SFDP bytes. Past their end the SFDP reads as FFh.
+/// block protection (`scheme`), the unique ID (4Bh), and the SFDP bytes. Past the end of these bytes, the SFDP reads as
+/// FFh.
 #[derive(Clone, Copy)]
 pub struct Config {
     pub id: [u8; 3],
@@ -122,7 +123,7 @@ impl Config {
         }
     }
 
-    /// Returns the same configuration with this unique ID. (W25Q64FV datasheet, Read Unique ID Number.)
+    /// Returns this configuration with its unique ID replaced. (W25Q64FV datasheet, Read Unique ID Number.)
     pub fn with_unique(self, unique: [u8; 8]) -> Config
         ensures { result ≡ record self { unique = unique } }
     {

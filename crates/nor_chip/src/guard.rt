@@ -24,21 +24,21 @@ struct Places {
     len: u32,
 }
 
-// TB: the selected range is at the start of the chip, not at the end.
+// True if TB is set: the selected range is at the start of the chip, not at the end.
 fn is_bottom(code: u8) -> bool
     ensures { result ≡ is_bottom code }
 {
     code / 8 % 2 == 1
 }
 
-// SEC: BP counts sectors, not blocks.
+// True if SEC is set: BP counts sectors, not blocks.
 fn is_sector(code: u8) -> bool
     ensures { result ≡ names_sectors code }
 {
     code / 16 % 2 == 1
 }
 
-// CMP: the addresses outside the selected range are protected.
+// True if CMP is set: the addresses outside the selected range are protected.
 fn is_complement(code: u8) -> bool
     ensures { result ≡ is_complement code }
 {
@@ -92,10 +92,10 @@ pub(crate) fn is_guarded(size: u32, code: u8, at: u32) -> bool
     at < size && (is_undefined(code) || is_named(size, code, at) != is_complement(code))
 }
 
-/// Returns whether these two status bytes protect this address of a chip of this size with block protection. `size`
-/// must be one that a chip may have. An address past the end is not protected.
+/// Returns whether these two status bytes protect this address, on a chip of this size that has block protection.
+/// `size` must be a power of two from 65,536 to 16,777,216. An address past the end is not protected.
 ///
-/// The protected addresses are at one end of the chip. If one address of a page is protected, all are, so the chip
+/// The protected addresses are at one end of the chip. If one address of a page is protected, all are; the chip then
 /// ignores a program that begins there.
 pub fn protected(status: [u8; 2], size: u32, at: u32) -> bool
     requires { IsTrue (is_chip_size size) }
@@ -108,8 +108,9 @@ pub fn protected(status: [u8; 2], size: u32, at: u32) -> bool
 }
 
 /// Returns whether these two status bytes protect some address from `start` to `start + len - 1`, on a chip of this
-/// size with block protection. If the range is an erase block, the chip then ignores its erase. The range must not be
-/// empty, must lie on the chip, and `size` must be one that a chip may have.
+/// size that has block protection. If that range is an erase block with a protected address, the chip ignores its
+/// erase. The range must not be empty and must lie on the chip, and `size` must be a power of two from 65,536 to
+/// 16,777,216.
 ///
 /// Only the first and the last address are tested, because the protected addresses are at one end of the chip.
 pub fn unit_protected(status: [u8; 2], size: u32, start: u32, len: u32) -> bool
@@ -136,8 +137,8 @@ fn guarded_length(size: u32, code: u8) -> u32
     }
 }
 
-// Returns the first address of the range of this length at the start or at the end of the chip; an empty range starts
-// at 0.
+// Returns the first address of a range of this length at the start (`is_first`) or at the end of the chip; an empty
+// range starts at 0.
 fn start_of(size: u32, len: u32, is_first: bool) -> u32
     requires { len ≤ size }
     ensures { result ≡ (if is_first || len == 0 then 0 else size - len) }
@@ -159,7 +160,7 @@ fn places_of(size: u32, code: u8) -> Places
 
 /// Returns the range that this status protects on a chip of this size: its first address and its length, or two zeros
 /// if nothing is protected. Returns `None` if the datasheets don't define the status's protection bits; the model then
-/// protects every address. `size` must be one that a chip may have.
+/// protects every address. `size` must be a power of two from 65,536 to 16,777,216.
 pub fn guarded_range(status: Status, size: u32) -> Option<(u32, u32)>
     requires { IsTrue (is_chip_size size) }
     ensures { MatchOption result (is_undefined (code_of (kept_in (bytes_of status))) ≡ true)
@@ -185,7 +186,8 @@ fn guards_exactly(size: u32, code: u8, start: u32, len: u32) -> bool
 
 /// Returns the least defined protection code that protects exactly the range of `len` bytes from `start`, on a chip of
 /// this size. The bits of a code are CMP, SEC, TB, BP2, BP1 and BP0, the highest first. Returns `None` if no defined
-/// code protects exactly this range. `size` must be one that a chip may have. It allocates no memory.
+/// code protects exactly this range. `size` must be a power of two from 65,536 to 16,777,216. The function allocates no
+/// memory.
 pub fn code_for(start: u32, len: u32, size: u32) -> Option<u8>
     requires { IsTrue (is_chip_size size) }
     ensures least { IfSome result (IsLeastCode size start len) }
@@ -219,8 +221,8 @@ fn least_at(size: u32, code: u8) -> Option<Places>
 }
 
 /// Returns an iterator over the ranges that defined codes protect on a chip of this size, each range once, in the order
-/// of its least code. An item is the first address and the length; the empty range starts at 0. `size` must be one that
-/// a chip may have. It allocates no memory.
+/// of its least code. An item is the first address and the length; the empty range starts at 0. `size` must be a power
+/// of two from 65,536 to 16,777,216. The iterator allocates no memory.
 pub fn offered(size: u32) -> Offered
     requires { IsTrue (is_chip_size size) }
     ensures { IsStart size result }

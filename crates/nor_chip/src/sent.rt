@@ -6,9 +6,9 @@ use crate::command::{is_change, is_changing, is_quiet};
 use crate::{MOST_SECTORS, SECTOR_LEN};
 
 /// The record of the transactions that a bus sent, or was asked to send, and that may modify a chip. It contains
-/// whether a modifying opcode was sent, and whether a transaction was sent that the model does not know. It also
-/// contains which sectors erases and programs targeted, which bytes status writes had, and the numbers of erases,
-/// programs and status writes. A bus holds one record, and notes each transaction in it before it sends anything.
+/// whether a modifying opcode was sent; whether a transaction was sent that the model does not know; which sectors
+/// erases and programs targeted; which bytes status writes had; and the numbers of erases, programs and status writes.
+/// A bus has one record, and notes each transaction in it before it sends anything.
 #[derive(Drop)]
 pub struct Sent {
     stirred: bool,
@@ -36,7 +36,7 @@ impl Sent {
         }
     }
 
-    /// Notes a transaction that sends `out`.
+    /// Adds a transaction that sends `out` to the record, if it may modify a chip.
     pub fn note(&mut self, out: &[u8])
         ensures { Notes out.now self.old self.new }
     {
@@ -57,7 +57,7 @@ impl Sent {
         }
     }
 
-    // Notes the two bytes of a status write.
+    // Adds the two bytes of a status write to the record, if `out` is one.
     fn note_status(&mut self, out: &[u8])
         ensures written { (one two : ℕ) → has_written self.new one two
             ≡ (has_written self.old one two || writes_status out.now one two) }

@@ -34,8 +34,8 @@ impl fmt::Display for WrongLength {
 
 impl std::error::Error for WrongLength {}
 
-/// An honest bus to a chip that is simulated in memory. It carries out the number of transactions that `allow` set, and
-/// then stops.
+/// An honest bus to a chip that is simulated in memory. After it has carried out the number of transactions that
+/// `allow` set, it stops.
 #[derive(Drop)]
 pub struct SimBus {
     flash: Flash,
@@ -131,14 +131,14 @@ impl SimBus {
         self.torn = count;
     }
 
-    /// Returns the two status bytes, as 05h and 35h would reply them.
+    /// Returns the two status bytes, as 05h and 35h read them.
     pub fn status(&self) -> [u8; 2]
         ensures { result ≡ status_of (⟦<SimBus as Bus>⟧.state self.now).chip }
     {
         self.flash.status().bytes()
     }
 
-    // Sends the first bytes of the transaction, if `tear` set that.
+    // Sends the first bytes of a transaction at which the bus stops, if `tear` set that.
     fn tear_off(&mut self, out: &[u8])
         ensures torn { TornTo (torn_of self.old) out.now (chip_of self.old.flash) (chip_of self.new.flash) }
         ensures worn { WornTo (torn_of self.old) out.now (chip_of self.old.flash)
@@ -152,7 +152,8 @@ impl SimBus {
         }
     }
 
-    // Performs a stop: cuts the transaction and loses the chip's power, if `tear` and `lose` set that.
+    // Performs a stop: sends the first bytes of the transaction, and makes the chip lose its power, if `tear` and
+    // `lose` set that.
     fn cut(&mut self, out: &[u8])
         ensures at_stop { AtStop out.now (state_of self.old) (state_of self.new) }
         ensures torn_off { TearsOff (torn_of self.old) (fill_of self.old) out.now

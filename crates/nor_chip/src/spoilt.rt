@@ -119,8 +119,8 @@ impl<B: Meter> Meter for SpoiltBus<B> {
     }
 }
 
-// Returns the byte that every reply has, if the next transaction is dropped; `sent` transactions were counted before
-// it.
+// Returns the value of each reply byte if the next transaction is dropped, and `None` if it isn't. `sent` is the number
+// of transactions counted before it.
 fn withheld(spoil: Spoil, sent: u64) -> Option<u8>
     ensures { result ≡ withheld spoil sent }
 {
@@ -131,7 +131,8 @@ fn withheld(spoil: Spoil, sent: u64) -> Option<u8>
     }
 }
 
-// Returns the reply byte in place of `byte`, for the next transaction; `sent` transactions were counted before it.
+// Returns the reply byte that replaces `byte` in the next transaction. `sent` is the number of transactions counted
+// before it.
 fn spoilt_byte(spoil: Spoil, sent: u64, out: &[u8], byte: u8) -> u8
     ensures { result ≡ spoilt_byte spoil sent out.now byte }
 {

@@ -27,11 +27,11 @@ bitflag_items! {
         const TB = 0x20;
         /// Set if BP counts sectors, clear if it counts blocks.
         const SEC = 0x40;
-        /// Set if the status is locked.
+        /// Locks the status registers if set. The model assumes that the WP# pin is low.
         const SRP0 = 0x80;
     }
     impl Status2: u8 {
-        /// Set if the status is locked.
+        /// Locks the status registers if set.
         const SRP1 = 0x01;
         /// Set if quad transfers are enabled.
         const QE = 0x02;
@@ -104,7 +104,7 @@ impl Status1 {
     // The non-volatile bits that are not protection bits.
     const FIXED: Status1 = Status1(Self::KEPT.0 & !Self::CODE.0);
 
-    // Returns these non-volatile bits with WEL and BUSY set as given.
+    // Returns these non-volatile bits, with WEL set if `latch` is true and BUSY if `busy` is.
     #[tactic(auto, using(crate::proofs::StatusBits::or_latch, crate::proofs::StatusBits::or_busy))]
     pub(crate) fn with(self, latch: bool, busy: bool) -> Status1
         requires { self.0 % 4 ≡ 0 }
@@ -200,8 +200,8 @@ impl Status {
         }
     }
 
-    /// Returns the status with these never-changed bits and the protection bits of `code`, which must be below 64.
-    /// BUSY, WEL and SUS are clear.
+    /// Returns this status with its protection bits replaced by those of `code`, which must be below 64, and with BUSY,
+    /// WEL and SUS clear.
     #[tactic(auto, using(crate::proofs::StatusBits::coded_one, crate::proofs::StatusBits::coded_two))]
     pub fn with_code(self, code: u8) -> Status
         requires { code < 64 }
@@ -234,8 +234,8 @@ impl Status {
         }
     }
 
-    // Returns the non-volatile bits after a status write of `sent`: BP, TB, SEC, SRP0, SRP1, QE and CMP are as sent. An
-    // LB bit that is set stays set, and the reserved bit stays as it is.
+    // Returns the non-volatile bits after a status write of `sent`: BP, TB, SEC, SRP0, SRP1, QE and CMP as sent. The
+    // write can set an LB bit but not clear it, and does not change the reserved bit.
     #[tactic(auto, using(crate::proofs::StatusBits::written_lt))]
     pub(crate) fn written(self, sent: Status) -> Status
         ensures one { result.one.0 ≡ sent.one.0 / 4 * 4 }

@@ -5,8 +5,8 @@ ghost use Rattle.nor_chip.specs.Power.{RunsInside};
 use super::cells;
 use crate::{Command, Config, Running, Status, guard};
 
-// A chip. `kept` has the non-volatile status bits, `latch` is WEL, `busy` is the number of polls that will still show
-// BUSY, `each` is that number after each operation, and `running` is the operation in progress.
+// A simulated chip. `kept` has the non-volatile status bits, `latch` is WEL, and `busy` is the number of further polls
+// that will show BUSY. `each` is the value of `busy` after each operation, and `running` is the operation in progress.
 #[derive(Drop)]
 pub(crate) struct Flash {
     pub(crate) config: Config,
@@ -125,7 +125,7 @@ impl Flash {
         self.latch = self.each != 0;
     }
 
-    // Counts a poll. The poll that shows the last BUSY also clears the write enable latch.
+    // Updates the chip for a poll. The poll that shows the last BUSY also clears the write enable latch.
     fn tick(&mut self)
         ensures does { Does Command.Poll [] (chip_of self.old) [] (chip_of self.new) }
         ensures paces { Paces Command.Poll self.old self.new }
@@ -181,8 +181,8 @@ impl Flash {
         }
     }
 
-    // Loses the power: a running operation is interrupted, the write enable latch is cleared, and nothing runs any
-    // more. `cut` describes the effect of `fill`.
+    // Makes the chip lose its power: a running operation is interrupted, the write enable latch is cleared, and nothing
+    // runs any more. `cut` describes the effect of `fill`.
     pub(crate) fn lose_power(&mut self, fill: u8)
         ensures cut { PowerLostWith fill (chip_of self.old) (chip_of self.new) }
         ensures pace { self.new.each ≡ self.old.each }
