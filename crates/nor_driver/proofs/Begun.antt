@@ -15,7 +15,7 @@ use Rattle.nor_driver.specs.Waits.{HasWaited, latch_when_idle}
 use Rattle.nor_driver.specs.Operations.{operation_of, AsksForOperation, MayOperate, HasOperated}
 use Rattle.nor_driver.proofs.Readings.{Wore, no_operation}
 
--- After write enable: an idle chip has its latch set, and nothing else changed.
+-- On an honest bus, after write enable: an idle chip has its latch set, and nothing else changed.
 pub record IsEnabled (old new : BusState) : Type 0 where
   pub unchanged : Unchanged old new
   pub busy : new.chip.busy ≡ old.chip.busy
@@ -29,7 +29,7 @@ enabled old new [] none carries =
     grind (arith, nothing, carries.step, carries.worn)
 enabled old new (byte ∷ rest) none carries = absurd (omega arith)
 
--- after write enable the command does what the operation does
+-- after write enable, the chip carries out the command that `operation_of` names
 pub then_done : (out : List ℕ) (old ready : BusState) → AsksForOperation out → IsEnabled old ready
     → done_of ready.chip out 0 ≡ operation_of old.chip out
 then_done out old ready asks enabling = elim (eqb_tells old.chip.busy 0) [
@@ -78,18 +78,18 @@ outside-work : (chip : Chip) (command : Command) (sent : List ℕ) (a : ℕ)
     → byte_after chip command sent a ≡ chip.bytes a
 outside-work chip command sent a out is = grind arith
 
--- the non-volatile bits after an operation was interrupted
+-- the non-volatile bits after an interrupted operation are those from before it, or those that it sets
 kept-cut : (command : Command) (old : Chip) (begun new : KeptBits) → is_operation command ≡ true
     → begun ≡ kept_after old command → KeptCut (running_after old command) begun new
     → (new ≡ old.kept) ⊎ (new ≡ kept_after old command)
 kept-cut command old begun new is kept cut = grind arith
 
--- the operation had not begun
+-- a call that began no operation satisfies `MayOperate`
 pub may-before : (command : Command) (sent : List ℕ) (old new : BusState) → old.chip.busy ≡ 0 → Stays old new
     → MayOperate command sent old new
 may-before command sent old new idle stays = grind (arith, stays.calm (inr idle))
 
--- the operation had begun
+-- a call that began the operation, and then only waited, satisfies `MayOperate`
 pub may-after : (command : Command) (sent : List ℕ) (old begun new : BusState) → is_operation command ≡ true
     → begun.steady ≡ old.steady → HasBegun command sent old begun → Stays begun new → MayOperate command sent old new
 may-after command sent old begun new is steady has stays =
@@ -106,7 +106,7 @@ pub operated : (command : Command) (sent : List ℕ) (old begun new : BusState) 
     → HasBegun command sent old begun → HasWaited begun new waited → HasOperated command sent old new
 operated command sent old begun new waited has waits = grind (arith, nat_tests)
 
--- the write enable latch of a chip that ignored the operation
+-- after an ignored operation and a wait, the write enable latch is set if and only if the chip was idle at the start
 pub latch-kept : (old ready begun : BusState) → IsEnabled old ready → begun.chip.latch ≡ ready.chip.latch
     → begun.chip.busy ≡ ready.chip.busy → latch_when_idle begun.chip ≡ is_idle old.chip
 latch-kept old ready begun enabling latch busy = grind (arith, nat_tests)

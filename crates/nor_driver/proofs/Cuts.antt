@@ -1,4 +1,4 @@
--- The effect of several transactions that only read.
+-- The effect of successive calls that begin no operation.
 use Rattle.std.proofs.Common.{◌≡◌, arith}
 use Rattle.nor_chip.specs.declared.running.Running.{Running}
 use Rattle.nor_chip.specs.Chip.{Chip, IsSame, KeptBits}
@@ -10,7 +10,7 @@ use Rattle.nor_driver.specs.Looks.{Unchanged, Stays}
 pub kept_cut-stay : (running : Running) (old new : KeptBits) → new ≡ old → KeptCut running old new
 kept_cut-stay running old new stay = grind arith
 
--- the non-volatile bits after two interruptions of the same operation
+-- two interruptions of the same operation in turn satisfy `KeptCut` together
 cut_again : (running : Running) (old mid new : KeptBits) → KeptCut running old mid → KeptCut running mid new
     → KeptCut running old new
 cut_again running old mid new first second = grind arith
@@ -30,7 +30,7 @@ unchanged_stays old new unchanged =
     let kept = kept_cut-stay old.chip.running old.chip.kept new.chip.kept same.kept in
     search same.bytes
 
--- two calls that begin no operation together begin none
+-- if two successive calls satisfy `Stays`, both together satisfy it
 pub stays_then : (old mid new : BusState) → mid.steady ≡ old.steady → Stays old mid → Stays mid new → Stays old new
 stays_then old mid new steady first second =
     let cut = cut_again old.chip.running old.chip.kept mid.chip.kept new.chip.kept first.kept in

@@ -24,7 +24,7 @@ use Rattle.nor_driver.proofs.Limits.{IsPartOf, stirs_more}
 use Rattle.nor_driver.proofs.Programming.{same_address}
 use Rattle.nor_driver.proofs.Taken.{may_taken, has_taken, may_refused, has_refused}
 
--- the bytes that are sent for an erase block: no status write, and no data after an address
+-- the bytes that are sent to erase a block: the opcode, and three address bytes except for the whole chip
 abbrev pub erase_bytes : EraseUnit → ℕ → ℕ → ℕ → List ℕ
 erase_bytes Units.Chip x y z = 0xC7 ∷ []
 erase_bytes unit x y z = opcode_of unit ∷ x ∷ y ∷ z ∷ []
@@ -33,7 +33,7 @@ plain : (unit : EraseUnit) (x y z : ℕ) → drop 4 (erase_bytes unit x y z) ≡
 plain Units.Chip x y z = refl
 plain _ x y z = refl
 
--- they are one erase, no page program and no status write
+-- the bytes of an erase count as one erase, no page program and no status write
 one_erase : (unit : EraseUnit) (x y z : ℕ)
     → (begins_erase (erase_bytes unit x y z) ≡ true) × (begins_program (erase_bytes unit x y z) ≡ false)
     × (begins_status_write (erase_bytes unit x y z) ≡ false)
@@ -70,7 +70,7 @@ erased_where : (chip : Chip) (has : Bool) (start start' len len' : ℕ) → star
     ≡ cond (is_idle chip && has && not (is_unit_guarded chip start' len')) (Commands.Erase start' len') Commands.Ignored
 erased_where chip has start start' len len' same long = grind (arith, and-false)
 
--- the first address of an aligned block
+-- the first address of an aligned block stays the same if it is rounded down to a multiple of the block's length
 unit_start : (config : Config) (x y z sector len : ℕ) → 65536 * x + 256 * y + z ≡ 4096 * sector
     → 4096 * sector < config.size → 4096 * sector / len * len ≡ 4096 * sector
     → address_of config x y z / len * len ≡ 4096 * sector
@@ -91,7 +91,7 @@ erase_command chip unit sector x y z names on =
     erased_where chip (has_unit chip.config unit) _ (4096 * sector) len len
     (unit_start chip.config x y z sector len names (omega arith) (omega (arith, eqb-true))) refl
 
--- an address in a range of whole sectors lies in one of these sectors
+-- an address is in a range of whole sectors if and only if its sector is one of these sectors
 in_unit : (sector n a : ℕ) → (nat_le (4096 * sector) a && nat_lt a (4096 * sector + 4096 * n))
     ≡ (nat_le sector (a / 4096) && nat_lt (a / 4096) (sector + n))
 in_unit sector n a = grind (arith, nat_tests)
@@ -101,7 +101,7 @@ module _ (erase : Erase) (old new : BusState) where
   abbrev does : Command
   does = Commands.Erase (4096 * erase.sector) (unit_length old.chip erase)
 
-  -- an address of the block, and a sector of it
+  -- the addresses that the command erases are those of the erase block (`place`), and so are the sectors (`sector`)
   place : (a : ℕ) → (nat_le (4096 * erase.sector) a && nat_lt a (4096 * erase.sector + unit_length old.chip erase))
       ≡ is_place_in_unit erase old.chip a
   place a = in_unit erase.sector (sectors_in (sectors_of old.chip) erase.unit) a

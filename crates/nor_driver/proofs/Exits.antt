@@ -20,7 +20,7 @@ use Rattle.nor_driver.proofs.Readings.{carried_ignored}
 use Rattle.nor_driver.proofs.Begun.{IsEnabled, enabled, then_done, part_done, operation-ignored, idle-takes, HasBegun, operation-begins, may-before, may-after, may-shaky, operated, latch-kept}
 
 module _ (out : List ℕ) (asks : AsksForOperation out) (old : BusState) where
-  -- the command wasn't carried out
+  -- an exit at which the command wasn't carried out
   not_begun : (new : BusState) → Stirs (limits_of out) old new
       → (old.honest ≡ true → Falls most_operation old new) → (old.honest ≡ true → Stays old new)
       → LeavesOperation out old new
@@ -37,7 +37,7 @@ module _ (out : List ℕ) (asks : AsksForOperation out) (old : BusState) where
   enabled_stirs : (new : BusState) → Sends (6 ∷ []) old new → is_stirred new.sent ≡ true
   enabled_stirs new sends = sends.sent.stirred ∙ or-true (is_stirred old.sent)
 
-  -- the write enable itself was the last thing sent
+  -- an exit at the write enable: the bus stopped there
   pub leaves-at_enable : (new : BusState) → Sends (6 ∷ []) old new
       → (IsHonestFor (6 ∷ []) 0 old → Stops (6 ∷ []) old new)
       → LeavesOperation out old new
@@ -55,7 +55,7 @@ module _ (out : List ℕ) (asks : AsksForOperation out) (old : BusState) where
     honest-still : old.honest ≡ true → ready.honest ≡ true
     honest-still honest = sends.nature.honest ∙ honest
 
-    -- the command itself was the last thing sent
+    -- an exit at the command: the limits of what was sent hold
     stirs-by : (new : BusState) → Sends out ready new → Stirs (limits_of out) old new
     stirs-by new sends' =
         let nature = nature_then old ready new sends'.nature sends.nature in
@@ -65,7 +65,8 @@ module _ (out : List ℕ) (asks : AsksForOperation out) (old : BusState) where
           sends = command_sends out old ready new asks.known sends sends';
         }
 
-    -- The bytes that were sent of the command were no operation, or the operation itself.
+    -- If the bus stopped at the command, the bytes that were sent asked for no operation, or for the command's
+    -- operation.
     module _ (honest : old.honest ≡ true) (new : BusState) where
       stays-before : Stays ready new → Stays old new
       stays-before stays = stays_after old ready new sends.nature.steady (enabling honest).unchanged stays

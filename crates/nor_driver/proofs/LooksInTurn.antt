@@ -7,14 +7,15 @@ use Rattle.nor_driver.proofs.Readings.{looked_then, looked_more}
 pub use Rattle.nor_driver.proofs.Cuts.{same_then}
 use Rattle.nor_driver.proofs.Cuts.{unchanged_none, unchanged_stays}
 
--- two calls that only read, with at most `m` and `n` transactions
+-- if two successive calls only read, with at most `m` and `n` transactions, both together only read, with at most `m +
+-- n`
 pub looks_then : (m n : ℕ) (old mid new : BusState) → Looks m old mid → Looks n mid new → Looks (m + n) old new
 looks_then m n old mid new first second =
     let nature = nature_then old mid new second.nature first.nature in
     let looked = looked_then m n old mid new first.nature.steady in
     grind (arith, nature, looked, first.looked, second.looked)
 
--- no call leaves the state as it is
+-- a state that did not change satisfies `Looks` with a bound of 0 transactions
 pub looks_none : (state : BusState) → Looks 0 state state
 looks_none state = search (nature_refl state, unchanged_stays state state (unchanged_none state), arith)
 

@@ -15,7 +15,7 @@ use Rattle.nor_driver.specs.Programs.{takes_program, is_sector_of, MayProgram, H
 use Rattle.nor_driver.proofs.Limits.{IsPartOf, stirs_more}
 use Rattle.nor_driver.proofs.Taken.{may_taken, has_taken, may_refused, has_refused}
 
--- the chip takes an address below its size as it is
+-- an address below the chip's size stays the same if it is taken modulo that size
 pub same_address : (config : Config) (x y z at : ℕ) → 65536 * x + 256 * y + z ≡ at → at < config.size
     → address_of config x y z ≡ at
 same_address config x y z at names below = rw names (mod-eq_of_lt below)
@@ -40,7 +40,7 @@ module _ (at : ℕ) (sent : List ℕ) (fits : at % 256 + length sent ≤ 256) (o
       let byte = λ (a : ℕ). byte_after-program old.chip at sent a fits in
       grind (arith, byte, or-false)
 
--- a page program as a whole
+-- the contract of `program_page` follows from that of `operation`
 module _ (at : ℕ) (sent command : List ℕ) (sends : IsCommandAt 0x02 at sent command) (some : 0 < length sent)
     (fits : at % 256 + length sent ≤ 256) (old new : BusState) where
   asked : at < old.chip.config.size

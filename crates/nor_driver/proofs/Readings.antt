@@ -16,7 +16,7 @@ use Rattle.nor_driver.proofs.Cuts.{stays_then, unchanged_none, unchanged_then, u
 pub use Rattle.nor_driver.proofs.Torn.{Wore, no_operation}
 use Rattle.nor_driver.proofs.Torn.{looked_at_stop}
 
--- the effect of a command that changes nothing
+-- a command that changes nothing is no operation, and leaves `busy` and the write enable latch as they were
 nothing_done : (command : Command) (sent answer : List ℕ) (old new : Chip) → changes_nothing command ≡ true
     → Does command sent old answer new
     → (is_operation command ≡ false) × (new.busy ≡ old.busy) × (new.latch ≡ old.latch)
@@ -39,11 +39,11 @@ pub carried_ignored : (out answer : List ℕ) (old new : BusState) → done_of o
     → Carries out answer old new → HasRead old new
 carried_ignored out answer old new ignored carries = carried_by out answer old new (ap changes_nothing ignored) carries
 
--- a read that succeeded satisfies the relation for every exit
+-- the relation for reads that succeeded (`Rested`) implies the one for every exit (`LooksHonest`)
 pub looked_by : (old new : BusState) (most : ℕ) → Rested old new → old.left ≡ new.left + most → LooksHonest most old new
 looked_by old new most rested count = search (arith, unchanged_stays old new rested.unchanged)
 
--- calls that only read, one after another
+-- two successive calls that only read satisfy `LooksHonest` together, with the sum of their bounds
 pub looked_then : (m n : ℕ) (old mid new : BusState) → mid.steady ≡ old.steady → LooksHonest m old mid
     → LooksHonest n mid new → LooksHonest (m + n) old new
 looked_then m n old mid new steady first second =

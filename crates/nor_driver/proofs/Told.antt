@@ -29,7 +29,7 @@ reads_sfdp old new x y z at len answer names long replies = record {
       (λ i below. replies.told honest i below ∙ rw (idle, names) refl);
 }
 
--- an address of a sector on the chip
+-- the address that the chip reads for byte `i` of a sector that lies on the chip
 place_in : (size at sector i : ℕ) → at ≡ 4096 * sector → 4096 * (sector + 1) ≤ size → i < 4096
     → (at % size + i) % size ≡ 4096 * sector + i
 place_in size at sector i names inside small =

@@ -29,7 +29,7 @@ pub record StandsStill (old new : BusState) : Type 0 where
   pub chip : new.chip ≡ old.chip
   pub worn : (s : ℕ) → new.worn s ≡ old.worn s
 
--- on a steady bus a stop changes nothing
+-- a stop changed nothing, or the bus isn't steady
 pub still_or_torn : (out : List ℕ) (old new : BusState) → AtStop out old new
     → StandsStill old new ⊎ ((old.steady ≡ false) × AtStop out old new)
 still_or_torn out old new stop = elim (cases_Bool old.steady) [
@@ -49,7 +49,7 @@ lost_stays old new shaky lost worn = grind (arith, lost.bytes, worn)
 
 -- ---- a transaction that was cut
 
--- the bus after the sent bytes were carried out, before a power failure
+-- the state of the bus after the chip carried out the bytes that were sent, before a power failure
 abbrev pub reached : (out : List ℕ) (old new : BusState) → AtStop out old new → BusState
 reached out old new cut = record old { chip = cut.reached; worn = new.worn }
 
@@ -60,7 +60,7 @@ reached_stays out old new shaky cut = elim cut.chip [
   | inr lost ↦ lost_stays (reached out old new cut) new shaky lost (λ s. refl)
 ]
 
--- the sent bytes asked for no operation
+-- if the bytes that were sent ask for no operation, the state satisfies `Stays`
 pub none_begun : (out : List ℕ) (old new : BusState) → old.steady ≡ false → (cut : AtStop out old new)
     → is_operation (done_of old.chip (take cut.count out) (length cut.read)) ≡ false → Stays old new
 none_begun out old new shaky cut none =

@@ -32,25 +32,28 @@ pub record CanErase (erase : Erase) (chip : Chip) : Type 0 where
   pub offered : has_unit chip.config erase.unit ≡ true
   pub free : is_unit_guarded chip (4096 * erase.sector) (unit_length chip erase) ≡ false
 
--- an idle chip carries out this erase
+-- the chip carries out this erase after a write enable: it is idle, has the erase type, and protects no address of the
+-- block
 abbrev pub takes_erase : Chip → Erase → Bool
 takes_erase chip erase =
     is_idle chip && has_unit chip.config erase.unit
     && not (is_unit_guarded chip (4096 * erase.sector) (unit_length chip erase))
 
--- the sector `s` is in the erase block; the address `a` is in it
+-- the sector `s` is in the erase block (`is_sector_in_unit`), or the address `a` is (`is_place_in_unit`)
 abbrev pub is_sector_in_unit : Erase → Chip → ℕ → Bool
 is_sector_in_unit erase chip s = erases_sector (sectors_of chip) s erase
 
 abbrev pub is_place_in_unit : Erase → Chip → ℕ → Bool
 is_place_in_unit erase chip a = is_sector_in_unit erase chip (a / 4096)
 
--- the sector is in the aligned block that the erase command names, on a chip of the largest size, 16 MiB
+-- the sector is in the aligned block that the erase command addresses; for C7h that is all 4,096 sectors of the largest
+-- chip
 abbrev pub is_sector_named : Erase → ℕ → Bool
 is_sector_named erase s = is_in_aim (aim_unit (sectors_in 4096 erase.unit) erase.sector) s
 
 -- On an honest bus, at every exit: bytes and erased sectors outside the erase block, and the non-volatile bits, are as
--- they were. In the block each byte is as it was or FFh; if the bus isn't steady, it may be anything.
+-- they were. In the block each byte is as it was or FFh; if the bus isn't steady, it may have any value. A chip that is
+-- still busy executes this erase.
 pub record MayErase (erase : Erase) (old new : BusState) : Type 0 where
   pub config : new.chip.config ≡ old.chip.config
   pub bytes : ChangesOnly old.steady (is_place_in_unit erase old.chip) (λ _. 255) old.chip.bytes new.chip.bytes

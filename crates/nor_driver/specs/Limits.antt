@@ -4,7 +4,7 @@ use Rattle.nor_chip.specs.Sent.{aims, begins_erase, begins_program, begins_statu
 use Rattle.nor_chip.specs.Bus.{BusState, KeepsNature}
 
 -- Limits on modifying commands: the sectors that erases and page programs may target, the two bytes that a status write
--- may have, and the most erases, page programs and status writes.
+-- may have, and the greatest numbers of erases, page programs and status writes.
 pub record Limits : Type 0 where
   pub sectors : ℕ → Bool
   pub status : (one two : ℕ) → Bool
@@ -41,7 +41,8 @@ limits_of out = record {
   status_writes = if begins_status_write out then 1 else 0;
 }
 
--- Between the two states no more was sent than these limits allow, and no transaction that the model does not know.
+-- Between the two states the bus was asked to send nothing beyond these limits, and no transaction that the model does
+-- not know.
 pub record SendsWithin (limits : Limits) (old new : BusState) : Type 0 where
   pub aimed : (s : ℕ) → (is_aimed_at new.sent s ≡ is_aimed_at old.sent s) ⊎ (limits.sectors s ≡ true)
   pub written : (one two : ℕ)
@@ -51,12 +52,12 @@ pub record SendsWithin (limits : Limits) (old new : BusState) : Type 0 where
   pub status_writes : status_writes_of new.sent ≤ status_writes_of old.sent + limits.status_writes
   pub strange : is_strange new.sent ≡ is_strange old.sent
 
--- A count grew by `n`, unless the sum does not fit in a u64; then it grew by at most `n`.
+-- A count is at most `n` higher than before, and exactly `n` higher if the sum fits in a u64.
 pub record CountsUp (n before after : ℕ) : Type 0 where
   pub most : after ≤ before + n
   pub exact : before + n < 2 ^ 64 → after ≡ before + n
 
--- Exactly these numbers of erases, page programs and status writes were sent, as far as their counts fit in a u64.
+-- Exactly these numbers of erases, page programs and status writes were sent, if their counts fit in a u64.
 pub record SendsExactly (erases programs status_writes : ℕ) (old new : BusState) : Type 0 where
   pub erased : CountsUp erases (erases_of old.sent) (erases_of new.sent)
   pub programmed : CountsUp programs (programs_of old.sent) (programs_of new.sent)

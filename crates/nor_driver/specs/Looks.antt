@@ -4,7 +4,7 @@ use Rattle.nor_chip.specs.Chip.{IsSame}
 use Rattle.nor_chip.specs.Power.{is_in_work, KeptCut}
 use Rattle.nor_chip.specs.Bus.{BusState, KeepsNature}
 
--- The bus is steady or the chip idle, so a stop can't interrupt a running operation.
+-- The bus is steady or the chip is idle, so a stop can't interrupt a running operation.
 abbrev pub IsCalm : BusState → Type 0
 IsCalm state = (state.steady ≡ true) ⊎ (state.chip.busy ≡ 0)
 
@@ -16,8 +16,8 @@ pub record Unchanged (old new : BusState) : Type 0 where
   pub busy : new.chip.busy ≤ old.chip.busy
   pub worn : (s : ℕ) → new.worn s ≡ old.worn s
 
--- On an honest bus, at every exit of a call that began no operation: only an operation from before the call may have
--- been interrupted.
+-- On an honest bus, at every exit of a call that began no operation. An operation from before the call may have been
+-- interrupted; apart from that, bytes, non-volatile bits and erased sectors are as they were.
 pub record Stays (old new : BusState) : Type 0 where
   pub config : new.chip.config ≡ old.chip.config
   pub calm : IsCalm old → IsSame old.chip new.chip
@@ -34,7 +34,7 @@ pub record Rested (old new : BusState) : Type 0 where
   pub latch : new.chip.latch ≡ true → old.chip.latch ≡ true
   pub idle_latch : old.chip.busy ≡ 0 → new.chip.latch ≡ old.chip.latch
 
--- On an honest bus, at every exit: at most this many transactions were sent.
+-- On an honest bus, at every exit: at most `most` transactions were carried out.
 pub record Falls (most : ℕ) (old new : BusState) : Type 0 where
   pub fell : new.left ≤ old.left
   pub bound : old.left ≤ new.left + most
@@ -47,14 +47,15 @@ pub record LooksHonest (most : ℕ) (old new : BusState) : Type 0 where
   pub idle_latch : old.steady ≡ true → old.chip.busy ≡ 0 → new.chip.latch ≡ old.chip.latch
   pub falls : Falls most old new
 
--- On every bus, at every exit: the record of modifying commands is as it was. On an honest bus at most this many
--- transactions were sent.
+-- On every bus, at every exit: the record of modifying commands is as it was. On an honest bus at most `most`
+-- transactions were carried out.
 pub record Looks (most : ℕ) (old new : BusState) : Type 0 where
   pub nature : KeepsNature old new
   pub sent : new.sent ≡ old.sent
   pub looked : old.honest ≡ true → LooksHonest most old new
 
--- On an honest bus, a call that needs this many transactions stopped: fewer were left, and all of these were used.
+-- On an honest bus, a call that needs `needed` transactions stopped: fewer were left, and all of these were carried
+-- out.
 pub record RanOut (needed : ℕ) (old new : BusState) : Type 0 where
   pub none_left : new.left ≡ 0
   pub below : old.left < needed
@@ -63,7 +64,7 @@ pub record RanOut (needed : ℕ) (old new : BusState) : Type 0 where
 abbrev pub RanOutIfHonest : ℕ → (old new : BusState) → Type 0
 RanOutIfHonest needed old new = old.honest ≡ true → RanOut needed old new
 
--- A bus that is honest, with an idle chip of this size.
+-- The bus is honest, and its chip is idle and has this size.
 pub record IsOpen (size : ℕ) (state : BusState) : Type 0 where
   pub honest : state.honest ≡ true
   pub idle : state.chip.busy ≡ 0

@@ -1,4 +1,4 @@
--- The effect of an operation of any kind: a write enable, a command, and a wait.
+-- The effect of any operation: a write enable, a command, and a wait.
 use Rattle.std.specs.Prelude.{◌≡◌, ◌≢◌, ◌≤◌, ◌+◌, ◌*◌, ◌⊎◌, ◌||◌, ℕ, Bool, true, false, List, ◌∷◌, length, drop, take, slice_index, if◌then◌else◌}
 use Rattle.nor_chip.specs.declared.config.Config.{Config}
 use Rattle.nor_chip.specs.declared.command.Command.{Command}
@@ -12,7 +12,7 @@ use Rattle.nor_chip.specs.Bus.{BusState}
 use Rattle.nor_driver.specs.Looks.{Stays, Falls}
 use Rattle.nor_driver.specs.Limits.{limits_of, Stirs, SendsExactly}
 
--- the most transactions of an operation: write enable, its command and 65,536 polls
+-- the greatest number of transactions of an operation: write enable, its command and 65,536 polls
 abbrev pub most_operation : ℕ
 most_operation = 65538
 
@@ -33,9 +33,9 @@ is_operation_or_none (Erase start len) = true
 is_operation_or_none Ignored = true
 is_operation_or_none _ = false
 
--- For every chip these bytes are an operation, or are ignored. Each prefix of them is the same operation, or is ignored,
--- whatever number of reply bytes is read after it. The transaction is one that the model knows, and short enough for
--- every honest bus.
+-- For every chip these bytes are an operation, or are ignored. Each prefix of them is the same operation or is ignored,
+-- regardless of how many reply bytes are read after it. The transaction is one that the model knows, and short enough
+-- for every honest bus.
 pub record AsksForOperation (out : List ℕ) : Type 0 where
   pub known : is_strange_to_model out ≡ false
   pub whole : (config : Config) → is_operation_or_none (command_of config out 0) ≡ true
@@ -56,8 +56,8 @@ pub record HasIgnored (old new : BusState) : Type 0 where
   pub worn : (s : ℕ) → new.worn s ≡ old.worn s
   pub latch : new.chip.latch ≡ is_idle old.chip
 
--- An operation succeeded with `sent` transactions. On every bus these are 3 to 65,538, and the last poll showed that
--- the chip is ready. On an honest bus `sent` fewer transactions are left, and the chip is idle.
+-- An operation succeeded with `sent` transactions. On every bus `sent` is from 3 to 65,538, and the last poll showed
+-- that the chip is ready. On an honest bus `sent` fewer transactions are left, and the chip is idle.
 pub record EndsWaiting (old new : BusState) (sent : ℕ) : Type 0 where
   pub least : 3 ≤ sent
   pub few : sent ≤ most_operation
@@ -71,7 +71,7 @@ abbrev pub operation_of : Chip → List ℕ → Command
 operation_of chip out = done_of (record chip { latch = true }) out 0
 
 -- On an honest bus, at every exit of an operation of an idle chip: the operation had its whole effect, had none, or was
--- interrupted.
+-- interrupted. A chip that is still busy executes this operation.
 pub record MayOperate (command : Command) (sent : List ℕ) (old new : BusState) : Type 0 where
   pub config : new.chip.config ≡ old.chip.config
   pub bytes : ChangesOnly old.steady (is_in_work (running_after old.chip command))

@@ -10,13 +10,13 @@ use Rattle.nor_driver.specs.Looks.{Stays, Falls}
 use Rattle.nor_driver.specs.Limits.{programming, Stirs, SendsExactly}
 use Rattle.nor_driver.specs.Operations.{ChangesOnly, EndsWaiting, HasIgnored, most_operation}
 
--- The chip is idle, has these addresses, and does not protect the first one.
+-- The chip is idle, the range of `len` bytes from `at` lies on it, and the first address of that range isn't protected.
 pub record CanProgram (at len : ℕ) (chip : Chip) : Type 0 where
   pub idle : chip.busy ≡ 0
   pub inside : at + len ≤ chip.config.size
   pub free : is_guarded chip at ≡ false
 
--- an idle chip carries out a program at this address
+-- the chip carries out a program at this address after a write enable: it is idle and does not protect the address
 abbrev pub takes_program : Chip → ℕ → Bool
 takes_program chip at = is_idle chip && not (is_guarded chip at)
 
@@ -34,7 +34,8 @@ abbrev pub is_in_page : (at a : ℕ) → Bool
 is_in_page at a = a / 256 == at / 256
 
 -- On an honest bus, at every exit: bytes outside the page, non-volatile bits and erased sectors are as they were. In
--- the page each byte is as it was or as programmed; if the bus isn't steady, it may be anything.
+-- the page each byte is as it was or as programmed; if the bus isn't steady, it may have any value. A chip that is
+-- still busy executes this program.
 pub record MayProgram (at : ℕ) (sent : List ℕ) (old new : BusState) : Type 0 where
   pub config : new.chip.config ≡ old.chip.config
   pub bytes : ChangesOnly old.steady (is_in_page at) (programmed at sent old.chip.bytes) old.chip.bytes new.chip.bytes

@@ -20,13 +20,14 @@ changes_nothing ReadUnique = true
 changes_nothing Ignored = true
 changes_nothing _ = false
 
--- These bytes ask every chip only for a read, or for nothing, and every honest bus takes them.
+-- The transaction asks every chip only for a read, or for nothing, and every honest bus takes it.
 pub record IsReading (out : List ℕ) : Type 0 where
   pub short : length out ≤ 260
   pub quiet : begins_quiet out ≡ true
   pub reading : (config : Config) (replies : ℕ) → changes_nothing (command_of config out replies) ≡ true
 
--- On an honest bus, one transaction read. Nothing changed, neither the write enable latch nor `busy`.
+-- On an honest bus, one transaction that reads was carried out. It changed nothing, not even the write enable latch or
+-- `busy`.
 pub record HasRead (old new : BusState) : Type 0 where
   pub rested : Rested old new
   pub busy : new.chip.busy ≡ old.chip.busy
@@ -51,12 +52,12 @@ unique_of config = map (λ (i : ℕ). slice_index_or config.unique i 255) (0 ∷
 unfoldable pub shown : Config → (at len : ℕ) → List ℕ
 shown config at len = map (sfdp_byte config) (range_with_len (at % config.size) len)
 
--- the bytes of this sector
+-- the first 4,096 of these bytes are those of the sector in `content`
 pub record IsSectorOf (content : ℕ → ℕ) (sector : ℕ) (bytes : List ℕ) : Type 0 where
   pub byte : (i : ℕ) → i < 4096 → slice_index bytes i ≡ content (4096 * sector + i)
 
--- The reads: on an honest bus each leaves the chip as it was, and returns the contents of an idle chip. Status 2 is
--- also returned for a busy chip.
+-- The results of reads of the ID, status 2, the unique ID and SFDP bytes. On an honest bus each read leaves the chip as
+-- it was, and returns the chip's bytes if the chip is idle. Status 2 is also that of a busy chip.
 pub record ReadsId (old new : BusState) (id : List ℕ) : Type 0 where
   pub read : old.honest ≡ true → HasRead old new
   pub told : old.honest ≡ true → old.chip.busy ≡ 0 → id ≡ id_of old.chip.config

@@ -1,4 +1,4 @@
--- The effect of a status write that sends other protection bits and leaves the bits that are never changed.
+-- The effect of a status write that sends other protection bits, and the bits that flashnor never changes as they are.
 use Rattle.std.specs.Prelude.{◌≡◌, ◌≢◌, ◌+◌, ◌*◌, ◌/◌, ◌%◌, ◌==◌, ◌&&◌, ◌⊎◌, ℕ, Bool, true, false, not}
 use Rattle.nor_chip.specs.declared.running.Running.TheVariants as Runs
 use Rattle.nor_chip.specs.declared.status.Status.{Status}
@@ -10,33 +10,33 @@ use Rattle.nor_driver.specs.Looks.{Stays, Falls}
 use Rattle.nor_driver.specs.Limits.{writing, Stirs, SendsExactly}
 use Rattle.nor_driver.specs.Operations.{EndsWaiting, HasIgnored, most_operation}
 
--- the bits that are never changed, which are the non-volatile bits except the protection bits: SRP0; SRP1, QE, the
--- reserved bit and LB1 to LB3
+-- the bits that flashnor never changes, which are all non-volatile bits except the protection bits: SRP0 (first
+-- number); SRP1, QE, the reserved bit and LB1 to LB3 (second number)
 abbrev pub fixed_of : KeptBits → ℕ × ℕ
 fixed_of kept = (kept.one / 32, kept.two % 64)
 
--- the same non-volatile bits, with the protection bits of `code`
+-- non-volatile bits with their protection bits replaced by those of `code`
 abbrev pub with_code : (code : ℕ) → KeptBits → KeptBits
 with_code code kept = record { one = 32 * (kept.one / 32) + code % 32; two = 64 * (code / 32) + kept.two % 64 }
 
--- these two bytes of a status write are the status that was read with other protection bits: the bits that flashnor never
--- changes as they were read, and BUSY, WEL and SUS clear
+-- the bytes `one` and `two` of a status write are `status` with the protection bits of `code`: the bits that flashnor
+-- never changes are as in `status`, and BUSY, WEL and SUS are clear
 abbrev pub has_code : Status → (code one two : ℕ) → Bool
 has_code status code one two =
     one == 128 * (status.one.0 / 128) + 4 * (code % 32) && two == status.two.0 % 64 + 64 * (code / 32)
 
--- The chip is idle, its status isn't locked, and its bits that are never changed are those of `status`.
+-- The chip is idle, its status isn't locked, and the bits that flashnor never changes are those of `status`.
 pub record CanWriteStatus (status : Status) (chip : Chip) : Type 0 where
   pub idle : chip.busy ≡ 0
   pub open_to : is_locked chip.kept ≡ false
   pub fixed : fixed_of chip.kept ≡ fixed_of (kept_in (bytes_of status))
 
--- an idle chip carries out a status write
+-- the chip carries out a status write after a write enable: it is idle and its status isn't locked
 abbrev pub takes_status : Chip → Bool
 takes_status chip = is_idle chip && not (is_locked chip.kept)
 
 -- On an honest bus, at every exit: bytes and erased sectors are as they were. The non-volatile bits are as they were,
--- or have the protection bits of `code`.
+-- or differ by having the protection bits of `code`. A chip that is still busy executes this status write.
 pub record MayWriteStatus (code : ℕ) (old new : BusState) : Type 0 where
   pub config : new.chip.config ≡ old.chip.config
   pub bytes : (a : ℕ) → new.chip.bytes a ≡ old.chip.bytes a

@@ -16,7 +16,7 @@ pub record HasPolled (old new : BusState) (status : ℕ) : Type 0 where
   pub latch : new.chip.latch ≡ (if old.chip.busy == 1 then false else old.chip.latch)
   pub count : old.left ≡ new.left + 1
 
--- a poll succeeded
+-- the effect of a poll that succeeded: on an honest bus `HasPolled`
 abbrev pub Polls : (old new : BusState) → ℕ → Type 0
 Polls old new status = old.honest ≡ true → HasPolled old new status
 
@@ -41,12 +41,13 @@ pub record Waits (old new : BusState) (waited : Waited) : Type 0 where
   pub heard : new.heard ≡ true
   pub done : old.honest ≡ true → HasWaited old new waited
 
--- on every bus, a timeout names this address
+-- on every bus, a timeout contains this address
 abbrev pub NamesTimeout : ℕ → Halt → Type 0
 NamesTimeout at Stopped = ⊤
 NamesTimeout at (Timeout address) = address ≡ at
 
--- A call that waits returned an error. On an honest bus that is a stop, and fewer transactions were left than `needed`.
+-- A call that waits returned an error. On an honest bus that is a stop: fewer than `needed` transactions were left, and
+-- all of these were carried out.
 pub record Halts (needed : ℕ) (old new : BusState) (halt : Halt) : Type 0 where
   pub stopped : old.honest ≡ true → halt ≡ Stopped
   pub ran_out : old.honest ≡ true → RanOut needed old new

@@ -22,8 +22,8 @@ const WRITE_ENABLE: u8 = 0x06;
 /// Programs `bytes` from `address` (02h), and waits until the chip is ready. Returns the number of transactions.
 ///
 /// There must be at least one byte, the bytes must lie in one page of 256 bytes, and the address must fit in three
-/// bytes. On an honest bus, a chip that is busy or protects the address ignores the program; unless the bus stops, this
-/// function succeeds even then.
+/// bytes. On an honest bus, a chip that has this address ignores the program if it is busy or protects the address;
+/// unless the bus stops, this function succeeds even then.
 ///
 /// Returns `Stopped` if the bus stopped, and `Timeout` with this address after 65,536 polls that showed BUSY. On an
 /// honest bus there is no timeout. (W25Q64FV datasheet, Page Program.)
@@ -42,8 +42,9 @@ pub fn program_page<B: Bus>(bus: &mut B, address: u32, bytes: &[u8]) -> Result<u
 
 /// Erases an erase block (20h, 52h, D8h or C7h), and waits until the chip is ready. Returns the number of transactions.
 ///
-/// The sector must be below 4,096 and aligned to the block. On an honest bus, a chip that is busy, lacks this erase
-/// type or protects an address of the block ignores the erase; unless the bus stops, this function succeeds even then.
+/// The sector must be below 4,096 and aligned to the block. On an honest bus, a chip on which the block lies ignores
+/// the erase if it is busy, lacks this erase type or protects an address of the block. Unless the bus stops, this
+/// function succeeds even then.
 ///
 /// Returns `Stopped` if the bus stopped, and `Timeout` with the block's first address after 65,536 polls that showed
 /// BUSY. On an honest bus there is no timeout. (W25Q64FV datasheet, erase instructions.)
@@ -64,8 +65,8 @@ pub fn erase<B: Bus>(bus: &mut B, erase: Erase) -> Result<u32, Halt>
     }
 }
 
-/// Writes the status registers (01h), and waits until the chip is ready. It sends the protection bits of `code`, which
-/// must be below 64, and all other non-volatile bits as in `status`. BUSY, WEL and SUS are sent clear. Returns the
+/// Writes the status registers (01h), and waits until the chip is ready. The function sends the protection bits of
+/// `code`, which must be below 64, all other non-volatile bits as in `status`, and BUSY, WEL and SUS clear. Returns the
 /// number of transactions.
 ///
 /// On an honest bus, a chip that is busy or has SRP0 or SRP1 set ignores the write; unless the bus stops, this function
@@ -84,7 +85,7 @@ pub fn write_status<B: Bus>(bus: &mut B, status: Status, code: u8) -> Result<u32
     operation(bus, &[WRITE_STATUS, one, two], 0)
 }
 
-// Performs one operation: write enable, the command, a wait. Returns the number of transactions. A timeout names
+// Performs one operation: write enable, the command, a wait. Returns the number of transactions. A timeout contains
 // `address`.
 fn operation<B: Bus>(bus: &mut B, command: &[u8], address: u32) -> Result<u32, Halt>
     requires { AsksForOperation command.now }

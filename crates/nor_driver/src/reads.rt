@@ -31,8 +31,8 @@ pub fn read_id<B: Bus>(bus: &mut B) -> Result<[u8; 3], Stopped>
     Ok(id)
 }
 
-/// Reads status 2 (35h; W25Q64FV datasheet, Read Status Register-2). On an honest bus a busy chip replies it, too.
-/// Returns `Stopped` if the bus stopped.
+/// Reads status 2 (35h; W25Q64FV datasheet, Read Status Register-2). On an honest bus the byte is the chip's, even if
+/// the chip is busy. Returns `Stopped` if the bus stopped.
 pub fn read_status2<B: Bus>(bus: &mut B) -> Result<u8, Stopped>
     ensures leaves { Looks 1 (B.state bus.old) (B.state bus.new) }
     ensures does { IfOk result (ReadsStatus2 (B.state bus.old) (B.state bus.new)) }
