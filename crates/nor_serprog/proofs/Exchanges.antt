@@ -99,7 +99,7 @@ missed frame out old sent new idle whole opcode goes s m =
       };
     }
 
--- These three facts for any command.
+-- `exchanged`, `cut_off` and `missed` for any command; about a command other than O_SPIOP they say nothing.
 pub exchanged_by : (command : Command) (frame reply : List ℕ) (len : ℕ) (old sent new : PortState)
     → IsIdle old.device → IsFrame frame → Reads frame command → IsSent frame old sent → TakesAnswer reply sent new
     → length reply ≡ len → IfOperates command (λ out replies. len ≡ replies → Exchanged out reply old new)
@@ -121,12 +121,12 @@ missed_by (Operate out replies) frame old sent new idle whole reads s m =
     (m (begins_with_ack frame old sent idle (operated frame old sent idle whole reads.0 s)))
 missed_by _ frame old sent new idle whole reads s m = tt
 
--- A fact that holds also holds on an error.
+-- a fact that always holds also holds after an error
 pub on_err : {T E : Type 0} (result : Result T E) (P : Type 0) → P → OnErr result P
 on_err (Ok x) P p = tt
 on_err (Err e) P p = p
 
--- Calls of an honest port use up calls, and never add any.
+-- The port stays honest or not. On an honest port the number of calls left did not grow.
 pub record UsesCalls (old new : PortState) : Type 0 where
   pub honest : new.honest ≡ old.honest
   pub fewer : old.honest ≡ true → new.left ≤ old.left

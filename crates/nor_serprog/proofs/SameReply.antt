@@ -34,7 +34,7 @@ reply_alike true x y z old mid s i =
     ∙ s.bytes ((address_of old.config x y z + i) % old.config.size)
 reply_alike false x y z old mid s i = refl
 
--- Two chips with the same reply to a command give equal replies of equal length.
+-- If two transactions have the same reply byte at each index, and replies of equal length, the replies are equal.
 pub alike : (command other : Command) (sent : List ℕ) (old mid new : Chip) (first again : List ℕ)
     → Does command sent old first mid → Does other sent mid again new → length again ≡ length first
     → ((i : ℕ) → reply_byte mid other i ≡ reply_byte old command i) → again ≡ first

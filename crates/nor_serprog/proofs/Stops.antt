@@ -10,7 +10,7 @@ use Rattle.nor_serprog.specs.Bus.{over_port}
 use Rattle.nor_serprog.specs.Device.{PortState, Interrupted}
 use Rattle.nor_serprog.specs.Link.{is_in_step, IsSettled}
 
--- the transaction was interrupted
+-- an interrupted transaction is a stop of the bus
 stops_cut : (out : List ℕ) (old new : PortState) (sent sent' : Sent) (heard : Bool) → Interrupted out old new
     → Stops out (over_port old sent heard) (over_port new sent' heard)
 stops_cut out old new sent sent' heard is = record {
@@ -28,7 +28,7 @@ stops_cut out old new sent sent' heard is = record {
   };
 }
 
--- nothing was sent
+-- a transaction of which nothing was sent, because too few calls are left, is a stop of the bus
 stops_silent : (out : List ℕ) (port : PortState) (sent sent' : Sent) (heard : Bool) → port.left < 3
     → Stops out (over_port port sent heard) (over_port port sent' heard)
 stops_silent out port sent sent' heard few = record {
@@ -46,7 +46,7 @@ stops_silent out port sent sent' heard few = record {
   };
 }
 
--- a transaction that failed, over a link that was in step or out of step
+-- a transaction that failed is a stop of the bus, whether the link was in step or not
 pub stops_over : {P C : Type 0} (port : P → PortState) (out : List ℕ) (replies : ℕ) (link link' : Link P C)
     (sent sent' : Sent) (heard : Bool) → IsSettled port link → (is_in_step link ≡ false → link' ≡ link)
     → ((port link.port).honest ≡ true → (link' ≡ link) ⊎ Interrupted out (port link.port) (port link'.port))

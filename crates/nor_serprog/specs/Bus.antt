@@ -36,11 +36,11 @@ port_in bus = bus.link.port
 abbrev pub sent_of : {P C : Type 0} {over : Ghosts P C} → SerprogBus P C over → Sent
 sent_of bus = bus.sent
 
--- The reply to the last poll showed that the chip is ready.
+-- The reply to the last poll showed that the chip is ready. False before the first poll.
 abbrev pub heard_of : {P C : Type 0} {over : Ghosts P C} → SerprogBus P C over → Bool
 heard_of bus = bus.heard
 
--- The cause of the last transaction that failed.
+-- The cause of the last transaction that failed, except for those that were rejected because an earlier one failed.
 abbrev pub cause_of : {P C : Type 0} {over : Ghosts P C} → SerprogBus P C over → Option (Failure C)
 cause_of bus = bus.cause
 

@@ -9,7 +9,7 @@ use Rattle.nor_serprog.specs.declared.command.Command.{Command}
 use Rattle.nor_serprog.specs.declared.command.Command.TheVariants.{Operate}
 use Rattle.nor_serprog.specs.Frame.{IsFrame, out_in, replies_in}
 
--- A programmer and its chip at a moment.
+-- The state of a programmer and its chip.
 pub record Device : Type 0 where
   pub chip : Chip
   -- the sectors that the chip erased
@@ -24,7 +24,7 @@ pub record IsIdle (device : Device) : Type 0 where
   pub begun : device.begun ≡ []
   pub pending : device.pending ≡ []
 
--- A port, as contracts see it.
+-- The state of a port, as contracts see it.
 pub record PortState : Type 0 where
   pub device : Device
   -- the number of further calls that will succeed, which no program can read
@@ -32,7 +32,7 @@ pub record PortState : Type 0 where
   -- the port keeps the contract of an honest port
   pub honest : Bool
 
--- The chip made one step, and the sectors of an erase are recorded.
+-- The chip made one step, and the sectors of an erase that it carried out are recorded.
 pub record StepsOnce (out answer : List ℕ) (old new : Device) : Type 0 where
   pub step : Step old.chip out answer new.chip
   pub worn : (s : ℕ) → new.worn s ≡ (old.worn s || wears (done_of old.chip out (length answer)) s)
@@ -123,7 +123,7 @@ pub record Interrupted (out : List ℕ) (old new : PortState) : Type 0 where
   pub few : new.left < 3
   pub cut : IsCut out old.device new.device
 
--- The fact holds for the bytes and the number of reply bytes of O_SPIOP, if the command is O_SPIOP.
+-- The fact `P` holds for the bytes and the number of reply bytes of the command, if the command is O_SPIOP.
 abbrev pub IfOperates : Command → (List ℕ → ℕ → Type 0) → Type 0
 IfOperates (Operate out replies) P = P out.now replies
 IfOperates _ P = ⊤

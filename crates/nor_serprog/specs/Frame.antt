@@ -12,7 +12,7 @@ three_of n = n % 256 ∷ n / 256 % 256 ∷ n / 65536 % 256 ∷ []
 abbrev pub four_of : ℕ → List ℕ
 four_of n = n % 256 ∷ n / 256 % 256 ∷ n / 65536 % 256 ∷ n / 16777216 % 256 ∷ []
 
--- The 24-bit number that three bytes hold, the lowest first.
+-- The 24-bit number of three bytes, the lowest first.
 abbrev pub number_of : (a b c : ℕ) → ℕ
 number_of a b c = a + 256 * b + 65536 * c
 
@@ -42,7 +42,7 @@ abbrev pub Fits : Command → Type 0
 Fits (Operate out replies) = (length out.now ≤ 260) × (replies < 16777216)
 Fits _ = ⊤
 
--- The number of argument bytes after an opcode. O_SPIOP and "write n" (0Dh) have more, which `long_len` describes.
+-- The number of argument bytes after an opcode, except O_SPIOP and "write n" (0Dh): `long_len` describes their frames.
 abbrev pub arguments_of : (opcode : ℕ) → ℕ
 arguments_of opcode =
     if opcode == 0x12 || opcode == 0x15 then 1
@@ -51,8 +51,8 @@ arguments_of opcode =
     else if opcode == 0x0A then 6
     else 0
 
--- The length of a frame of O_SPIOP or "write n", from the bytes after its opcode: two numbers of three bytes, the first
--- of which is the number of bytes after them.
+-- The length of a frame of O_SPIOP or "write n", from the bytes after its opcode. These begin with two numbers of three
+-- bytes, the first of which is the number of bytes that follow both.
 abbrev pub long_len : List ℕ → Option ℕ
 long_len (a ∷ b ∷ c ∷ rest) = Some (7 + number_of a b c)
 long_len _ = None

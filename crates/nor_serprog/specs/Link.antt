@@ -21,7 +21,8 @@ is_in_step link = elim link.sync [ InStep ↦ true | Lost ↦ false | Cut ↦ fa
 abbrev pub is_cut : {P C : Type 0} → Link P C → Bool
 is_cut link = elim link.sync [ InStep ↦ false | Lost ↦ false | Cut ↦ true ]
 
--- Over an honest port: in step, the programmer is idle; out of step, too few calls are left for a transaction.
+-- Over an honest port: if the link is in step, the programmer is idle; otherwise too few calls are left for a
+-- transaction.
 pub record IsSettled {P C : Type 0} (port : P → PortState) (link : Link P C) : Type 0 where
   pub idle : (port link.port).honest ≡ true → is_in_step link ≡ true → IsIdle (port link.port).device
   pub spent : (port link.port).honest ≡ true → is_in_step link ≡ false → (port link.port).left < 3

@@ -20,7 +20,8 @@ busy_row_after out answer before = if heard_after out answer true then 0 else mi
 abbrev pub pause_before : (busy_polls : ℕ) → ℕ
 pause_before busy_polls = if nat_le 512 busy_polls then 8 else if nat_le 16 busy_polls then 1 else 0
 
--- The sum of the pauses before the first `polls` polls of a wait, in milliseconds, if all of them show BUSY.
+-- The sum of the pauses before the first `polls` polls of a wait, in milliseconds, if all of them show BUSY and no poll
+-- showed BUSY immediately before the wait.
 unfoldable pub pauses : (polls : ℕ) → ℕ
 pauses zero = 0
 pauses (suc polls) = pauses polls + pause_before polls

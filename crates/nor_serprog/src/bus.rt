@@ -11,14 +11,14 @@ use nor_chip::{Bus, Sent, Stopped, heard_after};
 /// A bus to the chip at a serial programmer, over any port. One transaction is one O_SPIOP (serprog protocol,
 /// flashrom's Documentation/serprog-protocol.txt).
 ///
-/// Over an honest port this bus is honest, and its chip is the programmer's: each transaction of at most 260 bytes and
-/// 4,096 replies is one step of the chip, and fails only if fewer than three calls of the port are left. The chip has
-/// then done any part of the transaction, and may have lost its power.
+/// Over an honest port this bus is honest, and its chip is the programmer's. Each transaction of at most 260 bytes and
+/// 4,096 replies is one step of the chip, and fails only if fewer than three calls of the port are left. After such a
+/// failure the chip may have carried out any part of the transaction, and may have lost its power.
 ///
 /// Over any port the modifying commands that were sent and the replies to polls are recorded; a modifying command is
 /// recorded before its first byte is sent. A transaction that sends more than 260 bytes, or reads more than the
-/// programmer can, is rejected, and nothing is sent. After any other transaction that failed, nothing more is sent until
-/// `synchronize` returns `Ok`.
+/// programmer can, is rejected, and nothing is sent. After any other transaction that failed, nothing more is sent
+/// until `synchronize` returns `Ok`.
 #[derive(Drop)]
 pub struct SerprogBus<P: Port + Drop> {
     link: Link<P>,
@@ -26,16 +26,16 @@ pub struct SerprogBus<P: Port + Drop> {
     cause: Option<Failure<P::Cause>>,
     sent: Sent,
     heard: bool,
-    // In step, an honest port leads to a programmer that waits for a frame; out of step it has too few calls left for a
-    // transaction.
+    // If the link is in step, an honest port leads to a programmer that waits for a frame; otherwise the port has too
+    // few calls left for a transaction.
     ghost idle: { IsSettled P.state link },
 }
 
 impl<P: Port + Drop> SerprogBus<P> {
     ghost use Rattle.nor_serprog.specs.Bus.{link_of, port_in, sent_of, heard_of, cause_of, is_ready};
 
-    /// Returns a bus over a link whose programmer was identified (`Programmer::identify`). Over an honest port the
-    /// programmer must be idle.
+    /// Returns a bus over a link whose programmer was identified (`Programmer::identify`). The link must be in step.
+    /// Over an honest port the programmer must be idle.
     pub fn new(link: Link<P>, programmer: Programmer) -> SerprogBus<P>
         requires in_step { is_in_step link ≡ true }
         requires idle { (P.state (port_of link)).honest ≡ true → IsIdle (P.state (port_of link)).device }
@@ -64,16 +64,16 @@ impl<P: Port + Drop> SerprogBus<P> {
         self.link.port()
     }
 
-    /// Returns the cause of the last transaction that failed. A transaction that is rejected because an earlier one
-    /// failed does not replace the earlier cause.
+    /// Returns the cause of the last transaction that failed, or `None` if none failed yet. A transaction that is
+    /// rejected because an earlier one failed does not replace the cause of the earlier one.
     pub fn cause(&self) -> Option<&Failure<P::Cause>>
         ensures { option_copied result ≡ cause_of self.now }
     {
         self.cause.as_ref()
     }
 
-    /// Synchronizes the programmer after a transaction failed, as `Link::synchronize` does; a programmer that is in step
-    /// is left alone. The record of modifying commands and polls is kept.
+    /// Synchronizes the programmer after a transaction failed, as `Link::synchronize` does. If the link is in step,
+    /// nothing is sent. The record of modifying commands and polls is kept.
     ///
     /// The chip may have carried out the transaction that failed, or not.
     pub fn synchronize(&mut self) -> Result<(), Failure<P::Cause>>

@@ -165,7 +165,7 @@ pub enum Answer {
     Ack,
     /// 15h, NAK: the command was refused, and nothing follows.
     Nak,
-    /// Neither of these, so this byte begins no valid reply.
+    /// Any other byte, which begins no valid reply.
     Other(u8),
 }
 

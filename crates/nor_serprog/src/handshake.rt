@@ -44,8 +44,8 @@ pub enum HandshakeFault<C> {
     /// An O_SPIOP may read at most this many bytes, and reading a sector needs 4,096.
     #[error("the programmer reads at most {0} bytes in a transaction, and a sector needs 4096")]
     ReadLimit(u32),
-    /// The serial buffer has this many bytes, and the programmer does not say that it takes longer frames. The longest
-    /// frame has 267 bytes.
+    /// The programmer lacks Q_WRNMAXLEN, so its serial buffer limits the length of a frame. The buffer has this many
+    /// bytes, and the longest frame has 267.
     #[error("the serial buffer of the programmer has {0} bytes, and a page program needs 267")]
     SmallBuffer(u16),
 }
@@ -68,12 +68,20 @@ impl Programmer {
     /// Identifies the programmer on a new link, and prepares it for SPI transactions. It sends no transaction, so the
     /// chip is not selected.
     ///
-    /// The steps are: synchronize; require version 1 (Q_IFACE) and O_SPIOP (Q_CMDMAP); select SPI (S_BUSTYPE), or
-    /// require that the programmer has SPI only (Q_BUSTYPE); require that a transaction may send 260 bytes
-    /// (Q_WRNMAXLEN) and read 4,096 (Q_RDNMAXLEN), or that 267 bytes fit into the serial buffer (Q_SERBUF) if there is
-    /// no limit of writes; read the name (Q_PGMNAME); set the clock to at most `hertz` if that is given (S_SPI_FREQ);
-    /// switch the pin drivers on (S_PIN_STATE). Commands that the programmer's map lacks are left out, and a clock that
-    /// was asked for is then an error. (serprog protocol, flashrom's Documentation/serprog-protocol.txt.)
+    /// The steps:
+    ///
+    /// - synchronize
+    /// - require version 1 of the protocol (Q_IFACE), and the command O_SPIOP (Q_CMDMAP)
+    /// - require that the programmer supports SPI (Q_BUSTYPE), and select it (S_BUSTYPE); without S_BUSTYPE, require
+    ///   that SPI is its only type of bus
+    /// - require that a transaction may send 260 bytes (Q_WRNMAXLEN) and read 4,096 bytes (Q_RDNMAXLEN)
+    /// - without Q_WRNMAXLEN, require that 267 bytes fit into the serial buffer (Q_SERBUF)
+    /// - read the name (Q_PGMNAME)
+    /// - if `hertz` is given, set the clock to at most that frequency (S_SPI_FREQ)
+    /// - switch the pin drivers on (S_PIN_STATE)
+    ///
+    /// A step whose command the programmer's map lacks is skipped. It is an error, however, if `hertz` is given and the
+    /// map lacks S_SPI_FREQ. (serprog protocol, flashrom's Documentation/serprog-protocol.txt.)
     pub fn identify<P: Port + Drop>(
         link: &mut Link<P>,
         hertz: Option<u32>,
@@ -195,7 +203,8 @@ fn select_spi<P: Port + Drop>(
     Ok(())
 }
 
-// Returns a limit of the programmer, or 2^24 if it lacks the query with this opcode or returns 0.
+// Returns a limit of the programmer. The limit is 2^24 if the programmer lacks the query with this opcode, or returns
+// 0.
 fn query_limit<P: Port + Drop>(
     link: &mut Link<P>,
     commands: &Map,
@@ -216,7 +225,7 @@ fn query_limit<P: Port + Drop>(
     }
 }
 
-// Checks that the longest frame fits into the serial buffer. A programmer with a limit of writes accepts frames of that
+// Checks that the longest frame fits into the serial buffer. A programmer with Q_WRNMAXLEN accepts frames of that
 // length, regardless of its buffer.
 fn check_buffer<P: Port + Drop>(
     link: &mut Link<P>,

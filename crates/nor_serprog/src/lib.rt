@@ -1,5 +1,5 @@
 //! A bus to a SPI NOR chip that is connected to a serial programmer. It speaks the serprog protocol, version 1, over
-//! any port; flashnor's program doesn't use it.
+//! any port. The program `flashnor_serprog` uses it; the program `flashnor` does not.
 //!
 //! - `command.rt`: commands as bytes (frames), and the first byte of a reply
 //! - `port.rt`: the contract of a port to a programmer

@@ -24,7 +24,7 @@ pub enum Failure<C> {
     /// the link is as it was.
     #[error("a transaction of this length does not fit into one serprog frame")]
     TooLong,
-    /// Nothing was sent, because an earlier exchange failed and the programmer was not synchronized since.
+    /// Nothing was sent, because the link isn't synchronized: it is new, or an exchange or `synchronize` failed.
     #[error("an earlier exchange with the programmer failed, and it was not synchronized since")]
     OutOfStep,
     /// Nothing was sent, because a frame may have been cut off: any further byte could complete it.
@@ -128,7 +128,7 @@ impl<P: Port + Drop> Link<P> {
         }
     }
 
-    /// Returns why a command that is too long is not sent: `TooLong`, or `OutOfStep` or `CutFrame` if the link is out of
+    /// Returns why a command that is too long is not sent: `TooLong`, or `OutOfStep` or `CutFrame` if the link isn't in
     /// step.
     pub(crate) fn rejection(&self) -> Failure<P::Cause> {
         match self.sync {
@@ -189,7 +189,8 @@ impl<P: Port + Drop> Link<P> {
             return Err(Failure::CutFrame);
         }
         self.sync = Sync::Lost;
-        // If the programmer waits for the rest of a frame, it receives only this byte.
+        // Only this byte is sent before a reply is received. If the programmer is waiting for the rest of a frame, it
+        // takes the byte as part of that frame.
         send_all(&mut self.port, &[0x10])?;
         skip_past(&mut self.port, &[0x15, 0x06])?;
         send_all(&mut self.port, &ROW)?;

@@ -11,7 +11,7 @@ use std::time::{Clock, Duration};
 // datasheet, AC characteristics) is seen at once.
 const EAGER_POLLS: u64 = 16;
 
-// Up to this poll the pause is short. An operation that takes longer than half a second is an erase.
+// From this number of polls on, the pause is long. An operation that takes longer than half a second is an erase.
 const SHORT_POLLS: u64 = 512;
 
 const SHORT_MILLIS: u64 = 1;

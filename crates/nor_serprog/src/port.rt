@@ -13,7 +13,7 @@ ghost use Rattle.nor_serprog.specs.Device.{PortState, IsSent, IsCutOff, IsReceiv
 ///
 /// Each call must return, so an implementation that can block forever needs a timeout.
 pub trait Port {
-    /// What went wrong at the port.
+    /// The cause of a failure of the port.
     type Cause: Drop;
 
     ghost state: { Self → PortState };
