@@ -59,7 +59,7 @@ emulated_known config (inl tiny) = tiny64_known config tiny
 emulated_known config (inr (inl small)) = w25q64fv_known config small
 emulated_known config (inr (inr large)) = w25q128fv_known config large
 
--- another unique ID leaves a known chip known
+-- a known chip stays known if its unique ID is replaced
 pub renumbered_known : (config : Config) (unique : List ℕ) → IsKnown config → IsKnown (record config { unique = unique })
 unfolding chip_says shown
 renumbered_known config unique is = record {

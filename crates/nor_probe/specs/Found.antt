@@ -17,7 +17,7 @@ use Rattle.nor_driver.specs.Looks.{Looks, Rested, RanOut}
 use Rattle.nor_driver.specs.Waits.{latch_when_idle}
 use Rattle.nor_probe.specs.Known.{id_of, is_no_chip, shown_as, IsKnown}
 
--- the most transactions of a probe: 65,536 polls, one read of the ID and three reads of SFDP
+-- the greatest number of transactions of a probe: 65,536 polls, one read of the ID and three reads of SFDP
 abbrev pub most_probe : ℕ
 most_probe = 65540
 
@@ -50,7 +50,7 @@ reads_of of_id = if is_no_chip of_id then 1 else reads_by (part_with_id of_id)
 abbrev pub needed : Chip → ℕ
 needed chip = chip.busy + 1 + reads_of (id_of chip.config)
 
--- On every bus: the chip is a row of the table, or was identified by SFDP, and has a size that a chip may have.
+-- On every bus: the chip found is a row of the table, or was identified by SFDP, and has a size that a chip may have.
 pub record IsPart (found : Found) : Type 0 where
   pub driven : is_no_chip found.id ≡ false
   pub origin : (part_with_id found.id ≡ Some (part_in found))
@@ -117,7 +117,7 @@ Tells named old new Timeout = ⊥
 
 -- ---- the promises of a probe
 
--- On every bus.
+-- The promises of a probe on every bus.
 pub record ProbeAlways (named : Option ChipName) (old new : BusState) (result : Result Found ProbeFault) : Type 0 where
   -- no modifying command was sent; on a well-behaved bus at most 65,540 transactions were
   pub looks : Looks most_probe old new
@@ -130,7 +130,7 @@ pub record ProbeAlways (named : Option ChipName) (old new : BusState) (result : 
   -- a chip is found only if the last poll showed that it is ready
   pub heard : OnOk result (new.heard ≡ true)
 
--- On a well-behaved bus.
+-- The promises of a probe on a well-behaved bus.
 pub record ProbeHonest (named : Option ChipName) (old new : BusState) (result : Result Found ProbeFault) : Type 0 where
   -- a chip found is what the chip shows about itself; the chip is idle, and its bytes and non-volatile status bits are
   -- unchanged

@@ -13,7 +13,7 @@ use Rattle.nor_probe.specs.declared.probes.ProbeFault.TheVariants.{NoChip, Unkno
 use Rattle.nor_probe.specs.Sfdp.{sfdp_says}
 use Rattle.nor_probe.specs.Table.{part_with_id}
 
--- the ID is one that is read when nothing drives the bus: its lines rest high, or low
+-- the ID is `FF FF FF` or `00 00 00`, as it reads if nothing drives the bus: the lines then rest high, or low
 abbrev pub is_no_chip : (of_id : List ℕ) → Bool
 is_no_chip of_id = bytes_eq of_id (0xFF ∷ 0xFF ∷ 0xFF ∷ []) || bytes_eq of_id (0x00 ∷ 0x00 ∷ 0x00 ∷ [])
 
@@ -22,7 +22,7 @@ abbrev pub pointer_in : (first : List ℕ) → ℕ
 pointer_in first = slice_index first 4 + 256 * slice_index first 5 + 65536 * slice_index first 6
 
 -- the geometry that the chip's SFDP gives, or its fault; the SFDP has a header, a first parameter header, and the table
--- that this points to
+-- to which that parameter header points
 unfoldable pub chip_says : Config → Result Geometry SfdpFault
 chip_says config = sfdp_says (shown config 0 8) (shown config 8 8) (shown config (pointer_in (shown config 8 8)) 36)
 

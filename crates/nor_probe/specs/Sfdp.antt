@@ -22,7 +22,8 @@ has_signature header =
 unfoldable pub is_basic : (first : List ℕ) → Bool
 is_basic first = slice_index first 0 == 0 && slice_index first 2 == 1
 
--- how addresses are sent, bits 17 and 18 of double word 1: 0 for three bytes, 1 for three or four, 2 for four only
+-- how addresses are sent, bits 17 and 18 of double word 1: 0 for three bytes, 1 for three or four, 2 for four only; 3
+-- is reserved
 unfoldable pub address_mode : (table : List ℕ) → ℕ
 address_mode table = double_word 1 table / 2 ^ 17 % 4
 

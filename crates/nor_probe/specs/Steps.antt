@@ -27,7 +27,7 @@ abbrev pub reads_under : ChipName → ℕ
 reads_under Sfdp = 4
 reads_under _ = 1
 
--- These parts were read from the SFDP of this configuration.
+-- `parameters` has the parts of the SFDP of this configuration.
 pub record AreParameters (config : Config) (parameters : Parameters) : Type 0 where
   pub header : parameters.header ≡ shown config 0 8
   pub first : parameters.first ≡ shown config 8 8
@@ -47,7 +47,7 @@ pub record IsIdentified (of_id : List ℕ) (part : Part) : Type 0 where
 pub record ReadsParameters (old new : BusState) (parameters : Parameters) : Type 0 where
   pub rested : Rested old new
   pub count : old.left ≡ new.left + 3
-  -- if the chip was idle, they are its own
+  -- if the chip was idle, these are the parts of its SFDP
   pub shown : old.chip.busy ≡ 0 → AreParameters old.chip.config parameters
 
 -- On a well-behaved bus: the SFDP was read with three transactions, and the chip's bytes and non-volatile status bits
@@ -55,7 +55,7 @@ pub record ReadsParameters (old new : BusState) (parameters : Parameters) : Type
 pub record ReadsGeometry (old new : BusState) (geometry : Geometry) : Type 0 where
   pub rested : Rested old new
   pub count : old.left ≡ new.left + 3
-  -- if the chip was idle, this is what its SFDP says
+  -- if the chip was idle, this is the geometry that its SFDP gives
   pub says : old.chip.busy ≡ 0 → chip_says old.chip.config ≡ Ok geometry
 
 -- the meaning of a fault for an idle chip on a well-behaved bus, if only its SFDP was read

@@ -105,7 +105,7 @@ pub fn probe_counted<B: Bus>(bus: &mut B, named: Option<ChipName>) -> Result<Pro
 }
 
 impl Part {
-    // Returns the chip found, if it is of this type and the last poll returned `status1`.
+    // Returns the found chip of this type; `status1` is status 1 as the last poll returned it.
     fn found(self, status1: u8) -> Found
         ensures part { part_in result ≡ self }
         ensures status1 { result.status1 ≡ status1 }
@@ -128,8 +128,8 @@ impl Part {
     }
 }
 
-// Returns the type of the chip whose ID was read as `id`: its row of the table, or else what its SFDP says. `shown` and
-// `tells` hold only on a well-behaved bus, if the chip is idle and `id` is its ID.
+// Returns the type of the chip whose ID was read as `id`: its row of the table or, without a row, the type that its
+// SFDP gives. `shown` and `tells` hold only on a well-behaved bus, if the chip is idle and `id` is its ID.
 fn identify<B: Bus>(bus: &mut B, id: [u8; 3]) -> Result<Part, ProbeFault>
     ensures leaves { Looks 3 (B.state bus.old) (B.state bus.new) }
     ensures heard { (B.state bus.new).heard ≡ (B.state bus.old).heard }
