@@ -10,7 +10,7 @@ use Rattle.nor_layout.specs.Address.{is_hex_digit, hex_value, digits_number}
 pub digit_is : (byte : ℕ) → digit_value byte < 16 → (is_hex_digit byte ≡ true) × (digit_value byte ≡ hex_value byte)
 digit_is byte below = grind (arith, nat_tests)
 
--- reading one more digit keeps the number of all digits the same
+-- the value read so far and the remaining digits make up the same number before and after one more digit is read
 pub number_of-more : (digits : List ℕ) (i value : ℕ) → i < length digits
     → value * 16 ^ (length digits - i) + digits_number (drop i digits) ≡ (value * 16 + hex_value (get_or digits i 0)) * 16 ^ (length digits - (i + 1)) + digits_number (drop (i + 1) digits)
 number_of-more digits i value lt =

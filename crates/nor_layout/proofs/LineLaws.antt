@@ -102,7 +102,7 @@ line_says-taken line region is =
     let forward = le-ltb region.end region.start is.forward in
     rw (is.line_is, first, second, third, start, end, forward, is.named) refl
 
--- if a line defines a region, each of its parts could be split off or read
+-- if a line defines a region, an optional part without which it would define none is there
 some_of : {A : Type 0} (P : A → Type 0) (o : Option A) (gives : Option A → Result Region LineFault) (region : Region)
     → IfSome o P → ¬ (gives None ≡ Ok region) → gives o ≡ Ok region → (x : A) × P x × (gives (Some x) ≡ Ok region)
 some_of P o gives region is none e = grind arith

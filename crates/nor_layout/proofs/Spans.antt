@@ -54,7 +54,7 @@ AreApart-merged new (span ∷ spans) forward apart =
     let behind = further new span spans in
     grind (arith, nat_tests)
 
--- after the last span, the result is the set with the span added
+-- when the loop has passed the last span, the spans so far and `new` are the set with the span added
 pub merged_all : (front : List Span) (new added : Span) (spans : List Span) (i : ℕ) → length spans ≤ i
     → front ++ merged new (drop i spans) ≡ merged added spans → added.first ≤ added.last → AreApart spans
     → AreApart (front ++ new ∷ [])

@@ -23,8 +23,8 @@ record AreCut (low limit : ℕ) (few many : List Span) : Type 0 where
 
 module _ (low limit : ℕ) (s : Span) (ss : List Span) (b : Span) (bs : List Span) (apart : AreApart (s ∷ ss))
     (apart_b : AreApart (b ∷ bs)) (cut : AreCut low limit (s ∷ ss) (b ∷ bs)) where
-  -- If s begins in b, the spans after s are cut from those after b. No address above s is in b: b would then contain
-  -- the address after s too.
+  -- If s begins in b, the spans after s are cut from those after b. If one of their addresses were in b, b would also
+  -- contain the address after s, which no span of the list that begins with s contains.
   rests : is_in_span b s.first ≡ true → AreCut (s.last + 1) limit ss bs
   rests begins = record {
     within = λ a holds. grind (arith, nat_tests, above s ss a apart, cut.within a);

@@ -175,7 +175,7 @@ module _ (before : List (List ℕ)) (n : ℕ) (line : List ℕ) (regions : List 
       more = rw counted e;
     }
 
-    -- a text with such a line doesn't define a layout without regions
+    -- a text with a line that adds a region doesn't define a layout without regions
     gives_one : (region : Region) → AreRegions regions → with_line regions (n + 1) line ≡ Ok (regions ++ region ∷ [])
         → layout_says text ≢ Ok []
     gives_one region kept e none =

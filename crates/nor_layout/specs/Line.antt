@@ -24,7 +24,7 @@ pub record Parts : Type 0 where
   pub end : List ℕ
   pub name : List ℕ
 
--- adds the end and the name, which a space separates; None if there is no space after the `:`
+-- the parts of a line, from its start and the two parts of the text after the `:`, or None if that text has no space
 abbrev pub with_start : List ℕ → Option (List ℕ × List ℕ) → Option Parts
 with_start start None = None
 with_start start (Some parts) = Some (record { start = start; end = parts.0; name = without_spaces parts.1 })

@@ -6,21 +6,22 @@ use Rattle.nor_layout.specs.declared.places.Places.{Places}
 use Rattle.nor_layout.specs.declared.places.PlacesIn.{PlacesIn}
 use Rattle.nor_layout.specs.Ranges.{contains}
 
--- true if the position is among these consecutive ones; `end` is excluded
+-- true if `at` is one of the consecutive positions from `start` up to, but not including, `end`
 abbrev pub is_in_places : Places → ℕ → Bool
 is_in_places places at = nat_le places.start at && nat_lt at places.end
 
 abbrev pub is_covered : List Places → ℕ → Bool
 is_covered all at = list_any (λ places. is_in_places places at) all
 
--- True if all are within a sector, at or above position `first`, in ascending order without overlap, and none is empty.
+-- True if the ranges of positions lie within a sector at position `first` or above, in ascending order without overlap,
+-- and none of them is empty.
 abbrev pub AreRisingFrom : ℕ → List Places → Type 0
 AreRisingFrom first [] = ⊤
 AreRisingFrom first (places ∷ more) =
     (first ≤ places.start) × (places.start < places.end) × (places.end ≤ 4096)
     × AreRisingFrom places.end more
 
--- True if exactly the positions of the sector are covered whose addresses are in the set, in ascending order.
+-- True if the ranges cover exactly the positions of the sector whose addresses are in the set, in ascending order.
 pub record AreIncludedIn (spans : List Span) (sector : ℕ) (all : List Places) : Type 0 where
   pub exact : (at : ℕ) → at < 4096 → is_covered all at ≡ contains spans (4096 * sector + at)
   pub rising : AreRisingFrom 0 all

@@ -21,7 +21,7 @@ abbrev pub AreApart : List Span → Type 0
 AreApart [] = ⊤
 AreApart (span ∷ spans) = (span.first ≤ span.last) × IsApartFrom span spans × AreApart spans
 
--- the invariant of `Ranges`
+-- the invariant of `Ranges`: at most 64 spans, in ascending order, with at least one address between each two
 pub record AreRanges (spans : List Span) : Type 0 where
   pub few : length spans ≤ 64
   pub apart : AreApart spans

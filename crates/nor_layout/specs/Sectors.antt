@@ -17,7 +17,7 @@ SomeInSector set sector = (i : ℕ) × (i < 4096) × (set (4096 * sector + i) �
 abbrev pub NoneInSector : (set : ℕ → Bool) → (sector : ℕ) → Type 0
 NoneInSector set sector = (i : ℕ) → i < 4096 → set (4096 * sector + i) ≡ false
 
--- the test for `SomeInSector`
+-- true if some address of the sector is in the set; the test for `SomeInSector`
 abbrev pub has_in_sector : (set : ℕ → Bool) → (sector : ℕ) → Bool
 has_in_sector set sector = any_below 4096 (λ i. set (4096 * sector + i))
 

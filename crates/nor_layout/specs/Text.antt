@@ -54,7 +54,7 @@ abbrev pub AreNamedApart : List Region → Type 0
 AreNamedApart [] = ⊤
 AreNamedApart (region ∷ regions) = (is_region_named regions region.name.items ≡ false) × AreNamedApart regions
 
--- the invariant of `Layout`
+-- the invariant of `Layout`: at most 64 regions, none of which ends before it begins, and no two with the same name
 pub record AreRegions (regions : List Region) : Type 0 where
   pub few : length regions ≤ 64
   pub forward : AllByRecursion (λ region. region.start ≤ region.end) regions

@@ -18,7 +18,7 @@ pub enum LineFault {
     Address,
     /// The end is below the start.
     Backwards,
-    /// The name is empty, is longer than 32 bytes, or has a byte that isn't visible ASCII, or is `,` or `:`.
+    /// The name is empty, is longer than 32 bytes, or contains `,`, `:` or a byte that is no visible ASCII character.
     Name,
     /// An earlier line has the same name.
     Twice,
