@@ -1,5 +1,5 @@
--- The pieces of a journal are its encoding when all are written. A faithful vault that refused one holds a prefix of
--- it.
+-- The pieces of a journal together are its encoding. A faithful vault that refused one of the pieces holds a prefix of
+-- the encoding.
 use Rattle.std.proofs.Common.{◌≡◌, ℕ, ◌/◌, List, [], ◌++◌, length, take, refl, sym, ap, ◌∙◌, append_assoc, arith}
 use Rattle.std.specs.Prelude.{true, Some, Result, Ok, Err, OnOk, OnErr}
 use Rattle.std.specs.Io.{StartsWith}
@@ -78,7 +78,7 @@ err_any (Err error) holds = holds
 
 -- ---- the end
 
--- if the end mark was refused, the vault holds a prefix of the journal
+-- if the end mark was refused, a faithful vault holds a prefix of the journal
 pub begins_mark : (old new : VaultState) (c : Content) (kept : ℕ) → Holds old (front c)
     → PutRefused old end_mark kept new → HoldsBeginning new (text c)
 begins_mark old new c kept told refused = rw (← text_is c) (λ tells.
@@ -90,7 +90,7 @@ module _ (s0 s1 new : VaultState) (c : Content) (digest : List ℕ) (told : Hold
   whole : (front c ++ end_mark) ++ digest ≡ text c
   whole = rw is (text_is c)
 
-  -- if the digest is accepted too, the vault holds the encoding
+  -- if the digest is accepted too, a faithful vault holds the encoding
   pub took_end : Took s1 digest new → Holds new (text c)
   took_end digested = rw (← whole) (took_more s1 new _ digest (took_more s0 s1 (front c) end_mark told marked) digested)
 
@@ -98,7 +98,7 @@ module _ (s0 s1 new : VaultState) (c : Content) (digest : List ℕ) (told : Hold
   begins_digest kept refused =
       rw (← whole) (after_refused s1 new _ digest kept (took_more s0 s1 (front c) end_mark told marked) refused)
 
--- a seal keeps the encoding in the vault; a refused seal has the effect of a refused piece of no bytes
+-- a seal keeps the encoding in a faithful vault; a refused seal has the effect of a refused piece of no bytes
 pub seals : {T : Type 0} (old new : VaultState) (r : Result T VaultFault) (c : Content) → Holds old (text c)
     → Seals old r new → OnOk r (Holds new (text c)) × OnErr r (HoldsBeginning new (text c))
 seals old new (Ok x) c told sealed =

@@ -78,7 +78,7 @@ pub length-put : (n k : ℕ) (bytes part : List ℕ) → length bytes ≡ 25 →
 length-put n k bytes part long many within =
     same_len_mid n k bytes part (omega (arith, length-take k (drop n bytes), length-drop n bytes)) ∙ long
 
--- a part written after the bytes before it
+-- writing a part after the bytes `before` replaces the next `k` bytes
 pub put_behind : (n k : ℕ) (before rest part : List ℕ) → length before ≡ n
     → put_mid n k (before ++ rest) part ≡ (before ++ part) ++ drop k rest
 put_behind n k before rest part len =

@@ -33,7 +33,7 @@ least_le : (sectors least : ℕ) (ss : List SavedSector) → AreRising sectors l
 least_le sectors least [] rising = omega arith
 least_le sectors least (s ∷ ss) rising = omega (arith, rising.1, least_le sectors (s.number + 1) ss rising.2)
 
--- one more sector at the end is saved, and the others stay saved
+-- a sector that is added at the end is saved, and the other sectors are saved as before
 pub saved_in-push : (sectors least : ℕ) (ss : List SavedSector) (s : SavedSector) (n : ℕ) → AreRising sectors least ss → least_after least ss ≤ s.number
     → saved_in (ss ++ s ∷ []) n ≡ cond (eqb s.number n) (Some s.bytes) (saved_in ss n)
 unfolding saved_in
@@ -71,7 +71,7 @@ saved_in-record (s ∷ rest) n bytes e =
 
 -- ---- contents
 
--- a sector is saved if and only if a record has its number
+-- a sector is saved with these bytes if and only if a record has its number and these bytes
 pub saved_record : (c : Content) (sector : ℕ) (bytes : List ℕ) → IsContent c → saved_in c.saved sector ≡ Some bytes ↔ HasRecord c sector bytes
 saved_record c sector bytes is = (
   λ e. let found = saved_in-record c.saved sector bytes e in record { place = found.0; is = found.1 },
@@ -82,7 +82,7 @@ pub saved_in-with_sector : (c : Content) (number : ℕ) (bytes : List ℕ) (n : 
 unfolding next_number
 saved_in-with_sector c number bytes n is follows = saved_in-push (c.size / 4096) 0 c.saved (record { number = number; bytes = bytes }) n is.saved follows.rises
 
--- ---- the first sectors, for a loop
+-- ---- the first sectors of a content, for a loop over all of them
 
 take-sector : (ss : List SavedSector) (i : ℕ) (s : SavedSector) → slice_get ss i ≡ Some s → take (i + 1) ss ≡ take i ss ++ s ∷ []
 take-sector ss i s e =
@@ -101,7 +101,8 @@ saved_in-take_more c i s n is e =
     let parts = take-rising (c.size / 4096) 0 c.saved i s is.saved e in
     rw (take-sector c.saved i s e) (saved_in-push (c.size / 4096) 0 (take i c.saved) s n parts.0 parts.1)
 
--- the number of record i is at least the next number after the records before it
+-- the number of record i is not below the least number that may follow the records before it; after record i that least
+-- number is one more than its number
 pub take-next : (c : Content) (i : ℕ) (s : SavedSector) → IsContent c → slice_get c.saved i ≡ Some s → (least_after 0 (take i c.saved) ≤ s.number) × (least_after 0 (take (i + 1) c.saved) ≡ s.number + 1)
 take-next c i s is e = (
   (take-rising (c.size / 4096) 0 c.saved i s is.saved e).1,

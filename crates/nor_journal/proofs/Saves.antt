@@ -16,7 +16,7 @@ use Rattle.nor_journal.proofs.Beginnings.{IsContent-with_sector}
 
 -- ---- contents
 
--- an equal set is saved too
+-- if a content saves a set of sectors, it saves every equal set
 pub Saves-same : (chip : ℕ → ℕ) (saved other : ℕ → Bool) (c : Content) → ((s : ℕ) → other s ≡ saved s) → Saves chip saved c → Saves chip other c
 Saves-same chip saved other c same saves = record {
   is = saves.is;
@@ -24,7 +24,7 @@ Saves-same chip saved other c same saves = record {
   others = λ s is. saves.others s (sym (same s) ∙ is);
 }
 
--- the content with one more sector saves the set with this sector
+-- if a content saves a set of sectors, the content with one more sector saves the set with this sector added
 pub Saves-more : (chip : ℕ → ℕ) (saved more : ℕ → Bool) (c : Content) (number : ℕ) (bytes : List ℕ) → Saves chip saved c → MayFollow c number → IsWholeSector chip number bytes → HasOneMore saved number more → Saves chip more (with_sector c number bytes)
 Saves-more chip saved more c number bytes saves follows sector one = record {
   is = IsContent-with_sector c number bytes saves.is follows sector.whole;
@@ -62,7 +62,7 @@ reads_kept bytes (Err fault) head chip saved kept never = absurd never
 
 -- ---- a writer
 
--- after only the header, the empty set is saved
+-- a writer that has written only the header has written the empty set of sectors
 pub HasKept-none : {V : Type 0} (state : V → VaultState) (w : Writer V) (id : List ℕ) (unique : Option (List ℕ)) (status : List ℕ) (size : ℕ) (chip : ℕ → ℕ) (saved : ℕ → Bool) (n : ℕ)
     → HasWritten state w (empty_content id unique status size) → ((s : ℕ) → saved s ≡ false) → HasPutSectors state w (empty_content id unique status size) chip saved n
 HasKept-none state w id unique status size chip saved n written none = record {
@@ -80,7 +80,7 @@ may_follow state w head chip saved n number kept above place = record {
   place = subst (λ (c : Content). number < c.size / 4096) kept.same place;
 }
 
--- after one more sector, the set with this sector is saved
+-- a writer that has written a set of sectors, and then one more, has written the set with this sector added
 pub HasKept-more : {V : Type 0} (state : V → VaultState) (old new : Writer V) (head : Content) (chip : ℕ → ℕ) (saved more : ℕ → Bool) (n number : ℕ) (bytes : List ℕ) (kept : HasPutSectors state old head chip saved n)
     → MayFollow kept.content number → IsWholeSector chip number bytes → HasOneMore saved number more → HasWritten state new (with_sector kept.content number bytes) → HasPutSectors state new head chip more (number + 1)
 HasKept-more state old new head chip saved more n number bytes kept follows sector one written = record {

@@ -51,7 +51,7 @@ number_text-number_at bytes fits long =
 
 -- ---- ascending sectors
 
--- an ascending list with one more sector at the end
+-- an ascending list stays ascending if a sector with a greater number is added at the end
 pub AreRising-push : (sectors least : ℕ) (ss : List SavedSector) (s : SavedSector) → AreRising sectors least ss → IsSectorBelow sectors s → least_after least ss ≤ s.number → AreRising sectors least (ss ++ s ∷ [])
 AreRising-push sectors least [] s rising is rises = (is, rises, tt)
 AreRising-push sectors least (first ∷ ss) s rising is rises = (rising.0, rising.1, AreRising-push sectors (first.number + 1) ss s rising.2 is rises)
@@ -120,6 +120,6 @@ pub next_number-more : (h : Head) (bytes : List ℕ) (k : ℕ) (n : ℕ) → n �
 unfolding next_number saved_records
 next_number-more h bytes k n e = rw (add-one k) (ap (λ (m : ℕ). m + 1) e ∙ sym (least_after-push 0 (saved_records k bytes) (sector_at bytes k)))
 
--- the bytes up to and including the end mark
+-- the bytes up to and including the end mark are those before it, followed by the end mark
 pub with_mark : (mark : ℕ) (bytes : List ℕ) → take 4 (drop mark bytes) ≡ end_mark → take (mark + 4) bytes ≡ take mark bytes ++ end_mark
 with_mark mark bytes is_mark = rw (← is_mark) (take-add mark 4 bytes)

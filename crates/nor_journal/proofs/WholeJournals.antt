@@ -31,7 +31,7 @@ sector_whole chip sector = record {
 
 -- ---- the part of a set below a bound
 
--- if n is in the set, the part below n + 1 has one more sector
+-- if n is in the set, the part of the set below n + 1 is the part below n, with n added
 pub one_more_below : (set : ℕ → Bool) (n : ℕ) → set n ≡ true
     → HasOneMore (λ s. nat_lt s n && set s) n (λ s. nat_lt s (n + 1) && set s)
 one_more_below set n is = record {

@@ -33,12 +33,14 @@ pub record IsHead (h : Head) : Type 0 where
   pub status : length h.status ≡ 2
   pub size : is_chip_size h.size ≡ true
 
--- Holds if the bytes after the header begin with k valid records in ascending order.
+-- Holds if the bytes after the header begin with k complete records, whose numbers ascend and are those of sectors of
+-- the chip.
 pub record HasRecords (h : Head) (bytes : List ℕ) (k : ℕ) : Type 0 where
   pub within : 4100 * k ≤ length bytes
   pub rising : AreRising (h.size / 4096) 0 (saved_records k bytes)
 
--- Holds if the bytes after the header begin with some valid records, and the next one has this fault.
+-- Holds if the bytes after the header begin with some number of valid records, and the bytes after these records have
+-- this fault.
 pub record FaultBehindRecords (h : Head) (bytes : List ℕ) (fault : JournalFault) : Type 0 where
   pub count : ℕ
   pub records : HasRecords h bytes count

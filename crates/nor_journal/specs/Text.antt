@@ -25,12 +25,13 @@ pub record Content : Type 0 where
 
 -- ---- valid contents
 
--- Holds if the number is below `sectors`, and there are 4,096 bytes.
+-- Holds if the sector's number is below `sectors`, and it has 4,096 bytes.
 pub record IsSectorBelow (sectors : ℕ) (s : SavedSector) : Type 0 where
   pub place : s.number < sectors
   pub whole : length s.bytes ≡ 4096
 
--- Holds if each is a complete sector below `sectors`, and the numbers ascend, beginning at `least` or above.
+-- Holds if each saved sector has 4,096 bytes and a number below `sectors`, and the numbers ascend from `least` or a
+-- greater one.
 abbrev pub AreRising : (sectors least : ℕ) → List SavedSector → Type 0
 AreRising sectors least [] = ⊤
 AreRising sectors least (s ∷ rest) =
@@ -68,7 +69,7 @@ records_text saved = flat_map record_text saved
 unfoldable pub end_mark : List ℕ
 end_mark = 0xFF ∷ 0xFF ∷ 0xFF ∷ 0xFF ∷ []
 
--- the header and the records
+-- the part of a journal before the end mark: the header and the records
 unfoldable pub front : Content → List ℕ
 front c = head c ++ records_text c.saved
 
@@ -95,7 +96,8 @@ with_sector c number bytes = record c { saved = c.saved ++ record { number = num
 abbrev pub SameHead : (c d : Content) → Type 0
 SameHead c d = record c { saved = [] } ≡ record d { saved = [] }
 
--- the least number that a sector after these may have
+-- the least number that the next sector may have: one more than the last of these sectors' numbers, or `least` if there
+-- are none
 abbrev pub least_after : ℕ → List SavedSector → ℕ
 least_after least [] = least
 least_after least (s ∷ rest) = least_after (s.number + 1) rest

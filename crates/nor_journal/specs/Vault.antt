@@ -7,7 +7,7 @@ use Rattle.nor_journal.specs.declared.vault.VaultFault.{VaultFault}
 pub record VaultState : Type 0 where
   -- true for a faithful vault, which holds exactly the bytes it accepted; nothing is known about other vaults' bytes
   pub telling : Bool
-  -- the bytes that were accepted, in order
+  -- for a faithful vault, the bytes that it accepted, in order
   pub bytes : List ℕ
   -- true if the vault was sealed
   pub sealed : Bool
@@ -34,15 +34,15 @@ pub record Took (old : VaultState) (piece : List ℕ) (new : VaultState) : Type 
   pub failures : new.failures ≡ old.failures
   pub bytes : old.telling ≡ true → new.bytes ≡ old.bytes ++ piece
 
--- The effect of every refusal: the number of refusals is one higher, and a sealed vault stays sealed, an unsealed one
--- unsealed.
+-- The effect of every refusal: the number of refusals is one higher (modulo 2^64), and the vault is sealed if and only
+-- if it was sealed before.
 pub record Refused (old new : VaultState) : Type 0 where
   pub telling : new.telling ≡ old.telling
   pub sealed : new.sealed ≡ old.sealed
   pub failures : new.failures ≡ one_more old.failures
 
--- The effect of a refused piece: the vault counts a refusal. A faithful vault has accepted the first `kept` bytes of
--- it.
+-- The effect of a refused piece: the vault counts a refusal. A faithful vault accepted the first `kept` bytes of the
+-- piece, and no others.
 pub record PutRefused (old : VaultState) (piece : List ℕ) (kept : ℕ) (new : VaultState) : Type 0 where
   pub refused : Refused old new
   pub within : kept ≤ length piece
@@ -77,7 +77,8 @@ pub record IsFresh (vault : VaultState) : Type 0 where
   pub empty : vault.bytes ≡ []
   pub unsealed : vault.sealed ≡ false
 
--- The effect of pieces that were all accepted: no refusal was counted, and whether the vault is sealed didn't change.
+-- The effect of pieces that were all accepted: no refusal was counted, and the vault is sealed if and only if it was
+-- sealed before.
 pub record Accepted (old new : VaultState) : Type 0 where
   pub telling : new.telling ≡ old.telling
   pub sealed : new.sealed ≡ old.sealed

@@ -51,7 +51,8 @@ pub fn head_bytes(id: [u8; 3], unique: [u8; 8], status: [u8; 2], size: u32) -> [
 
 /// Reads the header of either format. Returns it and the bytes after it.
 ///
-/// Returns `Short`, `Magic` or `Size`.
+/// Returns `Short` if the bytes end within the header, `Magic` if the first eight bytes aren't those of a format, or
+/// `Size` if the size isn't one that a chip may have.
 pub fn read_head(bytes: &[u8]) -> Result<(Head, &[u8]), JournalFault>
     ensures fault { IfErr result (HeadFault bytes.now) }
     ensures found { IfOk result (λ x. IsHead x.0 × (bytes.now ≡ head (headed x.0) ++ x.1.now)) }

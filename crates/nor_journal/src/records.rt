@@ -24,7 +24,8 @@ const DIGEST: usize = 32;
 
 /// Returns the sector number of the record at the beginning of `bytes`, or `None` if the end mark is there.
 ///
-/// Returns `Short`, `Place` if the number isn't below `sectors`, or `Order` if it is below `least`.
+/// Returns `Short` if the bytes end within the record or the end mark, `Place` if the number isn't below `sectors`, or
+/// `Order` if it is below `least`.
 #[tactic(auto, unfolding(crate::specs::Text::end_mark))]
 fn next_record(sectors: u32, least: u32, bytes: &[u8]) -> Result<Option<u32>, JournalFault>
     ensures fault { IfErr result (RecordFault sectors least bytes.now) }
@@ -91,7 +92,8 @@ pub fn record_at(records: &[u8], i: usize) -> (u32, &[u8])
 
 /// Checks that the correct digest, and no further byte, follows the end mark at index `mark`.
 ///
-/// Returns `Short`, `Long` or `Digest`.
+/// Returns `Short` if the digest is incomplete, `Long` if bytes follow it, or `Digest` if it isn't the SHA-256 of the
+/// bytes before it.
 pub fn check_end(bytes: &[u8], mark: usize) -> Result<(), JournalFault>
     requires within { mark + 4 ≤ length bytes.now }
     requires is_mark { take 4 (drop mark bytes.now) ≡ end_mark }

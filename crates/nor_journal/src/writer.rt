@@ -16,9 +16,9 @@ use sha2::{Digest, Sha256};
 ///
 /// It borrows the vault until the end. It allocates nothing itself: it updates the digest with each piece.
 ///
-/// A call fails if the vault refuses a piece or the seal. The vault is then unsealed. If it is faithful (`telling`), it
-/// holds a prefix of the journal; the clauses don't say how long it is. `kept` of the error counts bytes of the refused
-/// piece; the clauses don't specify it.
+/// A call fails if the vault refuses a piece or the seal. The vault is then unsealed. If it is faithful (`telling`) and
+/// the sectors were written in ascending order, it holds a prefix of the journal; the clauses don't say how long the
+/// prefix is. `kept` of the error counts bytes of the refused piece; no clause specifies it.
 #[derive(Drop)]
 pub struct Writer<'a, V: Vault> {
     vault: &'a mut V,
