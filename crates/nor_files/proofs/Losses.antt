@@ -49,7 +49,7 @@ pub record AreLeft (old new : List Stored) (left : ℕ) (lent : Option Name) : T
   pub allowed : (name : Name) → MayLeave (file_of old name) (file_of new name).seen
   pub settled : (name : Name) → IsSettled name (file_of new name).seen (state_of new left lent)
 
--- the files in their `Vec` after the loop that interrupts each
+-- after the loop that interrupts each file, the files are as `AreLeft` says
 pub are_left : (old now : List Stored) {len left : ℕ} {lent : Option Name} → length now ≡ len → len ≡ length old
     → ((k : ℕ) (d : Stored) → k < length old → FileLoses (get_or old k d) (get_or now k d))
     → AreLeft old (take len (now ++ drop (length now) old)) left lent

@@ -144,7 +144,8 @@ module _ (files : List Stored) (at : ℕ) (was now : Stored) (place : was ≡ ge
   lent_updated None there = refl
   lent_updated (Some name) there = set_there name files at now was (still_named name) ∙ there
 
--- as before, the file of that name was replaced, if an entry for it was appended first
+-- if an entry for the file of a name is appended and this file is then replaced, the file was replaced in the first
+-- list, too
 pub updated_since : {name : Name} {old kept new : List Stored} {was now : Stored}
     → ((any : Name) → file_of kept any ≡ file_of old any) → IsUpdated name kept new was now
     → IsUpdated name old new was now

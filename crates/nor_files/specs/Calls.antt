@@ -6,18 +6,18 @@ use Rattle.nor_files.specs.Files.{AllStay, FilesState, Found, IsKnown, IsSettled
 
 -- ---- reading
 
--- The first `most` bytes of the file were read, or all if it has fewer, or it was missing; this needs a file without a
--- borrowed vault or log.
+-- `found` is what a read of the file returns: `None` if the file is missing, else its first `most` bytes, or all bytes
+-- if it has fewer. This requires that the files obey the contract, and that no vault or log in this file is borrowed.
 abbrev pub Reads : Name → ℕ → Found → View → Type 0
 Reads name most found view = IsKnown name view → found ≡ option_map (take most) (view.seen name)
 
 -- ---- how many calls are left
 
--- A call succeeded: one fewer is left.
+-- A call succeeded: one call fewer is left.
 pub record Succeeds (old new : FilesState) : Type 0 where
   pub left : old.left ≡ new.left + 1
 
--- A call failed: not more calls are left, and if none was left, each file is as it was.
+-- A call failed: the number of calls left did not grow, and if it was 0 before, each file is as it was.
 pub record Fails (old new : FilesState) : Type 0 where
   pub left : new.left ≤ old.left
   pub none_left : old.left ≡ 0 → AllStay old new
@@ -26,7 +26,7 @@ abbrev pub Counts : {T E : Type 0} → Result T E → (old new : FilesState) →
 Counts (Ok _) old new = Succeeds old new
 Counts (Err _) old new = Fails old new
 
--- A call on one file, which lends no vault. Each file whose name is apart from this one is as it was.
+-- A call on one file, which lends no vault or log. Each file whose name is apart from this one is as it was.
 pub record WorksOn {T E : Type 0} (name : Name) (result : Result T E) (old new : FilesState) : Type 0 where
   pub counts : Counts result old new
   pub lent : new.lent ≡ old.lent
@@ -35,8 +35,8 @@ pub record WorksOn {T E : Type 0} (name : Name) (result : Result T E) (old new :
 
 -- ---- opening and locking
 
--- The effect of opening a file for overwriting it later: all files are as they were. If the file has no borrowed vault
--- or log, success returns whether it exists.
+-- The effect of opening a file for overwriting it later: all files are as they were. If the files obey the contract and
+-- no vault or log in this file is borrowed, success returns whether the file exists.
 pub record Holds {E : Type 0} (name : Name) (result : Result Bool E) (old new : FilesState) : Type 0 where
   pub counts : Counts result old new
   pub lent : new.lent ≡ old.lent
@@ -45,7 +45,7 @@ pub record Holds {E : Type 0} (name : Name) (result : Result Bool E) (old new : 
 
 -- ---- syncing
 
--- A read returns the same as before, and a host crash leaves just that, or no file if that was possible before.
+-- A read returns the same as before, and a host crash can leave only that, or no file if that was possible before.
 pub record IsSynced (name : Name) (old new : FilesState) : Type 0 where
   pub seen : new.view.seen name ≡ old.view.seen name
   pub leaves : (left : Found) → new.may_leave name left
@@ -71,7 +71,8 @@ abbrev pub LeavesOrEmpty : Name → (old new : FilesState) → Type 0
 LeavesOrEmpty name old new = (left : Found) → new.may_leave name left
     → old.may_leave name left ⊎ ((old.view.seen name ≡ None) × (left ≡ Some []))
 
--- The effect of a sync of a file. After a failure it is unknown what a read returns.
+-- The effect of a sync of a file. After a failure it is unknown what a read returns, but a host crash can leave nothing
+-- that it couldn't leave before.
 abbrev pub Syncs : {T E : Type 0} → Name → Result T E → (old new : FilesState) → Type 0
 Syncs name (Ok _) old new = IsSynced name old new
 Syncs name (Err _) old new = LeavesNoMore name old new
@@ -103,15 +104,16 @@ written_over bytes had = bytes ++ drop (length bytes) had
 abbrev pub with_length : ℕ → List ℕ → List ℕ
 with_length len had = take len had ++ replicate (len - length had) 0
 
--- The effect of overwriting a file in place: after success a read returns all of the bytes. After success or failure a
--- host crash may leave a mix of old and new bytes.
+-- The effect of overwriting a file in place: after success a read returns the old content with its beginning replaced
+-- by `bytes`. After success or failure a host crash may leave what it could leave before, or a mix of that and `bytes`.
 pub record WritesOver {T E : Type 0} (name : Name) (bytes : List ℕ) (result : Result T E)
     (old new : FilesState) : Type 0 where
   pub seen : (any : T) → result ≡ Ok any → new.view.seen name ≡ option_map (written_over bytes) (old.view.seen name)
   pub leaves : LeavesMixes name bytes old new
 
--- The effect of setting the length of a file: after success a read returns that length. After success or failure a host
--- crash may leave what it could leave before, or that with the new length.
+-- The effect of setting the length of a file: after success a read returns the old content, truncated to `len` bytes or
+-- extended by zeros. After success or failure a host crash may leave what it could leave before, or that with the new
+-- length.
 pub record SetsLength {T E : Type 0} (name : Name) (len : ℕ) (result : Result T E) (old new : FilesState) : Type 0 where
   pub seen : (any : T) → result ≡ Ok any → new.view.seen name ≡ option_map (with_length len) (old.view.seen name)
   pub leaves : (left : Found) → new.may_leave name left → old.may_leave name left
@@ -130,15 +132,16 @@ Makes name (Err _) old new = Stays name old new
 
 -- ---- vaults and logs
 
--- A vault or a log in the file was borrowed. Each file whose name is apart from this one is as it was.
+-- A vault in the file was borrowed. Each file whose name is apart from this one is as it was.
 pub record Lends (name : Name) (old new : FilesState) : Type 0 where
   pub succeeds : Succeeds old new
   pub lent : new.lent ≡ Some name
   pub out : new.view.out name ≡ true
   pub others : OthersStay name old new
 
--- No vault or log was borrowed. If no vault or log in the file was borrowed before, a host crash can leave nothing of
--- it that it couldn't leave before, except an empty file if it was missing.
+-- The call failed, so no vault was borrowed. A host crash can leave nothing of the file that it couldn't leave before,
+-- except an empty file if it was missing. The second sentence requires that the files obey the contract, and that no
+-- vault or log in the file was borrowed before.
 pub record LendsNone (name : Name) (old new : FilesState) : Type 0 where
   pub fails : Fails old new
   pub leaves : IsKnown name old.view → LeavesOrEmpty name old new

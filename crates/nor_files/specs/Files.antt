@@ -9,7 +9,7 @@ Name = List ℕ
 abbrev pub Found : Type 0
 Found = Option (List ℕ)
 
--- A condition that a call may find or fail with, for the file of a name.
+-- A condition of a named file, or of two names, that a call may find or fail with.
 pub data Failure : Type 0 where
   -- the file can't be looked up, opened or read, or a read of it may block forever
   Unread : Name → Failure
@@ -32,7 +32,7 @@ pub data Failure : Type 0 where
 pub record Nature : Type 0 where
   -- whether the files obey the contract
   pub lawful : Bool
-  -- which of these a call may ever find or fail with
+  -- which of these failures a call may ever find or fail with
   pub fails : Failure → Bool
   -- whether two names are apart. On lawful files they then refer to different files: a call on the first leaves the
   -- second as it is. A file may have several names (`a` and `./a`, links), so two names that differ may be names of one
@@ -62,8 +62,8 @@ pub record FilesState : Type 1 where
 abbrev pub is_lawful : View → Bool
 is_lawful view = view.nature.lawful
 
--- The two names are apart, in either order. The files needn't be lawful, so a promise about names that are apart holds
--- for the system's files, too.
+-- The two names are apart, in either order. This doesn't require lawful files, so a promise about names that are apart
+-- holds for the system's files, too.
 abbrev pub AreApart : Nature → (one other : Name) → Type 0
 AreApart nature one other = (nature.apart one other ≡ true) × (nature.apart other one ≡ true)
 
@@ -100,7 +100,7 @@ KnownStay old new = (name : Name) → IsKnown name old.view → Stays name old n
 abbrev pub OthersStay : Name → (old new : FilesState) → Type 0
 OthersStay name old new = (other : Name) → AreApart old.view.nature name other → Stays other old new
 
--- A read returns exactly this, and a host crash can leave nothing else.
+-- A read returns exactly `content`, and a host crash can leave nothing else.
 pub record IsSettled (name : Name) (content : Found) (files : FilesState) : Type 0 where
   pub seen : files.view.seen name ≡ content
   pub leaves : (left : Found) → files.may_leave name left → left ≡ content

@@ -108,8 +108,8 @@ abbrev pub Alters : {T E : Type 0} → Result T E → Content → Change → (ol
 Alters (Ok _) content change old new = IsChanged content change old new
 Alters (Err _) content change old new = IsUnchanged old new
 
--- The effect of overwriting the file in place: after success a read returns all of the bytes. After success or failure
--- a host crash may leave a mix of old and new bytes.
+-- The effect of overwriting the file in place: after success a read returns the old content with its beginning replaced
+-- by `bytes`. After success or failure a host crash may leave what it could leave before, or a mix of that and `bytes`.
 pub record FileWrites {T E : Type 0} (bytes : List ℕ) (result : Result T E) (old new : Stored) : Type 0 where
   pub name : new.name ≡ old.name
   pub out : new.out ≡ old.out
@@ -117,8 +117,9 @@ pub record FileWrites {T E : Type 0} (bytes : List ℕ) (result : Result T E) (o
   pub leaves : (left : Found) → MayLeave (file_in new) left
       → MayLeave (file_in old) left ⊎ IsMixOf bytes (MayLeave (file_in old)) left
 
--- The effect of setting the length of the file: after success a read returns that length. After success or failure a
--- host crash may leave what it could leave before, or that with the new length.
+-- The effect of setting the length of the file: after success a read returns the old content, truncated to `len` bytes
+-- or extended by zeros. After success or failure a host crash may leave what it could leave before, or that with the
+-- new length.
 pub record FileSets {T E : Type 0} (len : ℕ) (result : Result T E) (old new : Stored) : Type 0 where
   pub name : new.name ≡ old.name
   pub out : new.out ≡ old.out
@@ -162,7 +163,7 @@ abbrev pub FileLends : {T E : Type 0} → Bool → Result T E → (old new : Sto
 FileLends is_new (Ok _) old new = IsLent is_new old new
 FileLends is_new (Err _) old new = IsUnchanged old new
 
--- The file has these bytes, and a host crash can leave nothing else.
+-- The file has these bytes, and a host crash can leave nothing else of it.
 pub record FileSettles (bytes : List ℕ) (old new : Stored) : Type 0 where
   pub name : new.name ≡ old.name
   pub file : file_in new ≡ record { seen = Some bytes; steps = []; unplaced = false; out = false }
@@ -178,7 +179,7 @@ pub record FileTakesBack (vault : VaultState) (old new : Stored) : Type 0 where
     out = false;
   }
 
--- A read returns what a host crash might have left.
+-- A read returns one of the contents that a host crash could have left before.
 pub record FileForgets (old new : Stored) : Type 0 where
   pub name : new.name ≡ old.name
   pub allowed : MayLeave (file_in old) (file_in new).seen

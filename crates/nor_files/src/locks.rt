@@ -10,8 +10,8 @@ pub trait LockFile {
     /// without locks it locks nothing and returns true.
     fn lock_alone(&self) -> io::Result<bool>;
 
-    /// Locks the file for reading, without waiting, so that other runs can do so, too. Returns false if another process
-    /// has locked it exclusively. On a file system without locks it locks nothing and returns true.
+    /// Locks the file for reading, without waiting; other runs can lock it for reading at the same time. Returns false
+    /// if another process has locked it exclusively. On a file system without locks it locks nothing and returns true.
     fn lock_shared(&self) -> io::Result<bool>;
 }
 

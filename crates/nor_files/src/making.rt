@@ -103,7 +103,8 @@ pub struct VaultedFile<'a, R: Files> {
 }
 
 impl<'a, R: Files> VaultedFile<'a, R> {
-    /// Returns `file`, which must be empty, as a file for a vault. With a `name`, each sync checks the name.
+    /// Returns `file`, which must be empty, as a file for a vault. With a `name`, each sync checks that the name still
+    /// refers to the file and that the file has the length that was written.
     pub fn new(files: &'a R, file: R::File, name: Option<String>) -> VaultedFile<'a, R> {
         VaultedFile {
             files,

@@ -15,8 +15,8 @@ use std::{io, mem};
 /// that change or lend a file. Each further call of these kinds fails and changes nothing.
 ///
 /// A host crash may leave each byte as it was at the last sync of the file, or as any later write or change of length
-/// made it; a file whose vault or log was borrowed since that sync may have any bytes. A file that was created may be
-/// missing until its directory is synced.
+/// made it. A file whose vault or log was borrowed since its last sync may have any bytes. A file that was created may
+/// be missing until its directory is synced.
 #[derive(Drop)]
 pub struct Memory {
     alloc: Global,
@@ -117,7 +117,7 @@ impl Memory {
         }
     }
 
-    // Returns the index of the entry for the named file, and appends an entry for a missing file if there is none.
+    // Returns the index of the entry for the named file. Appends an entry for a missing file if there is none.
     fn keep_place(&mut self, name: &str) -> Result<usize, AllocError>
         ensures at { IfOk result (λ at. position (is_named name.now) self.new.files.items ≡ Some at) }
         ensures same { (any : Name) → file_of self.new.files.items any ≡ file_of self.old.files.items any }

@@ -13,7 +13,7 @@ pub enum HoldFault {
     Unread(io::Error),
     /// The file exists, but can't be overwritten or locked: it may be read-only, or not a regular file.
     Unheld,
-    /// Another process has locked it.
+    /// Another process has locked the file.
     Busy,
 }
 
@@ -34,7 +34,7 @@ impl Error for HoldFault {}
 pub enum MakeFault {
     /// A file that must be new exists, or the file is a journal, which `Disk` never truncates.
     There,
-    /// Another process has locked it.
+    /// Another process has locked the file.
     Busy,
     /// The file can't be created, truncated or locked, or its directory can't be synced.
     Unmade(io::Error),
@@ -85,15 +85,15 @@ impl From<MakeFault> for io::Error {
 
 /// The files of a run, by their names.
 ///
-/// Contracts see the files as a `FilesState`. If the state is lawful, the files obey the contract: each call has the
-/// effect that its clauses give for success or failure, and the state says what a host crash may leave at each moment.
-/// For other files, such as those of `Disk`, most clauses say nothing. A clause proved for every lawful store covers an
-/// interruption at each call, because a call fails and changes nothing if no call is left.
+/// Contracts see the files as a `FilesState`. If the state is lawful, the files obey the contract. Each call then has
+/// the effect that its clauses give for success or failure, and the state says what a host crash may leave at each
+/// moment. For other files, such as those of `Disk`, most clauses say nothing. A clause proved for every lawful store
+/// covers an interruption at each call, because a call fails and changes nothing if no call is left.
 ///
-/// A file may have several names. A call on a name leaves each file whose name is apart from it as it was, and
-/// `is_one_file` returns which names are apart. Nothing is promised about other names of the same file, except for
-/// syncs: a read of another name returns the same after a successful `sync` or any `sync_folder`, if no vault or log in
-/// it is borrowed.
+/// A file may have several names. On lawful files, a call on a name leaves each file whose name is apart from it as it
+/// was; `is_one_file` returns false only for names that are apart. Nothing is promised about other names of the same
+/// file, except for syncs. After a successful `sync` or any `sync_folder`, a read of another name returns the same as
+/// before, if no vault or log in that file is borrowed.
 pub trait Store: AllocGlobal {
     ghost use Rattle.std.specs.Prelude.{◌≡◌, ◌⊎◌, false, true, None, IfErr, IfOk, Ok, OnErr, OnOk, option_map};
     ghost use Rattle.nor_journal.specs.Vault.{IsFresh};

@@ -120,7 +120,8 @@ impl Stored {
     }
 
     /// Overwrites the file in place with `bytes`, from its start. If `most` is less than their number, writes only the
-    /// first `most` bytes and returns an error. Fails with `NotFound` if the file is missing, or if memory runs out.
+    /// first `most` bytes and returns an error. Fails with `NotFound` if the file is missing. Also fails if memory runs
+    /// out.
     pub fn write(&mut self, alloc: Global, bytes: &[u8], most: usize) -> io::Result<()>
         ensures { FileWrites bytes.now result self.old self.new }
     {
@@ -137,8 +138,8 @@ impl Stored {
         Ok(())
     }
 
-    /// Sets the length of the file; added bytes are 0. Fails with `NotFound` if the file is missing, or if memory runs
-    /// out.
+    /// Sets the length of the file; added bytes are 0. Fails with `NotFound` if the file is missing. Also fails if
+    /// memory runs out.
     pub fn set_len(&mut self, alloc: Global, len: u64) -> io::Result<()>
         ensures { FileSets len result self.old self.new }
     {
@@ -202,8 +203,8 @@ impl Stored {
         self.out = false;
     }
 
-    /// Interrupts the process or the host, as `loss` says. The file is then what that may leave, and a later host crash
-    /// can leave nothing else.
+    /// Interrupts the process or the host, as `loss` says. The file then has one of the contents that a host crash
+    /// could leave, and a later host crash can leave nothing else.
     pub fn lose(&mut self, loss: Loss)
         ensures { FileLoses self.old self.new }
     {
