@@ -37,7 +37,7 @@ list_any-kept p f test (k ∷ ks) = elim (cases_Bool (test k)) [
 ]
 
 module _ (whole : Bool) (kinds : Kinds) (total : ℕ) (set : ℕ → Bool) (can : IsPlannable whole total set) where
-  -- the chip has the largest fit block of a sector
+  -- the chip has the largest fit erase block of a sector
   largest_offered : (q : ℕ) (unit : EraseUnit) → IsLargest whole kinds set q unit → is_offered kinds unit ≡ true
   largest_offered q Sector largest = refl
   largest_offered q Block32 largest = (and_parts _ _ largest.2).0

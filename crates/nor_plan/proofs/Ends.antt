@@ -11,7 +11,7 @@ abbrev pub AreEnds : (ℕ → Type 0) → Option PageSpan → Type 0
 AreEnds P o =
     MatchOption o ((k : ℕ) → ¬ P k) (λ s. P s.first × P s.last × ((k : ℕ) → P k → (s.first ≤ k) × (k ≤ s.last)))
 
--- two options with the ends of one property are equal
+-- a property has at most one pair of ends
 pub ends_once : (P : ℕ → Type 0) (o p : Option PageSpan) → AreEnds P o → AreEnds P p → o ≡ p
 ends_once P None None a b = refl
 ends_once P None (Some t) a b = absurd (a t.first b.0)

@@ -28,14 +28,14 @@ compared-IsMask t xs ys long same test tells =
           ∙ ap (λ b. cond b 1 0) (get_or-zip2 t xs ys i 0 0 false (omega arith) (omega arith) ∙ tells i lane);
     }
 
--- the test for unequal numbers is true if and only if they differ
+-- if the test for unequal numbers is true, the numbers differ
 pub other_from_test : (x y : ℕ) → not (nat_eq x y) ≡ true → x ≢ y
 other_from_test x y e same = grind (arith, nat_tests)
 
 pub test_from_other : (x y : ℕ) → x ≢ y → not (nat_eq x y) ≡ true
 test_from_other x y differ = grind (arith, nat_tests)
 
--- the bit of the test for unequal numbers is 0 if they are equal, and 1 if they differ
+-- if the bit of the test for unequal numbers is 0, the numbers are equal
 same_from_bit : (x y : ℕ) → ◌≡◌ {A = ℕ} (cond (not (nat_eq x y)) 1 0) 0 → x ≡ y
 same_from_bit x y e = grind (arith, nat_tests)
 
@@ -70,7 +70,7 @@ module _ (f g : ℕ → ℕ) (at mask : ℕ) (is : IsMask mask (λ i. not (nat_e
   passed_before before none k high =
       elim (cases_lt k at) [ inl earlier ↦ before k earlier | inr here ↦ passed_block none k here high ]
 
-  -- otherwise the lowest bit of the mask is at the first difference
+  -- if the mask isn't 0, its lowest bit is at the first difference
   pub first_in_block : 0 < mask → let t = trailing_zeros w64
       mask in (t < 32) × (f (at + t) ≢ g (at + t)) × ((k : ℕ) → at ≤ k → k < at + t → f k ≡ g k)
   first_in_block some =

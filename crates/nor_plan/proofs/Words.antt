@@ -75,7 +75,7 @@ module _ (set : SectorSet) (from first index k bits : ℕ) (place : first ≡ in
         | inr here ↦ has_at s here high ∙ rw (none, bit_at-zero)
       ]
 
-  -- otherwise the lowest bit is the least sector
+  -- if some bit is left, the lowest one is the least sector of the set that is `from` or above
   pub least_in_word : NoneBetween set from first → 0 < bits → index < 64 → from ≤ first
       → get_or set.words index 0 < 2 ^ 64
       → IsLeastFrom set from (first + trailing_zeros w64 bits)

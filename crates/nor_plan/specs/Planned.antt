@@ -16,8 +16,8 @@ holds_run set from count = list_all set (range_with_len from count)
 abbrev pub holds_block : (ℕ → Bool) → (count sector : ℕ) → Bool
 holds_block set count sector = holds_run set (sector - sector % count) count
 
--- the erase block by which a sector of the set is erased: the chip if `whole` is set; else the largest block that the
--- chip has, that holds the sector and that lies in the set
+-- the erase block with which a sector of the set is erased: the chip if `whole` is set; else the largest of the chip's
+-- erase blocks that holds the sector and lies in the set
 unfoldable pub planned_unit : Bool → Kinds → (ℕ → Bool) → ℕ → EraseUnit
 planned_unit whole kinds set sector =
     if whole then Chip
@@ -38,8 +38,8 @@ unfoldable pub planned_from : Bool → Kinds → (ℕ → Bool) → ℕ → List
 planned_from whole kinds set from =
     map (erase_at whole kinds set) (filter (begins_unit whole kinds set) (range_with_len from (4096 - from)))
 
--- `head` is the first of the planned erases from `from` on, with the sector from which the others are; `None` if there
--- are none
+-- `head` is the first planned erase at or after sector `from`, and the sector at or after which the others begin;
+-- `None` if there are none
 abbrev pub HeadsPlanned : Bool → Kinds → (ℕ → Bool) → ℕ → Option (Erase × ℕ) → Type 0
 HeadsPlanned whole kinds set from head =
     MatchOption head (planned_from whole kinds set from ≡ [])

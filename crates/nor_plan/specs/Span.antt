@@ -39,8 +39,8 @@ spans_from old target page = spans_in old target page (page_count old - page)
 abbrev pub spans_of : (old target : List ℕ) → List PageSpan
 spans_of old target = spans_from old target 0
 
--- `head` is the first span of the pages from `page` on, with the page from which the others are; `None` if there are
--- none
+-- `head` is the first span of page `page` or a later one, and the page at or after which the other spans lie; `None` if
+-- there are none
 abbrev pub HeadsSpans : (old target : List ℕ) → ℕ → Option (PageSpan × ℕ) → Type 0
 HeadsSpans old target page head =
     MatchOption head (spans_from old target page ≡ [])

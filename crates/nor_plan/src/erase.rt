@@ -23,11 +23,11 @@ pub use iter::Erases;
 /// types. If all sectors of the chip are in the set, this is one erase of the chip (C7h).
 ///
 /// Otherwise the erases are in ascending order of their sectors. D8h erases each aligned 64 KiB block with all its
-/// sectors in the set, if the chip has this erase type. Outside these, 52h erases each aligned 32 KiB block with all
-/// its sectors in the set, if the chip has it. 20h erases each other sector.
+/// sectors in the set, if the chip has this erase type. In the rest of the set, 52h erases each aligned 32 KiB block
+/// with all its sectors in the set, if the chip has that erase type. 20h erases each other sector of the set.
 ///
-/// Requires that all sectors of `set` are on the chip. No list of erases that sets exactly these sectors to FFh is
-/// shorter.
+/// Requires that all sectors of `set` are on the chip. No shorter list of this chip's erases sets exactly these sectors
+/// to FFh.
 pub fn erases(set: &SectorSet, kinds: Kinds, size: u32) -> Erases
     requires { LiesBelow set.now (size / 4096) }
     ensures covers { Covers kinds (size / 4096) (erases_left result) (has set.now) }
@@ -51,7 +51,7 @@ pub fn fewest_is_least()
         → IsLeastLength kinds total set (fewest_erases kinds total set) }
 {}
 
-/// Returns the first planned erase at or after the sector `from`, and the sector from which to go on.
+/// Returns the first planned erase at or after the sector `from`, and the sector at or after which the next ones begin.
 fn next_erase(set: &SectorSet, kinds: Kinds, whole: bool, from: u32) -> Option<(Erase, u32)>
     ensures { HeadsPlanned whole kinds (has set.now) from result }
 {
@@ -70,8 +70,8 @@ fn next_erase(set: &SectorSet, kinds: Kinds, whole: bool, from: u32) -> Option<(
     None
 }
 
-/// Returns the erase block by which `sector` is erased, if it is in the set: the chip if `whole` is set, else the
-/// largest block of the chip that holds the sector and lies in the set.
+/// Returns the erase block with which `sector`, a sector of the set, is erased. This is the chip if `whole` is set,
+/// else the largest block of the chip that holds the sector and lies in the set.
 #[tactic(auto, unfolding(crate::specs::Planned::planned_unit))]
 fn unit_of(set: &SectorSet, kinds: Kinds, whole: bool, sector: u32) -> EraseUnit
     requires { sector < 4096 }

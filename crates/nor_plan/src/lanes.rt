@@ -132,8 +132,8 @@ pub fn raises(old: &[u8], target: &[u8]) -> bool
     false
 }
 
-/// Returns the differences of the 256 bytes from `at` on, combined into 32 lanes: a lane is 0 if and only if its eight
-/// bytes are equal in both slices.
+/// Returns the differences of the 256 bytes from `at` on, combined into 32 lanes. Lane `i` combines the eight bytes
+/// whose offset from `at` is `i` modulo 32, and is 0 if and only if these are equal in both slices.
 #[inline(always)]
 fn changes_256(a: &[u8], b: &[u8], at: usize) -> u8x32
     requires a_within { at + 256 ≤ length a.now }
@@ -147,7 +147,7 @@ fn changes_256(a: &[u8], b: &[u8], at: usize) -> u8x32
     changes
 }
 
-/// Returns the bits that differ in each of the 32 bytes from `at` on.
+/// Returns, for each of the 32 bytes from `at` on, the bits that differ.
 #[inline(always)]
 fn changes_32(a: &[u8], b: &[u8], at: usize) -> u8x32
     requires a_within { at + 32 ≤ length a.now }
