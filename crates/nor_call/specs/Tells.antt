@@ -8,9 +8,9 @@ use Rattle.nor_probe.specs.Found.{Tells}
 use Rattle.nor_call.specs.declared.refusal.Refusal.{Refusal}
 use Rattle.nor_call.specs.declared.refusal.Refusal.TheVariants.{NoChip, UnknownChip, OtherName, Stopped, Timeout}
 
--- The meaning of an error from a probe or the reads that follow it, together at most `most` transactions. `NoChip`,
--- `UnknownChip` and `OtherName` mean the same as the probe's faults. On a well-behaved bus (`honest`) a stop occurs
--- only with fewer than `most` transactions left, and a timeout doesn't occur. The address of a timeout is 0.
+-- The meaning of an error from a probe or the reads that follow it, which have at most `most` transactions together.
+-- `NoChip`, `UnknownChip` and `OtherName` mean the same as the probe's faults. On a well-behaved bus (`honest`) a stop
+-- occurs only with fewer than `most` transactions left, and a timeout doesn't occur. The address of a timeout is 0.
 abbrev pub OpeningTells : (most : ℕ) → Option ChipName → (old new : BusState) → Refusal → Type 0
 OpeningTells most named old new NoChip = old.honest ≡ true → Tells named old new Probes.NoChip
 OpeningTells most named old new (UnknownChip fault) = old.honest ≡ true → Tells named old new (Probes.UnknownChip fault)
