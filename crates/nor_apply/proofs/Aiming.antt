@@ -1,4 +1,4 @@
--- The sectors that the parts of a change target, on every bus.
+-- Lemmas about the sectors that the parts of a change target, on every bus.
 use Rattle.std.proofs.Common.{◌≡◌, ◌<◌, ◌≤◌, ◌+◌, ◌/◌, ◌%◌, ◌⊎◌, ℕ, Bool, true, refl, arith}
 use Rattle.std.proofs.lemmas.Bool.Decides.{nat_tests}
 use Rattle.nor_chip.specs.Sent.{aim_unit, is_in_aim}

@@ -1,4 +1,4 @@
--- The effect of all changes at each exit, the transactions that they take, and their result.
+-- The exits of `apply`: the effect of the changes so far, their transactions, and the result.
 use Rattle.std.proofs.Common.{ℕ, zero, suc, ◌≡◌, ◌<◌, ◌≤◌, ◌+◌, ◌*◌, ◌/◌, ◌∙◌, Bool, true, false, refl, sym, ap, arith, true≢false, inl, inr}
 use Rattle.std.specs.Prelude.{◌&&◌, ◌||◌, if◌then◌else◌}
 use Rattle.std.proofs.lemmas.Bool.{cases_Bool, or_left, or_right}
@@ -65,8 +65,8 @@ pub record Numbers : Type 0 where
 abbrev pub sending_these : Changes → Numbers → Limits
 sending_these changes n = sending changes n.erases n.programs n.status_writes
 
--- The changes so far led to these bytes, erased sectors and protection bits, with these numbers of operations and reads.
--- At most `spent` transactions were sent.
+-- Holds if the changes so far led to these bytes, erased sectors and protection bits, with these numbers of operations
+-- and reads, and at most `spent` transactions.
 pub record SoFar (changes : Changes) (wanted bytes : ℕ → ℕ) (worn : ℕ → Bool) (code : ℕ) (numbers : Numbers)
     (readings spent : ℕ) (old now : BusState) (tally : Tally) : Type 0 where
   pub ran : Ran (sending_these changes numbers) readings old now tally
@@ -75,7 +75,7 @@ pub record SoFar (changes : Changes) (wanted bytes : ℕ → ℕ) (worn : ℕ �
       → MayChange (touched_in changes) (raised_in changes) wanted old now
   pub stands : old.honest ≡ true → CanApply changes wanted old.chip → Stands bytes worn code old now
 
--- The effect of one part at every exit.
+-- Holds at every exit of one part of the changes, which led from `mid` to `new`. All changes began at `old`.
 pub record Leaves (changes : Changes) (wanted : ℕ → ℕ) (most : ℕ) (limits : Limits) (old mid new : BusState) : Type 0
   where
     pub spends : Spends most mid new
@@ -83,7 +83,7 @@ pub record Leaves (changes : Changes) (wanted : ℕ → ℕ) (most : ℕ) (limit
     pub may : old.honest ≡ true → CanApply changes wanted old.chip
         → MayChange (touched_in changes) (raised_in changes) wanted mid new
 
--- The effect of all changes if one part returns an error.
+-- Holds if all changes end with this error because one part returned it.
 abbrev pub Halted : (changes : Changes) (wanted : ℕ → ℕ) (old new : BusState) → Halt → Type 0
 Halted changes wanted old new halt =
     LeavesApply changes wanted old new × Halts (most_applied (sector_count (touched_in changes))) old new halt
@@ -130,7 +130,7 @@ module _ {changes : Changes} {wanted bytes : ℕ → ℕ} {worn : ℕ → Bool} 
           stands = stands;
         }
 
-  -- a status write
+  -- the part is a status write
   module _ {needed : Bool} {code' : ℕ} {new : BusState}
       (writable : needed ≡ true → CanApply changes wanted old.chip → is_writable old.chip ≡ true)
       (leaves : LeavesCode changes.status code' needed mid new) where
@@ -175,7 +175,8 @@ names_sectors changes sectors halt inside told = grind (arith, inside)
 
 -- ---- the four parts
 
--- the numbers of operations after protection was lifted if that is asked, and those with erases and page programs too
+-- the numbers of operations after the unlock, if it was requested (`lifting`), and after more erases and programs
+-- (`and_more`)
 abbrev pub lifting : Changes → Numbers
 lifting changes = record { erases = 0; programs = 0; status_writes = if changes.unlock then 1 else 0 }
 
@@ -183,7 +184,7 @@ abbrev pub and_more : Numbers → (erases programs : ℕ) → Numbers
 and_more n erases programs =
     record { erases = n.erases + erases; programs = n.programs + programs; status_writes = n.status_writes }
 
--- The protection bits were cleared, if that was requested.
+-- Holds after the first part: the protection bits were cleared, if that was requested.
 abbrev pub Lifted : Changes → (ℕ → ℕ) → (old now : BusState) → Tally → Type 0
 Lifted changes wanted old now tally =
     SoFar changes wanted old.chip.bytes old.worn (code_once changes) (lifting changes) 0 most_operation old now tally
@@ -213,7 +214,7 @@ lifted changes {old} wanted leaves does =
       status_writes = omega arith;
     }) (omega arith) (omega arith) (omega arith)
 
--- The raised sectors were erased, in addition.
+-- Holds after the second part: the protection bits were cleared, if that was requested, and the raised sectors erased.
 abbrev pub Erased : Changes → (ℕ → ℕ) → (erases : ℕ) → (old now : BusState) → Tally → Type 0
 Erased changes wanted erases old now tally =
     SoFar changes wanted (once_erased (raised_in changes) old.chip.bytes) (λ s. old.worn s || raised_in changes s)
@@ -284,7 +285,8 @@ module _ {changes : Changes} {wanted : ℕ → ℕ} {old mid new : BusState} {do
       (λ honest can.
       let is = so.stands honest can in stands_changed is (does.done (now_honest so honest) (can_erase_all can is)))
 
--- The touched sectors were programmed, in addition.
+-- Holds after the third part: the protection bits were cleared, if that was requested, the raised sectors erased, and
+-- the touched sectors programmed.
 abbrev pub Programmed : Changes → (ℕ → ℕ) → (erases programs : ℕ) → (old now : BusState) → Tally → Type 0
 Programmed changes wanted erases programs old now tally =
     SoFar changes wanted
@@ -355,7 +357,7 @@ module _ {changes : Changes} {wanted : ℕ → ℕ} (erases : ℕ) {old mid new 
 
 -- ---- the end
 
--- The protection bits were cleared, the raised sectors erased and the touched ones programmed, as requested.
+-- The results of the three parts before the last status write: unlock, erases and programs.
 pub record Parts (changes : Changes) (wanted : ℕ → ℕ) (old free mid made : BusState) (sent : ℕ)
     (erases programs : Tally) : Type 0 where
   pub inside : (s : ℕ) → raised_in changes s ≡ true → touched_in changes s ≡ true
@@ -379,7 +381,7 @@ module _ {changes : Changes} {wanted : ℕ → ℕ} {old free mid made : BusStat
       })
   third = programmed erases.count second parts.programs_leave parts.program
 
-  -- the sum fits in 64 bits
+  -- after one more operation, the number of transactions still fits in 64 bits
   pub few_sent : sent + erases.transactions + programs.transactions < 18446744073709486078
   few_sent = omega (arith, third.few, count_below-most 4096 (touched_in changes))
 

@@ -1,4 +1,4 @@
--- The steps of all changes: unlock, erases, programs, and the status write at the end.
+-- The steps of `apply`: unlock, erases, programs, and the status write at the end.
 use Rattle.std.proofs.Common.{ℕ, ◌≡◌, ◌<◌, ◌/◌, Bool, true, false, inl, inr, refl, ap, sym, ◌∙◌, arith}
 use Rattle.std.specs.Prelude.{◌||◌, bit_and, if◌then◌else◌}
 use Rattle.std.proofs.lemmas.Nat.{and_mask}
@@ -23,15 +23,15 @@ use Rattle.nor_apply.specs.Applying.{touched_in, raised_in, writes_code, CanAppl
 use Rattle.nor_apply.proofs.Kept.{code_cleared, coded_again, fixed_coded, locked_same, told_coded, writable_same}
 use Rattle.nor_apply.proofs.Changing.{can_after, same_change, status_change}
 
--- the protection bits that were read, and those after the unlock, if it was requested
+-- the protection bits that were read (`code_read`), and those at the erases (`code_once`): 0 after an unlock
 abbrev pub code_read : Changes → ℕ
 code_read changes = code_of (kept_in (bytes_of changes.status))
 
 abbrev pub code_once : Changes → ℕ
 code_once changes = if changes.unlock then 0 else code_read changes
 
--- An intermediate state: the bytes, the erased sectors and the protection bits are these. All else is as it was, and
--- the chip is idle.
+-- Holds for an intermediate state with these bytes, erased sectors and protection bits. All else is as it was, the chip
+-- is idle, and its write enable latch is set only if it was set before.
 pub record Stands (bytes : ℕ → ℕ) (worn : ℕ → Bool) (code : ℕ) (old new : BusState) : Type 0 where
   pub config : new.chip.config ≡ old.chip.config
   pub byte : (a : ℕ) → new.chip.bytes a ≡ bytes a
@@ -40,7 +40,7 @@ pub record Stands (bytes : ℕ → ℕ) (worn : ℕ → Bool) (code : ℕ) (old 
   pub idle : new.chip.busy ≡ 0
   pub latch : new.chip.latch ≡ true → old.chip.latch ≡ true
 
--- erases or programs, after earlier steps
+-- erases or programs after earlier steps lead to another intermediate state
 pub stands_changed : {t e worn : ℕ → Bool} {w bytes : ℕ → ℕ} {code : ℕ} {old mid new : BusState}
     → Stands bytes worn code old mid → HasChanged t w e mid new
     → Stands (λ a. if t (a / 4096) then w a else bytes a) (λ s. worn s || e s) code old new
@@ -53,7 +53,7 @@ code_at_end : (changes : Changes) (writes : Bool) → writes_code changes ≡ wr
     → (if writes then changes.code else code_once changes) ≡ changes.code
 code_at_end changes writes is = grind (arith, nat_tests)
 
--- the protection bits that were read are the chip's
+-- the protection bits that were read are those of a chip for which `CanApply` holds
 kept_read : {changes : Changes} {wanted : ℕ → ℕ} {chip : Chip} → CanApply changes wanted chip
     → with_code (code_read changes) chip.kept ≡ chip.kept
 kept_read {changes = changes} {chip = chip} can =
@@ -71,7 +71,8 @@ module _ {changes : Changes} {wanted : ℕ → ℕ} {old : BusState} (can : CanA
     fixed : fixed_of mid.chip.kept ≡ fixed_of old.chip.kept
     fixed = ap fixed_of is.kept ∙ fixed_coded code old.chip.kept
 
-    -- a chip whose status can be written, with these never-changed bits, accepts a status write
+    -- the chip accepts a needed status write in each state between the steps: it is idle, its status isn't locked, and
+    -- its bits that are never changed are those that were read
     can_write : needed ≡ true → CanWriteStatus changes.status mid.chip
     can_write writes =
         let lock = locked_same old.chip.kept mid.chip.kept fixed in

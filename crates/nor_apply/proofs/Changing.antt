@@ -1,4 +1,4 @@
--- The parts of a change compose: the relations for every exit, and those for success.
+-- Two successive parts of a change compose, in the relations for every exit and in those for success.
 use Rattle.std.proofs.Common.{◌≡◌, ℕ, ◌/◌, ◌⊎◌, inl, true, false, true≢false, arith, ◌∙◌, sym, ap}
 use Rattle.std.specs.Prelude.{Bool, ◌||◌, if◌then◌else◌}
 use Rattle.std.proofs.lemmas.Bool.{false_from_ne_true}
@@ -48,8 +48,8 @@ within_wider p q first state wider within = record {
       let runs = within.runs loses works in search (runs.inside, runs.status);
 }
 
--- an idle chip with the same configuration and non-volatile bits, and with the same bytes outside a set of addresses,
--- is within that set
+-- `IsWithin` holds for a set of addresses if the chip is idle, has the same configuration and non-volatile bits, and
+-- has the same bytes outside the set
 pub idle_within : {p : ℕ → Bool} {first : Chip} {state : BusState} → state.chip.config ≡ first.config
     → ((a : ℕ) → p a ≡ false → state.chip.bytes a ≡ first.bytes a) → state.chip.kept ≡ first.kept → state.chip.busy ≡ 0
     → IsWithin p first state
@@ -61,7 +61,8 @@ same_within p first state same idle = idle_within same.config (λ a out. same.by
 
 -- ---- what can be changed
 
--- some of the sectors can be changed if all of them can, as long as configuration and non-volatile bits stay
+-- if a set of sectors can be changed, so can each subset, on an idle chip with the same configuration and non-volatile
+-- bits
 pub can_after : {t t' : ℕ → Bool} {old : Chip} (new : Chip) → ((s : ℕ) → t' s ≡ true → t s ≡ true) → CanChange t old
     → new.config ≡ old.config → new.kept ≡ old.kept → new.busy ≡ 0 → CanChange t' new
 can_after {old} new within can config kept idle =
@@ -69,13 +70,13 @@ can_after {old} new within can config kept idle =
 
 -- ---- every exit
 
--- if the chip is as it was and idle, nothing changed
+-- `MayChange` holds if the chip and its erased sectors are as they were, and the chip is idle
 pub same_change : {t r : ℕ → Bool} {w : ℕ → ℕ} {old new : BusState} → IsSame old.chip new.chip → new.chip.busy ≡ 0
     → ((s : ℕ) → new.worn s ≡ old.worn s) → MayChange t r w old new
 same_change {t} {old} {new} same idle worn =
     search (same_within (places_of t) old.chip new same idle, same.bytes, inl)
 
--- one part after another
+-- if `MayChange` holds for each of two successive parts, it holds for both together
 pub change_then : {t r : ℕ → Bool} {w : ℕ → ℕ} {old mid new : BusState} → mid.steady ≡ old.steady
     → MayChange t r w old mid → MayChange t r w mid new → MayChange t r w old new
 change_then {t} {old} {mid} {new} steadily before after =
@@ -91,7 +92,7 @@ change_as {t} {t' = t'} {old} {new} more raised wanted change =
     let within = within_wider (places_of t) (places_of t') old.chip new (λ a. more (a / 4096)) change.within in
     grind (arith, within, raised, wanted, change.gentle, change.within.bytes, change.worn)
 
--- a status write, to a chip whose status can be written
+-- `MayChange` holds for a status write, even if it was interrupted, to a chip whose status can be written
 pub status_change : {t r : ℕ → Bool} {w : ℕ → ℕ} {code : ℕ} {old new : BusState} → is_writable old.chip ≡ true
     → MayWriteStatus code old new → MayChange t r w old new
 status_change {code = code} {old = old} writable wrote =
@@ -99,8 +100,8 @@ status_change {code = code} {old = old} writable wrote =
 
 -- ---- the end
 
--- Some addresses have the target bytes, and some sectors were erased. All else is as it was, the chip is idle, and its
--- write enable latch is set only if it was set before.
+-- Holds if these addresses have the target bytes, and the sectors of `erased` were erased. All else is as it was, the
+-- chip is idle, and its write enable latch is set only if it was set before.
 pub record HasMade (places : ℕ → Bool) (wanted : ℕ → ℕ) (erased : ℕ → Bool) (old new : BusState) : Type 0 where
   pub config : new.chip.config ≡ old.chip.config
   pub bytes : (a : ℕ) → new.chip.bytes a ≡ (if places a then wanted a else old.chip.bytes a)
@@ -109,7 +110,7 @@ pub record HasMade (places : ℕ → Bool) (wanted : ℕ → ℕ) (erased : ℕ 
   pub idle : new.chip.busy ≡ 0
   pub latch : new.chip.latch ≡ true → old.chip.latch ≡ true
 
--- the addresses of whole sectors
+-- a completed change of sectors is one of all addresses in them
 pub made_of : {t e : ℕ → Bool} {w : ℕ → ℕ} {old new : BusState} → HasChanged t w e old new
     → HasMade (places_of t) w e old new
 made_of has = assumption
@@ -118,7 +119,7 @@ pub changed_of : {t e : ℕ → Bool} {w : ℕ → ℕ} {old new : BusState} →
     → HasChanged t w e old new
 changed_of has = assumption
 
--- a state after success is also allowed at an exit
+-- a byte that is either the old or the target one, as a test decides, is one of these two
 pub either_byte : (b : Bool) {x old wanted : ℕ} → x ≡ (if b then wanted else old) → (x ≡ old) ⊎ (x ≡ wanted)
 either_byte b is = grind arith
 
@@ -134,7 +135,7 @@ pub made_none : {p e : ℕ → Bool} {w : ℕ → ℕ} (state : BusState) → ((
     → state.chip.busy ≡ 0 → HasMade p w e state state
 made_none state none spared idle = grind (arith, none, spared, or-false)
 
--- equal tests can replace each other
+-- in `HasMade`, sets of addresses and sectors can be replaced by equal ones
 pub made_same : {p p' e e' : ℕ → Bool} {w : ℕ → ℕ} {old new : BusState} → ((a : ℕ) → p a ≡ p' a)
     → ((s : ℕ) → e s ≡ e' s) → HasMade p w e old new → HasMade p' w e' old new
 made_same {w = w} {old = old} same spared has =
@@ -142,7 +143,7 @@ made_same {w = w} {old = old} same spared has =
     let worn = λ (s : ℕ). has.worn s ∙ ap (λ (b : Bool). old.worn s || b) (spared s) in
     assumption
 
--- one part after another, if the later part's bytes are the target ones
+-- two successive parts make one, if the later part's bytes are the target ones
 pub made_then : {p q t e f g : ℕ → Bool} {v w : ℕ → ℕ} {old mid new : BusState} → ((a : ℕ) → t a ≡ (p a || q a))
     → ((s : ℕ) → g s ≡ (e s || f s)) → ((a : ℕ) → q a ≡ true → v a ≡ w a)
     → HasMade p w e old mid → HasMade q v f mid new → HasMade t w g old new

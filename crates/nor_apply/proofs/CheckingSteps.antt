@@ -25,7 +25,7 @@ stops {sector} wanted below out = λ honest. rw (sector_count-only sector below)
 
 module _ {sector : ℕ} {bytes : List ℕ} {old new : BusState} (long : length bytes ≡ 4096)
     (reads : ReadsSector sector old new bytes) where
-  -- the bytes read are those of a sector that can be checked
+  -- on a well-behaved bus the bytes that were read are the chip's, if the sector can be checked (`CanCheck`)
   told : old.honest ≡ true → CanCheck (only sector) old.chip → IsSectorOf old.chip.bytes sector bytes
   told honest can = let inside = can.inside sector (only-here refl) in reads.told honest can.idle (omega arith)
 
@@ -47,7 +47,7 @@ module _ {sector : ℕ} {bytes : List ℕ} {old new : BusState} (long : length b
 
 -- ---- sector by sector
 
--- The sectors of a set below a number were verified.
+-- Holds if the sectors of the set that are below `n` were verified.
 pub record HasChecked (sectors : ℕ → Bool) (wanted : ℕ → ℕ) (n : ℕ) (old new : BusState) (sent : ℕ) : Type 0 where
   pub looked : HasLooked sent old new
   pub few : sent ≤ n
@@ -64,13 +64,13 @@ checked_none {t} state = record {
 }
 
 module _ {t : ℕ → Bool} {w : ℕ → ℕ} {n sent : ℕ} {old mid : BusState} (has : HasChecked t w n old mid sent) where
-  -- a sector that isn't in the set is skipped
+  -- `HasChecked` holds below `n + 1`, too, if sector `n` isn't in the set
   pub checked_without : t n ≡ false → HasChecked t w (n + 1) old mid sent
   checked_without not = grind (arith, has.same, count_below-without n t not)
 
   module _ (is : t n ≡ true) (bytes : List ℕ)
       (are : (i : ℕ) → i < 4096 → slice_index bytes i ≡ w (4096 * n + i)) where
-    -- after reads, each of the sectors can be checked if all can
+    -- if all sectors could be checked at the start, the next one can be checked after the reads so far
     can_one : (honest : old.honest ≡ true) → CanCheck t old.chip → CanCheck (only n) mid.chip
     can_one honest can = grind (arith, has.looked.rested honest, can.inside, nat_tests)
 
@@ -84,7 +84,7 @@ module _ {t : ℕ → Bool} {w : ℕ → ℕ} {n sent : ℕ} {old mid : BusState
         let rested = rested_then old mid new in
         grind (arith, nature, rested, count_below-with n t is, does.same, can_one, wanted_at, has.same, nat_tests)
 
-    -- the verification of a sector failed
+    -- the verification of sector `n` failed
     module _ (below : n < 4096) where
       fewer : sent + 1 ≤ sector_count t
       fewer = omega (arith, count_below-next 4096 n t below is, has.counted)

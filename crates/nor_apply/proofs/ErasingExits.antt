@@ -31,7 +31,8 @@ use Rattle.nor_apply.proofs.InTurn.{Listed, listed_none, listed_halted, listed_m
 use Rattle.nor_apply.proofs.Changing.{can_after, change_then, HasMade, changed_of, made_may, made_none, made_same, made_then}
 use Rattle.nor_apply.proofs.Aiming.{unit_aims}
 
--- An erase that lies in a set of sectors and covers at least one, on a chip of `total` sectors.
+-- Holds for an erase of the plan: it lies in the set of sectors and covers at least one of them, on a chip of `total`
+-- sectors.
 record IsOfPlan (kinds : Kinds) (total : ℕ) (set : ℕ → Bool) (unit : Erase) : Type 0 where
   pub is : IsErase kinds total unit
   pub some : 1 ≤ sectors_in total unit.unit
@@ -89,7 +90,7 @@ module _ {kinds : Kinds} {size : ℕ} {set done : ℕ → Bool} {unit : Erase} {
 
 -- ---- one erase after another
 
--- These erases of the plan for a set have succeeded, and those are left.
+-- Holds if the erases `units` of the plan for a set have succeeded, and the erases `left` are not sent yet.
 pub record ErasesSoFar (kinds : Kinds) (size : ℕ) (set : ℕ → Bool) (units left : List Erase) (old new : BusState)
     (tally : Tally) : Type 0 where
   pub below : (s : ℕ) → set s ≡ true → s < size / 4096
@@ -115,13 +116,13 @@ none_so_far state below same covers few all = record {
 
 module _ {kinds : Kinds} {size : ℕ} {set : ℕ → Bool} {units left : List Erase} {old mid : BusState} {tally : Tally}
     (so : ErasesSoFar kinds size set units left old mid tally) where
-  -- the completed erases lie in the set
+  -- a sector that a completed erase covers is in the set
   erased_inside : (s : ℕ) → erased_by (size / 4096) units s ≡ true → set s ≡ true
   erased_inside s erased =
       sym (so.covers.union s)
       ∙ rw (← so.listed.split, list_any-append (erases_sector (size / 4096) s) units left, erased) refl
 
-  -- the number of erases is at most the number of sectors
+  -- limits of `n` erases are part of the limits of one erase per sector, if `n` is at most the number of sectors
   within_count : {n : ℕ} → n ≤ sector_count set
       → IsPartOf (erasing (may_aim_at set size) n) (erasing (may_aim_at set size) (sector_count set))
   within_count few = record {
@@ -132,7 +133,7 @@ module _ {kinds : Kinds} {size : ℕ} {set : ℕ → Bool} {units left : List Er
     status_writes = omega arith;
   }
 
-  -- no planned erase is left
+  -- every planned erase was sent
   module _ (none : left ≡ []) where
     pub does_ended : DoesErases set kinds size old mid tally
     does_ended =
@@ -154,7 +155,7 @@ module _ {kinds : Kinds} {size : ℕ} {set : ℕ → Bool} {units left : List Er
       reached = λ honest can. made_may (λ a. erased_inside (a / 4096)) erased_inside (so.done honest can);
     }
 
-  -- an erase is left: the next one
+  -- the erase `unit` is next
   module _ {unit : Erase} {rest : List Erase} (next : left ≡ unit ∷ rest) where
     pub few_units : tally.count < 4096
     few_units = omega (arith, come_fewer so.listed next, so.few, count_below-most 4096 set)
@@ -191,7 +192,7 @@ module _ {kinds : Kinds} {size : ℕ} {set : ℕ → Bool} {units left : List Er
         let some = of_plan.some in
         grind (arith, nat_tests)
 
-    -- limits of `n` erases and of this one together
+    -- the limits of `n` erases and of the next one add up to those of `n + 1` erases
     one_more : (n more : ℕ) → more ≡ n + 1
         → IsSum (erasing (may_aim_at set size) n) (erasing (is_sector_named unit) 1) (erasing (may_aim_at set size) more)
     one_more n more is = record {

@@ -16,15 +16,15 @@ use Rattle.nor_apply.specs.Spending.{Spends, Tallies}
 
 -- ---- parts that ran
 
--- A part of a change succeeded. It sent exactly the numbers of operations in these limits, only what they allow, and at
--- most this number of readings.
+-- Holds if a part of a change succeeded. It sent exactly the numbers of operations in `limits`, only what they allow,
+-- and at most `readings` reads.
 pub record Ran (limits : Limits) (readings : ℕ) (old new : BusState) (tally : Tally) : Type 0 where
   pub nature : KeepsNature old new
   pub sends : SendsWithin limits old new
   pub exactly : SendsExactly limits.erases limits.programs limits.status_writes old new
   pub tallies : Tallies readings old new tally
 
--- These limits allow no erase, page program or status write.
+-- Holds if these limits allow no erase, page program or status write.
 abbrev pub AllowsNone : Limits → Type 0
 AllowsNone limits = (limits.erases ≡ 0) × (limits.programs ≡ 0) × (limits.status_writes ≡ 0)
 
@@ -37,7 +37,7 @@ ran_none {limits} state none = record {
   tallies = search arith;
 }
 
--- a single operation that succeeded is such a part
+-- a single operation that succeeded is a part without reads
 ran_one : {limits : Limits} {sent : ℕ} {old new : BusState} → Stirs limits old new
     → SendsExactly limits.erases limits.programs limits.status_writes old new
     → EndsWaiting old new sent → Ran limits 0 old new (record { count = 1; transactions = sent })
@@ -87,7 +87,7 @@ module _ {limits : Limits} {r : ℕ} {old mid : BusState} {done : Tally} (ran : 
 
 -- ---- an operation for each of a list
 
--- The operations for `done` succeeded, and those for `left` are left.
+-- Holds if the operations for the elements `done` of the list `all` succeeded, and those for `left` are not sent yet.
 pub record Listed {A : Type 0} (all done left : List A) (limits : ℕ → Limits) (old new : BusState)
     (tally : Tally) : Type 0 where
   pub split : done ++ left ≡ all
@@ -129,7 +129,7 @@ module _ {A : Type 0} {all done left : List A} {limits : ℕ → Limits} {old mi
         halts_after listed.ran halts (omega (arith, come_fewer)),
       )
 
-      -- the next operation succeeded, too
+      -- the next operation succeeded
       pub listed_more : {sent : ℕ} {more : Tally} → IsSum (limits tally.count) one (limits more.count)
           → SendsExactly one.erases one.programs one.status_writes mid new → EndsWaiting mid new sent
           → more.count ≡ tally.count + 1

@@ -1,4 +1,4 @@
--- Non-volatile status bits on the way from one chip to another: those that are never changed, and the protection bits.
+-- Non-volatile status bits before and after a status write: those that are never changed, and the protection bits.
 use Rattle.std.proofs.Common.{◌≡◌, ◌+◌, ◌*◌, ◌/◌, ◌%◌, ℕ, List, slice_index, arith, ◌∙◌, ap, refl}
 use Rattle.std.specs.Prelude.{◌||◌, ◌==◌}
 use Rattle.nor_chip.specs.Chip.{Chip, KeptBits, is_locked, kept_in}
@@ -20,7 +20,7 @@ coded_again code later kept =
     let high : (64 * (code / 32) + kept.two % 64) % 64 ≡ kept.two % 64 = omega arith in
     rw (low, high) refl
 
--- all protection bits are clear after code 0 was written
+-- writing code 0 clears all protection bits
 pub code_cleared : (kept : KeptBits) → code_of (with_code 0 kept) ≡ 0
 code_cleared kept = omega arith
 

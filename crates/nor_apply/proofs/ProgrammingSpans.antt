@@ -35,11 +35,11 @@ use Rattle.nor_apply.specs.Spending.{NamesTimeoutIn}
 use Rattle.nor_apply.proofs.InTurn.{Listed, listed_none, listed_halted, listed_more, come_all, come_next, come_fewer, spends_ended}
 use Rattle.nor_apply.proofs.Aiming.{named_in}
 
--- the addresses of some spans of a sector
+-- true at the addresses of these spans of the sector
 abbrev pub in_spans : ℕ → List PageSpan → ℕ → Bool
 in_spans sector spans a = spanned_by spans (a - 4096 * sector) && only sector (a / 4096)
 
--- These spans were programmed.
+-- Holds if the bytes of these spans of a sector are the target ones, and all other bytes are as they were.
 abbrev pub HasFilled : ℕ → List ℕ → List PageSpan → (old new : BusState) → Type 0
 HasFilled sector wanted spans old new = HasMade (in_spans sector spans) (byte_of sector wanted) none old new
 
@@ -48,19 +48,21 @@ HasFilled sector wanted spans old new = HasMade (in_spans sector spans) (byte_of
 abbrev part : List ℕ → PageSpan → List ℕ
 part wanted span = take (span.last + 1 - span.first) (drop span.first wanted)
 
--- a byte that is the old or the target one, ANDed with the target byte, is the target byte
+-- a byte that is the old or the target one, ANDed with the target byte, is the target byte, if no bit must go from 0 to
+-- 1
 fallen : {now old wanted : ℕ} → (now ≡ old) ⊎ (now ≡ wanted) → bit_and wanted old ≡ wanted → bit_and now wanted ≡ wanted
 fallen {old} {wanted} (inl same) falls = rw (same, and_comm old wanted) falls
 fallen {wanted} (inr made) falls = rw made (and_self wanted)
 
 -- ---- one more span
 
--- a page lies in one sector
+-- all addresses of a page are in the same sector
 page_inside : (sector first a : ℕ) → first < 4096 → is_in_page (4096 * sector + first) a ≡ true
     → only sector (a / 4096) ≡ true
 page_inside sector first a below page = grind (arith, nat_tests)
 
--- a program that may have been interrupted, if each programmed byte is as it was or the target one
+-- `MayChange` holds for a program, even if it was interrupted, if each byte that it programs to the end is as it was or
+-- the target one
 span_change : (sector at : ℕ) (sent : List ℕ) (wanted : ℕ → ℕ) (now new : BusState)
     → ((a : ℕ) → is_in_page at a ≡ true → only sector (a / 4096) ≡ true)
     → ((a : ℕ) → (programmed at sent now.chip.bytes a ≡ now.chip.bytes a)
@@ -142,7 +144,7 @@ module _ {sector : ℕ} {old wanted : List ℕ} {span : PageSpan} (spanned : Spa
           ∙ and-or_distrib_right (spanned_by spans (a - 4096 * sector)) _ _ in
           made_then joined (λ s. refl) (λ a is. refl) filled made
 
-      -- a program that was interrupted, after some spans
+      -- `MayChange` holds for a program, even if it was interrupted, that follows the programs of other spans
       span_may : now.steady ≡ first.steady → MayProgram (4096 * sector + span.first) (part wanted span) now new
           → MayChange (only sector) none (byte_of sector wanted) first new
       span_may steadily may =
@@ -151,7 +153,7 @@ module _ {sector : ℕ} {old wanted : List ℕ} {span : PageSpan} (spanned : Spa
           (λ a. page_inside sector span.first a (omega (arith, below_end, spanned.is.order)))
           (λ a. either_byte (in_spans sector (span ∷ []) a) (span_bytes a)) may)
 
--- bytes outside all spans need no program
+-- a sector has its target bytes after all spans were programmed: bytes outside them needed no program
 filled_all : {sector : ℕ} {old wanted : List ℕ} {spans : List PageSpan} {first new : BusState} → length old ≡ 4096
     → AreSpans old wanted spans → CanProgramSpans sector old wanted first.chip → HasFilled sector wanted spans first new
     → HasChanged (only sector) (byte_of sector wanted) none first new
@@ -172,7 +174,7 @@ filled_all {sector} {old} {wanted} {spans} {first} {new} whole are can filled =
 
 -- ---- the number of spans
 
--- the numbers of a range, after those that were tested before
+-- some number of two adjacent ranges passes the test exactly if some number of the joined range does
 any_of_range : (test : ℕ → Bool) (from m n at all : ℕ) → at ≡ from + m → all ≡ m + n
     → (any_below m (λ i. test (from + i)) || list_any test (range_with_len at n)) ≡ any_below all (λ i. test (from + i))
 any_of_range test from m zero at all place sum =
@@ -183,7 +185,7 @@ any_of_range test from m (suc n) at all place sum =
     sym (or_assoc (any_below m (λ i. test (from + i))) (test at) (list_any test (range_with_len (at + 1) n)))
     ∙ rw (← one_more) (any_of_range test from (m + 1) n (at + 1) all (omega arith) (omega arith))
 
--- the pages in which the sector's bytes differ are those in which the chip's differ
+-- a page of the sector differs from its target exactly if the chip's page does, when `old` are the sector's bytes
 page_same : (content : ℕ → ℕ) (sector : ℕ) (old wanted : List ℕ) → length old ≡ 4096 → IsSectorOf content sector old
     → (page : ℕ) → page < 16 → page_differs old wanted page
     ≡ is_page_other content (byte_of sector wanted) (16 * sector + page)
@@ -226,7 +228,8 @@ pages_other content sector old wanted whole shown =
 
 -- ---- one span after another
 
--- The programs of these spans of a sector succeeded, and nothing else was sent. The spans `left` are left.
+-- Holds if the programs of the spans `spans` of a sector succeeded, and nothing else was sent. The spans `left` are not
+-- programmed yet.
 pub record SpansSoFar (sector : ℕ) (old wanted : List ℕ) (spans left : List PageSpan) (first now : BusState)
     (tally : Tally) : Type 0 where
   pub whole : length old ≡ 4096
@@ -249,7 +252,7 @@ spans_none state whole wanted_whole same are all = record {
 
 module _ {sector : ℕ} {old wanted : List ℕ} {spans left : List PageSpan} {first now : BusState} {tally : Tally}
     (so : SpansSoFar sector old wanted spans left first now tally) where
-  -- limits of at most 16 page programs
+  -- the limits of 16 page programs include those of fewer
   sixteen : (n : ℕ) → n ≤ 16 → IsPartOf (programming (only sector) n) (programming (only sector) 16)
   sixteen n few = record {
     sectors = λ s aimed. aimed;
@@ -259,7 +262,7 @@ module _ {sector : ℕ} {old wanted : List ℕ} {spans left : List PageSpan} {fi
     status_writes = omega arith;
   }
 
-  -- no span is left
+  -- every span was programmed
   module _ (none : left ≡ []) where
     pub does_ended : DoesSpans sector old wanted first now tally
     does_ended =
@@ -280,7 +283,7 @@ module _ {sector : ℕ} {old wanted : List ℕ} {spans left : List PageSpan} {fi
       reached = λ honest can. changed_may (does_ended.done honest can);
     }
 
-  -- a span is left: the next one
+  -- the span `span` is next
   module _ {span : PageSpan} {rest : List PageSpan} (next : left ≡ span ∷ rest) where
     spanned : Spanned sector old wanted span
     spanned = record {
@@ -300,7 +303,7 @@ module _ {sector : ℕ} {old wanted : List ℕ} {spans left : List PageSpan} {fi
         let at = named_in 1 ((4096 * sector + span.first) / 4096) s (omega arith) (omega arith) named in
         only-here (omega arith)
 
-    -- limits of `n` page programs and of this one together
+    -- the limits of `n` page programs and of the next one add up to those of `n + 1` page programs
     one_more : (n more : ℕ) → more ≡ n + 1
         → IsSum (programming (only sector) n) (programming (is_sector_of (4096 * sector + span.first)) 1)
         (programming (only sector) more)

@@ -30,7 +30,7 @@ use Rattle.nor_apply.proofs.Changing.{can_after, change_then, change_as, HasMade
 
 module _ {sector : ℕ} {erased : Bool} {bytes bytes' : List ℕ} {reads : ℕ} {first mid : BusState}
     (loads : Loads sector erased bytes bytes' (Ok reads) first mid) where
-  -- at most one transaction was sent
+  -- loading a sector takes at most one transaction and no operation
   loads_ran : Ran (programming (only sector) 0) 1 first mid (record { count = 0; transactions = reads })
   loads_ran =
       let ends = loads.ends in
@@ -41,7 +41,7 @@ module _ {sector : ℕ} {erased : Bool} {bytes bytes' : List ℕ} {reads : ℕ} 
         tallies = grind (arith, ends.reads_once, ends.heard, ends.kept, ends.read);
       }
 
-  -- limits of a read and of `n` page programs together
+  -- a read adds nothing to the limits of `n` page programs
   then_programs : (n : ℕ)
       → IsSum (programming (only sector) 0) (programming (only sector) n) (programming (only sector) n)
   then_programs n = record {
@@ -56,7 +56,7 @@ module _ {sector : ℕ} {erased : Bool} {bytes bytes' : List ℕ} {reads : ℕ} 
 
   module _ {wanted : List ℕ} (blank : (i : ℕ) → i < 4096 → slice_index bytes i ≡ 255) (honest : first.honest ≡ true)
       (can : CanProgramSector sector wanted erased first.chip) where
-    -- the bytes of the sector are known, and the chip is as it was
+    -- on a well-behaved bus, if the sector can be programmed, its bytes are known and the chip is as it was
     has_loaded : HasMade (λ a. false) (byte_of sector wanted) none first mid × IsSectorOf mid.chip.bytes sector bytes'
     has_loaded = elim (cases_Bool erased) [
       | inl is ↦
@@ -123,7 +123,7 @@ module _ {sector : ℕ} {erased : Bool} {bytes bytes' : List ℕ} {reads : ℕ} 
 
 -- ---- sector by sector
 
--- the touched sectors below a number
+-- true for the touched sectors below `n`
 abbrev pub before : (ℕ → Bool) → ℕ → ℕ → Bool
 before touched n s = touched s && nat_lt s n
 
@@ -134,7 +134,7 @@ before_more touched n is s = grind (arith, nat_tests)
 before_skip : (touched : ℕ → Bool) (n : ℕ) → touched n ≡ false → (s : ℕ) → before touched n s ≡ before touched (n + 1) s
 before_skip touched n free s = grind (arith, nat_tests)
 
--- The touched sectors below a number were programmed, and nothing else was sent.
+-- Holds if the touched sectors below `n` were programmed. Only their programs and at most one read of each were sent.
 pub record SectorsSoFar (touched raised : ℕ → Bool) (wanted : ℕ → ℕ) (n : ℕ) (first now : BusState)
     (tally : Tally) : Type 0 where
   pub ran : Ran (programming touched tally.count) (count_below n touched) first now tally
@@ -155,7 +155,7 @@ sectors_none {touched} {wanted = wanted} state = record {
   counted = λ honest can. sym (count_below-zero (is_programmed touched state.chip.bytes wanted));
 }
 
--- the pages with one more sector, which may be touched or not
+-- the pages that need a program below sector `n + 1`: those below sector `n`, and those of sector `n`, if it is touched
 pages_more : (touched : ℕ → Bool) (content wanted : ℕ → ℕ) (n : ℕ) (is : Bool) → touched n ≡ is
     → count_below (16 * (n + 1)) (is_programmed touched content wanted)
     ≡ count_below (16 * n) (is_programmed touched content wanted)
@@ -168,7 +168,7 @@ pages_more touched content wanted n is same =
     (λ page. is && is_page_other content wanted (16 * n + page))
     (λ page small. let sector : (16 * n + page) / 16 ≡ n = omega arith in rw (sector, same) refl))
 
--- if the bytes of a page are the same, it differs in the same way
+-- whether a page differs from the target depends only on its own bytes and target bytes
 page_same : (page : ℕ) {now before wanted wanted' : ℕ → ℕ} → ((a : ℕ) → a / 256 ≡ page → now a ≡ before a)
     → ((a : ℕ) → a / 256 ≡ page → wanted a ≡ wanted' a)
     → is_page_other now wanted page ≡ is_page_other before wanted' page
@@ -178,11 +178,11 @@ page_same page {now} {before} {wanted} {wanted'} same same_wanted =
     any_below-same 256 (λ i. is_other (now (at i)) (wanted (at i))) (λ i. is_other (before (at i)) (wanted' (at i)))
     (λ i below. rw (same (at i) (omega arith), same_wanted (at i) (omega arith)) refl)
 
--- the next touched sector counts among all touched sectors
+-- if sector `n` is touched, fewer sectors are touched below it than in all
 pub room : (touched : ℕ → Bool) (n : ℕ) → n < 4096 → touched n ≡ true → count_below n touched + 1 ≤ sector_count touched
 room touched n below is = count_below-next 4096 n touched below is
 
--- a touched sector with these target bytes
+-- Holds if sector `n` is touched, and has these target bytes.
 pub record IsTouched (touched : ℕ → Bool) (wanted : ℕ → ℕ) (n : ℕ) (bytes : List ℕ) : Type 0 where
   pub is : touched n ≡ true
   pub below : n < 4096
@@ -193,7 +193,7 @@ module _ {touched raised : ℕ → Bool} {wanted : ℕ → ℕ} {n : ℕ} {first
   pub few_sectors : n < 4096 → (tally.count ≤ 65520) × (tally.transactions ≤ 4294053855)
   few_sectors below = omega (arith, count_below-most n touched)
 
-  -- a sector that isn't touched is skipped
+  -- `SectorsSoFar` holds below `n + 1`, too, if sector `n` isn't touched
   pub sectors_skip : touched n ≡ false → SectorsSoFar touched raised wanted (n + 1) first now tally
   sectors_skip free =
       let count = count_below-without n touched free in
@@ -220,7 +220,7 @@ module _ {touched raised : ℕ → Bool} {wanted : ℕ → ℕ} {n : ℕ} {first
 
     module _ {erased : Bool} {new : BusState} (erased_is : erased ≡ raised n)
         (leaves : LeavesSector n bytes erased now new) where
-      -- the bytes of the sector are still the old ones
+      -- the bytes of sector `n` are still those from the start
       module _ (honest : first.honest ≡ true) (can : CanProgramAll touched raised wanted first.chip) where
         still_old : (a : ℕ) → only n (a / 4096) ≡ true → now.chip.bytes a ≡ first.chip.bytes a
         still_old a here =
@@ -233,7 +233,7 @@ module _ {touched raised : ℕ → Bool} {wanted : ℕ → ℕ} {n : ℕ} {first
             let able = can_after now.chip only_touched can.can done.config done.kept done.idle in
             grind (arith, still_old, only_touched, wanted_byte, can.blank, can.falls, nat_tests)
 
-      -- limits of `n'` page programs and of those of one more sector together
+      -- the limits of `n'` page programs and of those for one more sector add up
       pages_after : (n' more all : ℕ) → all ≡ n' + more
           → IsSum (programming touched n') (programming (only n) more) (programming touched all)
       pages_after n' more all is = record {

@@ -21,30 +21,32 @@ use Rattle.nor_apply.specs.Within.{is_writable}
 use Rattle.nor_apply.specs.Change.{IsSized, MayChange}
 use Rattle.nor_apply.specs.Spending.{Spends, may_aim_at}
 
--- the touched sectors, and the raised sectors
+-- the sectors that the changes touch (`touched_in`), and those that they raise (`raised_in`), as Boolean functions
 abbrev pub touched_in : Changes → ℕ → Bool
 touched_in changes = has changes.touched
 
 abbrev pub raised_in : Changes → ℕ → Bool
 raised_in changes = has changes.raised
 
--- the status is written at the end: the protection bits of the status that was read, or 0 after an unlock, are not the
--- target ones
+-- true if the status is written at the end: the protection bits of the status that was read, or 0 after an unlock,
+-- differ from the target bits
 abbrev pub writes_code : Changes → Bool
 writes_code changes = not ((if changes.unlock then 0 else code_of (kept_in (bytes_of changes.status))) == changes.code)
 
--- the number of status writes
+-- the number of status writes that the changes need
 abbrev pub status_writes : Changes → ℕ
 status_writes changes = (if changes.unlock then 1 else 0) + (if writes_code changes then 1 else 0)
 
--- True if the changes ask for a status write of these two bytes. They are the status that was read, without protection
--- bits if protection is lifted first, or with the target's protection bits if these are written at the end.
+-- True if the changes ask for a status write of these two bytes. They are the status that was read, with BUSY, WEL and
+-- SUS clear, and with all protection bits clear if protection is lifted first, or with the target's protection bits if
+-- these are written at the end.
 abbrev pub is_status_asked : Changes → (one two : ℕ) → Bool
 is_status_asked changes one two =
     (changes.unlock && has_code changes.status 0 one two)
     || (writes_code changes && has_code changes.status changes.code one two)
 
--- the limits of the changes, with at most these numbers of erases, page programs and status writes
+-- limits of these changes: targets are only the touched sectors (`may_aim_at`), status writes only those for which the
+-- changes ask, and the numbers of erases, page programs and status writes at most these
 abbrev pub sending : Changes → (erases programs status_writes : ℕ) → Limits
 sending changes erases programs status_writes = record {
   sectors = may_aim_at (touched_in changes) changes.size;
@@ -60,10 +62,10 @@ abbrev pub most_sent : Changes → Limits
 most_sent changes =
     sending changes (sector_count (raised_in changes)) (16 * sector_count (touched_in changes)) (status_writes changes)
 
--- The changes can be made. The chip is idle, and has this size, these erase types and the status that was read. The
--- touched sectors lie on it, and have a protected address only if all protection bits are cleared first. A status write
--- is needed only if the status can be written. The target values are bytes. In a touched sector that isn't raised no
--- bit must go from 0 to 1.
+-- Holds if the changes can be made. The chip is idle, and has the size, the erase types and the status that `changes`
+-- name. The touched sectors lie on it, and have a protected address only if all protection bits are cleared first. If
+-- the changes need a status write, the chip's status can be written. The raised sectors are touched, the target bytes
+-- are below 256, and in a touched sector that isn't raised no bit must go from 0 to 1.
 pub record CanApply (changes : Changes) (wanted : ℕ → ℕ) (chip : Chip) : Type 0 where
   pub idle : chip.busy ≡ 0
   pub sized : IsSized changes.size changes.kinds chip
@@ -76,9 +78,9 @@ pub record CanApply (changes : Changes) (wanted : ℕ → ℕ) (chip : Chip) : T
   pub falls : (a : ℕ) → touched_in changes (a / 4096) ≡ true → raised_in changes (a / 4096) ≡ false
       → bit_and (wanted a) (chip.bytes a) ≡ wanted a
 
--- On success, the touched sectors have the target bytes, the protection bits are the target ones, and the raised
--- sectors were erased. All else is as it was, the chip is idle, and its write enable latch is set only if it was set
--- before.
+-- Holds after all changes succeeded. The touched sectors have the target bytes, the protection bits are the target
+-- ones, and the raised sectors were erased. All else is as it was, the chip is idle, and its write enable latch is set
+-- only if it was set before.
 pub record HasApplied (changes : Changes) (wanted : ℕ → ℕ) (old new : BusState) : Type 0 where
   pub config : new.chip.config ≡ old.chip.config
   pub bytes : (a : ℕ) → new.chip.bytes a ≡ (if touched_in changes (a / 4096) then wanted a else old.chip.bytes a)
@@ -87,21 +89,24 @@ pub record HasApplied (changes : Changes) (wanted : ℕ → ℕ) (old new : BusS
   pub idle : new.chip.busy ≡ 0
   pub latch : new.chip.latch ≡ true → old.chip.latch ≡ true
 
--- the greatest number of transactions: at most one read, one erase and sixteen programs for each touched sector, and
--- two status writes
+-- the greatest number of transactions for this number of touched sectors: one read, one erase and sixteen programs for
+-- each of them, and two status writes
 abbrev pub most_applied : ℕ → ℕ
 most_applied touched = touched + most_operation * (17 * touched + 2)
 
--- At every exit. On every bus, erases and programs target only touched sectors, or if these are the whole chip, sectors
--- past its end, too. At most the needed status writes were sent.
+-- Holds at every exit of `apply`. On every bus, erases and programs target only touched sectors, or if these are the
+-- whole chip, also sectors past its end; no more operations are sent than `most_sent` allows. On a well-behaved bus, if
+-- `CanApply` held at the start, the chip changes only as `MayChange` allows.
 pub record LeavesApply (changes : Changes) (wanted : ℕ → ℕ) (old new : BusState) : Type 0 where
   pub spends : Spends (most_applied (sector_count (touched_in changes))) old new
   pub sends : SendsWithin (most_sent changes) old new
   pub reached : old.honest ≡ true → CanApply changes wanted old.chip
       → MayChange (touched_in changes) (raised_in changes) wanted old new
 
--- On success, with the counts of `work`. If no sector is touched and no status write needed, the record of modifying
--- commands is as it was.
+-- Holds if `apply` returned the counts `work`. On every bus it sent exactly these numbers of erases, page programs and
+-- status writes (`SendsExactly`); if no sector is touched and no status write is needed, it sent no modifying command.
+-- On a well-behaved bus, if `CanApply` held at the start, the changes are complete, and the programs are one for each
+-- page that differed from the target after the erases.
 pub record DoesApply (changes : Changes) (wanted : ℕ → ℕ) (old new : BusState) (work : Work) : Type 0 where
   pub erases : work.erases ≡ length (planned changes.kinds (changes.size / 4096) (raised_in changes))
   pub fewer_erases : work.erases ≤ sector_count (raised_in changes)
@@ -119,7 +124,7 @@ pub record DoesApply (changes : Changes) (wanted : ℕ → ℕ) (old new : BusSt
       → work.programs ≡ count_below 65536
       (is_programmed (touched_in changes) (once_erased (raised_in changes) old.chip.bytes) wanted)
 
--- on every bus, a timeout names 0 if a status write was needed, or an address in a touched sector
+-- Holds on every bus: a timeout names 0 if a status write was needed, or an address in a touched sector.
 abbrev pub NamesChange : Changes → Halt → Type 0
 NamesChange changes Stopped = ⊤
 NamesChange changes (Timeout address) =

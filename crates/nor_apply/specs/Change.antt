@@ -1,5 +1,5 @@
--- The effect of a change of some sectors, at every exit and on success. Sets of sectors are given as tests of sector
--- numbers. Bytes may change only in touched sectors, and the raised sectors are those that are erased.
+-- The effect of a change of some sectors, at every exit and on success. Sets of sectors are Boolean functions of the
+-- sector number. Bytes may change only in touched sectors, and the raised sectors are those that are erased.
 use Rattle.std.specs.Prelude.{◌≡◌, ◌≤◌, ◌+◌, ◌-◌, ◌*◌, ◌/◌, ◌==◌, ◌||◌, ◌⊎◌, ℕ, Bool, true, false, List, slice_index, bit_and, if◌then◌else◌}
 use Rattle.nor_chip.specs.Chip.{Chip}
 use Rattle.nor_chip.specs.Guard.{is_guarded}
@@ -7,32 +7,33 @@ use Rattle.nor_chip.specs.Bus.{BusState}
 use Rattle.nor_chip.specs.declared.config.Kinds.{Kinds}
 use Rattle.nor_apply.specs.Within.{IsWithin, places_of}
 
--- The sectors can be changed: the chip is idle, and they lie on it and have no protected address.
+-- Holds if the sectors can be changed: the chip is idle, and they lie on it and have no protected address.
 pub record CanChange (sectors : ℕ → Bool) (chip : Chip) : Type 0 where
   pub idle : chip.busy ≡ 0
   pub inside : (s : ℕ) → sectors s ≡ true → 4096 * s + 4096 ≤ chip.config.size
   pub free : (a : ℕ) → sectors (a / 4096) ≡ true → is_guarded chip a ≡ false
 
--- the chip has this size and these erase types
+-- Holds if the chip has this size and these erase types.
 pub record IsSized (size : ℕ) (kinds : Kinds) (chip : Chip) : Type 0 where
   pub same : chip.config.size ≡ size
   pub same_kinds : chip.config.kinds ≡ kinds
 
--- in these sectors no bit must go from 0 to 1 to reach the target bytes
+-- Holds if no bit in these sectors must go from 0 to 1 to reach the target bytes.
 abbrev pub OnlyFalls : (sectors : ℕ → Bool) → (wanted content : ℕ → ℕ) → Type 0
 OnlyFalls sectors wanted content = (a : ℕ) → sectors (a / 4096) ≡ true → bit_and (wanted a) (content a) ≡ wanted a
 
--- At every exit, the chip differs from the old one only within the touched sectors. The bytes outside them and the bits
--- that are never changed are as they were; so are the protection bits, if they can't be written. On a steady bus each
--- byte of a sector that isn't raised is the old or the target one. Only raised sectors were erased.
+-- Holds at every exit of a change. Bytes outside the touched sectors and the bits that are never changed are as they
+-- were; so are the protection bits, if they can't be written. On a steady bus each byte of a sector that isn't raised
+-- is the old or the target one. Only raised sectors were erased.
 pub record MayChange (touched raised : ℕ → Bool) (wanted : ℕ → ℕ) (old new : BusState) : Type 0 where
   pub within : IsWithin (places_of touched) old.chip new
   pub gentle : old.steady ≡ true → (a : ℕ) → raised (a / 4096) ≡ false
       → (new.chip.bytes a ≡ old.chip.bytes a) ⊎ (new.chip.bytes a ≡ wanted a)
   pub worn : (s : ℕ) → raised s ≡ false → new.worn s ≡ old.worn s
 
--- On success, the sectors have the target bytes. All other bytes and the non-volatile bits are as they were, the chip
--- is idle, and its write enable latch is set only if it was set before.
+-- Holds after a change succeeded. The sectors have the target bytes, and those of `erased` were erased. All other bytes
+-- and the non-volatile bits are as they were, the chip is idle, and its write enable latch is set only if it was set
+-- before.
 pub record HasChanged (sectors : ℕ → Bool) (wanted : ℕ → ℕ) (erased : ℕ → Bool) (old new : BusState) : Type 0 where
   pub config : new.chip.config ≡ old.chip.config
   pub bytes : (a : ℕ) → new.chip.bytes a ≡ (if sectors (a / 4096) then wanted a else old.chip.bytes a)
@@ -41,14 +42,14 @@ pub record HasChanged (sectors : ℕ → Bool) (wanted : ℕ → ℕ) (erased : 
   pub idle : new.chip.busy ≡ 0
   pub latch : new.chip.latch ≡ true → old.chip.latch ≡ true
 
--- the byte at every erased address
+-- FFh, the byte at every address after an erase
 abbrev pub blank : ℕ → ℕ
 blank a = 255
 
--- the set of only this sector
+-- true only for the sector number `sector`
 abbrev pub only : (sector s : ℕ) → Bool
 only sector s = s == sector
 
--- the byte at an address in a sector that has these bytes
+-- the byte at address `a`, which lies in a sector with this number and these bytes
 abbrev pub byte_of : ℕ → List ℕ → ℕ → ℕ
 byte_of sector bytes a = slice_index bytes (a - 4096 * sector)

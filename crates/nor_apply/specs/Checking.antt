@@ -10,19 +10,20 @@ use Rattle.nor_apply.specs.declared.checks.CheckFault.{CheckFault}
 use Rattle.nor_apply.specs.declared.checks.CheckFault.TheVariants.{Stopped, Mismatch}
 use Rattle.nor_count.specs.Counts.{sector_count}
 
--- The chip is idle, and the sectors lie on it.
+-- Holds if the chip is idle, and the sectors lie on it.
 pub record CanCheck (sectors : ℕ → Bool) (chip : Chip) : Type 0 where
   pub idle : chip.busy ≡ 0
   pub inside : (s : ℕ) → sectors s ≡ true → 4096 * s + 4096 ≤ chip.config.size
 
--- the first address in these sectors at which a byte isn't the target one
+-- Holds if this is the first address in these sectors at which a byte isn't the target one.
 pub record IsFirstMismatch (sectors : ℕ → Bool) (wanted content : ℕ → ℕ) (address : ℕ) : Type 0 where
   pub in_sector : sectors (address / 4096) ≡ true
   pub differs : content address ≢ wanted address
   pub before : (a : ℕ) → a < address → sectors (a / 4096) ≡ true → content a ≡ wanted a
 
--- The verification succeeded. Each sector was read once. On an honest bus nothing changed, and if `CanCheck` holds,
--- each byte is the target one.
+-- Holds if the verification succeeded with `sent` transactions. Each sector was read once. On a well-behaved bus bytes,
+-- non-volatile bits and erased sectors are as they were (`Rested`), and if `CanCheck` holds, each byte is the target
+-- one.
 pub record DoesChecks (sectors : ℕ → Bool) (wanted : ℕ → ℕ) (old new : BusState) (sent : ℕ) : Type 0 where
   pub reads : sent ≡ sector_count sectors
   pub heard : StaysReady old new
@@ -31,14 +32,15 @@ pub record DoesChecks (sectors : ℕ → Bool) (wanted : ℕ → ℕ) (old new :
   pub same : old.honest ≡ true → CanCheck sectors old.chip
       → (a : ℕ) → sectors (a / 4096) ≡ true → old.chip.bytes a ≡ wanted a
 
--- The verification failed. The bus stopped, on an honest bus because fewer transactions were left than there are
--- sectors. Or, on an honest bus and if `CanCheck` holds, this is the first difference.
+-- Holds if the verification may return this error. `Stopped`, on a well-behaved bus: fewer transactions were left than
+-- there are sectors in the set, and all of them were used. `Mismatch`, on a well-behaved bus and if `CanCheck` holds:
+-- its address is the first at which the chip differs from the target.
 abbrev pub CheckTells : (ℕ → Bool) → (ℕ → ℕ) → (old new : BusState) → CheckFault → Type 0
 CheckTells sectors wanted old new Stopped = RanOutIfHonest (sector_count sectors) old new
 CheckTells sectors wanted old new (Mismatch address) =
     old.honest ≡ true → CanCheck sectors old.chip → IsFirstMismatch sectors wanted old.chip.bytes address
 
--- on every bus, the address of a difference is in one of these sectors
+-- Holds on every bus: the address of a mismatch is in one of these sectors.
 abbrev pub NamesDifference : (ℕ → Bool) → CheckFault → Type 0
 NamesDifference sectors Stopped = ⊤
 NamesDifference sectors (Mismatch address) = sectors (address / 4096) ≡ true

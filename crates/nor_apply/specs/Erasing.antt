@@ -11,20 +11,22 @@ use Rattle.nor_count.specs.Counts.{sector_count}
 use Rattle.nor_apply.specs.Change.{CanChange, IsSized, MayChange, HasChanged, blank}
 use Rattle.nor_apply.specs.Spending.{Spends, Tallies, may_aim_at}
 
--- The sectors can be changed, on a chip with this size and these erase types.
+-- Holds if the sectors can be changed, and the chip has this size and these erase types.
 pub record CanEraseAll (sectors : ℕ → Bool) (kinds : Kinds) (size : ℕ) (chip : Chip) : Type 0 where
   pub can : CanChange sectors chip
   pub sized : IsSized size kinds chip
 
--- At every exit, bytes of the sectors are on their way to FFh. On every bus, erases target only these sectors, or if
--- they are the whole chip, sectors past its end, too.
+-- Holds at every exit of the erases. On every bus they target only these sectors, or if these are the whole chip, also
+-- sectors past its end. On a well-behaved bus, if `CanEraseAll` held at the start, the chip changes only as `MayChange`
+-- allows: the bytes of these sectors may have any value.
 pub record LeavesErases (sectors : ℕ → Bool) (kinds : Kinds) (size : ℕ) (old new : BusState) : Type 0 where
   pub spends : Spends (most_operation * sector_count sectors) old new
   pub sends : SendsWithin (erasing (may_aim_at sectors size) (sector_count sectors)) old new
   pub reached : old.honest ≡ true → CanEraseAll sectors kinds size old.chip → MayChange sectors sectors blank old new
 
--- On success, the number of erases is that of the planned list, which is the shortest list that covers the set. If
--- there was no erase, the record of modifying commands is as it was.
+-- Holds after the erases succeeded. Their number is the length of the planned list, which is the shortest that covers
+-- the set. If there was no erase, the record of modifying commands is as it was. On a well-behaved bus, if
+-- `CanEraseAll` held at the start, all bytes of the sectors are FFh.
 pub record DoesErases (sectors : ℕ → Bool) (kinds : Kinds) (size : ℕ) (old new : BusState)
     (tally : Tally) : Type 0 where
   pub count : tally.count ≡ length (planned kinds (size / 4096) sectors)

@@ -1,4 +1,4 @@
--- The effect of page programs: of a sector's spans, of a sector, of a set of sectors.
+-- The effect of the page programs of one sector, and of a set of sectors.
 use Rattle.std.specs.Prelude.{◌≡◌, ◌≤◌, ◌<◌, ◌+◌, ◌*◌, ◌/◌, ℕ, Bool, true, false, Result, Ok, Err, List, slice_index, bit_and, if◌then◌else◌}
 use Rattle.nor_chip.specs.declared.bus.Stopped.{Stopped}
 use Rattle.nor_chip.specs.Chip.{Chip}
@@ -16,15 +16,15 @@ use Rattle.nor_apply.specs.Spending.{Spends, Tallies}
 
 -- ---- the spans of a sector
 
--- the greatest number of transactions for a sector, including its read
+-- the greatest number of transactions for programming one sector, including its read
 abbrev pub most_sector : ℕ
 most_sector = 1048609
 
--- the greatest number of transactions of a sector's programs: one operation for each of its sixteen pages
+-- the greatest number of transactions for a sector's page programs: one operation for each of its sixteen pages
 abbrev pub most_pages : ℕ
 most_pages = 1048608
 
--- A sector that can be changed holds `old`, and no bit of it must go from 0 to 1.
+-- Holds if the sector can be changed, has the bytes `old`, and no bit of it must go from 0 to 1.
 pub record CanProgramSpans (sector : ℕ) (old wanted : List ℕ) (chip : Chip) : Type 0 where
   pub can : CanChange (only sector) chip
   pub shown : IsSectorOf chip.bytes sector old
@@ -36,7 +36,8 @@ pub record LeavesSpans (sector : ℕ) (bytes wanted : List ℕ) (old new : BusSt
   pub reached : old.honest ≡ true → CanProgramSpans sector bytes wanted old.chip
       → MayChange (only sector) none (byte_of sector wanted) old new
 
--- On success, there was one program for each page of the sector that didn't have its target bytes.
+-- Holds after the programs of a sector succeeded. On a well-behaved bus, if `CanProgramSpans` held at the start, the
+-- sector has its target bytes, and one program was sent for each page that differed from them.
 pub record DoesSpans (sector : ℕ) (bytes wanted : List ℕ) (old new : BusState) (tally : Tally) : Type 0 where
   pub fewer : tally.count ≤ 16
   pub exactly : SendsExactly 0 tally.count 0 old new
@@ -48,13 +49,14 @@ pub record DoesSpans (sector : ℕ) (bytes wanted : List ℕ) (old new : BusStat
 
 -- ---- a sector
 
--- A sector can be changed, is blank if it was erased, and no bit of it must go from 0 to 1.
+-- Holds if the sector can be changed, is blank if it was erased, and no bit of it must go from 0 to 1.
 pub record CanProgramSector (sector : ℕ) (wanted : List ℕ) (erased : Bool) (chip : Chip) : Type 0 where
   pub can : CanChange (only sector) chip
   pub blank : erased ≡ true → (a : ℕ) → a / 4096 ≡ sector → chip.bytes a ≡ 255
   pub falls : OnlyFalls (only sector) (byte_of sector wanted) chip.bytes
 
--- the sector was read into `bytes`; if it was erased, `bytes` are as they were, and nothing was sent
+-- Holds after a sector was loaded into `bytes'`. It was read once, except if it was erased: then nothing was sent, and
+-- the bytes are as they were.
 pub record LoadsOk (sector : ℕ) (erased : Bool) (bytes bytes' : List ℕ) (reads : ℕ) (old new : BusState) : Type 0 where
   pub reads_once : reads ≡ (if erased then 0 else 1)
   pub heard : new.heard ≡ old.heard
@@ -89,20 +91,23 @@ pub record DoesSector (sector : ℕ) (wanted : List ℕ) (erased : Bool) (old ne
 
 -- ---- all touched sectors
 
--- The touched sectors can be changed, those that were erased are blank, and no bit must go from 0 to 1.
+-- Holds if the touched sectors can be changed, those that were erased are blank, and no bit must go from 0 to 1.
 pub record CanProgramAll (touched raised : ℕ → Bool) (wanted : ℕ → ℕ) (chip : Chip) : Type 0 where
   pub can : CanChange touched chip
   pub blank : (a : ℕ) → touched (a / 4096) ≡ true → raised (a / 4096) ≡ true → chip.bytes a ≡ 255
   pub falls : OnlyFalls touched wanted chip.bytes
 
--- At every exit, bytes are on their way to the target. On every bus, programs target only the touched sectors.
+-- Holds at every exit of the programs. On every bus they target only the touched sectors. On a well-behaved bus, if
+-- `CanProgramAll` held at the start, the chip changes only as `MayChange` allows: on a steady bus each byte is the old
+-- or the target one.
 pub record LeavesPrograms (touched raised : ℕ → Bool) (wanted : ℕ → ℕ) (old new : BusState) : Type 0 where
   pub spends : Spends (most_sector * sector_count touched) old new
   pub sends : SendsWithin (programming touched (16 * sector_count touched)) old new
   pub reached : old.honest ≡ true → CanProgramAll touched raised wanted old.chip → MayChange touched none wanted old new
 
--- On success, there was one program for each page of the touched sectors that didn't have its target bytes. If no
--- sector is touched, the record of modifying commands is as it was.
+-- Holds after the programs succeeded. On every bus, if no sector is touched, the record of modifying commands is as it
+-- was. On a well-behaved bus, if `CanProgramAll` held at the start, the touched sectors have the target bytes, and one
+-- program was sent for each page that differed from them.
 pub record DoesPrograms (touched raised : ℕ → Bool) (wanted : ℕ → ℕ) (old new : BusState) (tally : Tally) : Type 0 where
   pub fewer : tally.count ≤ 16 * sector_count touched
   pub exactly : SendsExactly 0 tally.count 0 old new

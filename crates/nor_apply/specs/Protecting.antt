@@ -25,7 +25,7 @@ pub record DoesCode (status : Status) (code : ℕ) (needed : Bool) (old new : Bu
   pub idle : needed ≡ true → old.honest ≡ true → new.chip.busy ≡ 0
   pub done : needed ≡ true → old.honest ≡ true → CanWriteStatus status old.chip → HasWrittenStatus code old new
 
--- On every bus, an error occurs only if the status write is needed, and a timeout names address 0.
+-- Holds on every bus: an error occurs only if the status write is needed, and a timeout names address 0.
 pub record HaltsWriting (needed : Bool) (halt : Halt) : Type 0 where
   pub is : needed ≡ true
   pub names : NamesTimeout 0 halt

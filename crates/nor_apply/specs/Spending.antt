@@ -10,7 +10,8 @@ use Rattle.nor_driver.specs.Operations.{most_operation}
 use Rattle.nor_plan.specs.Planned.{holds_run}
 use Rattle.nor_apply.specs.declared.tally.Tally.{Tally}
 
--- At every exit: the bus stays honest or not, and steady or not; an honest bus sent at most `most` transactions.
+-- Holds at every exit of a part: what never changes about the bus and its chip is as it was (`KeepsNature`), and on a
+-- well-behaved bus at most `most` transactions were sent.
 pub record Spends (most : ℕ) (old new : BusState) : Type 0 where
   pub nature : KeepsNature old new
   pub falls : old.honest ≡ true → Falls most old new
@@ -21,14 +22,14 @@ pub record Spends (most : ℕ) (old new : BusState) : Type 0 where
 abbrev pub may_aim_at : (sectors : ℕ → Bool) → (size s : ℕ) → Bool
 may_aim_at sectors size s = sectors s || (nat_le (size / 4096) s && holds_run sectors 0 (size / 4096))
 
--- on every bus, a timeout names an address in one of these sectors
+-- Holds on every bus: a timeout names an address in one of these sectors.
 abbrev pub NamesTimeoutIn : (ℕ → Bool) → Halt → Type 0
 NamesTimeoutIn sectors Stopped = ⊤
 NamesTimeoutIn sectors (Timeout address) = sectors (address / 4096) ≡ true
 
--- A part succeeded, with `tally.count` operations and at most `readings` readings. If the last poll before it showed
--- that the chip is ready, so does the last poll after it. On an honest bus `tally.transactions` fewer transactions are
--- left, and a chip that was idle is idle again.
+-- Holds after a part succeeded, with `tally.count` operations and at most `readings` reads. If the last poll before it
+-- showed that the chip is ready, so does the last poll after it. On a well-behaved bus `tally.transactions` fewer
+-- transactions are left, and a chip that was idle is idle again.
 pub record Tallies (readings : ℕ) (old new : BusState) (tally : Tally) : Type 0 where
   pub least : 3 * tally.count ≤ tally.transactions
   pub few : tally.transactions ≤ readings + most_operation * tally.count

@@ -1,4 +1,4 @@
--- A chip that differs from the original only at addresses that a journal of the original can restore.
+-- How far a chip may differ from the original chip if a journal of the original can restore it.
 use Rattle.std.specs.Prelude.{◌≡◌, ◌≢◌, ◌/◌, ◌&&◌, ℕ, Bool, true, false, not}
 use Rattle.nor_chip.specs.declared.running.Running.{Running}
 use Rattle.nor_chip.specs.declared.running.Running.TheVariants.{StatusWrite}
@@ -7,23 +7,22 @@ use Rattle.nor_chip.specs.Power.{is_known_running, is_in_work}
 use Rattle.nor_chip.specs.Bus.{BusState}
 use Rattle.nor_driver.specs.StatusWrites.{fixed_of}
 
--- the chip has block protection, and its status isn't locked: its protection bits can be written
+-- true if the protection bits can be written: the chip has block protection, and its status isn't locked
 abbrev pub is_writable : Chip → Bool
 is_writable chip = chip.config.scheme && not (is_locked chip.kept)
 
--- An operation that may be in progress on a chip that is to be restored. It is known, and works only on these
--- addresses. It is a status write only if the original chip's status can be written, and then it keeps that chip's bits
--- that are never changed.
+-- Holds for an operation that may be in progress on a chip that is to be restored. Its command is known, and it changes
+-- only these addresses. It is a status write only if the original chip's status can be written, and then it keeps that
+-- chip's bits that are never changed.
 pub record WorksIn (places : ℕ → Bool) (first : Chip) (running : Running) : Type 0 where
   pub known : is_known_running running ≡ true
   pub inside : (a : ℕ) → is_in_work running a ≡ true → places a ≡ true
   pub status : (one two : ℕ) → running ≡ StatusWrite one two
       → (is_writable first ≡ true) × (fixed_of (record { one = one; two = two }) ≡ fixed_of first.kept)
 
--- The bus's chip is within these addresses of the first (original) one. Outside them its bytes are the original ones,
--- and so are the bits that are never changed. If the status can't be written, all non-volatile bits are the original
--- ones. All other bytes and bits may have any value. If the bus isn't steady, an operation in progress is within these
--- addresses, too.
+-- Holds if the bus's chip is the original one, `first`, except in bytes at these addresses, in protection bits that can
+-- be written, and in BUSY and WEL: these may have any value. If the bus isn't steady, an operation in progress changes
+-- only these addresses, too (`WorksIn`).
 pub record IsWithin (places : ℕ → Bool) (first : Chip) (state : BusState) : Type 0 where
   pub config : state.chip.config ≡ first.config
   pub bytes : (a : ℕ) → places a ≡ false → state.chip.bytes a ≡ first.bytes a
@@ -31,6 +30,6 @@ pub record IsWithin (places : ℕ → Bool) (first : Chip) (state : BusState) : 
   pub kept : is_writable first ≡ false → state.chip.kept ≡ first.kept
   pub runs : state.steady ≡ false → state.chip.busy ≢ 0 → WorksIn places first state.chip.running
 
--- the address lies in one of these sectors
+-- true if the address lies in one of these sectors
 abbrev pub places_of : (sectors : ℕ → Bool) → (a : ℕ) → Bool
 places_of sectors a = sectors (a / 4096)

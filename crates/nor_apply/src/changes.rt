@@ -34,8 +34,8 @@ pub struct Changes {
 }
 
 impl Changes {
-    /// Returns whether the protection bits must be written at the end: those of `status`, or 0 after an unlock, are not
-    /// the target ones.
+    /// Returns whether the protection bits must be written at the end: whether those of `status`, or 0 after an unlock,
+    /// differ from the target ones.
     fn writes_code(&self) -> bool
         ensures { result ≡ writes_code self.now }
     {
@@ -44,7 +44,7 @@ impl Changes {
     }
 }
 
-/// The numbers of erases, programs and transactions that the changes took.
+/// The numbers of erases and programs that the changes took, and the number of all their transactions.
 #[derive(Clone, Copy, Debug, PartialEq, Eq)]
 pub struct Work {
     pub erases: u32,
@@ -58,12 +58,13 @@ pub struct Work {
 ///
 /// The touched sectors must lie below `changes.size`, which is at most 16 MiB. Every raised sector must be touched, and
 /// `source` must have every touched sector. On any bus, erases and programs target only touched sectors; if these are
-/// the whole chip, they may target addresses past its end, too. On an honest bus the changes are proved complete if
-/// `CanApply` holds for the chip. It holds if the chip is idle, has this size, these erase types and this status, and
-/// protects no touched address unless `unlock` is set.
+/// the whole chip, they may target addresses past its end, too. On a well-behaved bus the changes are proved complete
+/// if `CanApply` holds for the chip: it is idle, and has this size, these erase types and this status. It protects no
+/// touched address unless `unlock` is set, a needed status write is possible, and only bits of raised sectors must go
+/// from 0 to 1.
 ///
 /// Returns `Stopped` if the bus stopped. Returns `Timeout` with an address in a touched sector, or 0 for a status
-/// write, if the chip stayed busy for 65,536 polls. On an honest bus there is no timeout.
+/// write, if the chip stayed busy for 65,536 polls. On a well-behaved bus there is no timeout.
 pub fn apply<B: Bus, S: Source>(bus: &mut B, source: &S, changes: &Changes) -> Result<Work, Halt>
     requires inside { LiesBelow changes.now.touched (changes.now.size / 4096) }
     requires raised { (s : ℕ) → has changes.now.raised s ≡ true → has changes.now.touched s ≡ true }

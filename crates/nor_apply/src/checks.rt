@@ -47,9 +47,9 @@ impl From<CheckFault> for Refusal {
 /// Reads the touched sectors, in ascending order, and compares them with the bytes of `source`, which must have every
 /// touched sector. Returns the number of transactions.
 ///
-/// Returns `Stopped` if the bus stopped, and `Mismatch` if a byte differs. On any bus its address is in a touched
-/// sector. On an honest bus, if the chip is idle and has the touched sectors, it is the first address in these at which
-/// the chip differs.
+/// Returns `Stopped` if the bus stopped, and `Mismatch` if a byte differs. On any bus the address of a mismatch is in a
+/// touched sector. On a well-behaved bus, if the chip is idle and has the touched sectors, it is the first address in
+/// these at which the chip differs.
 pub fn check_all<B: Bus, S: Source>(
     bus: &mut B,
     source: &S,

@@ -14,11 +14,11 @@ use nor_plan::{SectorSet, erases};
 use nor_probe::Kinds;
 
 /// Erases the raised sectors of a chip of `size` bytes that has these erase types, with the fewest erases. Returns the
-/// numbers of erases and transactions. On an honest bus, the sectors are proved to be FFh afterwards if the chip has
-/// this size and these erase types, is idle, and protects none of them.
+/// numbers of erases and transactions. On a well-behaved bus, the sectors are proved to be FFh afterwards if the chip
+/// has this size and these erase types, is idle, and protects none of them.
 ///
 /// The sectors must lie below `size`, which is at most 16 MiB. Returns `Stopped` if the bus stopped, and `Timeout` with
-/// an address in the set if the chip stayed busy for 65,536 polls. On an honest bus there is no timeout.
+/// an address in the set if the chip stayed busy for 65,536 polls. On a well-behaved bus there is no timeout.
 pub fn erase_all<B: Bus>(
     bus: &mut B,
     raised: &SectorSet,

@@ -18,7 +18,7 @@ use nor_plan::{SectorSet, spans};
 /// transactions.
 ///
 /// Returns `Stopped` if the bus stopped, and `Timeout` with an address in a touched sector if the chip stayed busy for
-/// 65,536 polls. On an honest bus there is no timeout.
+/// 65,536 polls. On a well-behaved bus there is no timeout.
 pub fn program_all<B: Bus, S: Source>(
     bus: &mut B,
     source: &S,
@@ -46,7 +46,8 @@ pub fn program_all<B: Bus, S: Source>(
     Ok(tally)
 }
 
-// Programs the bytes of a sector that differ from the target bytes. A sector that was erased counts as blank.
+// Programs the pages of a sector that differ from their target bytes. A sector that was erased counts as blank, and
+// isn't read.
 fn program_sector<B: Bus>(
     bus: &mut B,
     sector: u32,
@@ -69,7 +70,7 @@ fn program_sector<B: Bus>(
     })
 }
 
-// Reads a sector into `bytes`, unless it was erased. Returns the number of transactions.
+// Reads a sector into `bytes`, unless it was erased. Returns the number of transactions, 0 or 1.
 fn load<B: Bus>(bus: &mut B, sector: u32, erased: bool, bytes: &mut [u8]) -> Result<u64, Stopped>
     requires reachable { sector < 4096 }
     requires whole { length bytes.old ≡ 4096 }
@@ -82,7 +83,7 @@ fn load<B: Bus>(bus: &mut B, sector: u32, erased: bool, bytes: &mut [u8]) -> Res
     Ok(1)
 }
 
-// Programs the spans in which the bytes `old` of a sector differ from the target bytes, one program per page.
+// Programs one span per page in which the bytes `old` of a sector differ from the target bytes.
 fn program_spans<B: Bus>(bus: &mut B, sector: u32, old: &[u8], wanted: &[u8]) -> Result<Tally, Halt>
     requires reachable { sector < 4096 }
     requires whole { length old.now ≡ 4096 }

@@ -10,8 +10,8 @@ use nor_driver::{Halt, write_status};
 /// Writes the protection bits of `code`, which must be below 64, if `needed` is set. The other non-volatile bits are
 /// sent as in `status`. Returns the number of transactions, 0 if `needed` is not set.
 ///
-/// Returns `Stopped` if the bus stopped, and `Timeout` with address 0 if the chip stayed busy for 65,536 polls. On an
-/// honest bus there is no timeout.
+/// Returns `Stopped` if the bus stopped, and `Timeout` with address 0 if the chip stayed busy for 65,536 polls. On a
+/// well-behaved bus there is no timeout.
 pub fn write_code<B: Bus>(bus: &mut B, status: Status, code: u8, needed: bool) -> Result<u64, Halt>
     requires { code < 64 }
     ensures leaves { LeavesCode status code needed (B.state bus.old) (B.state bus.new) }
