@@ -17,8 +17,8 @@ use Rattle.nor_driver.specs.Looks.{IsOpen}
 use Rattle.nor_save.specs.Scanning.{HasBegun, HasBegunWith}
 use Rattle.nor_plan.specs.SectorSet.{none}
 
--- The writer was given the content `first`, and then records of exactly these sectors, all below n. If `known` holds,
--- the records have the chip's bytes.
+-- Holds if the writer was given the content `first`, and then records of exactly these sectors, all below `n`. If
+-- `known` holds, the records have the chip's bytes.
 pub record HasAdded {V : Type 0} (state : V → VaultState) (writer : Writer V) (first : Content) (known : Type 0)
     (chip : ℕ → ℕ) (saved : ℕ → Bool) (n : ℕ) : Type 0 where
   pub content : Content
@@ -32,8 +32,8 @@ pub record HasAdded {V : Type 0} (state : V → VaultState) (writer : Writer V) 
 size_of : (one other : Content) → SameHead one other → one.size ≡ other.size
 size_of one other same = ap (λ (c : Content). c.size) same
 
--- The writer has the same vault as before, which refused nothing, and was given records of exactly these sectors, all
--- below n.
+-- Holds if the writer has the same vault as before, which refused nothing. If the writer had only a header before, it
+-- was then given records of exactly these sectors, all below `n`.
 pub record HasJournalled {V : Type 0} (state : V → VaultState) (old new : Writer V) (size : ℕ) (bus : BusState)
     (saved : ℕ → Bool) (n : ℕ) : Type 0 where
   pub same_vault : (vault_of new).ghost_name ≡ (vault_of old).ghost_name
@@ -56,7 +56,7 @@ journalled_none {bus = bus} {saved = saved} blank = record {
   };
 }
 
--- Only the header was written.
+-- After only a header was written, a journal with no sectors has begun.
 pub with_none : {V : Type 0} {state : V → VaultState} {writer : Writer V} {id : List ℕ} {unique : Option (List ℕ)}
     {status : List ℕ} {size : ℕ} → HasWritten state writer (empty_content id unique status size)
     → HasBegunWith state writer (empty_content id unique status size) 0 none
@@ -74,7 +74,7 @@ with_none {id = id} {unique = unique} {status = status} {size = size} written = 
 
 module _ {V : Type 0} {state : V → VaultState} {old new : Writer V} {size n : ℕ} {bus : BusState} {saved : ℕ → Bool}
     (was : HasJournalled state old new size bus saved n) where
-  -- A higher bound holds for the same sectors, too.
+  -- `HasJournalled` stays true for a higher bound, and for an equal set of sectors.
   pub journalled_later : {m : ℕ} {other : ℕ → Bool} → n ≤ m → ((s : ℕ) → other s ≡ saved s)
       → HasJournalled state old new size bus other m
   journalled_later {other = other} above same = record {
@@ -93,7 +93,7 @@ module _ {V : Type 0} {state : V → VaultState} {old new : Writer V} {size n : 
         };
   }
 
-  -- One more record was written.
+  -- `HasJournalled` holds for sector `n` too, after its record was written.
   pub journalled_more : {last : Writer V} {more : ℕ → Bool} {bytes : List ℕ} → n < size / 4096
       → (vault_of last).ghost_name ≡ (vault_of new).ghost_name
       → Accepted (vault_seen state new) (vault_seen state last)
@@ -121,7 +121,7 @@ module _ {V : Type 0} {state : V → VaultState} {old new : Writer V} {size n : 
         };
   }
 
-  -- A journal that had only its header before now has records of sectors below n.
+  -- If a journal had only its header before, it now has records of sectors below `n`.
   pub begun_on : (head : Content) → head.size ≡ size → HasBegun state old head 0 → HasBegun state new head n
   begun_on head sized begun =
       let size_now = sym (size_of head begun.content begun.same) ∙ sized in
@@ -158,13 +158,13 @@ module _ {V : Type 0} {state : V → VaultState} {old new : Writer V} {size n : 
 
 -- ---- errors
 
--- An error that `?` passes on is the outcome's error.
+-- The outcome is the error that `?` passed on.
 pub is_err : {T : Type 0} (outcome : Result T Refusal) (refusal : Refusal)
     → IsErrAnd outcome (λ passed. passed ≡ refusal) → outcome ≡ Err refusal
 is_err (Ok value) refusal is = absurd is
 is_err (Err passed) refusal is = ap Err is
 
--- A fact about an error also holds for the outcome that passes it on.
+-- A fact about the error that `?` passed on is a fact about the outcome.
 pub err_same : {T : Type 0} (outcome : Result T Refusal) (refusal : Refusal) (promise : Refusal → Type 0)
     → IsErrAnd outcome (λ r. r ≡ refusal) → promise refusal → IfErr outcome promise
 err_same (Ok value) refusal promise is holds = tt

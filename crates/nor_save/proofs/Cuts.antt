@@ -37,12 +37,12 @@ use Rattle.nor_call.specs.Request.{wanted}
 
 -- ---- a scan
 
--- The bytes of a `telling` vault begin with the bytes that the writer was given.
+-- The bytes of a `telling` vault are a prefix of those that the writer was given.
 put_begins : {V : Type 0} {state : V → VaultState} {writer : Writer V} {c : Content} → HasWritten state writer c
     → (vault_seen state writer).telling ≡ true → StartsWith (front c) (vault_seen state writer).bytes
 put_begins {c = c} written tells = rw (written.put.told tells) (take_all (length (front c)) (front c) (omega arith))
 
--- The records so far are those of the touched sectors below the next sector.
+-- The records so far are those of the touched sectors below `n`, the next sector.
 module _ {V : Type 0} {state : V → VaultState} {writer : Writer V} {head : Content} {chip aim : ℕ → ℕ} {n : ℕ}
     {scanned : Scanned} (right : AreRight aim chip n scanned)
     (kept : HasPutSectors state writer head chip (has scanned.touched) n) where
@@ -59,7 +59,7 @@ module _ {V : Type 0} {state : V → VaultState} {writer : Writer V} {head : Con
   pub kept_below : {total : ℕ} → n ≤ total → HasKeptBelow state writer head chip (is_touched chip aim) total
   kept_below inside = record { bound = n; inside = inside; kept = kept_touched }
 
--- A stop between two records leaves a prefix of the journal.
+-- A stop between two records leaves a prefix of the journal in a `telling` vault.
 pub cut_between : {V : Type 0} {state : V → VaultState} {writer : Writer V} {head : Content} {chip : ℕ → ℕ}
     {touched : ℕ → Bool} (size : ℕ) → head.size ≡ size → HasKeptBelow state writer head chip touched (size / 4096)
     → HoldsCut (vault_seen state writer) head chip touched (size / 4096)
@@ -68,7 +68,7 @@ cut_between {head = head} {chip = chip} {touched = touched} size sized below = �
     rw (← sized) (begins_whole head chip touched kept.content below.bound _ kept.same kept.saves kept.next
     (rw sized inside) (put_begins kept.written tells))
 
--- A failure within a record leaves a prefix of the journal.
+-- A failure within a record leaves a prefix of the journal in a `telling` vault.
 pub cut_in_record : {V : Type 0} {state : V → VaultState} {writer : Writer V} {head : Content} {chip : ℕ → ℕ} {n : ℕ}
     {bytes : List ℕ} (vault : VaultState) (touched : ℕ → Bool) (size : ℕ)
     (kept : HasPutSectors state writer head chip (λ s. nat_lt s n && touched s) n) → head.size ≡ size
@@ -85,7 +85,7 @@ cut_in_record {state = state} {writer = writer} {head = head} {chip = chip} {n =
 
 -- ---- a chip, from the identification and the scan
 
--- The touched sectors are sectors of the chip.
+-- true for the sectors that the request touches on this chip
 abbrev touched_of : Request → (image : List ℕ) → Chip → (s : ℕ) → Bool
 touched_of request image chip = is_touched chip.bytes (wanted request image chip)
 
@@ -100,7 +100,7 @@ begins_touched : (request : Request) (image bytes : List ℕ) (chip : Chip)
 begins_touched request image bytes chip =
     subst (λ (set : ℕ → Bool). BeginsText (head_of chip) chip.bytes set bytes) (only_touched request image chip)
 
--- The header with these status bytes.
+-- the header with these status bytes and the ID, unique ID and size that were read
 abbrev pub head_read : Opening → (status : List ℕ) → Content
 head_read opening status = empty_content opening.found.id (Some opening.unique) status opening.found.size
 
@@ -109,7 +109,7 @@ module _ {chip : Chip} {opening : Opening} {old : BusState} (is : IsOpening chip
   pub same_bytes : old.chip.bytes ≡ chip.bytes
   same_bytes = fun_ext shows.same.bytes
 
-  -- The chip on the bus has the size that was identified.
+  -- The bus is well-behaved, with an idle chip of the size that was identified.
   pub is_open : IsOpen opening.found.size old
   is_open = record {
     honest = shows.honest;
@@ -117,7 +117,7 @@ module _ {chip : Chip} {opening : Opening} {old : BusState} (is : IsOpening chip
     same = ap (λ (config : Config). config.size) shows.same.config ∙ sym is.config.size;
   }
 
-  -- The marks are those of the request on this chip.
+  -- The marks of the scan are the sectors that the request touches and raises on this chip.
   module _ {request : Request} {image image' : List ℕ} {new : BusState} {scanned : Scanned}
       (scans : Scans request opening.found.size image image' old new scanned) where
     pub touched_right : (s : ℕ) → has scanned.touched s ≡ is_touched chip.bytes (wanted request image chip) s
@@ -129,7 +129,7 @@ module _ {chip : Chip} {opening : Opening} {old : BusState} (is : IsOpening chip
         ∙ only_inside (is_raised chip.bytes (wanted request image chip)) (chip.config.size / 4096) s
         (raised_past request image chip.config.size chip.bytes s (sized_bounds chip.config).blocks)
 
-  -- The header that is written is the chip's.
+  -- The header that is written is that of the chip's journal.
   pub head_same : {status : List ℕ} → old.chip.kept.two < 128 → status ≡ kept_read opening
       → head_read opening status ≡ head_of chip
   head_same {status = status} small read =
@@ -139,7 +139,7 @@ module _ {chip : Chip} {opening : Opening} {old : BusState} (is : IsOpening chip
       let high : opening.status2 % 128 ≡ chip.kept.two = omega arith in
       cc
 
--- The header of each chip that has this identification and is on the bus was written.
+-- Holds if the writer was given exactly the header of the chip on the bus, provided that it has this identification.
 abbrev pub PutsHead : {V : Type 0} → (V → VaultState) → Writer V → Opening → BusState → Type 0
 PutsHead state writer opening old = (chip : Chip) → IsOpening chip opening → Shows chip old
     → HasPutSectors state writer (head_of chip) old.chip.bytes none 0
@@ -152,19 +152,20 @@ head_put {state = state} {writer = writer} opening old reaches read written = λ
     (HasKept-none state writer opening.found.id (Some opening.unique) _ opening.found.size old.chip.bytes none 0
     written (λ s. refl))
 
--- The promise holds for every header of a chip of this size that the writer was given.
+-- Holds if, on a well-behaved bus with an idle chip of this size, the promise is true for each header with this size
+-- that the writer was given.
 abbrev pub FromHead : {V : Type 0} → (V → VaultState) → Writer V → (size : ℕ) → BusState → (Content → Type 0) → Type 0
 FromHead state writer size old promise = IsOpen size old → (head : Content) → head.size ≡ size
     → HasPutSectors state writer head old.chip.bytes none 0 → promise head
 
--- A promise that holds for every such header holds for the header of the chip itself.
+-- A promise that `FromHead` gives for each header holds for the header of the chip itself.
 pub from_head : {V : Type 0} {state : V → VaultState} {writer : Writer V} {opening : Opening} {old : BusState}
     {promise : Content → Type 0} → PutsHead state writer opening old
     → FromHead state writer opening.found.size old promise → (chip : Chip) → IsOpening chip opening → Shows chip old
     → promise (head_of chip)
 from_head puts told chip is shows = told (is_open is shows) (head_of chip) (sym is.config.size) (puts chip is shows)
 
--- An error of the check after the scan is an error for the chip with these touched sectors.
+-- An error of the check after the scan is the verdict for the chip on the bus.
 pub judged_tells : {request : Request} {opening : Opening} {image image' : List ℕ} {old new : BusState}
     {scanned : Scanned} (code : ℕ) (refusal : Refusal) → Scans request opening.found.size image image' old new scanned
     → IsScanRefusal refusal
@@ -178,7 +179,7 @@ judged_tells code _ scans is judges = absurd is
 
 -- ---- a truncated journal
 
--- A failure within the header leaves a prefix of the journal.
+-- A failure within the header leaves a prefix of the journal in a `telling` vault.
 pub cut_in_head : (request : Request) (image : List ℕ) (seen vault : VaultState) {opening : Opening} {status : List ℕ}
     {old : BusState} → (old.honest ≡ true → IsChip old.chip) → status ≡ kept_read opening
     → IsContent (head_read opening status) → HoldsBeginning seen (front (head_read opening status)) → seen ≡ vault
@@ -195,7 +196,7 @@ cut_in_head request image seen vault reaches read content holds same =
 
 module _ {V : Type 0} {state : V → VaultState} {first : Writer V} {opening : Opening} {old : BusState}
     (request : Request) (image : List ℕ) (vault : VaultState) (puts : PutsHead state first opening old) where
-  -- A failure within the scan leaves a prefix of the journal.
+  -- A failure within the scan leaves a prefix of the journal in a `telling` vault.
   pub cut_in_scan : (seen : VaultState) → FromHead state first opening.found.size old (λ head.
       HoldsCut seen head old.chip.bytes (is_touched old.chip.bytes (wanted_at request image opening.found.size
       old.chip.bytes)) (opening.found.size / 4096)) → seen ≡ vault → SaveCuts request opening image old vault
@@ -203,7 +204,7 @@ module _ {V : Type 0} {state : V → VaultState} {first : Writer V} {opening : O
       begins_touched request image seen.bytes chip
       (rw (same_bytes is shows, is.config.size) at (from_head puts told chip is shows tells)))
 
-  -- An error of the scan other than 11 leaves complete records.
+  -- An error of the scan other than 11 leaves the header and complete records in a `telling` vault.
   pub begins_scan : {last : Writer V} {refusal : Refusal} → FromHead state first opening.found.size old (λ head.
       refusal ≢ Vault → HasKeptBelow state last head old.chip.bytes (is_touched old.chip.bytes (wanted_at request image
       opening.found.size old.chip.bytes)) (opening.found.size / 4096)) → vault_seen state last ≡ vault
@@ -220,13 +221,13 @@ module _ {V : Type 0} {state : V → VaultState} {first : Writer V} {opening : O
         is = kept.written.put.told tells;
       })
 
--- The whole chip was scanned.
+-- the vault after a scan of the whole chip, before it is sealed
 module _ {V : Type 0} {state : V → VaultState} {first last : Writer V} {request : Request} {opening : Opening}
     {image image' : List ℕ} {old new : BusState} {scanned : Scanned} (puts : PutsHead state first opening old)
     (scans : Scans request opening.found.size image image' old new scanned)
     (keeps : FromHead state first opening.found.size old (λ head. HasPutSectors state last head old.chip.bytes
     (has scanned.touched) (opening.found.size / 4096))) where
-  -- The header and the records are the chip's.
+  -- The writer was given the chip's header, and the records of exactly the touched sectors.
   pub all_put : (chip : Chip) → IsOpening chip opening → Shows chip old → HasPutSectors state last (head_of chip)
       chip.bytes (is_touched chip.bytes (wanted request image chip)) (opening.found.size / 4096)
   all_put chip is shows = rw (same_bytes is shows, fun_ext (touched_right is shows scans)) at

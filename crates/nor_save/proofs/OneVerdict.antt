@@ -27,18 +27,18 @@ use Rattle.nor_save.proofs.Planned.{untouched}
 
 -- ---- what the code checks, in order
 
--- For a write or an erase the image is as long as the chip, and each included address is on the chip.
+-- Holds if, for a write or an erase, the image is as long as the chip, and each included address is on the chip.
 pub record FitsChip (request : Request) (image : ℕ) (chip : Chip) : Type 0 where
   pub image_size : is_data request.what ≡ true → image ≡ chip.config.size
   pub regions : is_data request.what ≡ true → ¬ ReachesPast request.included chip.config.size
 
--- For a protection range the chip has block protection. If the chip has block protection, its protection bits are
--- defined.
+-- Holds if the chip has block protection or the request isn't for a protection range, and if the protection bits of a
+-- chip with block protection are defined.
 pub record FitsProtection (request : Request) (chip : Chip) : Type 0 where
   pub scheme : is_data request.what ≡ false → chip.config.scheme ≡ true
   pub defined : chip.config.scheme ≡ true → is_undefined (code_of chip.kept) ≡ false
 
--- The meaning of the errors of the identification's check, for an image of this length.
+-- Holds if this error of the check against the identification is true of the chip, for an image of this length.
 abbrev pub OpeningJudges : Request → (image : ℕ) → Chip → Refusal → Type 0
 OpeningJudges request image chip (ImageSize size len) =
     (is_data request.what ≡ true) × (size ≡ chip.config.size) × (len ≡ image) × (image ≢ chip.config.size)
@@ -50,13 +50,13 @@ OpeningJudges request image chip UndefinedProtection =
 OpeningJudges request image chip RangeNotOffered = FitsProtection request chip × AsksForNone request.what chip
 OpeningJudges request image chip _ = ⊥
 
--- No error of the identification's check applies, and these are the target protection bits.
+-- Holds if no error of the check against the identification applies, and `code` has the target protection bits.
 pub record OpeningPasses (request : Request) (image : ℕ) (chip : Chip) (code : ℕ) : Type 0 where
   pub fits : FitsChip request image chip
   pub protection : FitsProtection request chip
   pub is_wanted : IsWantedCode request.what chip code
 
--- The meaning of the errors of the check after the scan, when the touched sectors are known.
+-- Holds if this error of the check after the scan is true of the chip, given its touched sectors.
 abbrev pub ScanJudges : Request → (code : ℕ) → (touched : ℕ → Bool) → Chip → Refusal → Type 0
 ScanJudges request code touched chip StatusLocked =
     (is_locked chip.kept ≡ true) × NeedsStatus request.what request.unlock code touched chip
@@ -64,8 +64,8 @@ ScanJudges request code touched chip (Protected address) =
     (request.unlock ≡ false) × (sector : ℕ) × (address ≡ 4096 * sector) × IsLeastHeld touched chip sector
 ScanJudges request code touched chip _ = ⊥
 
--- No error of the check after the scan applies, and protection is lifted only if the request allows it and it is
--- needed.
+-- Holds if no error of the check after the scan applies, and protection is lifted only if the request allows it and a
+-- touched sector is protected.
 pub record ScanPasses (request : Request) (code : ℕ) (touched : ℕ → Bool) (chip : Chip) (unlock : Bool) : Type 0 where
   pub lifts : unlock ≡ true → (request.unlock ≡ true) × SomeHeld touched chip
   pub free : unlock ≡ false → NoneHeld touched chip
@@ -82,7 +82,7 @@ none_or_code : (what : What) (chip : Chip) (code : ℕ) → AsksForNone what chi
 none_or_code (WpRange start len) chip code none wanted = none code wanted.defined wanted.guards
 none_or_code _ chip code none wanted = none
 
--- There is only one least value of the protection bits.
+-- A range has at most one least value of the protection bits.
 one_least : (size start len x y : ℕ) → IsLeastCode size start len x → IsLeastCode size start len y → x ≡ y
 one_least size start len x y first second =
     let above = λ (lower : x < y). second.least x lower first.defined first.guards in
@@ -103,7 +103,7 @@ touched_data request image chip s touched = true_from_ne_false (is_data request.
     both_ways (is_touched chip.bytes (wanted request image chip) s)
     (rw range (untouched chip.bytes chip.bytes s (λ i below. refl))) touched)
 
--- Without `unlock` a write or an erase writes no status.
+-- A write or an erase without `unlock` needs no status write.
 needs_unlock : (what : What) (unlock : Bool) (code : ℕ) (touched : ℕ → Bool) (chip : Chip) → is_data what ≡ true
     → unlock ≡ false → ¬ NeedsStatus what unlock code touched chip
 needs_unlock (WpRange start len) unlock code touched chip about_bytes off needs = absurd cc
@@ -115,7 +115,7 @@ never_lifted unlock lifted asked off = grind arith
 
 -- ---- no error below a number
 
--- No error with a number below n applies, and n is at most 9.
+-- Holds if no error with a number below `n` applies, and `n` is at most 9.
 pub record IsClear (request : Request) (image : List ℕ) (chip : Chip) (n : ℕ) : Type 0 where
   pub few : n ≤ 9
   pub there : 1 < n → shown_as chip.config ≢ Err Probes.NoChip
@@ -185,11 +185,11 @@ held_told touched chip None none = none
 held_told touched chip (Some s) least = record { sector = s; held = least.is }
 
 module _ (request : Request) (image : List ℕ) (chip : Chip) where
-  -- The sectors that the request touches.
+  -- true for the sectors that the request touches
   abbrev touches : (s : ℕ) → Bool
   touches = is_touched chip.bytes (wanted request image chip)
 
-  -- A status write that is needed is needed for these target protection bits.
+  -- If the request needs a status write, it needs one to set the protection bits that the identification accepted.
   needs_code : {code : ℕ} → OpeningAccepts request image chip code → NeedsStatusWrite request image chip
       → NeedsStatus request.what request.unlock code touches chip
   needs_code accepts needs = needs_same request.what _ needs.0 _ _ chip needs.1 accepts.is_wanted needs.2
@@ -200,7 +200,7 @@ module _ (request : Request) (image : List ℕ) (chip : Chip) where
       let touched = (and_parts (touches s) (is_unit_guarded chip (4096 * s) 4096) held).0 in
       needs_unlock request.what request.unlock needs.0 _ chip (touched_data request image chip s touched) off needs.2
 
-  -- No error below a number applies if none up to 8 does, and none of the scan's below that number does.
+  -- No error below `n` applies if none up to 8 does, and neither 9 nor 10 applies if it is below `n`.
   scan_first : (n : ℕ) (refusal : Refusal) → NoneHoldsTo 8 request image chip
       → (9 < n → ¬ RefusalHolds request image chip StatusLocked)
       → (10 < n → (address : ℕ) → ¬ RefusalHolds request image chip (Protected address))

@@ -1,4 +1,4 @@
--- The target byte at an address, and the plan of a sector.
+-- The target byte at an address, and whether a sector is touched or raised.
 use Rattle.std.proofs.Common.{◌≡◌, ◌<◌, ◌≤◌, ◌+◌, ◌*◌, ◌/◌, ◌%◌, ◌∙◌, ℕ, Bool, true, false, ◌&&◌, List, length, slice_index}
 use Rattle.std.proofs.Common.{Option, ap, sym, arith, inl, inr, refl, bit_and}
 use Rattle.std.specs.Int.Bits.{and_self}
@@ -23,7 +23,7 @@ use Rattle.nor_count.specs.Below.{any_below}
 use Rattle.nor_count.proofs.Counting.{any_below-all}
 use Rattle.nor_count.proofs.Verdicts.{any_below-decided}
 
--- For a write or an erase an address of the chip may change if and only if it is included.
+-- For a write or an erase, an address of the chip may change if and only if it is included.
 pub may_change-included : (request : Request) (size a : ℕ) → is_data request.what ≡ true → a < size → is_requested request size a ≡ includes request.included a
 may_change-included request size a about_bytes below =
     ap (λ (b : Bool). b && (nat_lt a size && includes request.included a)) about_bytes
@@ -39,7 +39,8 @@ other a b differ = not_from_false (a == b) (ne_eqb a b differ)
 as_wanted : (a b : ℕ) → a ≡ b → is_other a b ≡ false
 as_wanted a b same = not_from_true (a == b) (eq-eqb a b same)
 
--- The plan's `touched` and `raised` are tests of each byte of the sector.
+-- A plan's `touched` is whether some byte of the sector differs from the target; its `raised` is whether some bit must
+-- go from 0 to 1.
 verdicts : (here aim : ℕ → ℕ) (plan : SectorPlan) → IsPlan here aim 4096 plan
     → (plan.touched ≡ any_below 4096 (λ i. is_other (here i) (aim i)))
     × (plan.raised ≡ any_below 4096 (λ i. must_rise (here i) (aim i)))
@@ -66,7 +67,7 @@ unfolding is_raised
 unraised content aim sector same = any_below-all 4096 _
     (λ i below. as_wanted _ _ (ap (bit_and (aim (4096 * sector + i))) (sym (same i below)) ∙ and_self _))
 
--- Addresses past the end of the chip don't change, so a touched or raised sector is on the chip.
+-- At addresses past the end of the chip the target byte is the present one.
 past_kept : (request : Request) (image : List ℕ) (size : ℕ) (content : ℕ → ℕ) (s : ℕ) → size % 65536 ≡ 0 → size / 4096 ≤ s
     → (i : ℕ) → i < 4096 → wanted_at request image size content (4096 * s + i) ≡ content (4096 * s + i)
 past_kept request image size content s blocks past i below =
@@ -98,14 +99,14 @@ module _ (request : Request) (image : List ℕ) (size : ℕ) (content : ℕ → 
   pub raised_inside : is_raised content (wanted_at request image size content) s ≡ true → s < size / 4096
   raised_inside = inside_from (is_raised content (wanted_at request image size content)) (size / 4096) s raised_past
 
--- The target byte is the image's, or FFh for an erase.
+-- For a write the target byte is the image's.
 pub target-write : (what : What) (image : List ℕ) (a : ℕ) → is_data what ≡ true → (what ≡ Erase → ⊥) → slice_index image a ≡ target what image a
 target-write Write image a about_bytes other = refl
 target-write Erase image a about_bytes other = absurd (other refl)
 target-write (WpRange start len) image a about_bytes other = absurd (let d = about_bytes in cc)
 
--- The effect of reading a sector, copying the bytes that may not change into its part of the image, and comparing the
--- two.
+-- `ScansSector` holds after a sector was read, the bytes that may not change were copied into its part of the image,
+-- and the two were compared.
 pub scans_sector : (request : Request) (size sector : ℕ) (included : Option (List Span)) (part filled part' bytes : List ℕ) (old new : BusState) (plan : SectorPlan)
     → is_data request.what ≡ true → 4096 * sector + 4096 ≤ size → included ≡ request.included → length bytes ≡ 4096 → length part' ≡ 4096
     → ((image : List ℕ) (a i : ℕ) → i < 4096 → slice_index part i ≡ slice_index image a → slice_index filled i ≡ target request.what image a)

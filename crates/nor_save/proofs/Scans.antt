@@ -1,4 +1,4 @@
--- The findings of a scan so far.
+-- The state of a scan between two sectors: the marks, the reads and the image.
 use Rattle.std.proofs.Common.{◌≡◌, ◌<◌, ◌≤◌, ◌+◌, ◌-◌, ◌*◌, ◌/◌, ◌%◌, ◌&&◌, ◌||◌, ◌∙◌, ℕ, Bool, true, false, List}
 use Rattle.std.proofs.Common.{Option, take, drop, length, slice_index, refl, ap, sym, subst, arith, inl, inr}
 use Rattle.std.specs.Prelude.{if◌then◌else◌, ◌==◌, nat_lt}
@@ -31,7 +31,7 @@ use Rattle.nor_chip.proofs.Sizes.{is_chip_size-in_blocks}
 use Rattle.nor_layout.specs.declared.ranges.Span.{Span}
 use borrow.Rule.Slice.PartMut.{put_mid}
 
--- The sectors below n were scanned, and no byte of the image from sector n on was changed.
+-- Holds if the sectors below `n` were scanned, and no byte of the image from sector `n` on was changed.
 pub record HasScanned (request : Request) (size n : ℕ) (image image' : List ℕ) (old new : BusState)
     (scanned : Scanned) : Type 0 where
   pub marks : AreMarks n scanned
@@ -44,7 +44,7 @@ pub record HasScanned (request : Request) (size n : ℕ) (image image' : List �
 
 -- ---- marks
 
--- One more number was tested.
+-- A set that is right below `n` is right below `n + 1` after the result of the test of `n` was inserted.
 tested : (n s : ℕ) (test : ℕ → Bool) {verdict old new : Bool} → verdict ≡ test n → old ≡ (nat_lt s n && test s)
     → new ≡ ((verdict && (s == n)) || old) → new ≡ (nat_lt s (n + 1) && test s)
 tested n s test {verdict} {old} {new} is was inserted = grind (arith, nat_tests)
@@ -64,7 +64,7 @@ counted n plan old new false is below are marked =
     λ s low. sym (rw is at (marked.touched s)) in
     omega (arith, are.count, count_below-same 4096 (has old.touched) (has new.touched) same)
 
--- One more sector was marked.
+-- `AreMarks` still holds after one more sector was marked.
 pub marks_more : (n : ℕ) (plan : SectorPlan) (old new : Scanned) → n < 4096
     → (plan.raised ≡ true → plan.touched ≡ true) → AreMarks n old → HasMarked n plan old new → AreMarks (n + 1) new
 marks_more n plan old new below needed are marked = record {
@@ -73,7 +73,7 @@ marks_more n plan old new below needed are marked = record {
   count = marked.count ∙ counted n plan old new plan.touched refl below are marked;
 }
 
--- A touched sector is added to the set.
+-- Marking a touched sector adds it to the set of touched sectors.
 pub marked_more : (n : ℕ) (plan : SectorPlan) (old new : Scanned) → plan.touched ≡ true → HasMarked n plan old new
     → HasOneMore (has old.touched) n (has new.touched)
 marked_more n plan old new touched marked = record {
@@ -81,14 +81,14 @@ marked_more n plan old new touched marked = record {
   others = λ s other. rw (marked.touched s, touched, ne_eqb s n other);
 }
 
--- A sector that isn't touched leaves the set as it was.
+-- Marking a sector that isn't touched leaves the set of touched sectors as it was.
 pub marked_none : (n : ℕ) (plan : SectorPlan) (old new : Scanned) → plan.touched ≡ false → HasMarked n plan old new
     → (s : ℕ) → has new.touched s ≡ has old.touched s
 marked_none n plan old new untouched marked s = rw untouched at (marked.touched s)
 
 -- ---- from sector to sector
 
--- The loop is at this sector of the chip; `verdict` is whether the sector has an included address.
+-- Holds if the loop is at sector `n` of the chip, and `verdict` is whether the sector has an included address.
 pub record IsAt (request : Request) (size n : ℕ) (verdict : Bool) : Type 0 where
   pub about_bytes : is_data request.what ≡ true
   pub below : n < size / 4096
@@ -109,7 +109,7 @@ is_at {size = size} sized aims within same is so =
       included = rw (← same) (sym is ∙ so);
     }
 
--- Nothing was scanned yet.
+-- `HasScanned` holds before the first sector.
 pub nothing_scanned : (request : Request) (size : ℕ) (image : List ℕ) (state : BusState) (scanned : Scanned)
     → IsBlank scanned → HasScanned request size 0 image image state state scanned
 nothing_scanned request size image state scanned blank = record {
@@ -141,7 +141,7 @@ opened_later size reads old mid is_open looked =
 
 module _ {request : Request} {size n : ℕ} {image image' : List ℕ} {old mid : BusState} {scanned : Scanned}
     (was : HasScanned request size n image image' old mid scanned) where
-  -- A sector without an included address was skipped.
+  -- `HasScanned` still holds after a sector without an included address was skipped.
   pub skipped : IsAt request size n false → NoneInSector (includes request.included) n
       → HasScanned request size (n + 1) image image' old mid scanned
   skipped at excluded =
@@ -175,7 +175,7 @@ module _ {request : Request} {size n : ℕ} {image image' : List ℕ} {old mid :
   same_before : IsOpen size old → mid.chip.bytes ≡ old.chip.bytes
   same_before is_open = fun_ext (was.looked.rested is_open.honest).unchanged.same.bytes
 
-  -- A sector was read, with its part of the image.
+  -- a sector was read, and its part of the image filled
   module _ {width : ℕ} {part' bytes : List ℕ} {plan : SectorPlan} {new : BusState} (at : IsAt request size n true)
       (scans : ScansSector request size n (take width (drop (4096 * n) image')) part' bytes mid new plan)
       (exact : width ≡ 4096) where
@@ -196,7 +196,7 @@ module _ {request : Request} {size n : ℕ} {image image' : List ℕ} {old mid :
       same = rw (same_before is_open) at (scans.shown (later is_open)).byte;
     }
 
-    -- One more sector was scanned.
+    -- `HasScanned` still holds after one more sector was scanned.
     pub scanned_more : {next : Scanned} → Looks 1 mid new → HasMarked n plan scanned next → length part' ≡ 4096
         → length image' ≡ size
         → HasScanned request size (n + 1) image (put_mid (4096 * n) width image' part') old new next
@@ -234,7 +234,7 @@ module _ {request : Request} {size n : ℕ} {image image' : List ℕ} {old mid :
           rest = λ a above. put.outside a (λ same. absurd (omega arith)) ∙ was.rest a (omega arith);
         }
 
-  -- A sector with an included address is one of those that the scan reads.
+  -- Before a sector with an included address, fewer sectors were read than the scan reads in all.
   pub room : IsAt request size n true → scanned.reads < scanned_sectors request size
   room at =
       let test = has_in_sector (includes request.included) in
@@ -248,7 +248,7 @@ module _ {request : Request} {size n : ℕ} {image image' : List ℕ} {old mid :
         count_below-add (n + 1) (size / 4096 - (n + 1)) test,
       ))
 
-  -- The end of the scan.
+  -- `Scans` follows from the marks, the reads and the findings at the end of the loop.
   scans_of : scanned.count ≤ scanned.reads → AreMarks (size / 4096) scanned
       → scanned.reads ≡ scanned_sectors request size → (IsOpen size old
       → AreRight (wanted_at request image size old.chip.bytes) old.chip.bytes (size / 4096) scanned)

@@ -1,4 +1,4 @@
--- Which errors the two checks of a request return, on every bus, and when protection is lifted.
+-- The results of the two checks of a request: against the identification, and against the touched sectors.
 use Rattle.std.specs.Prelude.{◌≡◌, ℕ, Bool, true, List, length, Option, Result, IfOk, IfErr, MatchBool, MatchOption, ⊤}
 use Rattle.nor_chip.specs.Chip.{Chip, kept_in}
 use Rattle.nor_chip.specs.Guard.{code_of}
@@ -19,7 +19,7 @@ use Rattle.nor_save.specs.Verdict.{IsNamed, IsVerdict, OpeningAccepts, ScanAccep
 
 -- ---- on every bus
 
--- Errors 4 to 8, which the check against the identification may return.
+-- Holds for errors 4 to 8, which the check against the identification may return.
 abbrev pub IsOpeningRefusal : Refusal → Type 0
 IsOpeningRefusal (ImageSize chip image) = ⊤
 IsOpeningRefusal RegionOutside = ⊤
@@ -28,62 +28,65 @@ IsOpeningRefusal UndefinedProtection = ⊤
 IsOpeningRefusal RangeNotOffered = ⊤
 IsOpeningRefusal _ = ⊥
 
--- The protection bits that a session leaves: for a protection range the least that protect exactly it on a chip of the
--- size that was found, else those that were read.
+-- Holds if `code` has the protection bits that a session leaves. For a protection range these are the least value that
+-- protects exactly this range on a chip of the size that was found; for a write or an erase, the bits that were read.
 abbrev pub IsFoundCode : What → Opening → ℕ → Type 0
 IsFoundCode (WpRange start len) opening code = IsLeastCode opening.found.size start len code
 IsFoundCode _ opening code = code ≡ code_of (kept_in (status_read opening))
 
--- Errors 9 and 10, which the check against the touched sectors may return.
+-- Holds for errors 9 and 10, which the check against the touched sectors may return.
 abbrev pub IsScanRefusal : Refusal → Type 0
 IsScanRefusal StatusLocked = ⊤
 IsScanRefusal (Protected address) = ⊤
 IsScanRefusal _ = ⊥
 
--- Protection is lifted only if the request sets `unlock`, and some sector is touched.
+-- Holds if protection is lifted only for a request that sets `unlock`, and only if some sector is touched.
 abbrev pub Lifts : Request → SectorSet → Bool → Type 0
 Lifts request touched unlock = unlock ≡ true → (request.unlock ≡ true) × HasSome touched
 
 -- ---- for each chip with this identification
 
--- If a request with an image of this length is accepted, then `OpeningAccepts` holds for each identified chip that has
--- the requested name, with the returned protection bits.
+-- Holds if acceptance is right. If a request with an image of this length is accepted, then `OpeningAccepts` holds with
+-- the returned protection bits, for each chip that has this identification and the requested name.
 abbrev pub AcceptsOpening : Request → ℕ → Opening → Result ℕ Refusal → Type 0
 AcceptsOpening request len opening judged = (chip : Chip) (image : List ℕ) → IsOpening chip opening
     → IsNamed request.named chip.config → length image ≡ len → IfOk judged (OpeningAccepts request image chip)
 
--- If the request is refused, the error is the verdict for each identified chip that has the requested name.
+-- Holds if a refusal is right: the error is the verdict for each chip that has this identification and the requested
+-- name, if the image has this length.
 abbrev pub RefusesOpening : Request → ℕ → Opening → Result ℕ Refusal → Type 0
 RefusesOpening request len opening judged = (chip : Chip) (image : List ℕ) → IsOpening chip opening
     → IsNamed request.named chip.config → length image ≡ len → IfErr judged (IsVerdict request image chip)
 
--- The result is the first touched sector with a protected address, or `None` if there is no such sector.
+-- Holds if the result is the first touched sector with a protected address, or `None` if there is no such sector, on
+-- each chip with this identification.
 abbrev pub FindsHeld : (ℕ → Bool) → Opening → Option ℕ → Type 0
 FindsHeld touched opening found =
     (chip : Chip) → IsOpening chip opening → MatchOption found (NoneHeld touched chip) (IsLeastHeld touched chip)
 
--- If `is_held` says correctly whether a touched sector is protected, then `needed` says correctly whether a status
--- write is needed.
+-- Holds if `needed` says correctly whether each chip with this identification needs a status write, provided that
+-- `is_held` says correctly whether one of its touched sectors is protected.
 abbrev pub FindsNeed : Request → Opening → Bool → ℕ → Bool → Type 0
 FindsNeed request opening is_held code needed = (chip : Chip) (touched : ℕ → Bool) → IsOpening chip opening
     → MatchBool is_held (SomeHeld touched chip) (NoneHeld touched chip)
     → MatchBool needed (NeedsStatus request.what request.unlock code touched chip)
     (¬ NeedsStatus request.what request.unlock code touched chip)
 
--- The promise holds for each identified chip that has these touched sectors, if the identification was accepted with
--- these protection bits.
+-- Holds if the promise is true for each chip that has this identification and these touched sectors, and whose
+-- identification was accepted with these protection bits.
 abbrev pub OfTouched : Request → Opening → ℕ → (ℕ → Bool) → (List ℕ → Chip → Type 0) → Type 0
 OfTouched request opening code touched promise = (chip : Chip) (image : List ℕ) → IsOpening chip opening
     → OpeningAccepts request image chip code
     → ((s : ℕ) → touched s ≡ is_touched chip.bytes (wanted request image chip) s) → promise image chip
 
--- If the touched sectors are accepted, then `ScanAccepts` holds for each such chip, with the returned choice whether to
--- lift protection.
+-- Holds if acceptance is right: if the touched sectors are accepted, then `ScanAccepts` holds with the returned choice
+-- whether to lift protection, for each chip that `OfTouched` names.
 abbrev pub AcceptsScan : Request → Opening → ℕ → (ℕ → Bool) → Result Bool Refusal → Type 0
 AcceptsScan request opening code touched judged =
     OfTouched request opening code touched (λ image chip. IfOk judged (ScanAccepts request image chip))
 
--- If the touched sectors are refused, the error is the verdict for each such chip.
+-- Holds if a refusal is right: if the touched sectors are refused, the error is the verdict for each chip that
+-- `OfTouched` names.
 abbrev pub RefusesScan : Request → Opening → ℕ → (ℕ → Bool) → Result Bool Refusal → Type 0
 RefusesScan request opening code touched judged =
     OfTouched request opening code touched (λ image chip. IfErr judged (IsVerdict request image chip))

@@ -11,15 +11,16 @@ use Rattle.nor_probe.specs.Known.{shown_as, IsModelled}
 use Rattle.nor_probe.specs.Found.{part_in, IsPart, IsWanted, IsConfigOf}
 use Rattle.nor_save.specs.declared.opening.Opening.{Opening}
 
--- The greatest number of transactions of an identification: a probe, status 2 and the unique ID.
+-- the greatest number of transactions of an identification: a probe, and the reads of status 2 and the unique ID
 abbrev pub most_opening : ℕ
 most_opening = 65542
 
--- The two status bytes that were read.
+-- the two status bytes that were read
 abbrev pub status_read : Opening → List ℕ
 status_read opening = opening.found.status1 ∷ opening.status2 ∷ []
 
--- The effect of the reads after the probe. The unique ID is the chip's only on an honest bus with an idle chip.
+-- Holds after the reads of status 2 and the unique ID that follow the probe. On a well-behaved bus status 2 is the
+-- chip's; the unique ID is the chip's only if the chip is also idle.
 pub record ReadsRest (probed : Probed) (old new : BusState) (opening : Opening) : Type 0 where
   pub found : opening.found ≡ probed.found
   pub transactions : opening.transactions ≡ probed.transactions + 2
@@ -29,10 +30,10 @@ pub record ReadsRest (probed : Probed) (old new : BusState) (opening : Opening) 
   pub status2 : old.honest ≡ true → opening.status2 ≡ old.chip.kept.two
   pub unique : old.honest ≡ true → old.chip.busy ≡ 0 → opening.unique ≡ unique_of old.chip.config
 
--- The effect of an identification that succeeded. On every bus the chip is a row of the table or was found by SFDP, it
--- has the requested name, and the last poll showed ready. On an honest bus the contents and non-volatile status bits
--- are unchanged, the chip is idle, and the values read are the chip's own. Its size, erase types and block protection
--- are known only on a modelled bus.
+-- Holds after an identification that succeeded. On every bus the chip is a row of the table or was found by SFDP, it
+-- has the requested name, and the last poll showed ready. On a well-behaved bus the contents and non-volatile status
+-- bits are unchanged, the chip is idle, and the values read are the chip's own. Its size, erase types and block
+-- protection are known only on a modelled bus.
 pub record Opens (named : Option ChipName) (old new : BusState) (opening : Opening) : Type 0 where
   pub part : IsPart opening.found
   pub wanted : IsWanted named opening.found.name

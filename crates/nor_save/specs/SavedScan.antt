@@ -19,20 +19,20 @@ use Rattle.nor_save.specs.Judging.{Lifts}
 use Rattle.nor_save.specs.Saving.{IsOpening, Shows, head_of}
 use Rattle.nor_save.specs.Verdict.{IsVerdict, OpeningAccepts, ScanAccepts}
 
--- The vault after `save`: sealed after success, and unsealed after an error. Its count of failures is one higher after
--- error 11.
+-- Holds for the vault after `save`: it was sealed after success, and not sealed after an error. Its count of refusals
+-- is one higher after error 11, and else as it was.
 abbrev pub SavePuts : Result SavedScan Refusal → (old new : VaultState) → Type 0
 SavePuts (Ok saved) old new = Completed old new
 SavePuts (Err Vault) old new = Refused old new
 SavePuts (Err _) old new = Accepted old new
 
--- The bytes are a journal.
+-- Holds if the bytes are the encoding of a journal.
 pub record IsJournal (bytes : List ℕ) : Type 0 where
   pub content : Content
   pub is : IsContent content
   pub same : bytes ≡ text content
 
--- The bytes are a journal with this header, which saves exactly these sectors.
+-- Holds if the bytes are the encoding of a journal with this header that saves exactly these sectors.
 pub record IsJournalOf (head : Content) (sectors : ℕ → Bool) (bytes : List ℕ) : Type 0 where
   pub content : Content
   pub is : IsContent content
@@ -40,13 +40,13 @@ pub record IsJournalOf (head : Content) (sectors : ℕ → Bool) (bytes : List �
   pub head_same : SameHead head content
   pub saved : (s : ℕ) → is_saved content s ≡ sectors s
 
--- A sealed `telling` vault holds a journal, on every bus.
+-- Holds if the vault, once sealed and if it is `telling`, has the encoding of a journal. This is promised on every bus.
 abbrev pub HoldsJournal : VaultState → Type 0
 HoldsJournal vault = vault.sealed ≡ true → vault.telling ≡ true → IsJournal vault.bytes
 
--- The result for a chip with this identification: the marks are the touched and the raised sectors, and the image has
--- the target bytes of the touched sectors. If the identification accepted the request, no error applies to it. A
--- `telling` vault holds the journal of the chip, which saves exactly the touched sectors.
+-- The result of `save` for a chip with this identification. The marks are the touched and the raised sectors, and the
+-- image has the target bytes of the touched sectors. If the identification accepted the request, no error applies to
+-- it. A `telling` vault has the journal of the chip, which saves exactly the touched sectors.
 pub record HasSavedChip (request : Request) (code : ℕ) (image image' : List ℕ)
     (chip : Chip) (vault : VaultState) (saved : SavedScan) : Type 0 where
   pub touched : (s : ℕ) → has saved.scanned.touched s ≡ is_touched chip.bytes (wanted request image chip) s
@@ -57,7 +57,7 @@ pub record HasSavedChip (request : Request) (code : ℕ) (image image' : List �
   pub journal : vault.telling ≡ true
       → JournalSaves (head_of chip) chip.bytes (is_touched chip.bytes (wanted request image chip)) vault.bytes
 
--- The effect of `save` if it succeeds. `chip` holds only if the bus is honest and shows an idle chip with this
+-- Holds after `save` succeeded. The clause `chip` is for a well-behaved bus that shows an idle chip with this
 -- identification.
 pub record HasSaved (request : Request) (opening : Opening) (code : ℕ) (image image' : List ℕ)
     (old new : BusState) (vault : VaultState) (saved : SavedScan) : Type 0 where
@@ -66,8 +66,8 @@ pub record HasSaved (request : Request) (opening : Opening) (code : ℕ) (image 
   pub chip : (chip : Chip) → IsOpening chip opening → Shows chip old
       → HasSavedChip request code image image' chip vault saved
 
--- The error is the verdict for each chip with this identification that the bus shows, idle, if the identification
--- accepted the request.
+-- Holds if the error is the verdict for the chip that the bus shows, if that chip is idle and has this identification,
+-- and the identification accepted the request.
 abbrev pub JudgesChip : Request → Opening → ℕ → List ℕ → BusState → Refusal → Type 0
 JudgesChip request opening code image old refusal =
     (chip : Chip) → IsOpening chip opening → Shows chip old → OpeningAccepts request image chip code
@@ -82,7 +82,7 @@ SaveTells request opening code image old new (Protected address) =
     JudgesChip request opening code image old (Protected address)
 SaveTells request opening code image old new _ = ⊥
 
--- The bytes are the header of a journal and the records of the touched sectors below some bound.
+-- Holds if the bytes are the header of a journal and the records of the touched sectors below some bound.
 pub record BeginsJournal (head : Content) (old : ℕ → ℕ) (touched : ℕ → Bool) (bytes : List ℕ) : Type 0 where
   pub content : Content
   pub bound : ℕ
@@ -90,14 +90,15 @@ pub record BeginsJournal (head : Content) (old : ℕ → ℕ) (touched : ℕ →
   pub saves : Saves old (λ s. nat_lt s bound && touched s) content
   pub is : bytes ≡ front content
 
--- The contents of a `telling` vault after any error, including 11: a prefix of the journal of the chip that the bus
--- shows, if it has this identification.
+-- Holds if a `telling` vault, after any error including 11, has a prefix of the journal of the chip that the bus shows,
+-- if that chip has this identification.
 abbrev pub SaveCuts : Request → Opening → List ℕ → BusState → VaultState → Type 0
 SaveCuts request opening image old vault = vault.telling ≡ true
     → (chip : Chip) → IsOpening chip opening → Shows chip old
     → BeginsText (head_of chip) chip.bytes (is_touched chip.bytes (wanted request image chip)) vault.bytes
 
--- The contents of a `telling` vault after an error other than 11: the header and complete records.
+-- Holds if a `telling` vault, after an error other than 11, has the header and complete records of the journal of the
+-- chip that the bus shows, if that chip has this identification.
 abbrev pub SaveBegins : Request → Opening → List ℕ → BusState → VaultState → Refusal → Type 0
 SaveBegins request opening image old vault refusal = refusal ≢ Vault → vault.telling ≡ true
     → (chip : Chip) → IsOpening chip opening → Shows chip old

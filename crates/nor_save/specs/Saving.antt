@@ -11,14 +11,15 @@ use Rattle.nor_save.specs.declared.opening.Opening.{Opening}
 use Rattle.nor_call.specs.declared.request.What.{What}
 use Rattle.nor_call.specs.declared.request.What.TheVariants.{WpRange}
 
--- The identification has the configuration, the non-volatile status bits and the unique ID of the chip.
+-- Holds if the identification has the configuration, the non-volatile status bits and the unique ID of the chip.
 pub record IsOpening (chip : Chip) (opening : Opening) : Type 0 where
   pub config : IsConfigOf chip.config opening.found
   pub one : opening.found.status1 / 4 ≡ chip.kept.one
   pub two : opening.status2 ≡ chip.kept.two
   pub unique : opening.unique ≡ unique_of chip.config
 
--- The bus is honest, and has this chip, idle.
+-- Holds if the bus is well-behaved, and its chip is idle and the same as `chip`: configuration, contents and
+-- non-volatile bits.
 pub record Shows (chip : Chip) (state : BusState) : Type 0 where
   pub honest : state.honest ≡ true
   pub idle : state.chip.busy ≡ 0
@@ -26,7 +27,7 @@ pub record Shows (chip : Chip) (state : BusState) : Type 0 where
 
 -- ---- the request
 
--- The request is for a protection range that no defined protection bits select.
+-- Holds if the request is for a protection range that no defined protection bits select.
 abbrev pub AsksForNone : What → Chip → Type 0
 AsksForNone (WpRange start len) chip = IsNotOffered chip.config.size start len
 AsksForNone _ chip = ⊥
@@ -37,39 +38,39 @@ AsksForNone _ chip = ⊥
 abbrev pub is_held : (touched : ℕ → Bool) → Chip → (s : ℕ) → Bool
 is_held touched chip s = touched s && is_unit_guarded chip (4096 * s) 4096
 
--- The first sector that is touched and has a protected address.
+-- Holds if `s` is the first sector that is touched and has a protected address.
 pub record IsLeastHeld (touched : ℕ → Bool) (chip : Chip) (s : ℕ) : Type 0 where
   pub is : is_held touched chip s ≡ true
   pub least : (t : ℕ) → t < s → is_held touched chip t ≡ false
 
--- No touched sector has a protected address.
+-- Holds if no touched sector has a protected address.
 abbrev pub NoneHeld : (touched : ℕ → Bool) → Chip → Type 0
 NoneHeld touched chip = (s : ℕ) → is_held touched chip s ≡ false
 
--- Some touched sector has a protected address.
+-- Holds if some touched sector has a protected address.
 pub record SomeHeld (touched : ℕ → Bool) (chip : Chip) : Type 0 where
   pub sector : ℕ
   pub held : is_held touched chip sector ≡ true
 
--- A status write is needed: the target protection bits of a range differ from the chip's, or a touched sector is
--- protected and `unlock` is set.
+-- Holds if a status write is needed: for a protection range, the target protection bits differ from the chip's; for a
+-- write or an erase, `unlock` is set and a touched sector is protected.
 abbrev pub NeedsStatus : What → (unlock : Bool) → (code : ℕ) → (touched : ℕ → Bool) → Chip → Type 0
 NeedsStatus (WpRange start len) unlock code touched chip = code ≢ code_of chip.kept
 NeedsStatus _ unlock code touched chip = (unlock ≡ true) × SomeHeld touched chip
 
 -- ---- the journal
 
--- The non-volatile bits of the two status bytes that the identification read.
+-- the non-volatile bits of the two status bytes that the identification read
 abbrev pub kept_read : Opening → List ℕ
 kept_read opening = (opening.found.status1 / 4 * 4) ∷ (opening.status2 % 128) ∷ []
 
--- The header of the journal that is written after this identification: ID, unique ID, non-volatile status bits and
--- size, as they were read.
+-- the header of the journal that is written after this identification: ID, unique ID, non-volatile status bits and
+-- size, as they were read
 abbrev pub head_found : Opening → Content
 head_found opening =
     empty_content opening.found.id (Some opening.unique) (kept_read opening) opening.found.size
 
--- The header of a chip's journal: ID, unique ID, non-volatile status bits and size.
+-- the header of a chip's journal: ID, unique ID, non-volatile status bits and size
 abbrev pub head_of : Chip → Content
 head_of chip =
     empty_content (id_of chip.config) (Some (unique_of chip.config)) ((4 * chip.kept.one) ∷ chip.kept.two ∷ [])

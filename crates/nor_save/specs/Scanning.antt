@@ -19,39 +19,40 @@ use Rattle.nor_call.specs.declared.request.Request.{Request}
 use Rattle.nor_save.specs.declared.scanning.Scanned.{Scanned}
 use Rattle.nor_call.specs.Request.{target, is_requested, scanned_sectors}
 
--- The target byte at an address, for a chip with this size and content.
+-- the target byte at an address of a chip with this size and content: the image's byte or FFh at an address that the
+-- request includes, else the byte of `content`
 abbrev pub wanted_at : Request → (image : List ℕ) → (size : ℕ) → (content : ℕ → ℕ) → (a : ℕ) → ℕ
 wanted_at request image size content a = if is_requested request size a then target request.what image a else content a
 
--- A sector was marked as its plan says, and the number of reads is one higher.
+-- Holds if the sector was marked as its plan says, and the number of reads is one higher.
 pub record HasMarked (sector : ℕ) (plan : SectorPlan) (old new : Scanned) : Type 0 where
   pub touched : (s : ℕ) → has new.touched s ≡ ((plan.touched && (s == sector)) || has old.touched s)
   pub raised : (s : ℕ) → has new.raised s ≡ ((plan.raised && (s == sector)) || has old.raised s)
   pub count : new.count ≡ old.count + (if plan.touched then 1 else 0)
   pub reads : new.reads ≡ old.reads + 1
 
--- No sector is marked.
+-- Holds if no sector is marked, and none was read.
 pub record IsBlank (scanned : Scanned) : Type 0 where
   pub touched : (s : ℕ) → has scanned.touched s ≡ false
   pub raised : (s : ℕ) → has scanned.raised s ≡ false
   pub count : scanned.count ≡ 0
   pub reads : scanned.reads ≡ 0
 
--- On every bus the marked sectors are below n, the raised sectors are touched, and `count` is the number of touched
--- sectors.
+-- Holds on every bus: the marked sectors are below `n`, the raised sectors are touched, and `count` is the number of
+-- touched sectors.
 pub record AreMarks (n : ℕ) (scanned : Scanned) : Type 0 where
   pub below : (s : ℕ) → has scanned.touched s ≡ true → s < n
   pub inside : (s : ℕ) → has scanned.raised s ≡ true → has scanned.touched s ≡ true
   pub count : scanned.count ≡ sector_count (has scanned.touched)
 
--- The marks of the sectors below n are right: touched if some byte differs from the target, raised if some bit must
--- rise.
+-- Holds if the marks of the sectors below `n` are right: touched if some byte differs from the target, raised if some
+-- bit must go from 0 to 1.
 pub record AreRight (wanted content : ℕ → ℕ) (n : ℕ) (scanned : Scanned) : Type 0 where
   pub touched : (s : ℕ) → has scanned.touched s ≡ (nat_lt s n && is_touched content wanted s)
   pub raised : (s : ℕ) → has scanned.raised s ≡ (nat_lt s n && is_raised content wanted s)
 
--- The effect of scanning one sector: its bytes are read, and bytes that may not change are copied into its part of the
--- image. What is read is known only on an honest bus with an idle chip of this size.
+-- Holds after one sector was scanned: its bytes were read, and bytes that may not change were copied into its part of
+-- the image. The bytes, the part and the plan are known only on a well-behaved bus with an idle chip of this size.
 pub record ScansSector (request : Request) (size sector : ℕ) (part part' bytes : List ℕ)
     (old new : BusState) (plan : SectorPlan) : Type 0 where
   pub needed : plan.raised ≡ true → plan.touched ≡ true
@@ -67,7 +68,7 @@ pub record ScansSector (request : Request) (size sector : ℕ) (part part' bytes
       → (plan.touched ≡ is_touched old.chip.bytes (wanted_at request image size old.chip.bytes) sector)
       × (plan.raised ≡ is_raised old.chip.bytes (wanted_at request image size old.chip.bytes) sector)
 
--- The effect of scanning all sectors, except on the journal.
+-- Holds after all sectors were scanned. Other clauses describe the journal.
 pub record Scans (request : Request) (size : ℕ) (image image' : List ℕ) (old new : BusState)
     (scanned : Scanned) : Type 0 where
   pub marks : AreMarks (size / 4096) scanned
@@ -81,42 +82,44 @@ pub record Scans (request : Request) (size : ℕ) (image image' : List ℕ) (old
   pub merged : IsOpen size old → (a : ℕ) → has scanned.touched (a / 4096) ≡ true
       → slice_index image' a ≡ wanted_at request image size old.chip.bytes a
 
--- The errors of a scan: 12 (on an honest bus fewer than `most` transactions were left) or 11 (the vault failed).
+-- Holds for the errors of a scan: 12 (the bus stopped; on a well-behaved bus fewer than `most` transactions were left)
+-- and 11 (the vault failed).
 abbrev pub ScanTells : ℕ → (old new : BusState) → Refusal → Type 0
 ScanTells most old new Stopped = RanOutIfHonest most old new
 ScanTells most old new Vault = ⊤
 ScanTells most old new _ = ⊥
 
--- The vault after a scan: it accepted each piece, except after error 11.
+-- Holds for the vault after a scan: it accepted each piece, except after error 11.
 abbrev pub ScanPuts : {T : Type 0} → Result T Refusal → (old new : VaultState) → Type 0
 ScanPuts (Err Vault) old new = Refused old new
 ScanPuts _ old new = Accepted old new
 
--- On every bus the vault was given this header of a journal, and records of sectors below n.
+-- Holds on every bus if the vault was given this header of a journal, and records of sectors below `n`.
 pub record HasBegun {V : Type 0} (state : V → VaultState) (writer : Writer V) (head : Content) (n : ℕ) : Type 0 where
   pub content : Content
   pub written : HasWritten state writer content
   pub same : SameHead head content
   pub next : next_number content ≤ n
 
--- In addition to `HasBegun`, the records are those of exactly these sectors.
+-- Holds if `HasBegun` does, and the records are those of exactly these sectors.
 pub record HasBegunWith {V : Type 0} (state : V → VaultState) (writer : Writer V) (head : Content) (n : ℕ)
     (sectors : ℕ → Bool) : Type 0 where
   pub begun : HasBegun state writer head n
   pub saved : (s : ℕ) → is_saved begun.content s ≡ sectors s
 
--- The promise holds, except after error 11.
+-- Holds if the promise is true, or the result is error 11.
 abbrev pub UnlessVault : {T : Type 0} → Result T Refusal → Type 0 → Type 0
 UnlessVault (Ok _) promise = promise
 UnlessVault (Err refusal) promise = refusal ≢ Vault → promise
 
--- A `telling` vault holds a prefix of the journal that has this header and saves the touched ones of the first `total`
--- sectors.
+-- Holds if a `telling` vault has a prefix of the journal that has this header and saves the touched ones of the first
+-- `total` sectors.
 abbrev pub HoldsCut : VaultState → (head : Content) → (old : ℕ → ℕ) → (touched : ℕ → Bool) → (total : ℕ) → Type 0
 HoldsCut vault head old touched total = vault.telling ≡ true
     → BeginsText head old (λ s. nat_lt s total && touched s) vault.bytes
 
--- The vault was given the header, and the records of the touched sectors below some bound, which is at most `total`.
+-- Holds if the vault was given the header, and the records of the touched sectors below some bound, which is at most
+-- `total`.
 pub record HasKeptBelow {V : Type 0} (state : V → VaultState) (writer : Writer V) (head : Content) (old : ℕ → ℕ)
     (touched : ℕ → Bool) (total : ℕ) : Type 0 where
   pub bound : ℕ

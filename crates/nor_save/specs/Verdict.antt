@@ -1,5 +1,4 @@
--- The verdict on a request: the error with the lowest number of those from 1 to 10 that apply, or that the request is
--- accepted.
+-- The verdict on a request: it is accepted, or refused with the first of errors 1 to 10 that applies.
 use Rattle.std.specs.Prelude.{◌≡◌, ◌≢◌, ◌<◌, ◌≤◌, ◌*◌, ℕ, Bool, true, false, List, length, Err}
 use Rattle.nor_chip.specs.Chip.{Chip, is_locked}
 use Rattle.nor_chip.specs.Guard.{code_of, is_undefined}
@@ -16,7 +15,7 @@ use Rattle.nor_call.specs.Refusal.{number_of}
 use Rattle.nor_call.specs.Request.{is_data, IsWantedCode, wanted}
 use Rattle.nor_save.specs.Saving.{AsksForNone, NeedsStatus, IsLeastHeld, NoneHeld, SomeHeld}
 
--- The request needs a status write on the chip.
+-- Holds if the request needs a status write on the chip.
 abbrev pub NeedsStatusWrite : Request → (image : List ℕ) → Chip → Type 0
 NeedsStatusWrite request image chip = (code : ℕ) × IsWantedCode request.what chip code
     × NeedsStatus request.what request.unlock code (is_touched chip.bytes (wanted request image chip)) chip
@@ -40,28 +39,28 @@ RefusalHolds request image chip (Protected address) = (request.unlock ≡ false)
     × IsLeastHeld (is_touched chip.bytes (wanted request image chip)) chip sector
 RefusalHolds request image chip _ = ⊥
 
--- The error is the verdict: it applies, and no error with a lower number does.
+-- Holds if the error is the verdict: it applies, and no error with a lower number does.
 pub record IsVerdict (request : Request) (image : List ℕ) (chip : Chip) (refusal : Refusal) : Type 0 where
   pub holds : RefusalHolds request image chip refusal
   pub first : (other : Refusal) → number_of other < number_of refusal → ¬ RefusalHolds request image chip other
 
--- The request is accepted: no error applies.
+-- Holds if the request is accepted: no error applies.
 abbrev pub IsAccepted : Request → (image : List ℕ) → Chip → Type 0
 IsAccepted request image chip = (refusal : Refusal) → ¬ RefusalHolds request image chip refusal
 
--- No error with a number up to this one applies.
+-- Holds if no error with a number up to this one applies.
 abbrev pub NoneHoldsTo : (number : ℕ) → Request → (image : List ℕ) → Chip → Type 0
 NoneHoldsTo number request image chip =
     (refusal : Refusal) → number_of refusal ≤ number → ¬ RefusalHolds request image chip refusal
 
--- The identification accepts the request: none of the errors 1 to 8 applies, and `code` is the target's protection
--- bits.
+-- Holds if the identification accepts the request: none of the errors 1 to 8 applies, and `code` has the target's
+-- protection bits.
 pub record OpeningAccepts (request : Request) (image : List ℕ) (chip : Chip) (code : ℕ) : Type 0 where
   pub clear : NoneHoldsTo 8 request image chip
   pub is_wanted : IsWantedCode request.what chip code
 
--- The touched sectors are accepted as well: no error applies. `unlock` is set only if the request allows it and a
--- touched sector is protected; if it is not set, no touched sector is protected.
+-- Holds if the touched sectors are accepted as well: no error applies. `unlock` is set only if the request allows it
+-- and a touched sector is protected; if it is not set, no touched sector is protected.
 pub record ScanAccepts (request : Request) (image : List ℕ) (chip : Chip) (unlock : Bool) : Type 0 where
   pub accepted : IsAccepted request image chip
   pub lifts : unlock ≡ true

@@ -19,8 +19,8 @@ use nor_plan::SectorSet;
 /// bits as a number below 64; for a write or an erase these are the chip's own.
 ///
 /// Returns error 4 (the image isn't as long as the chip) or 5 (an included address isn't on the chip) for a write or an
-/// erase, and 6 (no block protection) or 8 (a range that no protection bits select) for a protection range. For each
-/// request it returns 7 if the chip's protection bits are undefined.
+/// erase. Returns 6 (no block protection) or 8 (a range that no protection bits select) for a protection range. For
+/// every request it returns 7 if the chip has block protection and its protection bits are undefined.
 #[tactic(auto, using(crate::proofs::Held::code_same, crate::proofs::OneVerdict::opening_judged, crate::proofs::OneVerdict::opening_accepted))]
 pub fn judge_opening(request: &Request, opening: &Opening, image: usize) -> Result<u8, Refusal>
     requires { IsTrue (is_chip_size opening.now.found.size) }
@@ -62,7 +62,7 @@ pub fn judge_opening(request: &Request, opening: &Opening, image: usize) -> Resu
     }
 }
 
-/// Returns the first sector of `touched` that has a protected address, or `None`.
+/// Returns the first sector of `touched` that has a protected address by the status that was read, or `None`.
 #[tactic(auto, using(crate::proofs::Held::code_same))]
 pub fn first_held(touched: &SectorSet, opening: &Opening) -> Option<u32>
     requires sized { IsTrue (is_chip_size opening.now.found.size) }

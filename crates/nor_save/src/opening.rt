@@ -32,10 +32,10 @@ impl Opening {
 }
 
 /// Waits until the chip is ready, finds it by its ID or SFDP, and reads status 2 and the unique ID. With `named` the
-/// chip must have this name. It sends at most 65,542 transactions on an honest bus.
+/// chip must have this name. It sends at most 65,542 transactions on a well-behaved bus.
 ///
 /// Returns error 1 (no chip), 2 (unknown chip), 3 (other name), 12 (the bus stopped) or 13 with address 0 (the chip
-/// stayed busy; not on an honest bus).
+/// stayed busy; not on a well-behaved bus).
 pub fn open<B: Bus>(bus: &mut B, named: Option<ChipName>) -> Result<Opening, Refusal>
     ensures leaves { Looks most_opening (B.state bus.old) (B.state bus.new) }
     ensures opens { IfOk result (Opens named (B.state bus.old) (B.state bus.new)) }
@@ -46,8 +46,8 @@ pub fn open<B: Bus>(bus: &mut B, named: Option<ChipName>) -> Result<Opening, Ref
     Ok(opening)
 }
 
-/// Reads status 2 and the unique ID of the chip that was found, with two transactions. `Stopped` on an honest bus means
-/// that fewer than two were left.
+/// Reads status 2 and the unique ID of the chip that was found, with two transactions. Returns `Stopped` if the bus
+/// stopped; on a well-behaved bus this means that fewer than two transactions were left.
 pub fn read_on<B: Bus>(bus: &mut B, probed: Probed) -> Result<Opening, Stopped>
     requires { probed.transactions ≤ most_probe }
     ensures leaves { Looks 2 (B.state bus.old) (B.state bus.new) }

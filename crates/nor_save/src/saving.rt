@@ -1,4 +1,4 @@
-//! Scans the chip and saves what a session will change, before anything is changed.
+//! Scans the chip, and saves what a session will change before it changes anything.
 ghost use Rattle.std.specs.Prelude.{◌≡◌, ◌/◌, true, length, IfOk, IfErr, OnErr, IsTrue};
 ghost use Rattle.nor_chip.specs.Size.{is_chip_size};
 ghost use Rattle.nor_driver.specs.Looks.{Looks};
@@ -15,24 +15,25 @@ use crate::{Refusal, Request};
 use nor_chip::Bus;
 use nor_journal::{Vault, Writer};
 
-/// The result of the scan, when the journal is sealed.
+/// The result of a scan whose journal is sealed.
 #[derive(Clone, Copy)]
 pub struct SavedScan {
     pub scanned: Scanned,
-    /// Protection must be lifted.
+    /// True if protection must be lifted before the changes.
     pub unlock: bool,
 }
 
-/// Scans the chip, checks what would change, writes the touched sectors to the vault, and seals it. `vault` must be
-/// empty and unsealed; for a write or an erase `image` must be as long as the chip. `code` is the result of
-/// `judge_opening`.
+/// Scans the chip, writes the touched sectors to the vault, checks the request against them, and seals the vault.
+/// `vault` must be empty and unsealed; for a write or an erase `image` must be as long as the chip. `code` is the
+/// result of `judge_opening`.
 ///
-/// No modifying command is sent. If the bus is honest and shows the identified chip, idle, then success sets the
+/// No modifying command is sent. If the bus is well-behaved and shows the identified chip, idle, then success sets the
 /// image's touched sectors to the target bytes, and a `telling` vault holds a journal of exactly the touched sectors.
 ///
-/// Returns error 9, 10 (both are the verdict on such a chip if `judge_opening` accepted it), 11 (the vault failed) or
-/// 12 (the bus stopped). After an error the vault is unsealed. If it is `telling` and the bus shows such a chip, it
-/// holds a prefix of the journal; after errors other than 11 that prefix ends after a complete record or the header.
+/// Returns error 9 or 10 (each is the verdict on the identified chip, if the bus shows it and `judge_opening` accepted
+/// it), 11 (the vault failed) or 12 (the bus stopped). After an error the vault is unsealed. If it is `telling` and the
+/// bus shows the identified chip, it holds a prefix of the journal; after errors other than 11 that prefix ends after
+/// the header or a complete record.
 pub fn save<B: Bus, V: Vault>(
     bus: &mut B,
     vault: &mut V,

@@ -1,4 +1,4 @@
-//! Reads the sectors of a chip before anything is changed, and finds those that a session will touch.
+//! Reads the sectors of a chip before anything is changed, and finds those that a session will change.
 ghost use Rattle.std.specs.Prelude.{◌≡◌, ◌≢◌, ◌<◌, ◌≤◌, ◌+◌, ◌*◌, ◌/◌, true, false, length, IfOk, IfErr, OnErr, IsTrue};
 ghost use Rattle.nor_chip.specs.Size.{is_chip_size};
 ghost use Rattle.nor_driver.specs.Looks.{Looks, RanOutIfHonest, IsOpen};
@@ -41,7 +41,7 @@ impl Scanned {
         }
     }
 
-    /// Adds the plan of a sector that was read.
+    /// Adds the plan of a sector that was read, and counts the read.
     pub fn mark(&mut self, sector: u32, plan: SectorPlan)
         requires reachable { sector < 4096 }
         requires room { self.old.count ≤ self.old.reads }
