@@ -1,4 +1,4 @@
--- `verify`, from the probe and the comparison after it.
+-- `verify`: its promises at each exit, from those of the probe and of the comparison.
 use Rattle.std.proofs.Common.{◌≡◌, ◌≢◌, ◌∙◌, ℕ, true, List, length, Option, Some, None, Result, Ok, Err}
 use Rattle.std.proofs.Common.{arith}
 use Rattle.std.specs.Prelude.{◌/◌}
@@ -21,7 +21,7 @@ use Rattle.nor_read.proofs.Onward.{has_looked, same_bytes}
 use Rattle.nor_read.proofs.Whole.{Sends, find_tells, sends_probe, sends_on, halts, report_of, reported}
 use Rattle.nor_read.proofs.Whole.{rested_on, size_of, open_after, has_name, is_taken, is_passed}
 
--- The promises of `verify`, at an exit.
+-- Holds if the promises of `verify` are kept at an exit with this result.
 pub record Verified (named : Option ChipName) (included : Option (List Span)) (image : List ℕ) (old new : BusState)
     (result : Result Report Refusal) : Type 0 where
   pub always : VerifyAlways named included image old new result
@@ -35,7 +35,7 @@ module _ (named : Option ChipName) (included : Option (List Span)) (image : List
       → Verified named included image old new (Err refusal)
   refused refusal sends is tells own = search sends.own
 
-  -- No chip is found.
+  -- An error of the probe is one that `verify` may return, and means what `verify` promises.
   unfound_tells : (old new : BusState) (refusal : Refusal) → OpeningTells most_probe named old new refusal
       → IsVerifyRefusal refusal × (IsModelled old → VerifyTells named included image old new refusal)
   unfound_tells old new Stopped tells = (tt, λ known. let ran = tells known.honest in omega arith)
@@ -48,7 +48,7 @@ module _ (named : Option ChipName) (included : Option (List Span)) (image : List
       refused refusal (sends_probe looks) own.0
       (find_tells (most_read 16777216) named old new refusal (omega arith) tells) own.1
 
-  -- A chip is found.
+  -- the exits after a chip was found
   module _ {old mid : BusState} {probed : Probed} (found : HasFound named old mid probed)
       (looks : Looks most_probe old mid) where
     pub other_size : length image ≢ probed.found.size
@@ -68,10 +68,10 @@ module _ (named : Option ChipName) (included : Option (List Span)) (image : List
           let halt = halts found looks out in
           refused Stopped (sends_on found looks after) tt halt.largest halt.own
 
-      -- All sectors were compared.
+      -- the exits after all sectors were compared
       module _ (whole : length image ≡ probed.found.size) (fits : FitsInto included probed.found.size)
           {compared : Compared} (all : ComparesAll included image probed.found.size mid new compared) where
-        -- The first difference from the chip as it was before the probe.
+        -- The first difference that was found is that from the chip as it was before the probe.
         first_before : (first : Option ℕ) → compared.first ≡ first → IsModelled old
             → TellsFirst included image old.chip.bytes 0 old.chip.config.size first
         first_before first is known =

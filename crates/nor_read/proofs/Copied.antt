@@ -1,4 +1,4 @@
--- A copy grows piece by piece, until it is whole or the vault refuses a piece.
+-- The copy of a chip, piece by piece, until it is whole or the vault refuses a piece.
 use Rattle.std.proofs.Common.{◌≡◌, ◌≤◌, ◌<◌, ◌+◌, ◌-◌, ◌*◌, ◌++◌, ◌∙◌, ℕ, true, List, [], length, slice_index, take}
 use Rattle.std.proofs.Common.{Option, refl, ap, sym, arith, inl, inr, append_assoc, append-nil, length-append}
 use Rattle.std.specs.Prelude.{◌/◌}
@@ -17,7 +17,7 @@ use Rattle.nor_call.specs.declared.refusal.Refusal.TheVariants.{Output}
 use Rattle.nor_read.specs.Reading.{copied, Grows, Copies, ReadsPiece, ReadsAll, CopyTells, PutTells}
 use Rattle.nor_read.proofs.Onward.{has_looked, looked_on, open_on, same_bytes}
 
--- The vault has `count` bytes more. If `known` holds, these are the first ones of the copy.
+-- Holds if the vault has `count` bytes more. If `known` holds, these are the first ones of the copy.
 pub record CopiesIf (known : Type 0) (included : Option (List Span)) (content : ℕ → ℕ) (count : ℕ)
     (old new : VaultState) : Type 0 where
   pub grows : Grows count old new
@@ -27,7 +27,7 @@ copies_if : {known : Type 0} {included : Option (List Span)} {content : ℕ → 
     → CopiesIf known included content count old new → known → Copies included content count old new
 copies_if has is = let right = has.right is in search right
 
--- The pieces below n were copied.
+-- Holds if the pieces below `n` were copied.
 pub record HasCopied (included : Option (List Span)) (size n : ℕ) (old new : BusState) (vault vault' : VaultState)
     (reads : ℕ) : Type 0 where
   pub few : reads ≤ 16 * n
@@ -49,7 +49,7 @@ copied_none included size state vault = record {
   };
 }
 
--- The vault accepted more bytes.
+-- `CopiesIf` still holds after the vault accepted the next bytes of the copy.
 module _ {known : Type 0} {included : Option (List Span)} {content : ℕ → ℕ} {m : ℕ} {vault mid new : VaultState} where
   copies_more : (k count : ℕ) (part : List ℕ) → m + k ≡ count → CopiesIf known included content m vault mid
       → length part ≡ k → new.bytes ≡ mid.bytes ++ part
@@ -81,7 +81,7 @@ module _ {included : Option (List Span)} {size n reads more : ℕ} {bytes : List
   looked_all : HasLooked (reads + more) old new
   looked_all = looked_on has.looked (has_looked looks piece.rested piece.fell piece.heard)
 
-  -- The bytes of the piece are those of the copy.
+  -- On a well-behaved bus with an idle chip of this size, the piece has the bytes of the copy.
   piece_right : IsOpen size old → (i : ℕ) → i < 65536
       → slice_index bytes i ≡ copied included old.chip.bytes (65536 * n + i)
   piece_right is_open i small =
@@ -89,7 +89,7 @@ module _ {included : Option (List Span)} {size n reads more : ℕ} {bytes : List
       let same = now.same in
       rw (same_bytes (has.looked.rested is_open.honest)) at (piece.right now.honest now.idle (omega arith) i small)
 
-  -- The vault accepted the piece.
+  -- `HasCopied` holds for one piece more, after the vault accepted it.
   pub copied_more : {later : VaultState} → Took now bytes later
       → HasCopied included size (n + 1) old new vault later (reads + more)
   copied_more took = record {
@@ -101,7 +101,7 @@ module _ {included : Option (List Span)} {size n reads more : ℕ} {bytes : List
         (took.bytes (has.accepted.telling ∙ telling)) piece_right;
   }
 
-  -- The vault refused the piece, and the error has the number of bytes accepted.
+  -- If the vault refuses the piece, the error has the number of bytes accepted.
   pub copy_fails : (later : VaultState) (refusal : Refusal) → PutTells n bytes now later refusal
       → CopyTells included size old new vault later refusal
   copy_fails later (Output written) tells =
@@ -123,7 +123,7 @@ module _ {included : Option (List Span)} {size n reads more : ℕ} {bytes : List
       }
   copy_fails later _ put = absurd put
 
--- All pieces were copied.
+-- After the last piece the copy is whole (`ReadsAll`).
 pub copied_all : {included : Option (List Span)} {size n reads : ℕ} {old new : BusState} {vault vault' : VaultState}
     → 65536 * n ≡ size → HasCopied included size n old new vault vault' reads → reads ≡ sectors_included included size
     → ReadsAll included size old new vault vault' reads

@@ -37,7 +37,7 @@ module _ (included : Option (List Span)) (image : List ℕ) (sector : ℕ) (byte
       → slice_index filled i ≡ content (4096 * sector + i)
   filled_in i small inside = rw inside at (fills i small) ∙ read i small
 
-  -- The bytes agree up to this position.
+  -- If the compared bytes agree below position `most` of the sector, the included bytes there agree with the image.
   agree_to : (most : ℕ) → ((i : ℕ) → i < 4096 → i < most → slice_index filled i ≡ slice_index part i) → (a : ℕ)
       → 4096 * sector ≤ a → a < 4096 * (sector + 1) → a < 4096 * sector + most → includes included a ≡ true
       → slice_index image a ≡ content a
@@ -64,7 +64,7 @@ module _ (included : Option (List Span)) (image : List ℕ) (sector : ℕ) (byte
             agree_to first (λ i low before. difference.before i before) a above (omega arith) below;
       }
 
--- A sector without an included address isn't read, and has no difference.
+-- A sector without an included address isn't read, and counts as one without a difference.
 pub part_skipped : (included : Option (List Span)) (image : List ℕ) (sector : ℕ) (told : Bool) (state : BusState)
     → told ≡ false → told ≡ has_in_sector (includes included) sector
     → MatchBool told (SomeInSector (includes included) sector) (NoneInSector (includes included) sector)
@@ -96,7 +96,7 @@ module _ (included : Option (List Span)) (image : List ℕ) (content : ℕ → �
       let before = agree_more address agree other.before in search arith
   tells_more to (Some address) second low high other more = search arith
 
--- The sectors below n were compared.
+-- Holds if the sectors below `n` were compared.
 pub record HasCompared (included : Option (List Span)) (image : List ℕ) (size n : ℕ) (old new : BusState)
     (first : Option ℕ) (reads : ℕ) : Type 0 where
   pub few : reads ≤ n

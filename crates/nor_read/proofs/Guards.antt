@@ -1,4 +1,4 @@
--- The meaning of the two status bytes for a chip that was found.
+-- `wp_status`: the meaning of the two status bytes that it reads, and its promises at each exit.
 use Rattle.std.proofs.Common.{◌≡◌, ◌∙◌, ℕ, ◌/◌, Bool, true, false, List, [], ◌∷◌, Option, Some, None, Result, Ok}
 use Rattle.std.proofs.Common.{Err, ap, sym, arith}
 use Rattle.std.specs.Prelude.{MatchOption}
@@ -22,7 +22,7 @@ use Rattle.nor_read.specs.Protecting.{IsGuardedRange, IsProtectionRefusal}
 use Rattle.nor_read.specs.Protecting.{ProtectionAlways, ProtectionHonest, ProtectionModelled, ProtectionTells}
 use Rattle.nor_read.proofs.Whole.{find_tells, looks_on, ran_on, rested_on, has_name, size_of}
 
--- The promises of `wp_status`, at an exit.
+-- Holds if the promises of `wp_status` are kept at an exit with this result.
 pub record HasTold (named : Option ChipName) (old new : BusState) (result : Result Protection Refusal) : Type 0 where
   pub always : ProtectionAlways old new result
   pub honest : old.honest ≡ true → ProtectionHonest named old new result
@@ -32,11 +32,11 @@ lock_read : (one two : ℕ) (kept : KeptBits) → one / 4 ≡ kept.one → two �
     → is_locked (kept_in (one ∷ two ∷ [])) ≡ is_locked kept
 lock_read one two kept low high = grind (arith, nat_tests)
 
--- The non-volatile bits of status 1 are above the write enable latch and BUSY, which is clear on an idle chip.
+-- Status 1 of an idle chip, without its two lowest bits BUSY and WEL, has the chip's non-volatile bits.
 kept1_read : (old mid : Chip) (one : ℕ) → one ≡ status1_of mid → IsSame old mid → mid.busy ≡ 0 → one / 4 ≡ old.kept.one
 kept1_read old mid one is same idle = let kept = ap (λ (bits : KeptBits). bits.one) same.kept in grind (arith, nat_tests)
 
--- The chip's protected addresses are the range that its protection bits select.
+-- On a chip with block protection, the range that its protection bits select has exactly the protected addresses.
 range_read : (chip : Chip) (range : Option (ℕ × ℕ)) → chip.config.scheme ≡ true
     → MatchOption range (is_undefined (code_of chip.kept) ≡ true)
     (λ places. IsRangeOf chip.config.size (code_of chip.kept) places.0 places.1)
@@ -51,7 +51,7 @@ module _ (named : Option ChipName) where
       → (IsModelled old → ProtectionTells named old.chip refusal) → HasTold named old new (Err refusal)
   refused refusal looks is tells own = search
 
-  -- No chip is found.
+  -- An error of the probe is one that `wp_status` may return, and means what `wp_status` promises.
   unfound_tells : (old new : BusState) (refusal : Refusal) → OpeningTells most_probe named old new refusal
       → IsProtectionRefusal refusal × ProtectionTells named old.chip refusal
   unfound_tells old new (Timeout address) tells = (tells.0, tt)
@@ -64,24 +64,24 @@ module _ (named : Option ChipName) where
       refused refusal (looks_more most_probe most_status old new (omega arith) looks) own.0
       (find_tells most_status named old new refusal (omega arith) tells) (λ known. own.1)
 
-  -- A chip is found.
+  -- the exits after a chip was found
   module _ {old mid new : BusState} {probed : Probed} (found : HasFound named old mid probed)
       (looks : Looks most_probe old mid) (after : Looks 1 mid new) where
     looks_all : Looks most_status old new
     looks_all = looks_on found looks 1 most_status (omega arith) after
 
-    -- Status 2 isn't read, because the bus stopped.
+    -- the exit at which the bus stopped before status 2 was read
     pub stopped : RanOutIfHonest 1 mid new → HasTold named old new (Err Stopped)
     stopped out =
         refused Stopped looks_all tt (ran_on found looks 1 most_status (omega arith) out) (λ known. tt)
 
     module _ {status2 : ℕ} (reads : ReadsStatus2 mid new status2) where
-      -- The chip has no block protection.
+      -- the exit with error 6: the chip has no block protection
       pub plain : probed.found.scheme ≡ false → HasTold named old new (Err NoProtection)
       plain none = refused NoProtection looks_all tt (rested_on found looks (λ is. (reads.read is).rested))
           (λ known. (has_name found looks known.honest, sym (found.is.config known).scheme ∙ none))
 
-      -- The chip has block protection.
+      -- the exit with a report: the chip has block protection
       pub told : (bytes : List ℕ) (range : Option (ℕ × ℕ)) (locked : Bool) → new.heard ≡ mid.heard
           → probed.found.scheme ≡ true → bytes ≡ probed.found.status1 ∷ status2 ∷ []
           → MatchOption range (is_undefined (code_of (kept_in bytes)) ≡ true)

@@ -1,4 +1,4 @@
--- Calls that only read, one after the other. Some of them send nothing.
+-- Successive steps that only read. A step may send nothing.
 use Rattle.std.proofs.Common.{◌≡◌, ◌+◌, ℕ, true, arith}
 use mathlib.Core.Path.{fun_ext}
 use Rattle.nor_chip.specs.Bus.{BusState}
@@ -7,7 +7,7 @@ use Rattle.nor_driver.specs.Ready.{StaysReady}
 use Rattle.nor_driver.specs.Looks.{Rested, Looks, IsOpen}
 use Rattle.nor_driver.proofs.RestsInTurn.{HasLooked, rested_then}
 
--- The effect of a step that succeeded (`HasLooked`), with its number of reads.
+-- `HasLooked` holds after a step that sent `more` transactions and succeeded.
 pub has_looked : {most more : ℕ} {old new : BusState} → Looks most old new → (old.honest ≡ true → Rested old new)
     → (old.honest ≡ true → old.left ≡ new.left + more) → StaysReady old new → HasLooked more old new
 has_looked looks rested fell heard = assumption
@@ -18,10 +18,10 @@ pub looked_on : {reads more : ℕ} {old mid new : BusState} → HasLooked reads 
 looked_on {reads} {more} {old} {mid} {new} has next =
     grind (arith, nature_then old mid new next.nature has.nature, rested_then old mid new)
 
--- A successful read leaves the bytes as they are.
+-- A successful read leaves the chip's bytes as they are.
 pub same_bytes : {old new : BusState} → Rested old new → new.chip.bytes ≡ old.chip.bytes
 same_bytes rested = fun_ext rested.unchanged.same.bytes
 
--- An idle chip stays idle, and keeps its size.
+-- After reads, an idle chip is still idle, and has the same size.
 pub open_on : {size reads : ℕ} {old mid : BusState} → IsOpen size old → HasLooked reads old mid → IsOpen size mid
 open_on is_open looked = let was = (looked.rested is_open.honest).unchanged in search arith

@@ -1,4 +1,4 @@
--- A piece of the copy grows sector by sector.
+-- A piece of the copy, sector by sector.
 use Rattle.std.proofs.Common.{◌≡◌, ◌≤◌, ◌<◌, ◌+◌, ◌-◌, ◌*◌, ◌∙◌, ℕ, true, List, length, slice_index, Option, refl}
 use Rattle.std.proofs.Common.{arith, inl, inr}
 use Rattle.std.proofs.lemmas.Bool.{cases_lt}
@@ -14,7 +14,7 @@ use Rattle.nor_driver.proofs.RestsInTurn.{HasLooked, has_looked-none}
 use Rattle.nor_read.specs.Reading.{copied, ReadsPart, ReadsPiece}
 use Rattle.nor_read.proofs.Onward.{has_looked, looked_on, open_on, same_bytes}
 
--- The first k sectors of a piece were copied.
+-- Holds if the first `k` sectors of a piece were copied.
 pub record HasPieced (included : Option (List Span)) (piece k : ℕ) (bytes : List ℕ) (old new : BusState)
     (reads : ℕ) : Type 0 where
   pub few : reads ≤ k
@@ -28,7 +28,7 @@ pub pieced_none : (included : Option (List Span)) (piece : ℕ) (bytes : List �
     → HasPieced included piece 0 bytes state state 0
 pieced_none included piece bytes state = grind (arith, has_looked-none state)
 
--- One more sector.
+-- `HasPieced` holds for one sector more, after it was copied.
 module _ {included : Option (List Span)} {piece k reads more : ℕ} {bytes part : List ℕ} {old mid new : BusState} where
   pub pieced_more : (width : ℕ) → k < 16 → width ≡ 4096 → length bytes ≡ 65536 → length part ≡ 4096
       → HasPieced included piece k bytes old mid reads → Looks 1 mid new
@@ -56,7 +56,7 @@ module _ {included : Option (List Span)} {piece k reads more : ℕ} {bytes part 
             ];
       }
 
--- All sixteen sectors.
+-- After all sixteen sectors the piece is complete (`ReadsPiece`).
 pub pieced_all : {included : Option (List Span)} {piece k reads : ℕ} {bytes : List ℕ} {old new : BusState} → k ≡ 16
     → HasPieced included piece k bytes old new reads → ReadsPiece included piece bytes old new reads
 pieced_all all has = let at_16 = rw all at has in grind arith

@@ -1,4 +1,4 @@
--- `read_out`, from the probe and the copy after it.
+-- `read_out`: its promises at each exit, from those of the probe and of the copy.
 use Rattle.std.proofs.Common.{◌≡◌, ℕ, true, List, Option, Result, Ok, Err, arith}
 use Rattle.std.specs.Prelude.{◌/◌}
 use Rattle.nor_chip.specs.Bus.{BusState}
@@ -20,7 +20,7 @@ use Rattle.nor_read.proofs.Onward.{has_looked, same_bytes}
 use Rattle.nor_read.proofs.Whole.{Sends, find_tells, sends_probe, sends_on, halts, report_of, reported}
 use Rattle.nor_read.proofs.Whole.{rested_on, size_of, open_after, is_taken, is_passed}
 
--- The promises of `read_out`, at an exit.
+-- Holds if the promises of `read_out` are kept at an exit with this result.
 pub record HasReadOut (named : Option ChipName) (included : Option (List Span)) (old new : BusState)
     (vault vault' : VaultState) (result : Result Report Refusal) : Type 0 where
   pub always : ReadOutAlways named included old new vault vault' result
@@ -35,7 +35,7 @@ module _ (named : Option ChipName) (included : Option (List Span)) (vault : Vaul
       → HasReadOut named included old new vault vault' (Err refusal)
   refused refusal sends is tells own = search sends.own
 
-  -- No chip is found.
+  -- An error of the probe is one that `read_out` may return, and means what `read_out` promises.
   unfound_tells : (old new : BusState) (refusal : Refusal) → OpeningTells most_probe named old new refusal
       → IsReadRefusal vault vault refusal × (IsModelled old → ReadOutTells named included old new vault vault refusal)
   unfound_tells old new Stopped tells = ((tt, assumption), λ known. let ran = tells known.honest in omega arith)
@@ -48,7 +48,7 @@ module _ (named : Option ChipName) (included : Option (List Span)) (vault : Vaul
       refused refusal (sends_probe looks) own.0
       (find_tells (most_read 16777216) named old new refusal (omega arith) tells) own.1
 
-  -- A chip is found.
+  -- the exits after a chip was found
   module _ {old mid : BusState} {probed : Probed} (found : HasFound named old mid probed)
       (looks : Looks most_probe old mid) where
     pub past : ReachesPast included probed.found.size
@@ -57,7 +57,7 @@ module _ (named : Option ChipName) (included : Option (List Span)) (vault : Vaul
 
     module _ {new : BusState} {vault' : VaultState} (fits : FitsInto included probed.found.size)
         (after : Looks (probed.found.size / 4096) mid new) where
-      -- The copy ended with an error.
+      -- the exits at which the copy ended with an error
       pub broken : (refusal : Refusal) → CopyTells included probed.found.size mid new vault vault' refusal
           → HasReadOut named included old new vault vault' (Err refusal)
       broken Stopped tells =
@@ -73,7 +73,7 @@ module _ (named : Option ChipName) (included : Option (List Span)) (vault : Vaul
           })
       broken _ tells = absurd tells
 
-      -- The copy is whole.
+      -- the exit after the whole copy
       pub copied_whole : {reads : ℕ} → ReadsAll included probed.found.size mid new vault vault' reads
           → HasReadOut named included old new vault vault' (Ok (report_of probed reads))
       copied_whole all =

@@ -1,4 +1,4 @@
--- The probe, and what is read after it.
+-- The probe and the reads after it, for all three calls of this crate.
 use Rattle.std.proofs.Common.{◌≡◌, ◌≤◌, ◌+◌, ◌∙◌, ℕ, true, List, Option, Result, Ok, Err, ap, sym, arith}
 use Rattle.std.specs.Prelude.{◌/◌, IsErrAnd}
 use Rattle.nor_chip.specs.Chip.{status1_of}
@@ -19,18 +19,20 @@ use Rattle.nor_call.specs.Tells.{OpeningTells}
 use Rattle.nor_read.specs.Finding.{IsModelled, HasFound, IsNamed, IsPassed, IsTaken}
 use Rattle.nor_read.specs.Finding.{ReportsPart, ReportsReads, ReadingTells, most_read}
 
--- An error that `?` passes on is the outcome's error.
+-- The outcome is the error that `?` passed on.
 pub is_err : {T : Type 0} (outcome : Result T Refusal) (refusal : Refusal)
     → IsErrAnd outcome (λ passed. passed ≡ refusal) → outcome ≡ Err refusal
 is_err (Ok value) refusal is = absurd is
 is_err (Err passed) refusal is = ap Err is
 
--- No more transactions are sent than the largest chip takes, nor than this chip takes.
+-- Holds if no more transactions were sent than a call takes for the largest chip, and on a modelled bus no more than it
+-- takes for this chip.
 pub record Sends (old new : BusState) : Type 0 where
   pub largest : Looks (most_read 16777216) old new
   pub own : IsModelled old → Looks (most_read old.chip.config.size) old new
 
--- After a stop fewer transactions were left than the largest chip takes, and than this chip takes.
+-- Holds after a stop: fewer transactions were left than a call takes for the largest chip, and on a modelled bus fewer
+-- than it takes for this chip.
 pub record Halts (old new : BusState) : Type 0 where
   pub largest : old.honest ≡ true → RanOut (most_read 16777216) old new
   pub own : IsModelled old → RanOut (most_read old.chip.config.size) old new
@@ -48,19 +50,19 @@ sends_probe looks = search (arith, looks_more)
 
 -- ---- a chip is found
 
--- The report of the chip that was found, after `reads` sectors were read.
+-- the report of the chip that was found, after `reads` sectors were read
 abbrev pub report_of : Probed → (reads : ℕ) → Report
 report_of probed reads =
     record { found = probed.found; touched = 0; erases = 0; programs = 0; transactions = probed.transactions + reads }
 
--- A report with these fields is that report.
+-- A report with these fields equals `report_of`.
 pub report_is : (probed : Probed) (reads : ℕ) (report : Report) → report.found ≡ probed.found → report.touched ≡ 0
     → report.erases ≡ 0 → report.programs ≡ 0 → report.transactions ≡ probed.transactions + reads
     → report ≡ report_of probed reads
 report_is probed reads report found touched erases programs sent = λ i.
     record { found = found i; touched = touched i; erases = erases i; programs = programs i; transactions = sent i }
 
--- The promises about the report of a call.
+-- The promises about the report of a call on each kind of bus.
 pub record Reports (named : Option ChipName) (included : Option (List Span)) (old new : BusState)
     (report : Report) : Type 0 where
   pub part : ReportsPart named report
@@ -68,7 +70,7 @@ pub record Reports (named : Option ChipName) (included : Option (List Span)) (ol
   pub reads : old.honest ≡ true → ReportsReads (sectors_included included report.found.size) old new report
   pub config : IsModelled old → IsConfigOf old.chip.config report.found
 
--- A call that only reads leaves status 1 of an idle chip as it is, in each bit.
+-- Reads leave status 1 of an idle chip as it is, in each bit.
 status1_stays : (old new : BusState) → old.chip.busy ≡ 0 → Rested old new → status1_of new.chip ≡ status1_of old.chip
 status1_stays old new idle rested =
     let latch = rested.idle_latch idle in
@@ -76,11 +78,11 @@ status1_stays old new idle rested =
 
 module _ {named : Option ChipName} {old mid : BusState} {probed : Probed}
     (found : HasFound named old mid probed) (looks : Looks most_probe old mid) where
-  -- The chip that was found has the size of the chip on the bus.
+  -- On a modelled bus the size that was found is that of the chip on the bus.
   pub size_of : IsModelled old → probed.found.size ≡ old.chip.config.size
   size_of known = (found.is.config known).size
 
-  -- Further transactions were sent after the probe.
+  -- If at most `n` transactions follow the probe, the call as a whole reads only, with at most `most` transactions.
   pub looks_on : {new : BusState} (n most : ℕ) → most_probe + n ≤ most → Looks n mid new → Looks most old new
   looks_on {new} n most fits after =
       looks_more (most_probe + n) most old new fits (looks_then most_probe n old mid new looks after)
@@ -88,7 +90,7 @@ module _ {named : Option ChipName} {old mid : BusState} {probed : Probed}
   pub sends_on : {new : BusState} → Looks (probed.found.size / 4096) mid new → Sends old new
   sends_on after = search (arith, looks_on, size_of)
 
-  -- A stop after the probe.
+  -- If the bus stops after the probe, fewer transactions were left than the whole call takes.
   pub ran_on : {new : BusState} (n most : ℕ) → most_probe + n ≤ most → RanOutIfHonest n mid new → old.honest ≡ true
       → RanOut most old new
   ran_on n most fits out honest =
@@ -97,12 +99,12 @@ module _ {named : Option ChipName} {old mid : BusState} {probed : Probed}
   pub halts : {new : BusState} → RanOutIfHonest (probed.found.size / 4096) mid new → Halts old new
   halts out = let most = found.is.part.at_most in search (arith, ran_on, size_of)
 
-  -- Neither the probe nor the reads after it changed anything.
+  -- The probe and the reads after it leave contents and non-volatile status bits as they were.
   pub rested_on : {new : BusState} → (mid.honest ≡ true → Rested mid new) → old.honest ≡ true → Rested old new
   rested_on {new} rested honest =
       rested_then old mid new (found.rested honest) (rested (looks.nature.honest ∙ honest))
 
-  -- The chip after the probe is idle, and has the size that was found.
+  -- On a modelled bus the chip is idle after the probe, and has the size that was found.
   pub open_after : IsModelled old → IsOpen probed.found.size mid
   open_after known =
       let rested = found.rested known.honest in let size = size_of known in search (arith, found.idle)
@@ -118,7 +120,7 @@ module _ {named : Option ChipName} {old mid : BusState} {probed : Probed}
       → IsPassed named included old.chip.config
   is_passed past known = search (has_name, rw (size_of known) at past)
 
-  -- The report of the call.
+  -- The promises about a report hold for the report of a call that succeeded.
   pub reported : {included : Option (List Span)} {new : BusState} {reads : ℕ} → HasLooked reads mid new
       → reads ≡ sectors_included included probed.found.size → Reports named included old new (report_of probed reads)
   reported {included} {new} {reads} looked counted =

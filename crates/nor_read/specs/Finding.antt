@@ -18,20 +18,20 @@ use Rattle.nor_call.specs.declared.refusal.Refusal.{Refusal}
 use Rattle.nor_call.specs.declared.refusal.Refusal.TheVariants.{NoChip, UnknownChip, OtherName, Stopped, Timeout}
 use Rattle.nor_call.specs.declared.report.Report.{Report}
 
--- The greatest number of transactions until the status is known: a probe and a read of status 2.
+-- the greatest number of transactions until the status is known: a probe and a read of status 2
 abbrev pub most_status : ℕ
 most_status = 65541
 
--- The chip that was found. On every bus it is a row of the table or was found by SFDP, and has the requested name. On
--- an honest bus it is what the chip's replies show; on a modelled bus it has the chip's configuration.
+-- Describes the chip that was found. On every bus it is a row of the table or was found by SFDP, and has the requested
+-- name. On a well-behaved bus it is what the chip's replies show; on a modelled bus it has the chip's configuration.
 pub record IsFound (named : Option ChipName) (old : BusState) (found : Found) : Type 0 where
   pub part : IsPart found
   pub has_name : IsWanted named found.name
   pub shown : old.honest ≡ true → shown_as old.chip.config ≡ Ok (part_in found)
   pub config : IsModelled old → IsConfigOf old.chip.config found
 
--- The probe found a chip, and its last poll showed ready. On an honest bus nothing changed (`Rested`: contents and
--- non-volatile status bits are as before), the chip is idle, status 1 is the chip's own, and the transactions sent were
+-- Holds after the probe found a chip, and its last poll showed ready. On a well-behaved bus contents and non-volatile
+-- status bits are as before (`Rested`), the chip is idle, status 1 is the chip's own, and the transactions sent were
 -- counted exactly.
 pub record HasFound (named : Option ChipName) (old new : BusState) (probed : Probed) : Type 0 where
   pub is : IsFound named old probed.found
@@ -45,25 +45,25 @@ pub record HasFound (named : Option ChipName) (old new : BusState) (probed : Pro
 
 -- ---- checks of the chip that was found
 
--- The chip has the requested name, and some included address is past its end.
+-- Holds if the chip has the requested name, and some included address is past its end.
 pub record IsPassed (named : Option ChipName) (included : Option (List Span)) (config : Config) : Type 0 where
   pub is : IsNamed named config
   pub past : ReachesPast included config.size
 
--- The chip has the requested name and all included addresses.
+-- Holds if the chip has the requested name and all included addresses.
 pub record IsTaken (named : Option ChipName) (included : Option (List Span)) (config : Config) : Type 0 where
   pub is : IsNamed named config
   pub fits : FitsInto included config.size
 
 -- ---- how much is sent
 
--- The greatest number of transactions for a chip of this size: those of a probe, and one for each sector.
+-- the greatest number of transactions for a chip of this size: those of a probe, and one for each sector
 abbrev pub most_read : ℕ → ℕ
 most_read size = most_probe + size / 4096
 
 -- ---- the report
 
--- On every bus the report has a chip with the requested name, and counts no change.
+-- Describes the report of a call on every bus: it has a chip with the requested name, and counts no change.
 pub record ReportsPart (named : Option ChipName) (report : Report) : Type 0 where
   -- The chip is a row of the table or was found by SFDP.
   pub part : IsPart report.found
@@ -76,12 +76,12 @@ pub record ReportsPart (named : Option ChipName) (report : Report) : Type 0 wher
   -- The report counts no more transactions than a chip of this size takes.
   pub most : report.transactions ≤ most_read report.found.size
 
--- On an honest bus the report of a call that read `reads` sectors has what the chip's replies show, and nothing
--- changed.
+-- Describes, on a well-behaved bus, the report of a call that read `reads` sectors: it has what the chip's replies
+-- show, and contents and non-volatile status bits are as before the call.
 pub record ReportsReads (reads : ℕ) (old new : BusState) (report : Report) : Type 0 where
   -- The chip is the one that its replies show.
   pub shown : shown_as old.chip.config ≡ Ok (part_in report.found)
-  -- Nothing changed.
+  -- Contents and non-volatile status bits are as before.
   pub rested : Rested old new
   -- The chip is idle.
   pub idle : new.chip.busy ≡ 0
@@ -94,7 +94,7 @@ pub record ReportsReads (reads : ℕ) (old new : BusState) (report : Report) : T
 
 -- ---- errors
 
--- The errors that finding a chip may return, on every bus. A timeout has address 0.
+-- Holds for the errors that finding a chip may return, on every bus. A timeout has address 0.
 abbrev pub IsFindRefusal : Refusal → Type 0
 IsFindRefusal NoChip = ⊤
 IsFindRefusal (UnknownChip fault) = ⊤
@@ -103,8 +103,9 @@ IsFindRefusal Stopped = ⊤
 IsFindRefusal (Timeout address) = address ≡ 0
 IsFindRefusal _ = ⊥
 
--- The meaning of errors on an honest bus. An error of the probe has its cause in the chip; after a stop fewer than
--- `most` transactions were left; there is no timeout. After any error except a stop, nothing changed.
+-- The meaning of errors on a well-behaved bus. An error of the probe has its cause in the chip; after a stop fewer than
+-- `most` transactions were left; there is no timeout. After any error except a stop, contents and non-volatile status
+-- bits are as before.
 abbrev pub ReadingTells : ℕ → Option ChipName → (old new : BusState) → Refusal → Type 0
 ReadingTells most named old new NoChip = Tells named old new Probes.NoChip
 ReadingTells most named old new (UnknownChip fault) = Tells named old new (Probes.UnknownChip fault)

@@ -12,14 +12,14 @@ use Rattle.nor_call.specs.declared.refusal.Refusal.TheVariants.{NoProtection}
 use Rattle.nor_read.specs.declared.protection.Protection.{Protection}
 use Rattle.nor_read.specs.Finding.{IsNamed, IsFindRefusal, ReadingTells, most_status}
 
--- The protection bits are defined, and the protected addresses are exactly the `len` bytes from `start` on. An empty
--- range starts at 0.
+-- Holds if the chip's protection bits are defined, and the protected addresses are exactly the `len` bytes from `start`
+-- on. An empty range starts at 0.
 pub record IsGuardedRange (chip : Chip) (start len : ℕ) : Type 0 where
   pub defined : is_undefined (code_of chip.kept) ≡ false
   pub exactly : (a : ℕ) → (is_guarded chip a ≡ true) ↔ ((start ≤ a) × (a < start + len))
   pub plain : len ≡ 0 → start ≡ 0
 
--- The report matches the chip, which has block protection: its protected range, or `None` if its protection bits are
+-- Holds if the report matches a chip with block protection: its protected range, or `None` if its protection bits are
 -- undefined; whether its status is locked; and its size.
 pub record IsProtection (chip : Chip) (protection : Protection) : Type 0 where
   pub scheme : chip.config.scheme ≡ true
@@ -30,14 +30,14 @@ pub record IsProtection (chip : Chip) (protection : Protection) : Type 0 where
 
 -- ---- the promises of `wp_status`
 
--- The errors that `wp_status` may return, on every bus.
+-- Holds for the errors that `wp_status` may return, on every bus.
 abbrev pub IsProtectionRefusal : Refusal → Type 0
 IsProtectionRefusal NoProtection = ⊤
 IsProtectionRefusal refusal = IsFindRefusal refusal
 
--- On every bus.
+-- The promises of `wp_status` on every bus.
 pub record ProtectionAlways (old new : BusState) (result : Result Protection Refusal) : Type 0 where
-  -- No modifying command was sent, and on an honest bus at most 65,541 transactions.
+  -- No modifying command was sent, and on a well-behaved bus at most 65,541 transactions.
   pub looks : Looks most_status old new
   -- The size is one that a chip may have.
   pub sized : IfOk result (λ protection. is_chip_size protection.size ≡ true)
@@ -46,25 +46,26 @@ pub record ProtectionAlways (old new : BusState) (result : Result Protection Ref
   -- The call succeeds only if the last poll showed ready.
   pub heard : OnOk result (new.heard ≡ true)
 
--- On an honest bus.
+-- The promises of `wp_status` on a well-behaved bus.
 pub record ProtectionHonest (named : Option ChipName) (old new : BusState)
     (result : Result Protection Refusal) : Type 0 where
-  -- After success nothing changed.
+  -- After success contents and non-volatile status bits are as before.
   pub rested : OnOk result (Rested old new)
   -- After success the chip is idle.
   pub idle : OnOk result (new.chip.busy ≡ 0)
   -- After success the chip has the requested name.
   pub is : OnOk result (IsNamed named old.chip.config)
-  -- The meaning of an error. After any error except a stop, nothing changed.
+  -- An error means what `ReadingTells` says. After any error except a stop, contents and non-volatile status bits are
+  -- as before.
   pub tells : IfErr result (ReadingTells most_status named old new)
 
--- The meaning of error 6 on a modelled bus: the chip has the requested name, and no block protection. Errors of the
--- probe are described by `ReadingTells`.
+-- The meaning of error 6 on a modelled bus: the chip has the requested name, and no block protection. `ReadingTells`
+-- has the meaning of the probe's errors.
 abbrev pub ProtectionTells : Option ChipName → Chip → Refusal → Type 0
 ProtectionTells named chip NoProtection = IsNamed named chip.config × (chip.config.scheme ≡ false)
 ProtectionTells named chip _ = ⊤
 
--- On a modelled bus.
+-- The promises of `wp_status` on a modelled bus.
 pub record ProtectionModelled (named : Option ChipName) (old : BusState)
     (result : Result Protection Refusal) : Type 0 where
   -- The report matches the chip.

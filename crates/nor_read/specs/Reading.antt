@@ -1,4 +1,4 @@
--- The effect of `read_out` on a vault.
+-- The result of `read_out`: what it appends to a vault, and the meaning of its errors.
 use Rattle.std.specs.Prelude.{◌≡◌, ◌≤◌, ◌<◌, ◌+◌, ◌*◌, ◌/◌, ◌++◌, ℕ, true, if◌then◌else◌, ⊤}
 use Rattle.std.specs.Prelude.{Option, Result, IfOk, IfErr, OnOk, List, length, slice_index}
 use Rattle.nor_chip.specs.Bus.{BusState}
@@ -15,17 +15,18 @@ use Rattle.nor_call.specs.declared.refusal.Refusal.TheVariants.{RegionOutside, S
 use Rattle.nor_call.specs.declared.report.Report.{Report}
 use Rattle.nor_read.specs.Finding.{IsPassed, IsTaken, ReportsPart, ReportsReads, IsFindRefusal, ReadingTells, most_read}
 
--- The byte at an address of the copy: the chip's if the address is included, otherwise FFh.
+-- the byte at an address of the copy: the chip's if the address is included, otherwise FFh
 abbrev pub copied : Option (List Span) → (ℕ → ℕ) → ℕ → ℕ
 copied included content a = if includes included a then content a else 255
 
--- The vault has `count` bytes more.
+-- Holds if the vault has `count` bytes more than before.
 pub record Grows (count : ℕ) (old new : VaultState) : Type 0 where
   pub bytes : List ℕ
   pub long : length bytes ≡ count
   pub grown : new.bytes ≡ old.bytes ++ bytes
 
--- The vault has `count` bytes more, and these are the first ones of the copy of a chip with this content.
+-- Holds if the vault has `count` bytes more than before, and these are the first ones of the copy of a chip with this
+-- content.
 pub record Copies (included : Option (List Span)) (content : ℕ → ℕ) (count : ℕ) (old new : VaultState) : Type 0 where
   pub bytes : List ℕ
   pub long : length bytes ≡ count
@@ -34,60 +35,63 @@ pub record Copies (included : Option (List Span)) (content : ℕ → ℕ) (count
 
 -- ---- the promises of `read_out`
 
--- The vault refused nothing, and accepted `count` bytes.
+-- Holds if the vault refused nothing, and accepted `count` bytes.
 pub record TakesWhole (count : ℕ) (old new : VaultState) : Type 0 where
   -- Nothing was refused, and the vault is sealed if and only if it was sealed before.
   pub accepted : Accepted old new
   -- A `telling` vault has this number of bytes more.
   pub grows : old.telling ≡ true → Grows count old new
 
--- The vault refused a piece, after it accepted `written` bytes in all.
+-- Holds if the vault refused a piece, after it accepted `written` bytes in all.
 pub record TakesPart (written : ℕ) (old new : VaultState) : Type 0 where
   -- The vault refused one call more, and is sealed if and only if it was sealed before.
   pub refused : Refused old new
   -- A `telling` vault has this number of bytes more.
   pub grows : old.telling ≡ true → Grows written old new
 
--- The errors that `read_out` may return, on every bus. Error 19 has the number of bytes that the vault accepted; with
--- any other error the vault refused nothing.
+-- Holds for the errors that `read_out` may return, on every bus. Error 19 has the number of bytes that the vault
+-- accepted; with any other error the vault refused nothing.
 abbrev pub IsReadRefusal : (vault vault' : VaultState) → Refusal → Type 0
 IsReadRefusal vault vault' (Output written) = TakesPart written vault vault'
 IsReadRefusal vault vault' RegionOutside = Accepted vault vault'
 IsReadRefusal vault vault' refusal = IsFindRefusal refusal × Accepted vault vault'
 
--- On every bus and with every vault.
+-- The promises of `read_out` on every bus and with every vault.
 pub record ReadOutAlways (named : Option ChipName) (included : Option (List Span)) (old new : BusState)
     (vault vault' : VaultState) (result : Result Report Refusal) : Type 0 where
-  -- No modifying command was sent, and on an honest bus no more transactions than the largest chip takes.
+  -- No modifying command was sent, and on a well-behaved bus no more transactions than the call takes for the largest
+  -- chip, of 16 MiB.
   pub looks : Looks (most_read 16777216) old new
   -- The report has a chip with the requested name, and counts no change.
   pub reports : IfOk result (ReportsPart named)
-  -- No included address is past the chip's end.
+  -- No included address is past the end of the chip that was found.
   pub fits : IfOk result (λ report. FitsInto included report.found.size)
-  -- The number of bytes that the vault accepted is the size of the chip.
+  -- The number of bytes that the vault accepted is the size of the chip that was found.
   pub whole : IfOk result (λ report. TakesWhole report.found.size vault vault')
   -- An error is one of those that `read_out` may return, and error 19 has the number of bytes that the vault accepted.
   pub refuses : IfErr result (IsReadRefusal vault vault')
   -- The call succeeds only if the last poll showed ready.
   pub heard : OnOk result (new.heard ≡ true)
 
--- On an honest bus.
+-- The promises of `read_out` on a well-behaved bus.
 pub record ReadOutHonest (named : Option ChipName) (included : Option (List Span)) (old new : BusState)
     (result : Result Report Refusal) : Type 0 where
-  -- Each sector with an included address was read once, nothing changed, and the chip is idle.
+  -- Each sector with an included address was read once, contents and non-volatile status bits are as before, and the
+  -- chip is idle.
   pub reports : IfOk result (λ report. ReportsReads (sectors_included included report.found.size) old new report)
-  -- The meaning of an error. After any error except a stop, nothing changed.
+  -- An error means what `ReadingTells` says. After any error except a stop, contents and non-volatile status bits are
+  -- as before.
   pub tells : IfErr result (ReadingTells (most_read 16777216) named old new)
 
--- The vault refused a piece, and no error is found in the chip or the ranges. A `telling` vault has the first `written`
--- bytes of the copy, which are no more than the chip has.
+-- Holds if the vault refused a piece, though the chip has the requested name and all included addresses. A `telling`
+-- vault then has the first `written` bytes of the copy, at most the size of the chip.
 pub record BreaksOff (named : Option ChipName) (included : Option (List Span)) (written : ℕ) (old : BusState)
     (vault vault' : VaultState) : Type 0 where
   pub taken : IsTaken named included old.chip.config
   pub within : written ≤ old.chip.config.size
   pub copy : vault.telling ≡ true → Copies included old.chip.bytes written vault vault'
 
--- The meaning of errors on a modelled bus. Errors of the probe are described by `ReadingTells`.
+-- The meaning of errors on a modelled bus. `ReadingTells` has the meaning of the probe's errors.
 abbrev pub ReadOutTells : Option ChipName → Option (List Span) → (old new : BusState) → (vault vault' : VaultState)
     → Refusal → Type 0
 ReadOutTells named included old new vault vault' RegionOutside = IsPassed named included old.chip.config
@@ -95,23 +99,24 @@ ReadOutTells named included old new vault vault' Stopped = RanOut (most_read old
 ReadOutTells named included old new vault vault' (Output written) = BreaksOff named included written old vault vault'
 ReadOutTells named included old new vault vault' _ = ⊤
 
--- On a modelled bus.
+-- The promises of `read_out` on a modelled bus.
 pub record ReadOutModelled (named : Option ChipName) (included : Option (List Span)) (old new : BusState)
     (vault vault' : VaultState) (result : Result Report Refusal) : Type 0 where
-  -- No more transactions were sent than a chip of this size takes.
+  -- No more transactions were sent than the call takes for a chip of this size.
   pub looks : Looks (most_read old.chip.config.size) old new
   -- The report has the chip's configuration.
   pub config : IfOk result (λ report. IsConfigOf old.chip.config report.found)
-  -- A `telling` vault has the chip's included bytes, and FFh for the others.
+  -- A `telling` vault has the chip's included bytes, and FFh for all others.
   pub copy : IfOk result (λ report. vault.telling ≡ true
       → Copies included old.chip.bytes old.chip.config.size vault vault')
-  -- Error 5 means that an included address isn't on the chip. Error 12 means that too few transactions were left. Error
-  -- 19 has the number of bytes that were copied.
+  -- Error 5 means that an included address isn't on the chip, error 12 that too few transactions were left. Error 19
+  -- has the number of bytes that were copied.
   pub tells : IfErr result (ReadOutTells named included old new vault vault')
 
 -- ---- piece by piece, and each of these sector by sector
 
--- One sector of the copy was made, with one transaction if it has an included address and with none otherwise.
+-- Holds after one sector of the copy was made, with one transaction if it has an included address and with none
+-- otherwise.
 pub record ReadsPart (included : Option (List Span)) (sector : ℕ) (bytes : List ℕ) (old new : BusState)
     (reads : ℕ) : Type 0 where
   pub counted : reads ≡ (if has_in_sector (includes included) sector then 1 else 0)
@@ -121,7 +126,8 @@ pub record ReadsPart (included : Option (List Span)) (sector : ℕ) (bytes : Lis
   pub right : old.honest ≡ true → old.chip.busy ≡ 0 → 4096 * (sector + 1) ≤ old.chip.config.size
       → AreOfSector (copied included old.chip.bytes) sector bytes
 
--- A piece of the copy, of sixteen sectors, was made with one transaction for each sector that has an included address.
+-- Holds after a piece of the copy, of sixteen sectors, was made with one transaction for each sector that has an
+-- included address.
 pub record ReadsPiece (included : Option (List Span)) (piece : ℕ) (bytes : List ℕ) (old new : BusState)
     (reads : ℕ) : Type 0 where
   pub counted : count_below (16 * piece + 16) (has_in_sector (includes included))
@@ -133,7 +139,7 @@ pub record ReadsPiece (included : Option (List Span)) (piece : ℕ) (bytes : Lis
   pub right : old.honest ≡ true → old.chip.busy ≡ 0 → 65536 * (piece + 1) ≤ old.chip.config.size
       → (i : ℕ) → i < 65536 → slice_index bytes i ≡ copied included old.chip.bytes (65536 * piece + i)
 
--- All sectors were copied.
+-- Holds after all sectors were copied.
 pub record ReadsAll (included : Option (List Span)) (size : ℕ) (old new : BusState) (vault vault' : VaultState)
     (reads : ℕ) : Type 0 where
   pub counted : reads ≡ sectors_included included size
@@ -143,7 +149,7 @@ pub record ReadsAll (included : Option (List Span)) (size : ℕ) (old new : BusS
   pub took : TakesWhole size vault vault'
   pub copy : IsOpen size old → vault.telling ≡ true → Copies included old.chip.bytes size vault vault'
 
--- The vault refused a piece, after it accepted `written` bytes in all.
+-- Holds after the vault refused a piece of the copy. It accepted `written` bytes of the copy in all.
 pub record BreaksCopy (included : Option (List Span)) (size written : ℕ) (old new : BusState)
     (vault vault' : VaultState) : Type 0 where
   pub rested : old.honest ≡ true → Rested old new
@@ -151,13 +157,14 @@ pub record BreaksCopy (included : Option (List Span)) (size written : ℕ) (old 
   pub took : TakesPart written vault vault'
   pub copy : IsOpen size old → vault.telling ≡ true → Copies included old.chip.bytes written vault vault'
 
--- The meaning of an error of the copy. After a stop the vault refused nothing.
+-- The meaning of an error of the copy. After a stop the vault has refused nothing.
 abbrev pub CopyTells : Option (List Span) → ℕ → (old new : BusState) → (vault vault' : VaultState) → Refusal → Type 0
 CopyTells included size old new vault vault' Stopped = RanOutIfHonest (size / 4096) old new × Accepted vault vault'
 CopyTells included size old new vault vault' (Output written) = BreaksCopy included size written old new vault vault'
 CopyTells included size old new vault vault' _ = ⊥
 
--- The meaning of an error when a piece is appended: `written` counts the earlier pieces and the bytes kept of this one.
+-- The meaning of an error when a piece is appended. `written` counts the bytes of the earlier pieces and those that the
+-- vault accepted of this one.
 abbrev pub PutTells : ℕ → List ℕ → (old new : VaultState) → Refusal → Type 0
 PutTells piece bytes old new (Output written) =
     (kept : ℕ) × (written ≡ 65536 * piece + kept) × PutRefused old bytes kept new

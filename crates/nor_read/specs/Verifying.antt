@@ -17,12 +17,12 @@ use Rattle.nor_read.specs.declared.verifying.Compared.{Compared}
 use Rattle.nor_read.specs.Finding.{IsNamed, IsPassed, IsTaken, most_read}
 use Rattle.nor_read.specs.Finding.{ReportsPart, ReportsReads, IsFindRefusal, ReadingTells}
 
--- Each included byte from `from` up to but not including `to` equals the image's.
+-- Holds if each included byte from `from` up to but not including `to` equals the image's.
 abbrev pub AgreeIn : Option (List Span) → List ℕ → (ℕ → ℕ) → (from to : ℕ) → Type 0
 AgreeIn included image content from to =
     (a : ℕ) → from ≤ a → a < to → includes included a ≡ true → slice_index image a ≡ content a
 
--- The first included address in this range at which the byte differs from the image's.
+-- Holds if `address` is the first included address in this range at which the chip's byte differs from the image's.
 pub record IsFirstOther (included : Option (List Span)) (image : List ℕ) (content : ℕ → ℕ)
     (from to address : ℕ) : Type 0 where
   pub above : from ≤ address
@@ -31,7 +31,7 @@ pub record IsFirstOther (included : Option (List Span)) (image : List ℕ) (cont
   pub differs : slice_index image address ≢ content address
   pub before : AgreeIn included image content from address
 
--- The chip has the requested name, and another size than the image. The error has both sizes.
+-- Holds if the chip has the requested name, and another size than the image. The error has both sizes.
 pub record IsOtherSize (named : Option ChipName) (image : List ℕ) (config : Config)
     (chip_size image_size : ℕ) : Type 0 where
   pub is : IsNamed named config
@@ -39,7 +39,8 @@ pub record IsOtherSize (named : Option ChipName) (image : List ℕ) (config : Co
   pub of_image : image_size ≡ length image
   pub differ : length image ≢ config.size
 
--- The chip and the image's length are accepted, and `address` is the first included address that differs.
+-- Holds if the chip has the requested name, all included addresses and the image's length, and `address` is the first
+-- included address at which they differ.
 pub record IsMismatch (named : Option ChipName) (included : Option (List Span)) (image : List ℕ) (chip : Chip)
     (address : ℕ) : Type 0 where
   pub taken : IsTaken named included chip.config
@@ -48,38 +49,41 @@ pub record IsMismatch (named : Option ChipName) (included : Option (List Span)) 
 
 -- ---- the promises of `verify`
 
--- The errors that `verify` may return, on every bus.
+-- Holds for the errors that `verify` may return, on every bus.
 abbrev pub IsVerifyRefusal : Refusal → Type 0
 IsVerifyRefusal (ImageSize chip len) = ⊤
 IsVerifyRefusal RegionOutside = ⊤
 IsVerifyRefusal (Mismatch address) = ⊤
 IsVerifyRefusal refusal = IsFindRefusal refusal
 
--- On every bus.
+-- The promises of `verify` on every bus.
 pub record VerifyAlways (named : Option ChipName) (included : Option (List Span)) (image : List ℕ) (old new : BusState)
     (result : Result Report Refusal) : Type 0 where
-  -- No modifying command was sent, and on an honest bus no more transactions than the largest chip takes.
+  -- No modifying command was sent, and on a well-behaved bus no more transactions than the call takes for the largest
+  -- chip, of 16 MiB.
   pub looks : Looks (most_read 16777216) old new
   -- The report has a chip with the requested name, and counts no change.
   pub reports : IfOk result (ReportsPart named)
-  -- No included address is past the chip's end.
+  -- No included address is past the end of the chip that was found.
   pub fits : IfOk result (λ report. FitsInto included report.found.size)
-  -- The image is as long as the chip.
+  -- The image is as long as the chip that was found.
   pub whole : IfOk result (λ report. length image ≡ report.found.size)
   -- An error is one of those that `verify` may return.
   pub refuses : IfErr result IsVerifyRefusal
   -- The call succeeds only if the last poll showed ready.
   pub heard : OnOk result (new.heard ≡ true)
 
--- On an honest bus.
+-- The promises of `verify` on a well-behaved bus.
 pub record VerifyHonest (named : Option ChipName) (included : Option (List Span)) (old new : BusState)
     (result : Result Report Refusal) : Type 0 where
-  -- Each sector with an included address was read once, nothing changed, and the chip is idle.
+  -- Each sector with an included address was read once, contents and non-volatile status bits are as before, and the
+  -- chip is idle.
   pub reports : IfOk result (λ report. ReportsReads (sectors_included included report.found.size) old new report)
-  -- The meaning of an error. After any error except a stop, nothing changed.
+  -- An error means what `ReadingTells` says. After any error except a stop, contents and non-volatile status bits are
+  -- as before.
   pub tells : IfErr result (ReadingTells (most_read 16777216) named old new)
 
--- The meaning of errors on a modelled bus. Errors of the probe are described by `ReadingTells`.
+-- The meaning of errors on a modelled bus. `ReadingTells` has the meaning of the probe's errors.
 abbrev pub VerifyTells : Option ChipName → Option (List Span) → List ℕ → (old new : BusState) → Refusal → Type 0
 VerifyTells named included image old new (ImageSize chip len) = IsOtherSize named image old.chip.config chip len
 VerifyTells named included image old new RegionOutside =
@@ -88,27 +92,27 @@ VerifyTells named included image old new Stopped = RanOut (most_read old.chip.co
 VerifyTells named included image old new (Mismatch address) = IsMismatch named included image old.chip address
 VerifyTells named included image old new _ = ⊤
 
--- On a modelled bus.
+-- The promises of `verify` on a modelled bus.
 pub record VerifyModelled (named : Option ChipName) (included : Option (List Span)) (image : List ℕ)
     (old new : BusState) (result : Result Report Refusal) : Type 0 where
-  -- No more transactions were sent than a chip of this size takes.
+  -- No more transactions were sent than the call takes for a chip of this size.
   pub looks : Looks (most_read old.chip.config.size) old new
   -- The report has the chip's configuration.
   pub config : IfOk result (λ report. IsConfigOf old.chip.config report.found)
   -- Each included byte equals the image's.
   pub equal : IfOk result (λ report. AgreeIn included image old.chip.bytes 0 old.chip.config.size)
-  -- An error means that the image has another size, that an included address isn't on the chip, that too few
-  -- transactions were left, or which included byte is the first that differs.
+  -- Error 4 means that the image has another size, error 5 that an included address isn't on the chip, error 12 that
+  -- too few transactions were left. Error 14 has the first included address that differs.
   pub tells : IfErr result (VerifyTells named included image old new)
 
 -- ---- sector by sector
 
--- The result is the first difference in this range, or `None` if there is none.
+-- Holds if the result is the first difference in this range, or `None` if there is none.
 abbrev pub TellsFirst : Option (List Span) → List ℕ → (ℕ → ℕ) → (from to : ℕ) → Option ℕ → Type 0
 TellsFirst included image content from to first =
     MatchOption first (AgreeIn included image content from to) (IsFirstOther included image content from to)
 
--- A sector was compared, with one transaction if it has an included address and with none otherwise.
+-- Holds after a sector was compared, with one transaction if it has an included address and with none otherwise.
 pub record ComparesPart (included : Option (List Span)) (image : List ℕ) (sector : ℕ) (old new : BusState)
     (compared : Compared) : Type 0 where
   pub counted : compared.reads ≡ (if has_in_sector (includes included) sector then 1 else 0)
@@ -118,7 +122,7 @@ pub record ComparesPart (included : Option (List Span)) (image : List ℕ) (sect
   pub tells : old.honest ≡ true → old.chip.busy ≡ 0 → 4096 * (sector + 1) ≤ old.chip.config.size
       → TellsFirst included image old.chip.bytes (4096 * sector) (4096 * (sector + 1)) compared.first
 
--- All sectors were compared.
+-- Holds after all sectors were compared.
 pub record ComparesAll (included : Option (List Span)) (image : List ℕ) (size : ℕ) (old new : BusState)
     (compared : Compared) : Type 0 where
   pub counted : compared.reads ≡ sectors_included included size

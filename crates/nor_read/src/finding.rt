@@ -9,10 +9,10 @@ use nor_call::{Refusal, Report};
 use nor_chip::Bus;
 use nor_probe::{ChipName, Probed, probe_counted};
 
-/// Waits until the chip is ready, and finds it by its ID or SFDP. With `named` it must have this name.
+/// Waits until the chip is ready, and finds it by its ID or SFDP. With `named` the chip must have this name.
 ///
 /// Returns error 1 (no chip), 2 (unknown chip), 3 (other name), 12 (the bus stopped) or 13 with address 0 (the chip
-/// stayed busy; not on an honest bus).
+/// stayed busy; not on a well-behaved bus).
 pub fn find<B: Bus>(bus: &mut B, named: Option<ChipName>) -> Result<Probed, Refusal>
     ensures leaves { Looks most_probe (B.state bus.old) (B.state bus.new) }
     ensures finds { IfOk result (HasFound named (B.state bus.old) (B.state bus.new)) }
@@ -22,8 +22,8 @@ pub fn find<B: Bus>(bus: &mut B, named: Option<ChipName>) -> Result<Probed, Refu
     Ok(probed)
 }
 
-/// Returns the report of a call that found this chip and read `reads` sectors. It counts no touched sectors, erases or
-/// programs.
+/// Returns the report of a call that found this chip and read `reads` sectors. The report counts no touched sectors,
+/// erases or programs.
 pub fn report(probed: Probed, reads: u32) -> Report
     requires { probed.transactions ≤ most_probe }
     ensures found { result.found ≡ probed.found }

@@ -13,19 +13,19 @@ use nor_probe::ChipName;
 #[derive(Clone, Copy, Debug, PartialEq, Eq)]
 pub struct Protection {
     /// The first protected address and the length of the protected range, or two zeros if no address is protected.
-    /// `None` if the datasheets don't define the chip's protection bits.
+    /// `None` if the datasheets don't define what the chip's protection bits select.
     pub range: Option<(u32, u32)>,
-    /// The status is locked (SRP0 or SRP1 is set).
+    /// True if the status is locked (SRP0 or SRP1 is set).
     pub locked: bool,
     /// The chip's size in bytes.
     pub size: u32,
 }
 
 /// Reads the chip's protected range, and whether its status is locked. With `named` the chip must have this name. On a
-/// modelled bus `Ok` has the chip's own values.
+/// modelled bus the returned values are proved to be the chip's own.
 ///
-/// Returns error 1, 2 or 3 (see `find`), 6 (the chip has no block protection), 12 (the bus stopped) or 13 (the chip
-/// stayed busy; not on an honest bus).
+/// Returns error 1 (no chip), 2 (unknown chip), 3 (other name), 6 (the chip has no block protection), 12 (the bus
+/// stopped) or 13 (the chip stayed busy; not on a well-behaved bus).
 pub fn wp_status<B: Bus>(bus: &mut B, named: Option<ChipName>) -> Result<Protection, Refusal>
     ensures always { ProtectionAlways (B.state bus.old) (B.state bus.new) result }
     ensures honest { (B.state bus.old).honest ≡ true

@@ -19,15 +19,15 @@ use nor_probe::ChipName;
 const PIECE_LEN: usize = 65_536;
 
 /// Appends a copy of the whole chip to `out`: included bytes as they are, FFh for the others. Without ranges the whole
-/// chip is included. The call reads each sector that has an included address once, in ascending order, and does not
-/// seal the vault, which must be unsealed.
+/// chip is included. The call reads each sector that has an included address once, in ascending order. It does not seal
+/// the vault, which must be unsealed.
 ///
-/// If the bus is modelled and `out` is `telling`, `out` then has this copy after what it held before. On an honest bus
-/// nothing on the chip is changed if the call succeeds.
+/// If the bus is modelled and `out` is `telling`, success leaves this copy in `out`, after the bytes that `out` held
+/// before. On a well-behaved bus success leaves the chip's contents and non-volatile status bits as they were.
 ///
-/// Returns error 1, 2 or 3 (the chip), 5 (an included address isn't on the chip), 12 (the bus stopped), 13 (the chip
-/// stayed busy; not on an honest bus) or 19 (the vault failed). Error 19 has the number of bytes that the vault
-/// accepted.
+/// Returns error 1 (no chip), 2 (unknown chip), 3 (other name), 5 (an included address isn't on the chip), 12 (the bus
+/// stopped) or 19 (the vault failed), or, if the bus isn't well-behaved, 13 (the chip stayed busy). Error 19 has the
+/// number of bytes that the vault accepted.
 pub fn read_out<B: Bus, V: Vault>(
     bus: &mut B,
     included: Option<&Ranges>,
@@ -74,7 +74,7 @@ fn copy_all<B: Bus, V: Vault>(
     Ok(reads)
 }
 
-// Makes a piece of the copy, of sixteen sectors. Returns how many transactions that took.
+// Makes a piece of the copy, of sixteen sectors. Returns the number of transactions.
 fn read_piece<B: Bus>(
     bus: &mut B,
     included: Option<&Ranges>,
@@ -96,7 +96,7 @@ fn read_piece<B: Bus>(
     Ok(reads)
 }
 
-// Makes one sector of the copy. Returns how many transactions that took: 0 if the sector has no included address.
+// Makes one sector of the copy. Returns the number of transactions: 1, or 0 if the sector has no included address.
 fn read_part<B: Bus>(
     bus: &mut B,
     included: Option<&Ranges>,
@@ -119,7 +119,7 @@ fn read_part<B: Bus>(
     Ok(1)
 }
 
-// Appends a piece to the copy. Error 19 has the number of bytes accepted so far, with those of the earlier pieces.
+// Appends a piece to the copy. Error 19 has the number of bytes accepted so far, including those of the earlier pieces.
 fn put_piece<V: Vault>(out: &mut V, piece: u32, bytes: &[u8; PIECE_LEN]) -> Result<(), Refusal>
     requires reachable { piece < 256 }
     requires unsealed { (V.state out.old).sealed ≡ false }

@@ -23,12 +23,12 @@ struct Compared {
 }
 
 /// Compares the chip's included bytes with those of an image. Without ranges the whole chip is included. The call reads
-/// each sector that has an included address once, in ascending order, also after a difference. On a modelled bus `Ok`
-/// means that all included bytes are equal.
+/// each sector that has an included address once, in ascending order, even after a difference. On a modelled bus
+/// success means that all included bytes are equal.
 ///
-/// Returns error 1, 2 or 3 (the chip), 4 (the image isn't as long as the chip), 5 (an included address isn't on the
-/// chip), 12 (the bus stopped), 13 (the chip stayed busy; not on an honest bus) or 14 with the first address that
-/// differs.
+/// Returns error 1 (no chip), 2 (unknown chip) or 3 (other name). Returns 4 if the image isn't as long as the chip, 5
+/// if an included address isn't on the chip, 12 if the bus stopped, 13 if the chip stayed busy (not on a well-behaved
+/// bus), and 14 with the first address that differs.
 pub fn verify<B: Bus>(
     bus: &mut B,
     image: &[u8],
