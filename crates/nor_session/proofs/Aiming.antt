@@ -1,4 +1,4 @@
--- Commands that a session or a restore sends and that may modify a chip, on every bus.
+-- The modifying commands that a session or restore sends, on every bus.
 use Rattle.std.proofs.Common.{◌≡◌, ◌≤◌, ◌<◌, ◌+◌, ◌-◌, ◌*◌, ◌/◌, ◌%◌, ◌∙◌, ◌⊎◌, ℕ, Bool, true, [], ◌∷◌, inl, inr, ap, arith}
 use Rattle.std.specs.Prelude.{◌&&◌, ◌||◌}
 use Rattle.std.proofs.Math.Nat.{add-mul}
@@ -63,7 +63,7 @@ sends_then IsCode m n journal old mid new before after = record {
   strange = after.strange ∙ before.strange;
 }
 
--- a bound for `n` calls is a bound for more calls
+-- a bound for `n` calls is also one for more calls
 pub sends_most : (IsCode : ℕ → Type 0) (n most : ℕ) (journal : Content) (old new : BusState) → n ≤ most
     → SendsSaved IsCode n journal old new → SendsSaved IsCode most journal old new
 sends_most IsCode n most journal old new few sends = record {
@@ -82,7 +82,7 @@ sends_most IsCode n most journal old new few sends = record {
         let sum : most * k ≡ n * k + (most - n) * k = ap (λ (m : ℕ). m * k) split ∙ add-mul n (most - n) k in
         omega (arith, sum)
 
--- a wider set of protection bits keeps the bound
+-- `SendsSaved` stays true if more protection bits are allowed
 pub sends_wider : (IsCode IsWider : ℕ → Type 0) (calls : ℕ) (journal : Content) (old new : BusState)
     → ((code : ℕ) → IsCode code → IsWider code) → SendsSaved IsCode calls journal old new
     → SendsSaved IsWider calls journal old new
@@ -104,7 +104,7 @@ sends_wider IsCode IsWider calls journal old new wider sends = record {
 
 -- ---- the bytes of a status write
 
--- A status write of the status that was read, with the protection bits `code`, is one that the journal allows.
+-- if a status write has the status that was read with the protection bits `code`, the journal allows it (`WritesOnly`)
 pub coded_only : (IsCode : ℕ → Type 0) (journal : Content) (status : Status) (code one two : ℕ) → code < 64
     → fixed_of (kept_in (bytes_of status)) ≡ fixed_of (kept_in journal.status) → IsCode code
     → has_code status code one two ≡ true → WritesOnly IsCode journal one two
@@ -123,8 +123,8 @@ coded_only IsCode journal status code one two small fixed is written =
 
 -- ---- changes after calls that only read
 
--- The changes touch only sectors that a journal saves, the bits that are never changed were read as in the journal, and
--- the protection bits to write may be written.
+-- Holds if the changes touch only sectors that the journal saves, the bits that are never changed were read as the
+-- journal has them, and the protection bits to write may be written.
 pub record AreOfJournal (IsCode : ℕ → Type 0) (journal : Content) (changes : Changes) : Type 0 where
   pub sized : journal.size ≡ changes.size
   pub saved : (s : ℕ) → touched_in changes s ≡ true → is_saved journal s ≡ true

@@ -1,4 +1,4 @@
--- Facts that a restore has shown before it changes anything.
+-- The facts about the chip that a restore has shown before it changes anything.
 use Rattle.std.proofs.Common.{◌≡◌, ◌<◌, ◌+◌, ◌/◌, ◌∙◌, ◌||◌, ℕ, Bool, true, length, ap, sym, refl, arith, rules, inl, inr}
 use Rattle.std.specs.Prelude.{None}
 use Rattle.std.proofs.lemmas.Bool.{cases_Bool, both_ways, true_from_ne_false}
@@ -37,7 +37,7 @@ use Rattle.nor_session.proofs.ReadyChip.{told_idle, opening_of}
 use Rattle.nor_session.proofs.Rescanned.{restored_saved}
 use Rattle.nor_session.proofs.RestoredBytes.{unraised_byte}
 
--- The result of the identification and the scan of a restore.
+-- The results of the identification and the scan of a restore.
 pub record AreRead (journal : Content) (opening : Opening) (scanned : Scanned) (old mid new : BusState) : Type 0 where
   pub looks : Looks most_opening old mid
   pub opens : Opens None old mid opening
@@ -55,7 +55,7 @@ module _ {journal : Content} {opening : Opening} {scanned : Scanned} {old mid ne
   rested_all honest =
       rested_then old mid new (read.opens.rested honest) (read.scans.rested (read.looks.nature.honest ∙ honest))
 
-  -- the marks are those of the chip as it was
+  -- the marks are those of the chip as it was before the restore
   marks_old : IsModelled old
       → (has scanned.touched ≡ is_touched old.chip.bytes (restored journal old.chip.bytes))
       × (has scanned.raised ≡ is_raised old.chip.bytes (restored journal old.chip.bytes))
@@ -81,7 +81,7 @@ module _ {journal : Content} {opening : Opening} {scanned : Scanned} {old mid ne
 
 -- ---- the changes can be made
 
--- without block protection no status write is needed
+-- if a status write is needed, the chip has block protection
 scheme_for : (journal : Content) (touched : ℕ → Bool) (chip : Chip) → Fits journal chip
     → NeedsStatusWith journal touched chip → chip.config.scheme ≡ true
 scheme_for journal touched chip fits (inr some) = held_scheme touched chip some

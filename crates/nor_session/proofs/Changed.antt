@@ -1,4 +1,4 @@
--- The result of the changes after the check.
+-- The numbers of operations of the changes, and their result after the check.
 use Rattle.std.proofs.Common.{◌≡◌, ◌<◌, ◌≤◌, ◌/◌, ◌||◌, ◌∙◌, ℕ, Bool, true, false, sym, subst, arith}
 use Rattle.std.specs.Prelude.{◌≢◌}
 use Rattle.std.proofs.lemmas.Bool.Decides.{nat_tests}
@@ -24,11 +24,11 @@ use Rattle.nor_session.specs.Changing.{touched_count, HasBytes, DoesCheck, DoesC
 pub two_writes : (changes : Changes) → status_writes changes ≤ 2
 two_writes changes = grind (arith, nat_tests)
 
--- if no status write is needed, none is done
+-- if the changes neither lift protection nor write it at the end, they need no status write
 pub no_write : (changes : Changes) → ¬ ((changes.unlock || writes_code changes) ≡ true) → status_writes changes ≤ 0
 no_write changes never = grind (arith, nat_tests)
 
--- if no protection is lifted, the status is written once, and only if other protection bits were read
+-- if no protection is lifted, the status is written at most once
 pub write_once : (changes : Changes) → changes.unlock ≡ false → status_writes changes ≤ 1
 write_once changes off = grind (arith, nat_tests)
 
@@ -39,14 +39,14 @@ writes_other changes off writes same = grind (arith, nat_tests)
 pub touched_most : (changes : Changes) → touched_count changes ≤ 4096
 touched_most changes = count_below-most 4096 (touched_in changes)
 
--- there are no more transactions than the largest chip may need
+-- the changes take no more transactions than the largest chip may need
 pub fits_work : (changes : Changes) (wanted : ℕ → ℕ) (old new : BusState) (work : Work) → ((s : ℕ) → raised_in changes s ≡ true → touched_in changes s ≡ true)
     → DoesApply changes wanted old new work → work.transactions ≤ most_applied 4096
 fits_work changes wanted old new work inside does =
     let most = touched_most changes in let raised = raised_few changes inside in let writes = two_writes changes in
     omega arith
 
--- the planned erases are the fewest
+-- the number of planned erases is the least possible
 pub fewest_at : (config : Config) (sectors : ℕ → Bool) (count : ℕ) → ((s : ℕ) → sectors s ≡ true → s < config.size / 4096)
     → count ≡ fewest_erases config.kinds (config.size / 4096) sectors → IsLeastLength config.kinds (config.size / 4096) sectors count
 fewest_at config sectors count below is =
@@ -55,7 +55,7 @@ fewest_at config sectors count below is =
 
 -- ---- the result of the changes and of their check
 
--- readings keep the result of the changes
+-- after further reads, the result of the changes is still there
 rest_applied : (changes : Changes) (wanted : ℕ → ℕ) (old mid new : BusState) → HasApplied changes wanted old mid → Rested mid new → HasApplied changes wanted old new
 rest_applied changes wanted old mid new applied rested =
     let same = rested.unchanged.same in

@@ -1,4 +1,4 @@
--- How a restore restores a chip that the journal saves.
+-- How a restore restores the chip that the journal saves.
 use Rattle.std.proofs.Common.{◌&&◌, ◌≡◌, ◌<◌, ◌+◌, ◌-◌, ◌*◌, ◌/◌, ◌%◌, ◌∙◌, ◌⊎◌, ℕ, Bool, true, false, true≢false, List, ap, sym, refl, arith, inl, inr}
 use Rattle.std.specs.Prelude.{not, ◌≢◌, Option, Some, None, IfSome, IsSomeAnd}
 use Rattle.std.proofs.lemmas.Bool.{cases_Bool, cases_lt, and_left, and_parts, or_cases, both_ways, eqb-true}
@@ -43,7 +43,8 @@ use Rattle.nor_session.proofs.RestoredBytes.{touched_byte, touched_saved}
 calm_or_not : (state : BusState) → IsCalm state ⊎ ((state.steady ≡ false) × (state.chip.busy ≢ 0))
 calm_or_not state = grind arith
 
--- the non-volatile status bits that an interruption leaves
+-- if an operation within the journal's addresses is interrupted, the bits that are never changed stay the original
+-- ones, and so do all non-volatile bits if the status can't be written
 cut_kept : (p : ℕ → Bool) (first : Chip) (old new : KeptBits) (running : Running) → KeptCut running old new
     → WorksIn p first running → fixed_of old ≡ fixed_of first.kept
     → (fixed_of new ≡ fixed_of first.kept) × (is_writable first ≡ false → old ≡ first.kept → new ≡ first.kept)
@@ -95,7 +96,7 @@ lost_within p first old new known lost within =
 
 -- ---- protected ranges are whole sectors
 
--- the size of a chip in the table is a multiple of 256 KiB
+-- the size of a chip with block protection is a multiple of 256 KiB
 scheme_size_at : (config : Config) (row : Option Part) → part_with_id (id_of config) ≡ row → IsGenuine config → config.scheme ≡ true → config.size % 262144 ≡ 0
 scheme_size_at config (Some part) is genuine scheme = search (arith, eqb-true, row_has)
 scheme_size_at config None is genuine scheme = absurd (both_ways config.scheme (genuine.unlisted is) scheme)
@@ -139,18 +140,19 @@ given_back journal first old new saves config within config_now bytes kept =
 
 -- ---- a restorable chip is never refused
 
--- the non-volatile status bits fit the journal
+-- the non-volatile status bits that a restore can't write are the journal's
 fixed_told : (journal : Content) (first chip : Chip) → first.kept ≡ kept_in journal.status → chip.config ≡ first.config
     → fixed_of chip.kept ≡ fixed_of first.kept → (is_writable first ≡ false → chip.kept ≡ first.kept) → FitsStatus journal chip
 fixed_told journal first chip bits config fixed kept =
     let told = fixed ∙ ap fixed_of bits in let all = λ (shut : is_writable first ≡ false). kept shut ∙ bits in search arith
 
--- the protection bits of a locked chip are the journal's
+-- if the non-volatile bits are those of the original chip, the protection bits are the journal's
 code_locked : (journal : Content) (first chip : Chip) → first.kept ≡ kept_in journal.status → chip.kept ≡ first.kept
     → code_of chip.kept ≡ code_of (kept_in journal.status)
 code_locked journal first chip bits stay = ap code_of (stay ∙ bits)
 
--- no touched sector of a locked chip is protected
+-- if the original chip is locked, and the chip differs from it only at open addresses (`open_places`), no touched
+-- sector is protected
 free_held : (journal : Content) (first chip : Chip) → IsKnown first.config → SavesChip journal first → chip.config ≡ first.config → chip.kept ≡ first.kept → is_locked first.kept ≡ true
     → ((b : ℕ) → open_places journal first b ≡ false → chip.bytes b ≡ first.bytes b) → ¬ SomeHeld (is_touched chip.bytes (restored journal chip.bytes)) chip
 free_held journal first chip known saves config stay locked same some =

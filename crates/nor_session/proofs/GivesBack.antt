@@ -26,7 +26,7 @@ use Rattle.nor_session.specs.Session.{CanBeUndone}
 use Rattle.nor_session.specs.Rehearsing.{LeadsBack}
 use Rattle.nor_session.proofs.JudgedAgain.{accepted_named, accepted_free}
 
--- the header has the non-volatile status bits of the chip
+-- a journal with the chip's header that saves its sectors saves the chip (`SavesChip`)
 pub saves_chip : (first : Chip) (saved : ℕ → Bool) (journal : Content) → first.kept.two < 128 → SameHead (head_of first) journal
     → Saves first.bytes saved journal → SavesChip journal first
 saves_chip first saved journal small same saves =
@@ -35,14 +35,14 @@ saves_chip first saved journal small same saves =
     rw (← status) (kept_same first.kept (kept_in ((4 * first.kept.one) ∷ first.kept.two ∷ [])) (omega arith) (omega arith)) in
     search arith
 
--- if the status is locked, no saved address is protected
+-- if the original chip's status is locked, no address in a saved sector is protected
 saved_free : (saved : ℕ → Bool) (first : Chip) (text : List ℕ) (state : BusState) (a : ℕ) → LeadsBack saved first text state → saved (a / 4096) ≡ true → (is_locked first.kept && is_guarded first a) ≡ false
 saved_free saved first text state a leads is = false_from_ne_true _ (λ both.
     let (locked, guarded) = and_parts _ _ both in
     let inside = leads.inside (a / 4096) is in let blocks = (sized_bounds first.config).blocks in
     both_ways _ (is_guarded-sector first a (omega arith) (rw is at (leads.free locked (a / 4096)))) guarded)
 
--- The journal that was read can restore the original chip.
+-- If bytes can restore the original chip (`LeadsBack`), the journal that is read from them can restore it.
 pub can_give_back : (saved : ℕ → Bool) (first : Chip) (text : List ℕ) (state : BusState) (journal : Content) → LeadsBack saved first text state
     → SameHead (head_of first) journal × Saves first.bytes saved journal → CanGiveBack journal first state
 can_give_back saved first text state journal leads read = record {
@@ -55,7 +55,7 @@ can_give_back saved first text state journal leads read = record {
       leads.within;
 }
 
--- The bytes of a vault that a session sealed can restore the original chip.
+-- The bytes of a faithful vault that a session sealed can restore the original chip.
 pub leads_back : (request : Request) (image : List ℕ) (old new : BusState) (vault : VaultState) → IsChip old.chip → IsGenuine old.chip.config → vault.telling ≡ true
     → CanBeUndone request image old new vault → LeadsBack (is_touched old.chip.bytes (wanted request image old.chip)) old.chip vault.bytes new
 leads_back request image old new vault is genuine telling undone = record {
@@ -71,7 +71,7 @@ leads_back request image old new vault is genuine telling undone = record {
   within = undone.changes.within;
 }
 
--- A session's main promise, from what it sent before the seal and what can be undone after it.
+-- A session's main promise follows from what it sent before the seal, and from what can be undone after it.
 pub keeps_first : (request : Request) (image : List ℕ) (most : ℕ) (old new : BusState) (vault : VaultState)
     → (old.honest ≡ true → IsChip old.chip) → (vault.sealed ≡ false → Looks most old new)
     → (IsModelled old → vault.sealed ≡ true → CanBeUndone request image old new vault) → KeepsFirst old new vault

@@ -1,4 +1,4 @@
--- The result of sessions and restores that follow one another.
+-- Lemmas about sessions and restores that follow one another.
 use Rattle.std.proofs.Common.{◌≡◌, ◌/◌, ◌∙◌, ◌⊎◌, ℕ, Bool, false, List, [], ap, sym, arith, inl, inr}
 use Rattle.std.proofs.lemmas.Bool.{and_left, and_parts, both_ways}
 use Rattle.nor_chip.specs.Chip.{Chip, IsSame}
@@ -21,7 +21,7 @@ use Rattle.nor_session.proofs.WrittenBack.{read_back, session_over}
 
 -- ---- a chip that is already equal to the saved one
 
--- each byte is already the one that a restore writes
+-- if the chip is already the saved one, each byte is already the one that a restore writes
 as_saved : (journal : Content) (first chip : Chip) (a : ℕ) → SavesChip journal first → IsSame first chip → restored journal chip.bytes a ≡ chip.bytes a
 as_saved journal first chip a saves same = search (arith, saved_byte-is)
 
@@ -41,7 +41,7 @@ changes_nothing journal first old new report saves same done =
     let untouched = λ (s : ℕ). none_touched journal first old.chip s saves same in
     let never = never_needed journal first old.chip saves same in
     let touched = done.reported.sectors ∙ count_below-none 4096 _ (λ s below. untouched s) in
-    -- no erases make no sector FFh
+    -- the empty list erases exactly the raised sectors, since there are none; so no erase was sent
     let least = done.reported.erases.least [] record {
       units = λ k any below. absurd (omega arith);
       union = λ s. sym (none_raised journal first old.chip s saves same);
@@ -58,8 +58,8 @@ changes_nothing journal first old new report saves same done =
 
 -- ---- one session after the other
 
--- The journal can turn a chip into the original one, even if an operation is in progress on it. The journal saves the
--- original chip, and the two chips agree at all addresses that a restore can't write.
+-- Holds if the journal can turn a chip into the original one, even if an operation is in progress on it. The journal
+-- saves the original chip, and the two chips agree at all addresses that a restore can't write.
 record LeadsTo (journal : Content) (first chip : Chip) : Type 0 where
   saves : SavesChip journal first
   config : chip.config ≡ first.config
@@ -80,13 +80,13 @@ lost_back journal first old new can loses = record {
   within = lost_within (open_places journal first) first old new loses.known loses.lost can.within;
 }
 
--- a chip that a journal can restore can be restored even if it then loses its power
+-- a journal that can restore a chip can turn it into the original one even if it then loses its power
 leads_kept : (journal : Content) (first : Chip) (new taken : BusState) → CanGiveBack journal first new → MayLosePower new taken → LeadsTo journal first taken.chip
 leads_kept journal first new taken can (inl same) = leads_same journal first new.chip taken.chip (leads_to journal first new can) same
 leads_kept journal first new taken can (inr loses) = leads_to journal first taken (lost_back journal first new taken can loses)
 
--- the journal of a session can restore the original chip from the chip that the session left, and from the chip that
--- the next run starts with
+-- the journal of a session can restore the original chip from the chip that the session left (`left_back`), and from
+-- the chip with which the next run starts
 left_back : (request : Request) (image : List ℕ) (old new : BusState) (journal : Content) → LeavesJournal request image old new journal → CanGiveBack journal old.chip new
 left_back request image old new journal left = search (arith, read_back)
 
@@ -96,13 +96,13 @@ left_taken request image old new taken journal left (inl kept) =
     leads_kept journal old.chip new taken (left_back request image old new journal left) kept
 left_taken request image old new taken journal left (inr over) = search (arith, leads_to, session_over)
 
--- the journal of a session can turn the chip into the original one even after stopped restores
+-- the journal of a session can turn the chip into the original one even after stopped restores and between runs
 left_reached : (request : Request) (image : List ℕ) (old new taken : BusState) (journal : Content) → LeavesJournal request image old new journal
     → IsTakenUp old new taken ⊎ CanGiveBack journal old.chip taken → LeadsTo journal old.chip taken.chip
 left_reached request image old new taken journal left (inl up) = left_taken request image old new taken journal left up
 left_reached request image old new taken journal left (inr can) = leads_to journal old.chip taken can
 
--- a restore that ends leaves the original chip
+-- a restore that succeeds leaves the original chip
 led_back : (journal : Content) (first : Chip) (old new : BusState) (report : Report) → LeadsTo journal first old.chip → IsRestored journal old new report → IsSame first new.chip
 led_back journal first old new report leads done = search (arith, given_back)
 

@@ -1,4 +1,4 @@
--- Consequences of an accepted request for its chip.
+-- The facts about a chip that follow from an accepted request.
 use Rattle.std.proofs.Common.{◌≡◌, ◌≢◌, ◌<◌, ◌*◌, ◌⊎◌, ℕ, Bool, true, false, List, Option, None, Some, Result, Ok, Err, zero, suc, refl, arith, inl, inr}
 use Rattle.std.specs.Prelude.{if◌then◌else◌}
 use Rattle.std.proofs.lemmas.Bool.{cases_Bool, false_from_ne_true, and_parts}
@@ -26,7 +26,7 @@ use Rattle.nor_save.specs.Verdict.{IsNamed, IsAccepted}
 
 -- ---- the chip type
 
--- a chip that is identified neither as missing nor as unknown has a chip type
+-- a chip that is neither missing nor unknown is identified as some chip type
 part_shown : (undriven : Bool) (listed : Option Part) (with_id : List ℕ) (says : Result Geometry SfdpFault)
     (shown : Result Part ProbeFault)
     → shown ≡ (if undriven then Err Probes.NoChip else listed_or (part_by_sfdp with_id says) listed)
@@ -63,14 +63,14 @@ none_least test never (suc n) s below =
     let before = none_least test never n in
     below_more (λ k. test k ≡ false) n before (false_from_ne_true (test n) (λ hit. never n hit before)) s (omega arith)
 
--- a request for data needs a status write if a touched sector is protected and must be unlocked
+-- a write or an erase with `unlock` needs a status write if a touched sector is protected
 needs_lift : (what : What) (unlock : Bool) (touched : ℕ → Bool) (chip : Chip) → is_data what ≡ true → unlock ≡ true
     → SomeHeld touched chip
     → IsWantedCode what chip (code_of chip.kept) × NeedsStatus what unlock (code_of chip.kept) touched chip
 needs_lift (WpRange start len) unlock touched chip is lifts some = absurd cc
 needs_lift _ unlock touched chip is lifts some = (refl, (lifts, some))
 
--- if the status is locked, no touched sector is protected
+-- if a request is accepted and the status is locked, no touched sector is protected
 pub accepted_free : (request : Request) (image : List ℕ) (chip : Chip) → IsAccepted request image chip
     → is_locked chip.kept ≡ true → NoneHeld (is_touched chip.bytes (wanted request image chip)) chip
 accepted_free request image chip accepted locked s =

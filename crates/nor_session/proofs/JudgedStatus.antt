@@ -1,4 +1,4 @@
--- The result of the status check of a restore.
+-- The check whether a restore needs a status write, and may send one.
 use Rattle.std.proofs.Common.{◌≡◌, ◌<◌, ◌+◌, ◌-◌, ◌*◌, ◌/◌, ◌∙◌, ◌⊎◌, ℕ, Bool, true, false, ap, refl, inl, inr}
 use Rattle.std.specs.Prelude.{not, Option, Some, None, MatchOption}
 use Rattle.std.specs.Option.{is_some}
@@ -21,7 +21,7 @@ pub some_or_none : (found : Option ℕ) (touched : ℕ → Bool) (chip : Chip) �
 some_or_none (Some s) touched chip held = inl refl
 some_or_none None touched chip held = inr held
 
--- no status write is needed
+-- if no touched sector is protected and the protection bits are the journal's, no status write is needed
 pub none_needed : (journal : Content) (touched : ℕ → Bool) (chip : Chip) (found : Option ℕ) → MatchOption found (NoneHeld touched chip) (IsLeastHeld touched chip) → is_some found ≡ false
     → code_of chip.kept ≡ code_of (kept_in journal.status) → ¬ NeedsStatusWith journal touched chip
 none_needed journal touched chip (Some s) held is code needs = absurd cc
@@ -38,14 +38,14 @@ held_scheme touched chip some = true_from_ne_false chip.config.scheme (λ none.
     (and_parts (touched s) (is_unit_guarded chip (4096 * s) 4096) some.held).1)
 
 module _ {old new : Chip} (same : IsSame old new) where
-  -- no address of a touched sector is protected unless its sector is
+  -- in a touched sector that isn't protected, no address is protected
   pub free_place : (touched : ℕ → Bool) (a : ℕ) → NoneHeld touched old → touched (a / 4096) ≡ true
       → a < old.config.size → is_guarded new a ≡ false
   free_place touched a none hit below =
       let free = none (a / 4096) in
       is_guarded-same old new same.config same.kept a ∙ is_guarded-sector old a below (rw hit at free)
 
-  -- if the status isn't locked, it can be written
+  -- if a chip has block protection and its status isn't locked, its protection bits can be written
   pub writable_for : old.config.scheme ≡ true → ¬ (is_locked old.kept ≡ true) → is_writable new ≡ true
   writable_for scheme unlocked =
       writable_same old new same.config (ap fixed_of same.kept)

@@ -1,4 +1,4 @@
--- Which address an error names, from the parts of a session or restore to its result.
+-- Which address an error names: from the errors of the parts to those of a session or restore.
 use Rattle.std.proofs.Common.{ℕ, ◌≡◌, ◌≤◌, ◌/◌, ◌∙◌, true, List, arith, inl, inr}
 use Rattle.nor_chip.specs.Bus.{BusState}
 use Rattle.nor_journal.specs.Text.{Content, IsContent, text}
@@ -17,7 +17,7 @@ use Rattle.nor_session.specs.Changing.{NamesTouchedSector}
 use Rattle.nor_session.specs.Session.{SavesSector, NamesSector, NamesAddress}
 use Rattle.nor_session.specs.Prepare.{PrepareTells}
 
--- a scan waits for no operation, so it returns neither a timeout nor a mismatch
+-- a scan waits for no operation and verifies nothing, so it returns neither a timeout nor a mismatch
 pub save_names : (request : Request) (opening : Opening) (code : ℕ) (image : List ℕ) (old new : BusState) (refusal : Refusal)
     → SaveTells request opening code image old new refusal → NamesSector (λ sector. ⊥) refusal
 save_names request opening code image old new (Timeout address) tells = absurd tells
@@ -48,7 +48,8 @@ change_names changes (Timeout address) such (inr touched) = inr (such (address /
 change_names changes (Mismatch address) such touched = such (address / 4096) touched
 change_names changes _ such names = tt
 
--- only saved sectors are changed, so an error that names a sector names one that the journal of the sealed vault saves
+-- the changes touch only sectors that the journal of the sealed vault saves, so an error names an address in one of
+-- them
 pub work_names : (changes : Changes) (head : Content) (vault : VaultState) (refusal : Refusal) → vault.sealed ≡ true
     → (vault.telling ≡ true → IsJournalOf head (touched_in changes) vault.bytes)
     → NamesTouchedSector changes refusal → NamesAddress vault refusal
@@ -62,13 +63,13 @@ work_names changes head vault refusal sealed saves names = record {
 
 -- ---- a restore
 
--- a wait before the first checks names address 0
+-- an error before the first change names no address in a sector: a timeout names 0
 pub prepare_names : (journal : Content) (most : ℕ) (old new : BusState) (refusal : Refusal) → PrepareTells journal most old new refusal → NamesSector (λ sector. is_saved journal sector ≡ true) refusal
 prepare_names journal most old new (Timeout address) tells = inl tells.0
 prepare_names journal most old new (Mismatch address) tells = absurd (let judged = tells.judged in cc)
 prepare_names journal most old new _ tells = tt
 
--- a saved sector is one that the journal's bytes save
+-- if an error names a sector that the journal saves, it names one that the journal's bytes save
 pub saved_names : (journal : Content) (bytes : List ℕ) (refusal : Refusal) → IsContent journal → bytes ≡ text journal → NamesSector (λ sector. is_saved journal sector ≡ true) refusal → NamesSector (λ sector. SavesSector sector bytes) refusal
 saved_names journal bytes (Timeout address) is same (inl at) = inl at
 saved_names journal bytes (Timeout address) is same (inr saved) = inr (record { content = journal; is = is; same = same }, saved)

@@ -1,4 +1,4 @@
--- The changes of a session or a restore are those of the sectors that its journal saves, on every bus.
+-- On every bus the changes of a session or restore touch only sectors that its journal saves.
 use Rattle.std.proofs.Common.{◌≡◌, ◌<◌, ◌*◌, ◌/◌, ◌%◌, ◌∙◌, ℕ, Bool, true, false, List, inl, inr, ap, sym, refl, arith, true≢false}
 use Rattle.nor_chip.specs.declared.status.Status.{Status}
 use Rattle.nor_chip.specs.Status.{bytes_of}
@@ -39,7 +39,7 @@ kept_code opening = omega arith
 
 -- ---- a session
 
--- the protection bits that a session leaves may be written
+-- the protection bits that a session leaves are among those that it may write
 found_written : (what : What) (opening : Opening) (journal : Content) (code : ℕ) → SameHead (head_found opening) journal
     → IsFoundCode what opening code → IsWrittenCode what journal code
 found_written (WpRange start len) opening journal code same is =
@@ -48,7 +48,7 @@ found_written _ opening journal code same is =
     let status = ap (λ (c : Content). c.status) same in
     inr (is ∙ sym (kept_code opening) ∙ ap (λ (bytes : List ℕ). code_of (kept_in bytes)) status)
 
--- protection is lifted only for data
+-- protection is lifted only for a write or an erase
 lifted_written : (what : What) (journal : Content) (lifted : Bool) → (is_data what ≡ false → lifted ≡ false)
     → lifted ≡ true → IsWrittenCode what journal 0
 lifted_written (WpRange start len) journal lifted none lifts = absurd (true≢false (sym lifts ∙ none refl))
@@ -101,7 +101,7 @@ restore_of_journal is = record {
 
 -- ---- the report
 
--- the work counts the erases and page programs that were sent since the start
+-- the work counts the erases and page programs that were sent, also from an earlier state with the same record of them
 pub counted : {changes : _} {wanted : ℕ → ℕ} {verify : Bool} (old : BusState) {mid new : BusState} {work : Work}
     → mid.sent ≡ old.sent → DoesChange changes wanted verify mid new work
     → SendsCounted work.erases work.programs old new

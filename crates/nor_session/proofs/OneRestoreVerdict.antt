@@ -1,5 +1,5 @@
--- A restore has one verdict: the first check of the code that fails is the first error that holds, and if none fails,
--- no error holds.
+-- A restore has one verdict: the first check of the code that fails gives the first error that applies, and if none
+-- fails, no error applies.
 use Rattle.std.proofs.Common.{◌≡◌, ◌<◌, ℕ, true, arith, rules}
 use Rattle.std.specs.Prelude.{◌≢◌, None, Err}
 use Rattle.nor_chip.specs.Chip.{Chip, is_locked}
@@ -14,7 +14,7 @@ use Rattle.nor_session.specs.Headline.{IsOfKind}
 use Rattle.nor_session.specs.Restore.{IsOfOtherUnit, FitsStatus, NeedsStatusFrom, RestoreHolds, judged_in_turn, place_in, IsRestoreVerdict, IsRestorable}
 use Rattle.nor_session.specs.Prepare.{RestoreJudges, RestoreAccepts}
 
--- None of the errors before this position holds.
+-- Holds if none of the errors before this position applies.
 record IsClear (journal : Content) (chip : Chip) (n : ℕ) : Type 0 where
   there : 0 < n → shown_as chip.config ≢ Err Probes.NoChip
   named : 1 < n → IsNamed None chip.config

@@ -1,4 +1,4 @@
--- The state of a session after the touched sectors are saved, on every bus, and the number of transactions that follow.
+-- The state of a session after the touched sectors are saved, on every bus, and the number of later transactions.
 use Rattle.std.proofs.Common.{◌≡◌, ◌≤◌, ◌+◌, ◌/◌, ◌∙◌, ℕ, Bool, true, false, List, ap, sym, refl, arith, rules}
 use Rattle.std.specs.Prelude.{if◌then◌else◌}
 use Rattle.std.proofs.lemmas.Bool.{true_from_ne_false, false_from_ne_true}
@@ -36,7 +36,7 @@ use Rattle.nor_session.specs.Changing.{read_back, most_changed, DoesChange}
 use Rattle.nor_session.specs.Session.{most_status_writes, IsWithinBound}
 use Rattle.nor_session.proofs.Changed.{two_writes, write_once}
 
--- the changes of a chip with this identification, after this scan saved the touched sectors
+-- the changes to a chip with this identification, after a scan whose result is `kept` saved the touched sectors
 abbrev pub changes_of : Opening → SavedScan → Status → ℕ → Changes
 changes_of opening kept status code =
     record {
@@ -100,7 +100,7 @@ spends_looks fits looks =
 
 -- ---- the number of status writes
 
--- touched sectors were scanned, so the request is for data
+-- a request that touches a sector is for a write or an erase
 pub touched_data : (request : Request) (size : ℕ) {scanned : Scanned} (s : ℕ) → size ≤ 16777216
     → AreMarks (size / 4096) scanned → scanned.count ≤ scanned.reads → scanned.reads ≡ scanned_sectors request size
     → has scanned.touched s ≡ true → is_data request.what ≡ true
@@ -117,7 +117,7 @@ writes_by _ unlock lifted writes two lifts none one = let zero = none refl in gr
 
 module _ {request : Request} {opening : Opening} {status : Status} {code : ℕ} {kept : SavedScan} {old mid : BusState}
     (is : Ready request opening status code kept old mid) where
-  -- the changes follow the readings
+  -- the changes that follow the reads keep the bound of a session
   pub spends_ready : {new : BusState} → Spends (most_changed (changes_of opening kept status code)) mid new
       → Spends (most_of (scanned_sectors request opening.found.size)) old new
   spends_ready {new} spends = record {
@@ -131,7 +131,7 @@ module _ {request : Request} {opening : Opening} {status : Status} {code : ℕ} 
       → RanOut (most_of (scanned_sectors request opening.found.size)) old new
   ran_out_ready honest ran = let sent = is.looked.sent honest in omega arith
 
-  -- if nothing was scanned, no protection is lifted
+  -- if the request is for a protection range, no protection is lifted
   pub lifts_none : is_data request.what ≡ false → kept.unlock ≡ false
   lifts_none other = false_from_ne_true kept.unlock (λ lifted.
       let some = (is.lifts lifted).1 in

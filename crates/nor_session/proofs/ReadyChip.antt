@@ -46,7 +46,7 @@ pub is_opening : (request : Request) (opening : Opening) (old mid : BusState) �
     → Opens request.named old mid opening → IsOpening old.chip opening
 is_opening request opening old mid = opening_of
 
--- status 1 of a chip that was idle is reported as it was, with the write enable latch
+-- if the chip was idle before the identification, the status 1 that was read is the chip's, with the write enable latch
 pub told_idle : (named : Option ChipName) (opening : Opening) (old mid : BusState) → old.honest ≡ true → Opens named old mid opening → old.chip.busy ≡ 0 → opening.found.status1 ≡ status1_of old.chip
 told_idle named opening old mid honest opens idle =
     let rested = opens.rested honest in let latch = rested.idle_latch idle in
@@ -56,7 +56,7 @@ pub shows : (request : Request) (opening : Opening) (old mid : BusState) → IsM
 shows request opening old mid is looks opens =
     let rested = opens.rested is.honest in let idle = opens.idle is.honest in search rules
 
--- the non-volatile bits of status 2 are in range before the identification if they are in range after it
+-- if the non-volatile bits of status 2 are in range after the identification, they were in range before it
 pub small_first : {named : Option ChipName} {opening : Opening} {old mid : BusState} → old.honest ≡ true
     → Opens named old mid opening → mid.chip.kept.two < 128 → old.chip.kept.two < 128
 small_first honest opens small =
@@ -65,7 +65,7 @@ small_first honest opens small =
 pub named : (request : Request) (opening : Opening) (old mid : BusState) → IsModelled old → Opens request.named old mid opening → IsNamed request.named old.chip.config
 named request opening old mid is opens = record { part = part_in opening.found; shown = opens.shown is.honest; wanted = opens.wanted }
 
--- the chip's size bounds how many transactions are sent
+-- the bound for the sectors that are scanned is at most the bound for a chip of this size
 pub most_sized : (request : Request) {config : Config} {found : Found} → IsConfigOf config found
     → most_of (scanned_sectors request found.size) ≤ most_of (config.size / 4096)
 most_sized request {found = found} is =
@@ -86,7 +86,7 @@ save_gives_up request image opening code few old mid new _ honest looks opens mo
     same_then old.chip mid.chip new.chip (opens.rested honest).unchanged.same
     ((more.looked (looks.nature.honest ∙ honest)).stays.calm (inr (opens.idle honest)))
 
--- the vault stays faithful and sealed
+-- after an error a vault is faithful and sealed exactly if it was so before
 pub refused_puts : (refusal : Refusal) (old new : VaultState) → SavePuts (Err refusal) old new
     → (new.telling ≡ old.telling) × (new.sealed ≡ old.sealed)
 refused_puts Vault old new puts = (puts.telling, puts.sealed)
@@ -120,7 +120,7 @@ open_tells request image old new vault vault' Stopped is tells = let ran = tells
 open_tells request image old new vault vault' (Timeout address) is tells = absurd (tells.1 is.honest)
 open_tells request image old new vault vault' _ is tells = absurd tells
 
--- the verdict of the checks after the identification is a possible error of the session
+-- the verdict of the checks after the identification is an error that `SessionTells` allows
 pub judge_tells : (request : Request) (image : List ℕ) (old new : BusState) (vault vault' : VaultState)
     (refusal : Refusal) → IsVerdict request image old.chip refusal
     → SessionTells request image old new vault vault' refusal

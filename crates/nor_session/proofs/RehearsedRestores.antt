@@ -1,4 +1,4 @@
--- The state that is left by one restore with a stop, by restores in turn, and by restores from bytes.
+-- The effect of one restore with a stop, of restores in turn, and of restores from bytes.
 use Rattle.std.proofs.Common.{◌≡◌, ◌<◌, ◌≤◌, ◌+◌, ◌∙◌, ℕ, Bool, List, length, slice_index, true, false, refl, sym, arith, inl, inr}
 use Rattle.std.specs.Prelude.{Ok, Err, Result}
 use Rattle.std.proofs.lemmas.Bool.{cases_eq}
@@ -30,12 +30,12 @@ use Rattle.nor_session.proofs.SavedBytes.{saved_room, saved_count}
 
 -- ---- one restore
 
--- another bus with the same chip
+-- a modelled bus that stays well-behaved, with the same configuration of its chip, stays modelled
 pub modelled_at : (old new : BusState) → new.honest ≡ old.honest → new.chip.config ≡ old.chip.config → IsModelled old → IsModelled new
 modelled_at old new honest config modelled =
     record { honest = honest ∙ modelled.honest; genuine = rw config modelled.genuine }
 
--- a new allowance keeps what can be restored
+-- setting an allowance keeps what can be restored (`LeavesRestores` with no restore)
 allow_leaves : {n : ℕ} (journal : Content) (old new : BusState) → Allows n old new → LeavesRestores journal 0 old new
 allow_leaves journal old new allows =
     search (arith, modelled_at, none_sent, none_written, allows.chip, allows.nature.steady)
@@ -46,14 +46,14 @@ restores_then journal m n most old mid new fits before after =
     let sends = sends_most (IsSavedCode journal) (m + n) most journal old new fits both in
     search (arith, nature_then)
 
--- on an honest bus, an error other than a stop isn't a timeout either
+-- on a well-behaved bus, an error other than a stop isn't a timeout either
 pub no_halt : (most : ℕ) (IsEarly : Refusal → Type 0) (old new : BusState) (refusal : Refusal) → (refusal ≡ Stopped → ⊥)
     → HonestTells most IsEarly old new refusal → IsNoHalt refusal
 no_halt most IsEarly old new Stopped never tells = absurd (never refl)
 no_halt most IsEarly old new (Timeout address) never tells = absurd tells
 no_halt most IsEarly old new _ never tells = refl
 
--- a restore that is allowed `n` transactions
+-- one restore that is allowed `n` transactions
 module _ {n : ℕ} {journal : Content} {old mid new : BusState} (allows : Allows n old mid) where
   pub under_leaves : {result : Result Report Refusal} → (IsModelled mid → GivesBack journal mid new result)
       → RestoreAlways journal mid new result → (IsModelled mid → RestoreModelled journal mid new result)
@@ -85,7 +85,7 @@ pub record AreStopped (journal : Content) (stops : List ℕ) (old now : BusState
 
 module _ {journal : Content} {stops : List ℕ} {old now : BusState} {n : ℕ} (before : AreStopped journal stops old now n)
     (new : BusState) where
-  -- one more restore was run
+  -- `LeavesRestores` still holds after one more restore
   pub leaves_more : {most : ℕ} → n + 1 ≤ most → LeavesRestores journal 1 now new → LeavesRestores journal most old new
   leaves_more fits leaves = restores_then journal n 1 _ old now new fits before.leaves leaves
 
@@ -99,24 +99,24 @@ module _ {journal : Content} {stops : List ℕ} {old now : BusState} {n : ℕ} (
     ];
   }
 
-  -- the next restore ended
+  -- the next restore ended, so the restores in turn ended
   pub ended_at : (restores : ℕ) → restores ≡ n + 1 → n < length stops
       → ShowsRestore journal (slice_index stops n) now new true → ShowsRestores journal stops old new restores
   ended_at restores is inside shows = search arith
 
--- if no later restore returns an error, none does
+-- an error that a later restore returns is also one that `StopsRestores` allows for the first
 pub refuses_before : {journal : Content} {n : ℕ} {old mid : BusState} (refusal : Refusal)
     → LeavesRestores journal n old mid → StopsRestores journal mid refusal → StopsRestores journal old refusal
 refuses_before refusal leaves refuses = search arith
 
--- a restore without a stop isn't stopped
+-- a restore that is allowed the most transactions that any call needs isn't stopped on a well-behaved bus
 pub last_ends : {journal : Content} {now new : BusState} {most : ℕ} → most ≡ most_of 4096
     → ShowsRestore journal most now new false → StopsRestores journal now Stopped
 last_ends {journal = journal} is shows = search (arith, saved_room)
 
 -- ---- restores from bytes
 
--- the bytes are this journal, and it was read
+-- the bytes are the encoding of this journal, and reading them returns this journal
 module _ {bytes : List ℕ} {journal : Content} (is : IsContent journal) (same : bytes ≡ text journal)
     (reads : (head : Content) (chip : ℕ → ℕ) (saved : ℕ → Bool) → JournalSaves head chip saved bytes
     → SameHead head journal × Saves chip saved journal)
@@ -146,7 +146,7 @@ module _ {bytes : List ℕ} {journal : Content} (is : IsContent journal) (same :
     undo_wears modelled saved first leads s other = leaves.worn modelled s
         (sym (Saves-set first.bytes saved journal s (saves_all saved first leads)) ∙ other)
 
-    -- the bytes are no other journal than the one that was read
+    -- the bytes are the encoding of no journal except the one that was read
     pub undo_sends : SendsText bytes n old new
     undo_sends other =
         rw (is_read bytes (Ok journal) other.content (is, same) tt other.is other.same) at leaves.sends
@@ -159,7 +159,7 @@ module _ {bytes : List ℕ} {journal : Content} (is : IsContent journal) (same :
     never = λ modelled saved first leads. refuses.never modelled first (can_back saved first leads);
   }
 
--- bytes that are a journal, or can restore a chip, are read without an error
+-- bytes that can't be read as a journal are no journal, and can't restore a chip
 pub unread : (bytes : List ℕ) (old : BusState) (fault : JournalFault) → ((content : Content) → IsContent content → bytes ≡ text content → ⊥)
     → RefusesUndo bytes old (BadJournal fault)
 unread bytes old fault never = search arith

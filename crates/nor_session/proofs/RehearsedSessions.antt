@@ -1,4 +1,4 @@
--- The state that a session with a stop leaves, and the restores after it.
+-- The effect of a session with a stop, and of the restores after it.
 use Rattle.std.proofs.Common.{◌≡◌, ◌≤◌, ◌+◌, ◌*◌, ◌∙◌, ℕ, List, [], ◌∷◌, length, drop, true, false, refl, ap, sym, arith, inl, inr}
 use Rattle.std.specs.Prelude.{max, Ok, Err, Result}
 use Rattle.std.proofs.lemmas.Bool.{true≢false, cases_Bool}
@@ -30,14 +30,14 @@ use Rattle.nor_session.proofs.RehearsedRestores.{modelled_at, no_halt}
 
 -- ---- the session
 
--- an error of the session other than a stop is the rehearsal's
+-- an error of the session other than a stop is an error that `RehearsalTells` allows
 told : (request : Request) (image : List ℕ) (old new : BusState) (before after : VaultState) (refusal : Refusal) → (refusal ≡ Stopped → ⊥)
     → SessionTells request image old new before after refusal → RehearsalTells request image old.chip before after refusal
 told request image old new before after Vault never tells = tells
 told request image old new before after Stopped never tells = absurd (never refl)
 told request image old new before after _ never tells = tells
 
--- an error of the session that ends the rehearsal is one of 1 to 11, and after it the chip is as it was
+-- an error that `RehearsalTells` allows is one of 1 to 11, so bytes and non-volatile status bits are as they were
 early : (request : Request) (image : List ℕ) (old new : BusState) (before after : VaultState) (refusal : Refusal) → RehearsalTells request image old.chip before after refusal
     → (number_of refusal ≤ 11) × (HonestTells (most_of 4096) (λ refusal. number_of refusal ≤ 11) old new refusal → IsSame old.chip new.chip)
 early request image old new before after Vault tells = (omega arith, λ same. same (omega arith))
@@ -126,19 +126,19 @@ module _ {n : ℕ} {old mid : BusState} (allows : Allows n old mid) where
         → (refusal ≡ Stopped → n ≡ most_of 4096) → RefusesSession request image old new before after refusal
     session_refuses refusal always told_of promise all = search (arith, early, no_halt, told)
 
--- without stops a call is allowed the most transactions that any call needs
+-- without stops the session is allowed the most transactions that any call needs
 pub unlimited : (stops : List ℕ) → length stops ≡ 0 → first_allowance stops ≡ most_of 4096
 unlimited [] none = refl
 unlimited (first ∷ later) none = absurd (omega arith)
 
 -- ---- both
 
--- one more than the number of stops after the first is the number of stops, or 1 without stops
+-- the number of stops after the first, plus one, is the number of stops, or 1 without stops
 behind_first : (stops : List ℕ) → length (drop 1 stops) + 1 ≡ max 1 (length stops)
 behind_first [] = refl
 behind_first (first ∷ later) = omega arith
 
--- a session without restores sends no more than a rehearsal may send
+-- a session without restores keeps the limits on what a rehearsal may send
 pub session_sends : {request : Request} {image : List ℕ} {old new : BusState} {vault : VaultState} (stops : List ℕ)
     → LeavesSession request image old new vault → vault.sealed ≡ true → (journal : IsJournal vault.bytes)
     × SendsSaved (IsRehearsedCode request.what journal.content) (1 + max 1 (length stops)) journal.content old new
@@ -154,16 +154,16 @@ session_sends {request = request} {old = old} {new = new} stops leaves sealed =
 module _ {request : Request} {image text later : List ℕ} {old mid new : BusState} {vault : VaultState}
     {result : Result ℕ Refusal} (session : LeavesSession request image old mid vault) (sealed : vault.sealed ≡ true)
     (is : text ≡ vault.bytes) (undone : LeavesUndo text later mid new result) where
-  -- the bus is still modelled, and the bytes can restore the chip
+  -- a modelled bus is still modelled, and the bytes can restore the chip
   pub led : IsModelled old → IsModelled mid × LeadsBack (is_touched old.chip.bytes (wanted request image old.chip)) old.chip text mid
   led modelled = search (arith, modelled_at)
 
-  -- the session and the restores erase only sectors that the session touches
+  -- on a modelled bus, the session and the restores erase only sectors that the session touches
   pub both_wear : IsModelled old → (s : ℕ) → is_touched old.chip.bytes (wanted request image old.chip) s ≡ false → new.worn s ≡ old.worn s
   both_wear modelled s other =
       let (still, leads) = led modelled in undone.wears still _ _ leads s other ∙ session.wears modelled s other
 
-  -- the session and the restores target only sectors that the journal saves
+  -- all that the session and the restores sent fits the journal in the vault
   pub both_send : (stops : List ℕ) → later ≡ drop 1 stops → (journal : IsJournal vault.bytes)
       × SendsSaved (IsRehearsedCode request.what journal.content) (1 + max 1 (length stops)) journal.content old new
   both_send stops behind =
@@ -181,7 +181,7 @@ module _ {request : Request} {image text later : List ℕ} {old mid new : BusSta
             (rw count at then),
       )
 
-  -- each restore writes the status at most twice
+  -- the session and the restores write the status no more often than a rehearsal may
   pub both_write : (stops : List ℕ) → later ≡ drop 1 stops
       → WritesStatusAtMost (most_status_writes request.what request.unlock + 2 * max 1 (length stops)) old new
   both_write stops behind =
@@ -189,7 +189,7 @@ module _ {request : Request} {image text later : List ℕ} {old mid new : BusSta
       let before = session.writes in let after = undone.writes in
       omega (arith, count, one, before, after)
 
-  -- the errors of these restores are those of `restore`, and name sectors that the sealed journal saves
+  -- an error of these restores is one of `restore`, and names a sector that the sealed journal saves
   pub undo_refused : (had : VaultState) (refusal : Refusal) → RefusesUndo text mid refusal
       → IsRehearsalRefusal had vault refusal × NamesAddress vault refusal
   undo_refused had refusal refuses = (

@@ -1,4 +1,4 @@
--- The result of the identification of a restore.
+-- The results of the identification of a restore.
 use Rattle.std.proofs.Common.{◌≡◌, ◌∙◌, ℕ, true, List, refl, arith}
 use Rattle.std.specs.Prelude.{◌≢◌, Result, Ok, Err, Some, None, IsOk}
 use Rattle.nor_chip.specs.declared.config.Config.{Config}
@@ -45,14 +45,14 @@ same_unit journal config unique is same other = (rw is at other) same
 
 -- ---- errors
 
--- the errors of the probe
+-- an error of the probe means what the preparation of a restore promises
 pub probe_tells : (journal : Content) (old new : BusState) (fault : ProbeFault) → BlamesName None fault → (old.honest ≡ true → Tells None old new fault) → PrepareTells journal most_opening old new (of_probe fault)
 probe_tells journal old new Probes.OtherName blames tells = absurd blames
 probe_tells journal old new Probes.Stopped blames tells = search arith
 probe_tells journal old new Probes.Timeout blames tells = (refl, tells)
 probe_tells journal old new _ blames tells = search arith
 
--- the errors of another device
+-- error 20 (another device) or 17 (other status bits) means what the preparation of a restore promises
 pub unit_tells : (journal : Content) (most : ℕ) (old new : BusState) (refusal : Refusal) → IsUnitRefusal refusal → (old.honest ≡ true → IsSame old.chip new.chip)
     → (IsModelled old → RestoreJudges journal old.chip refusal) → PrepareTells journal most old new refusal
 unit_tells journal most old new OtherUnit is same verdict = record { judged = refl; same = same; verdict = verdict }

@@ -1,4 +1,4 @@
--- The sectors that a restore has scanned so far.
+-- The state of a restore's scan between two sectors.
 use Rattle.std.proofs.Common.{◌≡◌, ◌<◌, ◌≤◌, ◌+◌, ◌*◌, ◌/◌, ◌&&◌, ◌||◌, ◌∙◌, ℕ, Bool, true, false, List, [], length, take, slice_index, refl, ap, sym, subst, arith}
 use Rattle.std.specs.Prelude.{◌==◌, Option, Some, slice_get}
 use Rattle.std.specs.Option.{is_some, unwrap_or}
@@ -23,11 +23,11 @@ use Rattle.nor_session.specs.Restore.{restored}
 use Rattle.nor_session.specs.Prepare.{PlansSaved, ScansSaved}
 use Rattle.nor_session.proofs.SavedBytes.{sector_at, byte_at, is_saved-some}
 
--- one of the first i records has the sector
+-- true if one of the first `i` records has the sector
 abbrev pub saved_before : Content → ℕ → ℕ → Bool
 saved_before journal i s = is_some (saved_in (take i journal.saved) s)
 
--- The first i saved sectors were read and marked.
+-- Holds if the first `i` saved sectors were read and marked.
 pub record HasRescanned (journal : Content) (i : ℕ) (old new : BusState) (scanned : Scanned) : Type 0 where
   pub marks : AreMarks (least_after 0 (take i journal.saved)) scanned
   pub reads : scanned.reads ≡ i
@@ -57,7 +57,7 @@ more_before journal i number saved s is at =
     let more = saved_in-take_more journal i (record { number = number; bytes = saved }) s is at in
     grind (arith, nat_tests)
 
--- one more sector was tested
+-- a set that is right for the sectors so far is right for one sector more, after the result of its test was inserted
 tested : (n s : ℕ) (test : ℕ → Bool) (verdict before after old new : Bool) → verdict ≡ test n
     → after ≡ ((s == n) || before) → old ≡ (before && test s) → new ≡ ((verdict && (s == n)) || old)
     → new ≡ (after && test s)
@@ -73,7 +73,8 @@ restored_other journal content a is = rw is refl
 restored_at : (journal : Content) (content : ℕ → ℕ) (s : ℕ) (saved : List ℕ) (i : ℕ) → saved_in journal.saved s ≡ Some saved → i < 4096 → slice_index saved i ≡ restored journal content (4096 * s + i)
 restored_at journal content s saved i is below = search (arith, byte_at, is_saved-some, restored_saved, sector_at)
 
--- the plan of a sector says whether the sector is touched, and whether it is raised
+-- on a well-behaved bus with an idle chip, the plan of a sector says whether the sector is touched, and whether it is
+-- raised
 planned_from : (journal : Content) (s : ℕ) (saved bytes : List ℕ) (old mid new : BusState) (plan : SectorPlan) (i : ℕ) → saved_in journal.saved s ≡ Some saved → s < journal.size / 4096
     → length saved ≡ 4096 → IsOpen journal.size old → HasLooked i old mid → PlansSaved s saved bytes mid new plan
     → (plan.touched ≡ is_touched old.chip.bytes (restored journal old.chip.bytes) s) × (plan.raised ≡ is_raised old.chip.bytes (restored journal old.chip.bytes) s)

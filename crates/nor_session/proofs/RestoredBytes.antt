@@ -1,4 +1,4 @@
--- Touched and raised sectors, by the bytes that a journal saved.
+-- Touched and raised sectors, compared with the bytes that a journal saved.
 use Rattle.std.proofs.Common.{◌≡◌, ◌<◌, ◌+◌, ◌*◌, ◌/◌, ◌%◌, ◌&&◌, ℕ, Bool, true, false, sym, arith, bit_and}
 use Rattle.std.specs.Prelude.{if◌then◌else◌}
 use Rattle.std.proofs.lemmas.Bool.{eqb-true, eq-eqb, both_ways, not-false, not_from_true, true_from_ne_false}
@@ -24,7 +24,7 @@ pub untouched_byte : (content aim : ℕ → ℕ) (a : ℕ) → is_touched conten
 unfolding is_touched
 untouched_byte content aim a none = eqb-true _ _ (not-false _ (none_at (λ b. is_other (content b) (aim b)) a none))
 
--- in a sector that isn't raised no bit must rise
+-- in a sector that isn't raised no bit must go from 0 to 1
 pub unraised_byte : (content aim : ℕ → ℕ) (a : ℕ) → is_raised content aim (a / 4096) ≡ false → bit_and (aim a) (content a) ≡ aim a
 unfolding is_raised
 unraised_byte content aim a none = eqb-true _ _ (not-false _ (none_at (λ b. must_rise (content b) (aim b)) a none))
@@ -34,16 +34,16 @@ pub untouched_unraised : (content aim : ℕ → ℕ) (s : ℕ) → is_touched co
 untouched_unraised content aim s none =
     unraised content aim s (λ i below. sym (untouched_byte content aim (4096 * s + i) (rw (sector_at s i below) none)))
 
--- a touched sector has another byte
+-- a touched sector has a byte that differs from its target byte
 pub touched_byte : (content aim : ℕ → ℕ) (s : ℕ) → is_touched content aim s ≡ true → (k : ℕ) × (k < 4096) × ¬ (content (4096 * s + k) ≡ aim (4096 * s + k))
 unfolding is_touched
 touched_byte content aim s some = search (arith, any_below-found, both_ways, eq-eqb, not_from_true)
 
--- a touched sector is saved
+-- a sector that a restore touches is saved
 pub touched_saved : (journal : Content) (content : ℕ → ℕ) (s : ℕ) → is_touched content (restored journal content) s ≡ true → is_saved journal s ≡ true
 touched_saved journal content s some = search (arith, both_ways, true_from_ne_false, untouched_other)
 
--- writing the touched sectors gives the restored bytes
+-- if the touched sectors have the saved bytes, and all others are as they were, the content is the restored one
 pub written_restored : (journal : Content) (old mid new : ℕ → ℕ) (touched : ℕ → Bool) (a : ℕ) → ((s : ℕ) → touched s ≡ is_touched old (restored journal old) s) → mid a ≡ old a
     → new a ≡ (if touched (a / 4096) then saved_byte journal a else mid a) → new a ≡ restored journal old a
 written_restored journal old mid new touched a right same is = search (arith, touched_saved, untouched_byte)

@@ -1,4 +1,4 @@
--- How the preparation of a restore and its changes are combined.
+-- The promises of a restore, from those of its preparation and of its changes.
 use Rattle.std.proofs.Common.{◌≡◌, ◌<◌, ◌≤◌, ◌^◌, ◌+◌, ◌/◌, ◌∙◌, ℕ, true, length, ap, sym, refl, arith, true≢false}
 use mathlib.Core.Path.{fun_ext}
 use Rattle.nor_chip.specs.Chip.{Chip, IsSame}
@@ -66,14 +66,14 @@ module _ (journal : Content) (most : ℕ) (old new : BusState) where
   looks_leave looked =
       let fixed = λ (calm : IsCalm old). ap fixed_of (looked.stays.calm calm).kept in search arith
 
--- a chip that can be restored before a call that only reads can be restored after it
+-- on a well-behaved bus, a chip that can be restored before a call that only reads can be restored after it
 pub looks_back : (journal : Content) (first : Chip) (most : ℕ) (old new : BusState) → old.honest ≡ true → Looks most old new → CanGiveBack journal first old → CanGiveBack journal first new
 looks_back journal first most old new honest looks can =
     assumption (looked_within _ first most old new looks.nature.steady (looks.looked honest) can.within)
 
 -- ---- the changes after the preparation
 
--- The result of a restore's preparation, and the state that its changes left.
+-- The results of a restore's preparation, and the state that its changes left.
 pub record AreChanged (journal : Content) (prepared : Prepared) (old mid new : BusState) : Type 0 where
   pub room : length journal.saved ≤ 4096
   pub looks : Looks (most_opening + length journal.saved) old mid
@@ -130,7 +130,7 @@ change_not_judged changes wanted old new _ tells judged = tells
 
 -- ---- the changes were finished
 
--- the report
+-- the report of the restore
 abbrev pub report_of : Prepared → Work → ℕ → Report
 report_of prepared work sent = record {
   found = prepared.found;
@@ -226,6 +226,6 @@ module _ (journal : Content) (prepared : Prepared) (old mid new : BusState) (wor
               does.still (omega arith) ∙ are.looks.sent;
         }
 
--- a restore that ends leaves the original chip
+-- a restore that succeeds leaves the original chip
 pub restored_back : (journal : Content) (first : Chip) (old new : BusState) (report : Report) → CanGiveBack journal first old → IsRestored journal old new report → IsSame first new.chip
 restored_back journal first old new report can done = search (arith, given_back)

@@ -14,15 +14,15 @@ use Rattle.nor_count.specs.Counts.{sector_count}
 use Rattle.nor_count.proofs.Counting.{count_below-none, count_below-same}
 use Rattle.nor_count.proofs.Verdicts.{count_below-insert}
 
--- the sector of an address
+-- the address at position `i` of sector `s` lies in this sector
 pub sector_at : (s i : ℕ) → i < 4096 → (4096 * s + i) / 4096 ≡ s
 sector_at s i below = omega arith
 
--- the bytes of a saved sector are those of its addresses
+-- the saved byte at an address is the byte at its position in the saved sector
 pub byte_at : (journal : Content) (s : ℕ) (bytes : List ℕ) (i : ℕ) → saved_in journal.saved s ≡ Some bytes → i < 4096 → slice_index bytes i ≡ saved_byte journal (4096 * s + i)
 byte_at journal s bytes i is below = search (arith, sector_at)
 
--- a sector with bytes is saved
+-- a sector whose bytes the journal has is saved
 pub is_saved-some : (journal : Content) (s : ℕ) (bytes : List ℕ) → saved_in journal.saved s ≡ Some bytes → is_saved journal s ≡ true
 is_saved-some journal s bytes is = ap is_some is
 
@@ -32,18 +32,18 @@ saved_room journal is = search (arith, is_chip_size-in_blocks, saved_few)
 
 -- ---- how many
 
--- whether one of these records has the sector
+-- true if one of these records has the sector
 abbrev has_record : List SavedSector → ℕ → Bool
 has_record saved s = is_some (saved_in saved s)
 
--- no record has a sector below the least one
+-- no record has a sector below the least number that the first record may have
 not_below : (sectors least : ℕ) (saved : List SavedSector) (s : ℕ) → AreRising sectors least saved → s < least → has_record saved s ≡ false
 unfolding saved_in
 not_below sectors least [] s rising below = refl
 not_below sectors least (first ∷ rest) s rising below =
     rw (ne_eqb first.number s (λ e. omega arith)) (not_below sectors (first.number + 1) rest s rising.2 (omega arith))
 
--- with one more record, its sector is saved too
+-- with one more record, one more sector is saved
 one_more : (first : SavedSector) (rest : List SavedSector) (s : ℕ) → has_record (first ∷ rest) s ≡ ((s == first.number) || has_record rest s)
 unfolding saved_in
 one_more first rest s = grind (arith, nat_tests)

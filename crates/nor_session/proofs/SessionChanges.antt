@@ -1,4 +1,4 @@
--- The changes of a session can be made; the meaning of their errors.
+-- The changes of a session can be made on a modelled bus; and the meaning of their errors.
 use Rattle.std.proofs.Common.{◌≡◌, ◌≢◌, ◌<◌, ◌≤◌, ◌/◌, ◌∙◌, ℕ, Bool, true, false, List, ap, sym, refl, arith, bit_and}
 use Rattle.nor_probe.specs.Known.{shown_as}
 use Rattle.nor_probe.specs.Found.{part_in}
@@ -39,7 +39,7 @@ use Rattle.nor_session.proofs.RestoredBytes.{unraised_byte}
 use Rattle.nor_session.proofs.Ready.{Ready, changes_of, lifts_none, ran_out_ready, scanned_few}
 use Rattle.nor_session.proofs.ReadyChip.{most_sized}
 
--- All that is known about a genuine chip whose touched sectors are saved.
+-- All that is known about the chip on a modelled bus after its touched sectors are saved.
 pub record ReadyChip (request : Request) (image image' : List ℕ) (opening : Opening) (code : ℕ) (kept : SavedScan) (old mid : BusState) : Type 0 where
   pub honest : old.honest ≡ true
   pub is : IsOpening old.chip opening
@@ -74,7 +74,7 @@ scheme_needed _ unlock code touched chip scheme need = held_scheme touched chip 
 module _ (request : Request) (image image' : List ℕ) (opening : Opening) (status : Status) (code : ℕ)
     (kept : SavedScan) (old mid : BusState) (is : Ready request opening status code kept old mid)
     (of : ReadyChip request image image' opening code kept old mid) where
-  -- the reason for a status write
+  -- if the changes write the status, the request needs a status write
   pub needs : (kept.unlock || writes_code (changes_of opening kept status code)) ≡ true
       → NeedsStatus request.what request.unlock code (is_touched old.chip.bytes (wanted request image old.chip)) old.chip
   needs writes =
@@ -84,7 +84,7 @@ module _ (request : Request) (image image' : List ℕ) (opening : Opening) (stat
       (lifts_none is) (λ about_bytes. is.same_code about_bytes ∙ chip)
       (λ off same. writes_other (changes_of opening kept status code) off writes (read ∙ chip ∙ sym same))
 
-  -- no status write is done if none is needed
+  -- if the request needs no status write, the changes write no status
   pub never_written : ¬ NeedsStatusWrite request image old.chip
       → status_writes (changes_of opening kept status code) ≤ 0
   never_written none =

@@ -1,4 +1,4 @@
--- The state that a session leaves after the seal, and at its end.
+-- The state that a session leaves after the seal, and after success.
 use Rattle.std.proofs.Common.{subst, ◌≡◌, ◌<◌, ◌+◌, ◌/◌, ◌∙◌, ℕ, Bool, true, List, ap, sym, arith}
 use mathlib.Core.Path.{fun_ext}
 use Rattle.std.specs.Prelude.{slice_index}
@@ -62,7 +62,7 @@ module _ (request : Request) (image image' : List ℕ) (opening : Opening) (stat
       record {
         accepted = of.scan.accepted;
         journal = chip.journal;
-        -- the changes lead from the original chip to the target
+        -- `MayChange` holds from the original chip to the target
         changes = change_then is.looked.nature.steady (same_change unchanged.same of.idle unchanged.worn)
             (change_as (λ s hit. sym (of.touched s) ∙ hit) (λ s hit. sym (of.raised s) ∙ hit)
             (λ a plain hit. of.merged a hit) (leaves.reached honest can));
@@ -116,7 +116,7 @@ module _ (request : Request) (image image' : List ℕ) (opening : Opening) (stat
             does.still (omega arith) ∙ is.looked.same_sent;
       }
 
-  -- the check compared each touched sector with the wanted bytes, and an honest bus read the chip's own
+  -- after a check on a well-behaved bus the touched sectors have the target bytes: they were read back and compared
   pub session_checked : (opened new : BusState) (work : Work) → Looks most_opening old opened
       → Opens request.named old opened opening → Scans request opening.found.size image image' opened mid kept.scanned
       → Ready request opening status code kept old mid
@@ -150,7 +150,7 @@ module _ (request : Request) (image image' : List ℕ) (opening : Opening) (stat
       let read = does.checked verifies (is.looked.nature.honest ∙ honest) can a marked in
       read ∙ wanted_byte ∙ sym (ap (λ (n : ℕ). wanted_at request image n old.chip.bytes a) sized)
 
-  -- if the request needs no status write, there is none
+  -- if the request needs no status write, the bound on the report's transactions includes none
   pub spared : (new : BusState) (aim : ℕ → ℕ) (verify : Bool) (work : Work) (sent : ℕ) → sent ≡ kept.scanned.reads
       → Ready request opening status code kept old mid → ReadyChip request image image' opening code kept old mid
       → ¬ NeedsStatusWrite request image old.chip

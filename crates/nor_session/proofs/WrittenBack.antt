@@ -1,4 +1,4 @@
--- A journal can restore its chip from files at each moment at which they are overwritten.
+-- A journal can restore its chip from files that are being overwritten, at each moment.
 use Rattle.std.proofs.Common.{ap, arith, ◌/◌, ◌%◌, false, ◌≡◌, ◌∙◌, ◌⊎◌, ℕ, Bool, List, [], true, refl, sym, inl, inr}
 use Rattle.std.proofs.lemmas.List.{append-nil}
 use Rattle.nor_chip.specs.Bus.{BusState}
@@ -28,8 +28,8 @@ pub either : (P : ℕ → Type 0) (x y z : ℕ) → (z ≡ x) ⊎ (z ≡ y) → 
 either P x y z (inl is) one two = rw is one
 either P x y z (inr is) one two = rw is two
 
--- if both chips have the same non-volatile bits, so has the chip that was opened; the same holds for the bits that are
--- never changed
+-- if both chips have the same non-volatile bits, the chip that was opened has them too (`kept_over`); the same holds
+-- for the bits that are never changed
 kept_over : {old new opened : Chip} (first : KeptBits) → IsWrittenOver old new opened → old.kept ≡ first
     → new.kept ≡ first → opened.kept ≡ first
 kept_over {old} {new} {opened} first over before after =
@@ -85,7 +85,7 @@ read_back request image old new vault journal modelled is telling undone sound r
     (leads_back request image old new vault is modelled.genuine telling undone)
     (read_kept (head_of old.chip) old.chip.bytes _ journal vault.bytes (undone.journal telling) sound read)
 
--- the bus, with its chip idle
+-- the same bus with an idle chip
 abbrev idle : BusState → BusState
 idle state = record state { chip = record state.chip { busy = 0 } }
 

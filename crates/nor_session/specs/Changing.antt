@@ -1,4 +1,4 @@
--- The state that the changes of a session or restore leave, and the check of their result.
+-- The effect of the changes of a session or restore, and of the check of their result.
 use Rattle.std.specs.Prelude.{◌≡◌, ◌≤◌, ◌+◌, ◌*◌, ◌/◌, ◌⊎◌, ℕ, Bool, true, if◌then◌else◌, ⊤}
 use Rattle.nor_chip.specs.Chip.{Chip}
 use Rattle.nor_chip.specs.Bus.{BusState}
@@ -23,7 +23,7 @@ use Rattle.nor_call.specs.declared.refusal.Refusal.TheVariants.{Stopped, Timeout
 abbrev pub touched_count : Changes → ℕ
 touched_count changes = sector_count (touched_in changes)
 
--- The most transactions: those of the changes, and one more reading of each touched sector.
+-- the most transactions of the changes and their check: those of the changes, and one more read of each touched sector
 abbrev pub most_changed : Changes → ℕ
 most_changed changes = most_applied (touched_count changes) + touched_count changes
 
@@ -33,9 +33,9 @@ read_back changes verify = if verify then touched_count changes else 0
 
 -- ---- the check, after all is written
 
--- At the end. The touched sectors were read if `verify` is set, and the work counts these readings. Nothing changed,
--- and no modifying command was sent. On an honest bus, if the chip can be checked (`CanCheck`), each byte that was read
--- is the target's.
+-- Holds after the check succeeded. The touched sectors were read if `verify` is set, and the work counts these reads.
+-- No modifying command was sent. On a well-behaved bus contents and non-volatile status bits are as before, and if the
+-- chip can be checked (`CanCheck`), each byte that was read is the target's.
 pub record DoesCheck (changes : Changes) (wanted : ℕ → ℕ) (verify : Bool) (written : Work) (old new : BusState)
     (work : Work) : Type 0 where
   pub erases : work.erases ≡ written.erases
@@ -48,8 +48,9 @@ pub record DoesCheck (changes : Changes) (wanted : ℕ → ℕ) (verify : Bool) 
   pub same : verify ≡ true → old.honest ≡ true → CanCheck (touched_in changes) old.chip
       → (a : ℕ) → touched_in changes (a / 4096) ≡ true → old.chip.bytes a ≡ wanted a
 
--- The reason why the check failed: the bus stopped, with fewer transactions left than touched sectors, or this is the
--- first difference.
+-- Holds if the check may fail with this error. `Stopped`, on a well-behaved bus: fewer transactions were left than
+-- there are touched sectors. `Mismatch`, on a well-behaved bus and if the chip can be checked: its address is the first
+-- difference.
 abbrev pub CheckRefuses : Changes → (ℕ → ℕ) → (old new : BusState) → Refusal → Type 0
 CheckRefuses changes wanted old new Stopped = RanOutIfHonest (touched_count changes) old new
 CheckRefuses changes wanted old new (Mismatch address) =
@@ -59,20 +60,23 @@ CheckRefuses changes wanted old new _ = ⊥
 
 -- ---- the changes and their check
 
--- Each byte of these sectors is the target one.
+-- Holds if each byte of these sectors is the target one.
 abbrev pub HasBytes : (sectors : ℕ → Bool) → (wanted : ℕ → ℕ) → Chip → Type 0
 HasBytes sectors wanted chip = (a : ℕ) → sectors (a / 4096) ≡ true → chip.bytes a ≡ wanted a
 
--- At every exit. On every bus no more is sent than the changes may send. Only touched sectors are targeted, or sectors
--- past the end of a chip that is touched as a whole. The status is written only as the changes ask.
+-- Holds at every exit of the changes and their check. On every bus only touched sectors are targeted, or sectors past
+-- the end of a chip that is touched as a whole, and the status is written only as the changes ask. On a well-behaved
+-- bus the number of transactions is bounded, and if `CanApply` held at the start, the chip changes only as `MayChange`
+-- allows.
 pub record LeavesChange (changes : Changes) (wanted : ℕ → ℕ) (old new : BusState) : Type 0 where
   pub spends : Spends (most_changed changes) old new
   pub sends : SendsWithin (most_sent changes) old new
   pub reached : old.honest ≡ true → CanApply changes wanted old.chip
       → MayChange (touched_in changes) (raised_in changes) wanted old new
 
--- At the end, with what the work counts. If there is nothing to change, no modifying command was sent. If `verify` is
--- set, each touched byte of an honest bus's chip is the wanted one, whatever the chip does with commands.
+-- Holds after the changes and their check succeeded, with the counts of `work`. If there was nothing to change, no
+-- modifying command was sent. If `verify` is set, and a well-behaved bus has an idle chip with the touched sectors
+-- (`CanCheck`), each touched byte is the target one, even if the chip ignored commands.
 pub record DoesChange (changes : Changes) (wanted : ℕ → ℕ) (verify : Bool) (old new : BusState)
     (work : Work) : Type 0 where
   pub erases : work.erases ≡ fewest_erases changes.kinds (changes.size / 4096) (raised_in changes)
@@ -93,16 +97,17 @@ pub record DoesChange (changes : Changes) (wanted : ℕ → ℕ) (verify : Bool)
   pub checked : verify ≡ true → old.honest ≡ true → CanCheck (touched_in changes) old.chip
       → HasBytes (touched_in changes) wanted new.chip
 
--- Why the changes weren't finished: the bus stopped, with fewer transactions left than they may need; or a faulty bus
--- kept the chip busy, or showed other bytes than were written.
+-- Holds if the changes and their check may fail with this error. On a well-behaved bus `Stopped` means that fewer
+-- transactions were left than they may need, `Timeout` does not occur, and `Mismatch` does not occur if `CanApply` held
+-- at the start.
 abbrev pub ChangeTells : Changes → (ℕ → ℕ) → (old new : BusState) → Refusal → Type 0
 ChangeTells changes wanted old new Stopped = old.honest ≡ true → RanOut (most_changed changes) old new
 ChangeTells changes wanted old new (Timeout address) = old.honest ≡ true → ⊥
 ChangeTells changes wanted old new (Mismatch address) = old.honest ≡ true → CanApply changes wanted old.chip → ⊥
 ChangeTells changes wanted old new _ = ⊥
 
--- On every bus a timeout names an address in a touched sector, or 0 if the status is written; and a mismatch names an
--- address in a touched sector.
+-- Holds on every bus: a timeout names an address in a touched sector, or 0 if the status is written; a mismatch names
+-- an address in a touched sector.
 abbrev pub NamesTouchedSector : Changes → Refusal → Type 0
 NamesTouchedSector changes (Timeout address) =
     ((1 ≤ status_writes changes) × (address ≡ 0)) ⊎ (touched_in changes (address / 4096) ≡ true)

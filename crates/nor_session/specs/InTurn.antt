@@ -1,4 +1,4 @@
--- Sessions and restores that follow one another, and losses of power between them.
+-- Sessions and restores that follow one another, and power failures of the chip between them.
 use Rattle.std.specs.Prelude.{◌≡◌, ◌⊎◌, ℕ, true, false, List}
 use Rattle.nor_chip.specs.Chip.{IsChip, IsSame}
 use Rattle.nor_chip.specs.Power.{PowerLost}
@@ -12,8 +12,8 @@ use Rattle.nor_session.specs.Session.{CanBeUndone}
 use Rattle.nor_session.specs.Restore.{NeedsStatusFrom}
 use Rattle.nor_session.specs.WrittenOver.{IsWrittenOver}
 
--- A session on a modelled bus left this journal of its original chip: its vault, which is faithful, was sealed and
--- holds the journal. The session ended, or was stopped anywhere after the seal.
+-- Holds if a session on a modelled bus left this journal of its original chip: its vault, which is faithful, was sealed
+-- and holds the journal. The session ended, or was stopped anywhere after the seal.
 pub record LeavesJournal (request : Request) (image : List ℕ) (old new : BusState) (journal : Content) : Type 0 where
   pub modelled : IsModelled old
   pub is : IsChip old.chip
@@ -23,25 +23,24 @@ pub record LeavesJournal (request : Request) (image : List ℕ) (old new : BusSt
   pub whole : IsContent journal
   pub same : vault.bytes ≡ text journal
 
--- The chip lost its power between two runs. A chip that was busy is covered only if its bus isn't steady: only then is
--- the operation in progress known (`runs` in `IsWithin`).
+-- Holds if the chip lost its power between two runs. A chip that was busy is covered only if its bus isn't steady: only
+-- then is the operation in progress known (`runs` in `IsWithin`).
 pub record LosesPower (old new : BusState) : Type 0 where
   pub known : (old.steady ≡ false) ⊎ (old.chip.busy ≡ 0)
   pub lost : PowerLost old.chip new.chip
 
--- Between two runs the chip keeps its bytes and non-volatile status bits, even if an operation is in progress, or it
--- loses its power.
+-- Holds if, between two runs, the chip kept its bytes and non-volatile status bits, or lost its power.
 abbrev pub MayLosePower : (old new : BusState) → Type 0
 MayLosePower old new = IsSame old.chip new.chip ⊎ LosesPower old new
 
--- The bus on which a run starts (`taken`), after a run that started on `old` and left `new`. Its chip is the one that
--- was left and may have lost its power since, or it was opened from files that were being overwritten with the chip
--- that was left.
+-- Holds for the bus on which a run starts (`taken`), after a run that started on `old` and left `new`. Its chip is the
+-- one that was left and may have lost its power since, or it was opened from files that were being overwritten with the
+-- chip that was left.
 abbrev pub IsTakenUp : (old new taken : BusState) → Type 0
 IsTakenUp old new taken = MayLosePower new taken ⊎ IsWrittenOver old.chip new.chip taken.chip
 
--- A restore changed nothing: no modifying command was sent, no sector was touched, erased or programmed, and no status
--- write was needed.
+-- Holds if a restore changed nothing: it sent no modifying command, no sector was touched, erased or programmed, and no
+-- status write was needed.
 pub record ChangesNothing (journal : Content) (old new : BusState) (report : Report) : Type 0 where
   pub still : new.sent ≡ old.sent
   pub touched : report.touched ≡ 0

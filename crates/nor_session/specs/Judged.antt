@@ -19,8 +19,8 @@ use Rattle.nor_save.specs.Verdict.{IsNamed, OpeningAccepts}
 use Rattle.nor_probe.specs.Known.{IsModelled}
 use Rattle.nor_session.specs.Session.{SessionAlways, SessionHonest, SessionModelled}
 
--- The identification found a chip type, and the checks accepted the request for an image of this length, with these
--- target protection bits.
+-- Holds if the identification found a chip type, and the checks accepted the request for an image of this length, with
+-- these target protection bits.
 pub record IsJudged (request : Request) (image : ℕ) (opening : Opening) (code : ℕ) : Type 0 where
   pub part : IsPart opening.found
   pub few : opening.transactions ≤ most_opening
@@ -31,12 +31,13 @@ pub record IsJudged (request : Request) (image : ℕ) (opening : Opening) (code 
   pub accepts : (chip : Chip) (bytes : List ℕ) → IsOpening chip opening → IsNamed request.named chip.config
       → length bytes ≡ image → OpeningAccepts request bytes chip code
 
--- this holds for every state of the bus from which the identification led to the present one
+-- Holds if the promise is true for every state of the bus from which an identification with this result led to the
+-- state `now`.
 abbrev pub SinceOpening : Option ChipName → Opening → BusState → (BusState → Type 0) → Type 0
 SinceOpening named opening now promise =
     (first : BusState) → Looks most_opening first now → Opens named first now opening → promise first
 
--- All that a session promises, from one state of the bus to another.
+-- All promises of a session, from one state of the bus to another.
 pub record KeepsPromise (request : Request) (image : List ℕ) (old new : BusState) (vault vault' : VaultState)
     (result : Result Report Refusal) : Type 0 where
   pub always : SessionAlways request old new vault vault' result

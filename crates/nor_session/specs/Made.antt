@@ -1,4 +1,4 @@
--- The chip after a session or a restore that ended, and the counts of the report.
+-- The chip after a session or restore that succeeded, and the counts of its report.
 use Rattle.std.specs.Prelude.{◌≡◌, ◌/◌, ◌||◌, ℕ, true, Ok}
 use Rattle.nor_chip.specs.declared.config.Config.{Config}
 use Rattle.nor_chip.specs.Chip.{Chip, status1_of}
@@ -12,18 +12,18 @@ use Rattle.nor_count.specs.Counts.{sector_count}
 use Rattle.nor_plan.specs.Content.{is_touched, is_raised, once_erased, is_programmed}
 use Rattle.nor_call.specs.declared.report.Report.{Report}
 
--- This number of erases is the least possible: some list of that length erases exactly the raised sectors of the chip,
--- and no shorter list does.
+-- Holds if this number of erases is the least possible: some list of that length erases exactly the raised sectors of
+-- the chip, and no shorter list does.
 abbrev pub AreFewestErases : Config → (old wanted : ℕ → ℕ) → (erases : ℕ) → Type 0
 AreFewestErases config old wanted erases = IsLeastLength config.kinds (config.size / 4096) (is_raised old wanted) erases
 
--- how many pages of touched sectors must be programmed after the raised sectors were erased
+-- the number of pages of touched sectors that must be programmed after the raised sectors were erased
 abbrev pub pages_of : (old wanted : ℕ → ℕ) → ℕ
 pages_of old wanted =
     count_below 65536 (is_programmed (is_touched old wanted) (once_erased (is_raised old wanted) old) wanted)
 
--- The chip holds the target bytes, the status bits that flashnor never changes are as they were, and the chip is idle.
--- Its latch is set only if it was set before.
+-- Holds if the chip has the target bytes, the status bits that flashnor never changes are as they were, and the chip is
+-- idle. The write enable latch is set only if it was set before.
 pub record IsMade (wanted : ℕ → ℕ) (old new : Chip) : Type 0 where
   pub config : new.config ≡ old.config
   pub bytes : (a : ℕ) → new.bytes a ≡ wanted a
@@ -31,8 +31,9 @@ pub record IsMade (wanted : ℕ → ℕ) (old new : Chip) : Type 0 where
   pub idle : new.busy ≡ 0
   pub latch : new.latch ≡ true → old.latch ≡ true
 
--- Only the raised sectors were erased. The report names the chip that was found and its status 1, and counts the
--- touched sectors, the erases (the least possible number) and the programs.
+-- Holds if only the raised sectors were erased, and the report is right. It has what the chip's replies show, and its
+-- status 1, of which BUSY and WEL are known only if the chip was idle. It counts the touched sectors, the erases (the
+-- least possible number) and the programs.
 pub record IsReported (wanted : ℕ → ℕ) (old new : BusState) (report : Report) : Type 0 where
   pub worn : (s : ℕ) → new.worn s ≡ (old.worn s || is_raised old.chip.bytes wanted s)
   pub shown : shown_as old.chip.config ≡ Ok (part_in report.found)

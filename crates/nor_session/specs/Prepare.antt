@@ -36,14 +36,14 @@ use Rattle.nor_session.specs.Restore.{IsOfOtherUnit, FitsStatus, NeedsStatusFrom
 
 -- ---- the checks, in the order of the code
 
--- The chip is known, and the journal fits it.
+-- Holds if the chip is known, and the journal fits it.
 pub record Fits (journal : Content) (chip : Chip) : Type 0 where
   pub named : IsNamed None chip.config
   pub kind : IsOfKind journal chip.config
   pub unit : ¬ IsOfOtherUnit journal chip.config
   pub fixed : FitsStatus journal chip
 
--- an error that is checked, and what was checked before it
+-- Holds if a check of a restore fails with this error, and the checks before it, in the order of the code, passed.
 abbrev pub RestoreJudges : Content → Chip → Refusal → Type 0
 RestoreJudges journal chip NoChip = shown_as chip.config ≡ Err Probes.NoChip
 RestoreJudges journal chip (UnknownChip fault) = shown_as chip.config ≡ Err (Probes.UnknownChip fault)
@@ -57,56 +57,60 @@ RestoreJudges journal chip StatusLocked =
     Fits journal chip × (is_locked chip.kept ≡ true) × NeedsStatusFrom journal chip
 RestoreJudges journal chip _ = ⊥
 
--- All checks passed.
+-- Holds if all checks of a restore pass.
 pub record RestoreAccepts (journal : Content) (chip : Chip) : Type 0 where
   pub fits : Fits journal chip
   pub not_locked : is_locked chip.kept ≡ true → ¬ NeedsStatusFrom journal chip
 
 -- ---- the identification
 
--- the chip that was found has the journal's ID and size
+-- Holds if the chip that was found has the journal's ID and size.
 pub record IsOfKindFound (journal : Content) (found : Found) : Type 0 where
   pub id : journal.id ≡ found.id
   pub size : journal.size ≡ found.size
 
--- the status bits that flashnor never changes were read as the journal has them
+-- Holds if the status bits that flashnor never changes were read as the journal has them.
 abbrev pub HasFixedRead : Content → Opening → Type 0
 HasFixedRead journal opening = fixed_of (kept_in (status_read opening)) ≡ fixed_of (kept_in journal.status)
 
--- the errors that are checked by the unique ID and by the status
+-- Holds for the errors of the checks of the unique ID (20) and of the status bits that a restore can't write (17).
 abbrev pub IsUnitRefusal : Refusal → Type 0
 IsUnitRefusal OtherUnit = ⊤
 IsUnitRefusal StatusDiffers = ⊤
 IsUnitRefusal _ = ⊥
 
--- the identification of a chip that the journal fits
+-- Holds if the journal fits each chip with this identification.
 abbrev pub FitsOpening : Content → Opening → Type 0
 FitsOpening journal opening = (chip : Chip) → chip.kept.two < 128 → IsOpening chip opening → Fits journal chip
 
--- Whether the status bits that flashnor never changes are the journal's, on each chip that the identification may have
--- found.
+-- Holds if `shown` says correctly, for each chip with this identification, whether the status bits that a restore can't
+-- write are the journal's.
 abbrev pub ShowsFixed : Content → Opening → Bool → Type 0
 ShowsFixed journal opening shown = (chip : Chip) → chip.kept.two < 128 → IsOpening chip opening
     → MatchBool shown (FitsStatus journal chip) (¬ FitsStatus journal chip)
 
--- if the device is accepted, the journal fits each chip of this identification that has its ID and size
+-- Holds if acceptance is right: if the check accepts the unique ID and status bits, the journal fits each chip that has
+-- this identification and the journal's ID and size.
 abbrev pub AcceptsUnit : Content → Opening → Result Unit Refusal → Type 0
 AcceptsUnit journal opening judged = (chip : Chip) → chip.kept.two < 128 → IsOpening chip opening
     → IsOfKind journal chip.config → OnOk judged (Fits journal chip)
 
--- if the device is refused, the earlier checks passed
+-- Holds if a refusal is right. If the check refuses the unique ID or status bits, its error is that of the first failed
+-- check, for each chip that has this identification and the journal's ID and size.
 abbrev pub RefusesUnit : Content → Opening → Result Unit Refusal → Type 0
 RefusesUnit journal opening judged = (chip : Chip) → chip.kept.two < 128 → IsOpening chip opening
     → IsOfKind journal chip.config → IfErr judged (RestoreJudges journal chip)
 
--- An error that was checked: nothing changed, and on a modelled bus the error holds for the chip.
+-- Holds for the error of a failed check. On a well-behaved bus contents and non-volatile status bits are as they were,
+-- and on a modelled bus the error is that of the first failed check.
 pub record IsRefusedFor (journal : Content) (old new : BusState) (refusal : Refusal) : Type 0 where
   pub judged : IsJudgedFirst refusal
   pub same : old.honest ≡ true → IsSame old.chip new.chip
   pub verdict : IsModelled old → RestoreJudges journal old.chip refusal
 
--- The meaning of an error before the first change: the bus stopped, with fewer than `most` transactions left; a faulty
--- bus stayed busy, and the timeout names address 0; or a check failed.
+-- The meaning of an error before the first change. After a stop on a well-behaved bus, fewer than `most` transactions
+-- were left. A timeout names address 0, and does not occur on a well-behaved bus. Any other error is that of a failed
+-- check.
 abbrev pub PrepareTells : Content → ℕ → (old new : BusState) → Refusal → Type 0
 PrepareTells journal most old new Stopped = RanOutIfHonest most old new
 PrepareTells journal most old new (Timeout address) = (address ≡ 0) × (old.honest ≡ true → ⊥)
@@ -114,7 +118,7 @@ PrepareTells journal most old new refusal = IsRefusedFor journal old new refusal
 
 -- ---- the scan
 
--- A sector was read, and its plan says what is needed to turn it into the saved sector.
+-- Holds after a sector was read; its plan says what is needed to turn it into the saved sector.
 pub record PlansSaved (sector : ℕ) (saved bytes : List ℕ) (old new : BusState) (plan : SectorPlan) : Type 0 where
   pub small : (k : ℕ) → slice_index saved k < 256
   pub read : ReadsSector sector old new bytes
@@ -124,7 +128,8 @@ pub record PlansSaved (sector : ℕ) (saved bytes : List ℕ) (old new : BusStat
   pub planned : (content wanted : ℕ → ℕ) → AreBytesOf content bytes → AreBytesOf wanted saved
       → IsPlan content wanted 4096 plan
 
--- Each saved sector was read once and marked: touched if a byte differs from the saved one, raised if a bit must rise.
+-- Holds after each saved sector was read once. Its marks are right on a well-behaved bus with an idle chip of the
+-- journal's size: touched if a byte differs from the saved one, raised if a bit must go from 0 to 1.
 pub record ScansSaved (journal : Content) (old new : BusState) (scanned : Scanned) : Type 0 where
   pub marks : AreMarks (journal.size / 4096) scanned
   pub saved : (s : ℕ) → has scanned.touched s ≡ true → is_saved journal s ≡ true
@@ -142,7 +147,7 @@ pub record ScansSaved (journal : Content) (old new : BusState) (scanned : Scanne
 
 -- ---- the changes
 
--- The changes are those that the scan found, to the journal's protection bits.
+-- Holds if the changes are those that the scan found, with the journal's protection bits as the target.
 pub record AreChanges (journal : Content) (opening : Opening) (scanned : Scanned) (changes : Changes) : Type 0 where
   pub touched : changes.touched ≡ scanned.touched
   pub raised : changes.raised ≡ scanned.raised
@@ -153,35 +158,37 @@ pub record AreChanges (journal : Content) (opening : Opening) (scanned : Scanned
   pub code : changes.code ≡ code_of (kept_in journal.status)
   pub six_bits : changes.code < 64
 
--- a status write is needed if these sectors are touched
+-- Holds if a status write is needed when these sectors are touched: the protection bits differ from the journal's, or a
+-- touched sector is protected.
 abbrev pub NeedsStatusWith : Content → (touched : ℕ → Bool) → Chip → Type 0
 NeedsStatusWith journal touched chip = (code_of chip.kept ≢ code_of (kept_in journal.status)) ⊎ SomeHeld touched chip
 
--- Protection is lifted if and only if a touched sector is protected, and a locked status isn't written.
+-- Holds if protection is lifted exactly when a touched sector is protected, and a locked status isn't written.
 pub record MayChangeStatus (journal : Content) (touched : ℕ → Bool) (chip : Chip) (changes : Changes) : Type 0 where
   pub lifts : changes.unlock ≡ true → SomeHeld touched chip
   pub free : changes.unlock ≡ true ⊎ NoneHeld touched chip
   pub not_locked : is_locked chip.kept ≡ true → ¬ NeedsStatusWith journal touched chip
 
--- The status is locked, and would have to be written.
+-- Holds if the status is locked, and would have to be written.
 pub record IsShut (journal : Content) (touched : ℕ → Bool) (chip : Chip) : Type 0 where
   pub locked : is_locked chip.kept ≡ true
   pub needs : NeedsStatusWith journal touched chip
 
--- changes are made only if the status of each chip with this identification may be changed in this way
+-- Holds if changes are returned only when the status of each chip with this identification may be changed accordingly.
 abbrev pub MakesChanges : Content → Opening → (ℕ → Bool) → Result Changes Refusal → Type 0
 MakesChanges journal opening touched judged =
     (chip : Chip) → IsOpening chip opening → IfOk judged (MayChangeStatus journal touched chip)
 
--- they are refused only if the status is locked and must be written
+-- Holds if an error is returned only when the status of each chip with this identification is locked and must be
+-- written.
 abbrev pub RefusesShut : Content → Opening → (ℕ → Bool) → Result Changes Refusal → Type 0
 RefusesShut journal opening touched judged =
     (chip : Chip) → IsOpening chip opening → OnErr judged (IsShut journal touched chip)
 
 -- ---- the preparation as a whole
 
--- On a modelled bus: the chip may be restored, was identified as what its ID or SFDP says, and the changes that the
--- journal asks for can be made to it. They write the status only if that is needed.
+-- The result of the preparation on a modelled bus. The chip may be restored, was identified as what its ID or SFDP
+-- says, and the changes that the journal asks for can be made to it. They write the status only if that is needed.
 pub record IsPreparedFor (journal : Content) (old new : Chip) (prepared : Prepared) : Type 0 where
   pub accepted : RestoreAccepts journal old
   pub shown : shown_as old.config ≡ Ok (part_in prepared.found)

@@ -23,13 +23,15 @@ use Rattle.nor_save.specs.Verdict.{IsVerdict, IsAccepted}
 use Rattle.nor_session.specs.Session.{AnswersSession, NamesAddress, IsSavedCode, IsWrittenCode, most_status_writes, SendsSaved, WritesStatusAtMost}
 use Rattle.nor_session.specs.Restore.{IsRestoreRefusal}
 
--- The number of transactions that the session is allowed: the first stop or, without stops, the most that a session may
--- need on a chip of 16 MiB.
+-- the number of transactions that the session of a rehearsal is allowed: the first stop or, without stops, the most
+-- that a session may need on a chip of 16 MiB
 abbrev pub first_allowance : List ℕ → ℕ
 first_allowance [] = most_of 4096
 first_allowance (first ∷ later) = first
 
--- The report of a rehearsal with this many stops, on every bus. Without a stop the session ended.
+-- Describes the result of a rehearsal with this number of stops, on every bus. Restores were run if and only if the
+-- vault was sealed: at least one, and at most one per stop, or one without stops. The session ended only if the vault
+-- was sealed; without stops it ended.
 pub record IsRehearsal (stops : ℕ) (vault : VaultState) (rehearsal : Rehearsal) : Type 0 where
   pub seal : rehearsal.sealed ≡ vault.sealed
   pub ended : rehearsal.ended ≡ true → rehearsal.sealed ≡ true
@@ -38,95 +40,95 @@ pub record IsRehearsal (stops : ℕ) (vault : VaultState) (rehearsal : Rehearsal
   pub none : rehearsal.sealed ≡ false → rehearsal.restores ≡ 0
   pub whole : stops ≡ 0 → rehearsal.ended ≡ true
 
--- The fewest transactions of a session with this many erases: those of the identification and the scan, and three for
--- each erase and each program.
+-- the fewest transactions of a session with this number of erases: those of the identification and the scan, and three
+-- for each erase and each program
 abbrev pub least_needed : Request → (image : List ℕ) → Chip → (erases : ℕ) → ℕ
 least_needed request image chip erases =
     4 + scanned_sectors request chip.config.size + 3 * (erases + pages_of chip.bytes (wanted request image chip))
 
--- A session can end on this chip: it is accepted, and this many transactions may be enough, with the fewest erases.
+-- Holds if a session can end on this chip: its request is accepted, and the allowance is at least the fewest
+-- transactions that it needs.
 pub record CanEnd (request : Request) (image : List ℕ) (allowance : ℕ) (chip : Chip) : Type 0 where
   pub accepted : IsAccepted request image chip
   pub erases : ℕ
   pub fewest : AreFewestErases chip.config chip.bytes (wanted request image chip) erases
   pub enough : least_needed request image chip erases ≤ allowance
 
--- The relation between the first allowance and the vault's seal. If the vault was sealed, the allowance was enough for
--- the shortest identification and the scan. If the vault wasn't sealed, the allowance was less than the identification
+-- The relation between the first allowance and the vault's seal. If the vault is sealed, the allowance was enough for
+-- the shortest identification and the scan. If the vault isn't sealed, the allowance was less than the identification
 -- and the scan may need.
 pub record SealFits (request : Request) (allowance : ℕ) (chip : Chip) (seal : Bool) : Type 0 where
   pub enough : seal ≡ true → 4 + scanned_sectors request chip.config.size ≤ allowance
   pub below : seal ≡ false → allowance < most_looked (scanned_sectors request chip.config.size)
 
--- This many restores from a journal of this many sectors were run, with these stops in turn. Each one before the last
--- was stopped, so it was allowed fewer transactions than the bound. The last one ended, so its stop, if it had one,
--- allowed an identification and a scan.
+-- Holds if `restores` restores from a journal of `sectors` sectors were run, with these stops in turn. Each one before
+-- the last was stopped, so its stop was below the bound. The last one ended, so its stop, if it had one, was enough for
+-- an identification and a scan.
 pub record AreRestores (sectors : ℕ) (stops : List ℕ) (restores : ℕ) : Type 0 where
   pub stopped : (i : ℕ) → i + 1 < restores → slice_index stops i < most_of sectors
   pub ended : restores ≤ length stops → 4 + sectors ≤ slice_index stops (restores - 1)
 
--- If the last of these restores had a stop, that allowed an identification, a scan and the transactions that are left
--- now.
+-- Holds if the stop of the last restore, if it had one, was enough for an identification, a scan and the transactions
+-- that are left now.
 abbrev pub FitsLastStop : (sectors : ℕ) → (stops : List ℕ) → (left restores : ℕ) → Type 0
 FitsLastStop sectors stops left restores =
     restores ≤ length stops → left + (4 + sectors) ≤ slice_index stops (restores - 1)
 
--- After an error: bytes and non-volatile status bits are as they were, the latch is set only if it was set before, no
--- modifying command was sent, and the vault isn't sealed.
+-- Holds after an error on a modelled bus. Bytes and non-volatile status bits are as they were, and the write enable
+-- latch is set only if it was set before. No modifying command was sent, and the vault isn't sealed.
 pub record LeavesRefused (old new : BusState) (vault : VaultState) : Type 0 where
   pub same : IsSame old.chip new.chip
   pub latch : new.chip.latch ≡ true → old.chip.latch ≡ true
   pub still : new.sent ≡ old.sent
   pub unsealed : vault.sealed ≡ false
 
--- on every bus an error is one of the session's, or after the seal one of a restore's
+-- Holds on every bus for the errors of a rehearsal: those of its session, and after the seal those of a restore.
 abbrev pub IsRehearsalRefusal : (old new : VaultState) → Refusal → Type 0
 IsRehearsalRefusal old new refusal = AnswersSession old new refusal ⊎ ((new.sealed ≡ true) × IsRestoreRefusal refusal)
 
--- the error is neither 12 (the bus stopped) nor 13 (the chip stayed busy)
+-- Holds if the error is neither 12 (the bus stopped) nor 13 (the chip stayed busy).
 abbrev pub IsNoHalt : Refusal → Type 0
 IsNoHalt refusal = list_any (λ n. number_of refusal == n) (12 ∷ 13 ∷ []) ≡ false
 
--- The error is the verdict on the session's request, or the vault failed.
+-- Holds if the error is the verdict on the session's request, or the vault failed.
 abbrev pub RehearsalTells : Request → List ℕ → Chip → (old new : VaultState) → Refusal → Type 0
 RehearsalTells request image chip old new Vault = Rose old new
 RehearsalTells request image chip old new refusal = IsVerdict request image chip refusal
 
--- the protection bits that its session may write, or its restores
+-- Holds if the session of a rehearsal, or one of its restores, may write these protection bits.
 abbrev pub IsRehearsedCode : What → Content → (code : ℕ) → Type 0
 IsRehearsedCode what journal code = IsWrittenCode what journal code ⊎ IsSavedCode journal code
 
 -- ---- the promises of a rehearsal
 
--- On every bus.
+-- The promises of a rehearsal on every bus.
 pub record RehearsalAlways (request : Request) (stops : List ℕ) (old new : BusState) (vault vault' : VaultState)
     (result : Result Rehearsal Refusal) : Type 0 where
-  -- the bus stays as honest and as steady as it was
+  -- whether the bus is well-behaved, steady and unlimited is as before
   pub nature : KeepsNature old new
-  -- the result fits the vault and the stops
+  -- a successful result fits the vault and the stops
   pub counts : IfOk result (IsRehearsal (length stops) vault')
   -- an error is one of the session's, or after the seal one of a restore's
   pub answers : IfErr result (IsRehearsalRefusal vault vault')
   -- an error names an address in a sector that the journal saves, or 0
   pub names : IfErr result (NamesAddress vault')
-  -- if the vault was sealed, the rehearsal ends only if the last poll showed that the chip is ready
+  -- if the vault was sealed, the rehearsal succeeds only if the last poll showed that the chip is ready
   pub heard : IfOk result (λ rehearsal. rehearsal.sealed ≡ true → new.heard ≡ true)
   -- if the vault isn't sealed, no modifying command was sent
   pub still : vault'.sealed ≡ false → new.sent ≡ old.sent
-  -- after the seal its journal saves the sectors that the session and the restores targeted, and the status bits that
-  -- were written and are not protection bits
+  -- after the seal, all that was sent fits the journal in the vault (`SendsSaved`)
   pub sends : vault'.sealed ≡ true → (journal : IsJournal vault'.bytes)
       × SendsSaved (IsRehearsedCode request.what journal.content) (1 + max 1 (length stops)) journal.content old new
   -- At every exit the status was written no more often than the request may need, and at most twice by each restore.
   -- The number of restores is at most the number of stops, or one without stops.
   pub writes : WritesStatusAtMost (most_status_writes request.what request.unlock + 2 * max 1 (length stops)) old new
 
--- On a modelled bus: an honest one whose chip is what its ID or SFDP says.
+-- The promises of a rehearsal on a modelled bus: a well-behaved one whose chip is what its ID or SFDP says.
 pub record RehearsalModelled (request : Request) (image stops : List ℕ) (old new : BusState) (vault vault' : VaultState)
     (result : Result Rehearsal Refusal) : Type 0 where
   -- the session and the restores erase only sectors that the session touches
   pub wears : (s : ℕ) → is_touched old.chip.bytes (wanted request image old.chip) s ≡ false → new.worn s ≡ old.worn s
-  -- after an error nothing has changed, and the vault isn't sealed
+  -- after an error bytes and non-volatile status bits are as they were, and the vault isn't sealed
   pub refuses : OnErr result (LeavesRefused old new vault')
   -- an error is the verdict on the session's request, or the vault failed
   pub tells : IfErr result (RehearsalTells request image old.chip vault vault')
@@ -136,20 +138,21 @@ pub record RehearsalModelled (request : Request) (image stops : List ℕ) (old n
   pub saves : vault'.sealed ≡ true
       → JournalSaves (head_of old.chip) old.chip.bytes
       (is_touched old.chip.bytes (wanted request image old.chip)) vault'.bytes
-  -- the session ends if its allowance is at least the bound of a session on a chip of this size
+  -- if the rehearsal succeeds, and its session was allowed at least the bound of a session on a chip of this size, the
+  -- session ended
   pub ended : most_of (old.chip.config.size / 4096) ≤ first_allowance stops
       → IfOk result (λ rehearsal. rehearsal.ended ≡ true)
-  -- the session ends only if its request is accepted and its allowance is at least the fewest transactions that the
+  -- the session ended only if its request is accepted, and its allowance is at least the fewest transactions that the
   -- request needs
   pub stopped : IfOk result (λ rehearsal. rehearsal.ended ≡ true
       → CanEnd request image (first_allowance stops) old.chip)
-  -- the first allowance says whether the vault is sealed
+  -- the first allowance and the vault's seal fit each other (`SealFits`)
   pub seal : IfOk result (λ rehearsal. SealFits request (first_allowance stops) old.chip rehearsal.sealed)
-  -- restores are run with the later stops, until one ends
+  -- the restores were run with the later stops, until one ended
   pub restores : IfOk result (λ rehearsal. rehearsal.sealed ≡ true
       → AreRestores (sector_count (is_touched old.chip.bytes (wanted request image old.chip))) (drop 1 stops)
       rehearsal.restores)
-  -- the last of them was allowed no more than its stop
+  -- the stop of the last restore, if it had one, was enough for the transactions that it sent and those that are left
   pub last : IfOk result (λ rehearsal. rehearsal.sealed ≡ true
       → FitsLastStop (sector_count (is_touched old.chip.bytes (wanted request image old.chip))) (drop 1 stops)
       new.left rehearsal.restores)

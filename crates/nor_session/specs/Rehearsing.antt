@@ -26,9 +26,10 @@ use Rattle.nor_session.specs.Rehearsal.{CanEnd, SealFits, AreRestores, FitsLastS
 
 -- ---- the session
 
--- These bytes can restore the original chip (`first`) on this bus. That chip is known. The bytes are its journal, which
--- saves exactly these sectors. All of them lie inside the chip, and none is protected if the status is locked. The
--- bus's chip differs from the original one only within these sectors.
+-- Holds if these bytes can restore the original chip (`first`) on this bus. That chip is known. The bytes are its
+-- journal, which saves exactly these sectors. All of them lie inside the chip, and none is protected if the status is
+-- locked. The bus's chip differs from the original one only in these sectors and in protection bits that can be
+-- written.
 pub record LeadsBack (saved : ℕ → Bool) (first : Chip) (text : List ℕ) (state : BusState) : Type 0 where
   pub is : IsChip first
   pub known : IsKnown first.config
@@ -53,7 +54,7 @@ pub record LeavesSession (request : Request) (image : List ℕ) (old new : BusSt
       × SendsSaved (IsWrittenCode request.what journal.content) 1 journal.content old new
   pub writes : WritesStatusAtMost (most_status_writes request.what request.unlock) old new
 
--- The target's non-volatile status bits: those from before, with the target's protection bits.
+-- Holds if the non-volatile status bits are the target's: those from before, with the target's protection bits.
 pub record HasWantedBits (what : What) (old new : Chip) : Type 0 where
   pub code : ℕ
   pub is_wanted : IsWantedCode what old code
@@ -71,7 +72,8 @@ pub record ShowsSession (request : Request) (image : List ℕ) (allowance : ℕ)
   pub below : IsModelled old → ended ≡ false → allowance < most_of (old.chip.config.size / 4096)
   pub seal : IsModelled old → SealFits request allowance old.chip vault.sealed
 
--- The session returned an error of sessions: the verdict, or that the vault failed; on an honest bus never a stop.
+-- Holds if the session returned this error: the verdict, or that the vault failed. On a well-behaved bus this is
+-- neither a stop nor a timeout.
 pub record RefusesSession (request : Request) (image : List ℕ) (old new : BusState) (before after : VaultState)
     (refusal : Refusal) : Type 0 where
   pub answers : AnswersSession before after refusal
@@ -82,9 +84,9 @@ pub record RefusesSession (request : Request) (image : List ℕ) (old new : BusS
 
 -- ---- the restores
 
--- At every exit of this many restores. On a modelled bus: the bus stays modelled, the journal can still restore each
--- chip that it could restore before, and only saved sectors were erased. On every bus: only saved sectors were
--- targeted, and each restore wrote the status at most twice.
+-- Holds at every exit of `restores` restores. On a modelled bus: the bus stays modelled, the journal can still restore
+-- each chip that it could restore before, and only saved sectors were erased. On every bus: only saved sectors were
+-- targeted, or sectors past the end of a chip saved whole, and each restore wrote the status at most twice.
 pub record LeavesRestores (journal : Content) (restores : ℕ) (old new : BusState) : Type 0 where
   pub nature : KeepsNature old new
   pub modelled : IsModelled old → IsModelled new
@@ -101,7 +103,8 @@ pub record ShowsRestore (journal : Content) (allowance : ℕ) (old new : BusStat
   pub none_left : old.honest ≡ true → ended ≡ false → new.left ≡ 0
   pub below : old.honest ≡ true → ended ≡ false → allowance < most_of (length journal.saved)
 
--- Restores in turn ended, and restored each chip that the journal could restore.
+-- Holds after one of several restores in turn ended. On a modelled bus it restored each chip that the journal could
+-- restore.
 pub record ShowsRestores (journal : Content) (stops : List ℕ) (old new : BusState) (restores : ℕ) : Type 0 where
   pub some : 1 ≤ restores
   pub most : restores ≤ length stops + 1
@@ -109,8 +112,9 @@ pub record ShowsRestores (journal : Content) (stops : List ℕ) (old new : BusSt
   pub last : IsModelled old → FitsLastStop (length journal.saved) stops new.left restores
   pub back : IsModelled old → (first : Chip) → CanGiveBack journal first old → IsSame first new.chip
 
--- A restore returned an error of restores: never for a chip that the journal can restore, and on an honest bus never a
--- stop, since a journal has no more sectors than the largest chip.
+-- Holds if a restore returned this error. On a modelled bus that never occurs for a chip that the journal can restore.
+-- On a well-behaved bus the error is neither a stop nor a timeout, since a journal has no more sectors than the largest
+-- chip.
 pub record StopsRestores (journal : Content) (old : BusState) (refusal : Refusal) : Type 0 where
   pub answers : IsRestoreRefusal refusal
   pub names : NamesSector (λ sector. is_saved journal sector ≡ true) refusal
@@ -119,7 +123,7 @@ pub record StopsRestores (journal : Content) (old : BusState) (refusal : Refusal
 
 -- ---- restores from bytes
 
--- The restores ended, and restored the chip that the bytes can restore.
+-- Holds after the restores ended. On a modelled bus they restored the chip that the bytes can restore.
 pub record Undoes (text : List ℕ) (stops : List ℕ) (old new : BusState) (restores : ℕ) : Type 0 where
   pub some : 1 ≤ restores
   pub most : restores ≤ length stops + 1
@@ -129,37 +133,37 @@ pub record Undoes (text : List ℕ) (stops : List ℕ) (old new : BusState) (res
   pub last : IsModelled old → (saved : ℕ → Bool) (first : Chip) → LeadsBack saved first text old
       → FitsLastStop (sector_count saved) stops new.left restores
 
--- at every exit only sectors were erased that the bytes save
+-- Holds if, on a modelled bus, only sectors that the bytes save were erased.
 abbrev pub WearsSaved : List ℕ → (old new : BusState) → Type 0
 WearsSaved text old new = IsModelled old → (saved : ℕ → Bool) (first : Chip) → LeadsBack saved first text old
     → (s : ℕ) → saved s ≡ false → new.worn s ≡ old.worn s
 
--- on every bus, if the bytes are a journal, it saves the sectors and the status bits of what this many restores sent
+-- Holds on every bus: if the bytes are a journal, all that this number of restores sent fits it (`SendsSaved`).
 abbrev pub SendsText : List ℕ → (restores : ℕ) → (old new : BusState) → Type 0
 SendsText text restores old new =
     (journal : IsJournal text) → SendsSaved (IsSavedCode journal.content) restores journal.content old new
 
--- The restores returned an error. If the bytes are a journal, it is an error of a restore. On an honest bus it is
--- neither a stop nor a timeout. If the bytes can restore the chip, no error is returned.
+-- Holds if the restores returned this error. If the bytes are a journal, it is an error of a restore. On a well-behaved
+-- bus it is neither a stop nor a timeout. If the bytes can restore the chip of a modelled bus, no error is returned.
 pub record RefusesUndo (text : List ℕ) (old : BusState) (refusal : Refusal) : Type 0 where
   pub answers : IsJournal text → IsRestoreRefusal refusal
   pub names : NamesSector (λ sector. SavesSector sector text) refusal
   pub halts : old.honest ≡ true → IsNoHalt refusal
   pub never : IsModelled old → (saved : ℕ → Bool) (first : Chip) → LeadsBack saved first text old → ⊥
 
--- The state that restores from these bytes, with these stops, leave.
+-- The effect of restores from these bytes with these stops, at every exit.
 pub record LeavesUndo (text stops : List ℕ) (old new : BusState) (result : Result ℕ Refusal) : Type 0 where
-  -- the bus stays as honest and as steady as it was
+  -- whether the bus is well-behaved, steady and unlimited is as before
   pub nature : KeepsNature old new
-  -- at every exit only sectors were erased that the bytes save
+  -- at every exit on a modelled bus, only sectors that the bytes save were erased
   pub wears : WearsSaved text old new
-  -- only sectors that the bytes save were targeted
+  -- if the bytes are a journal, all that was sent fits it (`SendsSaved`)
   pub sends : SendsText text (length stops + 1) old new
   -- each restore wrote the status at most twice, and at most one ran without a stop
   pub writes : WritesStatusAtMost (2 * (length stops + 1)) old new
-  -- if the restores ended, they restored the original chip
+  -- if the restores ended on a modelled bus, they restored the original chip
   pub undoes : IfOk result (Undoes text stops old new)
-  -- the restores end only if the last poll showed that the chip is ready
+  -- the restores succeed only if the last poll showed that the chip is ready
   pub heard : OnOk result (new.heard ≡ true)
-  -- the meaning of an error
+  -- an error means what `RefusesUndo` says
   pub refuses : IfErr result (RefusesUndo text old)

@@ -27,28 +27,28 @@ use Rattle.nor_session.specs.Session.{NamesSector, IsWithinBound, IsSavedCode, S
 
 -- ---- the target
 
--- the byte that a restore writes at an address: the saved one in a saved sector, elsewhere the one that is there
+-- the byte that a restore writes at an address: the saved one in a saved sector, elsewhere the present one
 abbrev pub restored : Content → (old : ℕ → ℕ) → (a : ℕ) → ℕ
 restored journal old a = if is_saved journal (a / 4096) then saved_byte journal a else old a
 
 -- ---- the verdict
 
--- The journal has the unique ID of another device. A journal of format 1 has no unique ID.
+-- Holds if the journal has the unique ID of another device. A journal of format 1 has no unique ID.
 abbrev pub IsOfOtherUnit : Content → Config → Type 0
 IsOfOtherUnit journal config = IsSomeAnd journal.unique (λ unique. unique ≢ unique_of config)
 
--- The status bits that a restore may not write agree: those that flashnor never changes, and without block protection
--- all non-volatile bits.
+-- Holds if the status bits that a restore may not write are the journal's: those that flashnor never changes, and
+-- without block protection all non-volatile bits.
 pub record FitsStatus (journal : Content) (chip : Chip) : Type 0 where
   pub fixed : fixed_of chip.kept ≡ fixed_of (kept_in journal.status)
   pub all : chip.config.scheme ≡ false → chip.kept ≡ kept_in journal.status
 
--- a status write is needed: the protection bits differ from the journal's, or a touched sector is protected
+-- Holds if a status write is needed: the protection bits differ from the journal's, or a touched sector is protected.
 abbrev pub NeedsStatusFrom : Content → Chip → Type 0
 NeedsStatusFrom journal chip = (code_of chip.kept ≢ code_of (kept_in journal.status))
     ⊎ SomeHeld (is_touched chip.bytes (restored journal chip.bytes)) chip
 
--- When each error holds for a journal and a chip, even if others hold too.
+-- Holds if the error applies to the journal and the chip, regardless of other errors.
 abbrev pub RestoreHolds : Content → Chip → Refusal → Type 0
 RestoreHolds journal chip NoChip = shown_as chip.config ≡ Err Probes.NoChip
 RestoreHolds journal chip (UnknownChip fault) = shown_as chip.config ≡ Err (Probes.UnknownChip fault)
@@ -58,54 +58,56 @@ RestoreHolds journal chip StatusDiffers = ¬ FitsStatus journal chip
 RestoreHolds journal chip StatusLocked = (is_locked chip.kept ≡ true) × NeedsStatusFrom journal chip
 RestoreHolds journal chip _ = ⊥
 
--- the numbers of these errors, in the order in which they are checked
+-- the numbers of the errors that a restore checks first, in the order in which it checks them
 abbrev pub judged_in_turn : List ℕ
 judged_in_turn = 1 ∷ 2 ∷ 16 ∷ 20 ∷ 17 ∷ 9 ∷ []
 
--- the error is one of those that a restore checks before it sends a modifying command
+-- Holds for the errors that a restore checks before it sends a modifying command.
 abbrev pub IsJudgedFirst : Refusal → Type 0
 IsJudgedFirst refusal = list_any (λ n. number_of refusal == n) judged_in_turn ≡ true
 
--- the number of elements of a list before this one
+-- the number of elements of a list before `n`
 abbrev pub place_in : List ℕ → ℕ → ℕ
 place_in [] n = 0
 place_in (first ∷ later) n = if first == n then 0 else 1 + place_in later n
 
--- The error is the verdict: it holds, and none that is checked before it does.
+-- Holds if the error is the verdict: it applies, and none that is checked before it does.
 pub record IsRestoreVerdict (journal : Content) (chip : Chip) (refusal : Refusal) : Type 0 where
   pub holds : RestoreHolds journal chip refusal
   pub first : (other : Refusal)
       → place_in judged_in_turn (number_of other) < place_in judged_in_turn (number_of refusal)
       → ¬ RestoreHolds journal chip other
 
--- the verdict is "accepted": no error holds
+-- Holds if the chip is accepted for a restore: no error applies.
 abbrev pub IsRestorable : Content → Chip → Type 0
 IsRestorable journal chip = (refusal : Refusal) → ¬ RestoreHolds journal chip refusal
 
 -- ---- on every bus
 
--- the errors that a restore returns: those that are checked first, and 12 (stop), 13 (timeout) and 14 (mismatch)
+-- Holds for the errors that a restore may return: those that it checks first, and 12 (stop), 13 (timeout) and 14
+-- (mismatch).
 abbrev pub IsRestoreRefusal : Refusal → Type 0
 IsRestoreRefusal refusal = list_any (λ n. number_of refusal == n) (12 ∷ 13 ∷ 14 ∷ judged_in_turn) ≡ true
 
 -- ---- on a modelled bus
 
--- The error is the verdict; or the bus stopped, and fewer transactions were left than the bound.
+-- Holds on a modelled bus: the error is the verdict; or the bus stopped, and fewer transactions were left than the
+-- bound.
 abbrev pub RestoreTells : Content → (old new : BusState) → Refusal → Type 0
 RestoreTells journal old new Stopped = RanOut (most_of (length journal.saved)) old new
 RestoreTells journal old new refusal = IsRestoreVerdict journal old.chip refusal
 
--- At every exit, with any journal. On a bus that is steady or whose chip was idle, the bytes outside the saved sectors
--- and the status bits that flashnor never changes are as they were. Even if the bus is neither, only sectors in which a
--- bit had to rise were erased.
+-- Holds at every exit of a restore on a modelled bus, with any journal. If the bus is steady or the chip was idle, the
+-- bytes outside the saved sectors and the status bits that flashnor never changes are as they were. In any case only
+-- sectors in which a bit had to go from 0 to 1 were erased.
 pub record LeavesRestore (journal : Content) (old new : BusState) : Type 0 where
   pub config : new.chip.config ≡ old.chip.config
   pub bytes : IsCalm old → (a : ℕ) → is_saved journal (a / 4096) ≡ false → new.chip.bytes a ≡ old.chip.bytes a
   pub fixed : IsCalm old → fixed_of new.chip.kept ≡ fixed_of old.chip.kept
   pub worn : (s : ℕ) → is_raised old.chip.bytes (restored journal old.chip.bytes) s ≡ false → new.worn s ≡ old.worn s
 
--- At the end the chip holds the saved bytes and the journal's non-volatile status bits, and the report counts what was
--- done. If nothing had to be changed, no modifying command was sent.
+-- Holds after a restore succeeded on a modelled bus. The chip has the saved bytes and the journal's non-volatile status
+-- bits, and the report counts what was done. If nothing had to be changed, no modifying command was sent.
 pub record IsRestored (journal : Content) (old new : BusState) (report : Report) : Type 0 where
   pub accepted : IsRestorable journal old.chip
   pub made : IsMade (restored journal old.chip.bytes) old.chip new.chip
@@ -115,11 +117,12 @@ pub record IsRestored (journal : Content) (old new : BusState) (report : Report)
 
 -- ---- the promises of a restore
 
--- On every bus.
+-- The promises of a restore on every bus.
 pub record RestoreAlways (journal : Content) (old new : BusState) (result : Result Report Refusal) : Type 0 where
-  -- at every exit no more was sent than a restore of this many sectors may need
+  -- at every exit on a well-behaved bus, no more transactions were sent than a restore of this number of sectors may
+  -- need
   pub spends : Spends (most_of (length journal.saved)) old new
-  -- at every exit the journal saves the sectors that were targeted, and the status bits that were written
+  -- at every exit all that was sent fits the journal (`SendsSaved`)
   pub sends : SendsSaved (IsSavedCode journal) 1 journal old new
   -- at every exit the status was written at most twice
   pub writes : WritesStatusAtMost 2 old new
@@ -127,33 +130,35 @@ pub record RestoreAlways (journal : Content) (old new : BusState) (result : Resu
   pub answers : IfErr result IsRestoreRefusal
   -- an error names an address in a saved sector, or 0
   pub names : IfErr result (NamesSector (λ sector. is_saved journal sector ≡ true))
-  -- an error that is checked first comes after reading only, with at most the transactions of identifying and scanning
-  -- the largest chip
+  -- after an error that is checked first, no modifying command was sent, and on a well-behaved bus at most the
+  -- transactions of identifying and scanning the largest chip
   pub looks : IfErr result (λ refusal. IsJudgedFirst refusal → Looks (most_looked 4096) old new)
-  -- at the end the report is within its bounds, and counts the erases and page programs that were sent
+  -- after success the report is within its bounds, and counts the erases and page programs that were sent
   pub bounded : IfOk result (IsWithinBound (length journal.saved) 2 true)
   pub reported : IfOk result (λ report. SendsCounted report.erases report.programs old new)
-  -- a restore ends only if the last poll showed that the chip is ready
+  -- a restore succeeds only if the last poll showed that the chip is ready
   pub heard : OnOk result (new.heard ≡ true)
 
--- On an honest bus.
+-- The promises of a restore on a well-behaved bus.
 pub record RestoreHonest (journal : Content) (old new : BusState) (result : Result Report Refusal) : Type 0 where
-  -- no timeout occurs, a stop occurs only if no transaction is left, and errors that are checked first are early
+  -- a timeout does not occur, a stop occurs only if no transaction is left, and after an error that is checked first
+  -- bytes and non-volatile status bits are as they were
   pub gives_up : IfErr result (HonestTells (most_of (length journal.saved)) IsJudgedFirst old new)
   -- the report counts exactly the transactions that were sent
   pub counted : IfOk result (λ report. old.left ≡ new.left + report.transactions)
-  -- at the end, if the chip has the journal's size, each saved sector in which a byte differed has the saved bytes: it
-  -- was read back and compared, so this holds for a chip that isn't genuine, too
+  -- after success, if the chip has the journal's size, each saved sector in which a byte differed has the saved bytes;
+  -- it was read back and compared, so this holds even for a chip that isn't genuine
   pub checked : IfOk result (λ report. old.chip.config.size ≡ journal.size
       → HasBytes (is_touched old.chip.bytes (restored journal old.chip.bytes)) (restored journal old.chip.bytes) new.chip)
 
--- On a modelled bus: an honest one whose chip is what its ID or SFDP says.
+-- The promises of a restore on a modelled bus: a well-behaved one whose chip is what its ID or SFDP says.
 pub record RestoreModelled (journal : Content) (old new : BusState) (result : Result Report Refusal) : Type 0 where
-  -- an error is the verdict, or has its own cause
+  -- an error is the verdict, or a stop because too few transactions were left
   pub tells : IfErr result (RestoreTells journal old new)
-  -- at every exit only saved sectors and the protection bits may have changed
+  -- at every exit, if the bus is steady or the chip was idle, only saved sectors and the protection bits may have
+  -- changed; in any case only sectors in which a bit had to go from 0 to 1 were erased
   pub leaves : LeavesRestore journal old new
-  -- at the end the chip holds what the journal saved
+  -- after success the chip has what the journal saved
   pub done : IfOk result (IsRestored journal old new)
   -- if no status write is needed, none was sent
   pub unwritten : (¬ NeedsStatusFrom journal old.chip) → WritesStatusAtMost 0 old new

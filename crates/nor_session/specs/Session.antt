@@ -1,4 +1,4 @@
--- What a session promises.
+-- The promises of a session.
 use Rattle.std.specs.Prelude.{◌≡◌, ◌∷◌, ◌%◌, ◌≢◌, ◌≤◌, ◌<◌, ◌+◌, ◌*◌, ◌/◌, ◌⊎◌, ℕ, Bool, true, false, List, [], Result, IfOk, IfErr, OnOk, OnErr, if◌then◌else◌, ⊤}
 use Rattle.nor_chip.specs.Chip.{Chip, IsSame, kept_in}
 use Rattle.nor_chip.specs.Guard.{code_of}
@@ -33,54 +33,56 @@ use Rattle.nor_save.specs.Verdict.{IsNamed, NeedsStatusWrite, IsVerdict, IsAccep
 
 -- ---- on every bus
 
--- A session returns only errors from 1 to 14. Error 11 (the vault failed) occurs only if the vault failed. After errors
--- 1 to 11 the vault isn't sealed, and after errors 1 to 8, which the identification decides, it is as it was.
+-- Holds for the errors of a session, which are 1 to 14. Error 11 occurs only if the vault failed. After errors 1 to 11
+-- the vault isn't sealed, and after errors 1 to 8, which the identification decides, the vault is as it was.
 pub record AnswersSession (old new : VaultState) (refusal : Refusal) : Type 0 where
   pub own : number_of refusal ≤ 14
   pub vault : refusal ≡ Vault → Rose old new
   pub unsealed : number_of refusal ≤ 11 → new.sealed ≡ false
   pub unused : number_of refusal ≤ 8 → new ≡ old
 
--- the bytes are a journal that saves this sector
+-- Holds if the bytes are a journal that saves this sector.
 abbrev pub SavesSector : (sector : ℕ) → (bytes : List ℕ) → Type 0
 SavesSector sector bytes = (journal : IsJournal bytes) × (is_saved journal.content sector ≡ true)
 
--- A timeout names 0 or an address in a sector for which this holds, and a mismatch names an address in such a sector.
+-- Holds if the error is a timeout that names 0 or an address in a sector for which `IsSuch` holds, a mismatch that
+-- names an address in such a sector, or any other error.
 abbrev pub NamesSector : (IsSuch : (sector : ℕ) → Type 0) → Refusal → Type 0
 NamesSector IsSuch (Timeout address) = (address ≡ 0) ⊎ IsSuch (address / 4096)
 NamesSector IsSuch (Mismatch address) = IsSuch (address / 4096)
 NamesSector IsSuch _ = ⊤
 
--- Which address an error names: before the seal none in a sector, after it one in a sector that the journal of a
--- faithful vault saves.
+-- Holds if the address that the error names is right: before the seal no address in a sector, after it one in a sector
+-- that the journal of a faithful vault saves. A timeout may also name 0.
 pub record NamesAddress (vault : VaultState) (refusal : Refusal) : Type 0 where
   pub early : vault.sealed ≡ false → NamesSector (λ s. ⊥) refusal
   pub late : vault.sealed ≡ true → vault.telling ≡ true → NamesSector (λ s. SavesSector s vault.bytes) refusal
 
--- How often a request may write the status: once for a protection range; for data twice if protection may be lifted
--- (once to lift it, once to restore it), and never otherwise.
+-- The most status writes of a session. For a protection range this is one. For a write or an erase it is two if
+-- protection may be lifted (one to lift it, one to restore it), and otherwise none.
 abbrev pub most_status_writes : What → (unlock : Bool) → ℕ
 most_status_writes (WpRange start len) unlock = 1
 most_status_writes _ unlock = if unlock then 2 else 0
 
--- The journal saves a whole chip, and the sector lies past the chip's end. The erase of a whole chip names no address,
--- so it counts as targeting such a sector too.
+-- Holds if the journal saves a whole chip, and the sector lies past the chip's end. The erase of a whole chip names no
+-- address, so it counts as targeting such a sector too.
 pub record IsBehindWhole (journal : Content) (sector : ℕ) : Type 0 where
   pub whole : (s : ℕ) → s < journal.size / 4096 → is_saved journal s ≡ true
   pub behind : journal.size / 4096 ≤ sector
 
--- the protection bits of the chip that the journal saves, or none
+-- Holds for the protection bits of the chip that the journal saves, and for 0 (all clear).
 abbrev pub IsSavedCode : Content → (code : ℕ) → Type 0
 IsSavedCode journal code = (code ≡ 0) ⊎ (code ≡ code_of (kept_in journal.status))
 
--- The protection bits that a request may write: for a protection range the least that protect exactly it on a chip of
--- the journal's size; else none (to lift protection), or those that the journal saves.
+-- Holds for the protection bits that a session may write. For a protection range these are the least value that
+-- protects exactly this range on a chip of the journal's size. For a write or an erase they are 0 (to lift protection),
+-- or those that the journal saves.
 abbrev pub IsWrittenCode : What → Content → (code : ℕ) → Type 0
 IsWrittenCode (WpRange start len) journal code = IsLeastCode journal.size start len code
 IsWrittenCode _ journal code = IsSavedCode journal code
 
--- A status write of these two bytes: the status bits that flashnor never changes are those that the journal saves, the
--- protection bits are such as may be written, and BUSY, WEL and SUS are clear.
+-- Holds if a status write of these two bytes is allowed. The status bits that flashnor never changes are those that the
+-- journal saves, the protection bits satisfy `IsCode`, and BUSY, WEL and SUS are clear.
 pub record WritesOnly (IsCode : (code : ℕ) → Type 0) (journal : Content) (one two : ℕ) : Type 0 where
   pub fixed : fixed_of (kept_in (one ∷ two ∷ [])) ≡ fixed_of (kept_in journal.status)
   pub code : IsCode (code_of (kept_in (one ∷ two ∷ [])))
@@ -101,25 +103,25 @@ pub record SendsSaved (IsCode : ℕ → Type 0) (calls : ℕ) (journal : Content
   pub programs : programs_of new.sent ≤ programs_of old.sent + calls * (16 * sector_count (is_saved journal))
   pub strange : is_strange new.sent ≡ is_strange old.sent
 
--- No more erases and page programs were sent than the largest chip has sectors and pages, and nothing that the model
--- does not know.
+-- Holds if no more erases and page programs were sent than the largest chip has sectors and pages, and nothing that the
+-- model does not know.
 pub record SendsFew (old new : BusState) : Type 0 where
   pub erases : erases_of new.sent ≤ erases_of old.sent + 4096
   pub programs : programs_of new.sent ≤ programs_of old.sent + 65536
   pub strange : is_strange new.sent ≡ is_strange old.sent
 
--- These numbers of erases and page programs were sent.
+-- Holds if these numbers of erases and page programs were sent, as far as their counts fit in a u64.
 pub record SendsCounted (erases programs : ℕ) (old new : BusState) : Type 0 where
   pub erased : CountsUp erases (erases_of old.sent) (erases_of new.sent)
   pub programmed : CountsUp programs (programs_of old.sent) (programs_of new.sent)
 
--- at most this many more status writes were sent
+-- Holds if at most this number of status writes was sent.
 abbrev pub WritesStatusAtMost : ℕ → (old new : BusState) → Type 0
 WritesStatusAtMost most old new = status_writes_of new.sent ≤ status_writes_of old.sent + most
 
--- What a report may count if this many sectors are scanned and the status is written at most `writes` times. The
--- identification takes at least four transactions, and an operation at least three (write enable, the command, a poll).
--- If `verify` is set, each touched sector is read back.
+-- Bounds on the counts of a report, if `scanned` sectors are scanned and the status is written at most `writes` times.
+-- The identification takes at least four transactions, and an operation at least three (write enable, the command, a
+-- poll). If `verify` is set, each touched sector is read back.
 pub record IsWithinBound (scanned writes : ℕ) (verify : Bool) (report : Report) : Type 0 where
   pub touched : report.touched ≤ scanned
   pub erases : report.erases ≤ scanned
@@ -140,27 +142,27 @@ pub record EndsSealed (request : Request) (old new : BusState) (vault vault' : V
   pub bounded : IsWithinBound (scanned_sectors request report.found.size)
       (most_status_writes request.what request.unlock) request.verify report
 
--- ---- on an honest bus
+-- ---- on a well-behaved bus
 
--- On an honest bus a stop occurs only if no transaction is left and fewer were left than such a call may need; no
--- timeout occurs; and after an early error, one from before the first modifying command, bytes and non-volatile status
--- bits are as they were.
+-- The meaning of errors on a well-behaved bus. A stop occurs only if no transaction is left and fewer were left at the
+-- start than the call may need; a timeout does not occur. After an early error, one from before the first modifying
+-- command, bytes and non-volatile status bits are as they were.
 abbrev pub HonestTells : (most : ℕ) → (IsEarly : Refusal → Type 0) → (old new : BusState) → Refusal → Type 0
 HonestTells most IsEarly old new Stopped = RanOut most old new
 HonestTells most IsEarly old new (Timeout address) = ⊥
 HonestTells most IsEarly old new refusal = IsEarly refusal → IsSame old.chip new.chip
 
--- ---- on an honest bus whose chip is what it shows itself to be
+-- ---- on a modelled bus
 
--- The error is the verdict on the request; or the vault failed; or the bus stopped, and fewer transactions were left
--- than the bound.
+-- Holds on a modelled bus: the error is the verdict on the request; or the vault failed; or the bus stopped, and fewer
+-- transactions were left than the bound.
 abbrev pub SessionTells : Request → List ℕ → (old new : BusState) → (vault vault' : VaultState) → Refusal → Type 0
 SessionTells request image old new vault vault' Vault = Rose vault vault'
 SessionTells request image old new vault vault' Stopped = RanOut (most_of (old.chip.config.size / 4096)) old new
 SessionTells request image old new vault vault' refusal = IsVerdict request image old.chip refusal
 
--- At the end the chip holds the wanted bytes and the wanted protection bits, and the report counts what was done. If
--- nothing had to be changed, no modifying command was sent.
+-- Holds after a session succeeded on a modelled bus. The chip has the target bytes and the target protection bits, and
+-- the report counts what was done. If nothing had to be changed, no modifying command was sent.
 pub record IsDone (request : Request) (image : List ℕ) (old new : BusState) (report : Report) : Type 0 where
   pub made : IsMade (wanted request image old.chip) old.chip new.chip
   pub code : ℕ
@@ -169,10 +171,10 @@ pub record IsDone (request : Request) (image : List ℕ) (old new : BusState) (r
   pub reported : IsReported (wanted request image old.chip) old new report
   pub still : report.touched ≡ 0 → ¬ NeedsStatusWrite request image old.chip → new.sent ≡ old.sent
 
--- After the seal: the request is accepted; a faithful vault holds the journal of the original chip, which saves exactly
--- the touched sectors; the chip has changed only within these, and only raised sectors were erased; on a steady bus
--- each byte outside the raised sectors is the old or the wanted one. At least the identification and the scan were
--- sent.
+-- Holds at every exit after the seal, on a modelled bus. The request is accepted. A faithful vault holds the journal of
+-- the original chip, which saves exactly the touched sectors. The chip changed only as `MayChange` allows: in bytes of
+-- touched sectors and in protection bits. Only raised sectors were erased, and on a steady bus each byte outside these
+-- is the old or the target one. At least the transactions of the identification and the scan were sent.
 pub record CanBeUndone (request : Request) (image : List ℕ) (old new : BusState) (vault : VaultState) : Type 0 where
   pub accepted : IsAccepted request image old.chip
   pub journal : vault.telling ≡ true
@@ -183,8 +185,8 @@ pub record CanBeUndone (request : Request) (image : List ℕ) (old new : BusStat
       (wanted request image old.chip) old new
   pub spent : new.left + (4 + scanned_sectors request old.chip.config.size) ≤ old.left
 
--- There are no bytes; or the chip is identified as a part that the request allows, and the bytes are a prefix of the
--- only journal that the session could have written.
+-- Holds if there are no bytes; or the chip is identified as a chip that the request allows, and the bytes are a prefix
+-- of the only journal that the session could have written.
 abbrev pub HoldsBegun : Request → (image : List ℕ) → Chip → (bytes : List ℕ) → Type 0
 HoldsBegun request image chip bytes = (bytes ≡ [])
     ⊎ (IsNamed request.named chip.config
@@ -192,72 +194,73 @@ HoldsBegun request image chip bytes = (bytes ≡ [])
 
 -- ---- the promises of a session
 
--- On every bus and with every vault.
+-- The promises of a session on every bus and with every vault.
 pub record SessionAlways (request : Request) (old new : BusState) (vault vault' : VaultState)
     (result : Result Report Refusal) : Type 0 where
-  -- before the vault is sealed it only reads, with at most the transactions of identifying and scanning the largest
-  -- chip
+  -- if the vault isn't sealed, the session only read; on a well-behaved bus it sent at most the transactions of
+  -- identifying and scanning the largest chip
   pub looks : vault'.sealed ≡ false → Looks (most_looked 4096) old new
-  -- at every exit no more was sent than a session on the largest chip may need
+  -- at every exit on a well-behaved bus, no more transactions were sent than a session on the largest chip may need
   pub spends : Spends (most_of 4096) old new
-  -- at every exit no more erases and page programs were sent than the largest chip has sectors and pages
+  -- at every exit on every bus, no more erases and page programs were sent than the largest chip has sectors and pages
   pub few : SendsFew old new
   -- at every exit the status was written no more often than the request may need
   pub writes : WritesStatusAtMost (most_status_writes request.what request.unlock) old new
-  -- the vault is faithful at every exit if and only if it was so at the start
+  -- the vault is faithful at every exit if and only if it was faithful at the start
   pub telling : vault'.telling ≡ vault.telling
-  -- after the seal the journal of a faithful vault saves the sectors that were targeted, and the status bits that were
-  -- written and are not protection bits
+  -- if a faithful vault is sealed, all that was sent fits its journal (`SendsSaved`)
   pub sends : vault'.sealed ≡ true → vault'.telling ≡ true → (journal : IsJournal vault'.bytes)
       × SendsSaved (IsWrittenCode request.what journal.content) 1 journal.content old new
-  -- after the seal a faithful vault holds a journal
+  -- if a faithful vault is sealed, it holds a journal
   pub holds : HoldsJournal vault'
   -- an error is one that a session returns
   pub answers : IfErr result (AnswersSession vault vault')
   -- an error names an address in a sector that the journal of a faithful vault saves, or 0
   pub names : IfErr result (NamesAddress vault')
-  -- at the end the vault is sealed and did not fail, and the report is within its bounds and counts what was sent
+  -- after success the vault is sealed and did not fail, and the report is within its bounds and counts what was sent
   pub ends : IfOk result (EndsSealed request old new vault vault')
-  -- a session ends only if the last poll showed that the chip is ready
+  -- a session succeeds only if the last poll showed that the chip is ready
   pub heard : OnOk result (new.heard ≡ true)
 
--- On an honest bus.
+-- The promises of a session on a well-behaved bus.
 pub record SessionHonest (request : Request) (image : List ℕ) (old new : BusState)
     (result : Result Report Refusal) : Type 0 where
-  -- no timeout occurs, a stop occurs only if no transaction is left, and errors 1 to 11 are early
+  -- a timeout does not occur, a stop occurs only if no transaction is left, and after errors 1 to 11 bytes and
+  -- non-volatile status bits are as they were
   pub gives_up : IfErr result (HonestTells (most_of 4096) (λ refusal. number_of refusal ≤ 11) old new)
   -- the report counts exactly the transactions that were sent
   pub counted : IfOk result (λ report. old.left ≡ new.left + report.transactions)
-  -- at the end, if the request asks for a check and the chip has the size that was found, each touched sector has the
-  -- wanted bytes: it was read back and compared, so this holds for a chip that isn't genuine, too
+  -- after success, if the request asks for a check and the chip has the size that was found, each touched sector has
+  -- the target bytes; it was read back and compared, so this holds even for a chip that isn't genuine
   pub checked : IfOk result (λ report. request.verify ≡ true → old.chip.config.size ≡ report.found.size
       → HasBytes (is_touched old.chip.bytes (wanted request image old.chip)) (wanted request image old.chip) new.chip)
 
--- On a modelled bus: an honest one whose chip is what its ID or SFDP says.
+-- The promises of a session on a modelled bus: a well-behaved one whose chip is what its ID or SFDP says.
 pub record SessionModelled (request : Request) (image : List ℕ) (old new : BusState) (vault vault' : VaultState)
     (result : Result Report Refusal) : Type 0 where
-  -- at every exit at most as many transactions were sent as a chip of this size may need
+  -- at every exit no more transactions were sent than a session on a chip of this size may need
   pub falls : Falls (most_of (old.chip.config.size / 4096)) old new
-  -- an error is the verdict on the request, or has its own cause
+  -- an error is the verdict on the request, a failure of the vault, or a stop because too few transactions were left
   pub tells : IfErr result (SessionTells request image old new vault vault')
-  -- at the end the chip is what was wanted
+  -- after success the chip is what the request asked for
   pub done : IfOk result (IsDone request image old new)
   -- if the request needs no status write, none was sent
   pub unwritten : ¬ NeedsStatusWrite request image old.chip → WritesStatusAtMost 0 old new
-  -- if the request needs no status write, the report's bound leaves none
+  -- if the request needs no status write, the bound on the report's transactions includes none
   pub spares : ¬ NeedsStatusWrite request image old.chip
       → IfOk result (IsWithinBound (scanned_sectors request old.chip.config.size) 0 request.verify)
-  -- a stop before the seal occurred in the identification or the scan
+  -- a stop before the seal occurs only if fewer transactions were left than the identification and the scan may need
   pub early : vault'.sealed ≡ false → IfErr result (λ refusal. refusal ≡ Stopped
       → old.left < most_looked (scanned_sectors request old.chip.config.size))
-  -- after an error other than 11 an unsealed faithful vault is empty, or holds a prefix of the only journal that the
-  -- session could have written, which ends after a whole record
+  -- after an error other than 11 an unsealed faithful vault is empty, or holds the header and complete records of the
+  -- only journal that the session could have written
   pub begins : vault'.sealed ≡ false → vault'.telling ≡ true → IfErr result (λ refusal. refusal ≢ Vault
       → (vault'.bytes ≡ [])
       ⊎ BeginsJournal (head_of old.chip) old.chip.bytes
       (is_touched old.chip.bytes (wanted request image old.chip)) vault'.bytes)
-  -- after any error, even 11, an unsealed faithful vault is empty, or holds a prefix of that journal
+  -- after any error, even 11, an unsealed faithful vault is empty, or holds a prefix of the only journal that the
+  -- session could have written
   pub cut : vault'.sealed ≡ false → vault'.telling ≡ true
       → OnErr result (HoldsBegun request image old.chip vault'.bytes)
-  -- after the seal the session can be undone, at every exit
+  -- at every exit after the seal the session can be undone
   pub undo : vault'.sealed ≡ true → CanBeUndone request image old new vault'

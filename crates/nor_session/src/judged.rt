@@ -1,5 +1,5 @@
-//! A session after the identification was checked. It is in a module of its own, because only the module of the states
-//! that change a chip can construct the evidence that the chip can be restored.
+//! A session after the identification was checked. Its state is in a module of its own: this module can't construct the
+//! evidence `WayBack` except from a sealed vault or a journal.
 ghost use Rattle.std.specs.Prelude.{length};
 ghost use Rattle.nor_journal.specs.Vault.{IsFresh};
 ghost use Rattle.nor_session.specs.Judged.{IsJudged, SinceOpening, KeepsPromise};
@@ -11,7 +11,8 @@ use nor_chip::Bus;
 use nor_journal::Vault;
 use nor_save::{Opening, Refusal, Report, Request, save};
 
-/// The identification is checked, and nothing is saved yet. It holds what a session uses until the session returns.
+/// The state in which the request is checked against the identification, and nothing is saved yet. It holds all that a
+/// session uses until it returns.
 pub(crate) struct Judged<'a, B: Bus, V: Vault> {
     pub(crate) bus: &'a mut B,
     pub(crate) vault: &'a mut V,
@@ -22,8 +23,8 @@ pub(crate) struct Judged<'a, B: Bus, V: Vault> {
 }
 
 impl<'a, B: Bus, V: Vault> Judged<'a, B, V> {
-    /// Saves the touched sectors, changes them, and reports. The clause says all that a session promises, counted from
-    /// the session's start.
+    /// Saves the touched sectors, changes them, and returns the session's report. The clause has all promises of a
+    /// session, counted from the session's start.
     pub(crate) fn answer(self) -> Result<Report, Refusal>
         requires fresh { IsFresh (V.state self.vault.now) }
         requires judged { IsJudged self.request.now (length self.image.now) self.opening self.code }

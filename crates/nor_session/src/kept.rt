@@ -1,6 +1,7 @@
-//! The states of a session or restore after the journal is complete: what may be changed, and what is left to check.
+//! The states of a session or restore after the journal is complete: ready to change the chip, and ready for the check.
 //!
-//! Only `Kept` changes a chip, and it is constructed only if a sealed vault or a journal can restore the chip.
+//! Only `Kept` changes a chip, and it is constructed only with evidence of a sealed vault or of a journal that was
+//! read.
 ghost use Rattle.std.specs.Prelude.{◌≡◌, ◌<◌, ◌≤◌, ◌/◌, ℕ, Bool, true, IfOk, IfErr};
 ghost use Rattle.nor_driver.specs.Looks.{Looks};
 ghost use Rattle.nor_plan.specs.SectorSet.{has, LiesBelow};
@@ -12,24 +13,25 @@ use nor_chip::Bus;
 use nor_journal::{Journal, Vault};
 use nor_save::Refusal;
 
-/// Evidence that a chip can be restored.
+/// Evidence that the journal is in a sealed vault, or was read.
 pub(crate) struct WayBack(());
 
 impl WayBack {
-    /// The journal is in a sealed vault.
+    /// Returns the evidence, given that the vault with the journal is sealed.
     pub(crate) fn in_vault<V: Vault>(_vault: &V) -> WayBack
         requires { (V.state _vault.now).sealed ≡ true }
     {
         WayBack(())
     }
 
-    /// The journal was read.
+    /// Returns the evidence, given the journal that was read.
     pub(crate) fn in_journal(_journal: &Journal<'_>) -> WayBack {
         WayBack(())
     }
 }
 
-/// All that may be changed is saved. Only this state changes the chip. It can't be dropped, so `finish` must use it up.
+/// The state in which all that may be changed is saved. Only this state changes the chip. It can't be dropped, so
+/// `finish` must use it up.
 pub(crate) struct Kept<'a, B: Bus, S: Source> {
     pub(crate) bus: &'a mut B,
     pub(crate) source: &'a S,
@@ -70,7 +72,7 @@ impl<'a, B: Bus, S: Source> Kept<'a, B, S> {
     }
 }
 
-/// All is written, and only the check is left. Only `Kept` constructs this state, and it can't be dropped.
+/// The state in which all is written, and only the check is left. Only `Kept` constructs it, and it can't be dropped.
 pub(crate) struct Done<'a, B: Bus, S: Source> {
     bus: &'a mut B,
     source: &'a S,
@@ -79,7 +81,7 @@ pub(crate) struct Done<'a, B: Bus, S: Source> {
 }
 
 impl<'a, B: Bus, S: Source> Done<'a, B, S> {
-    // Reads the touched sectors back if `verify` is set. Returns the work, which counts these readings too.
+    // Reads the touched sectors back if `verify` is set. Returns the work, which counts these reads too.
     fn check(self, verify: bool) -> Result<Work, Refusal>
         requires fits { self.work.transactions ≤ most_applied 4096 }
         requires sourced { (s : ℕ) → has self.changes.now.touched s ≡ true → S.has self.source.now s ≡ true }

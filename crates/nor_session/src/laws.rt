@@ -14,7 +14,7 @@ ghost use Rattle.nor_session.specs.Restore.{IsRestored};
 ghost use Rattle.nor_session.specs.Session.{CanBeUndone, HoldsBegun};
 ghost use Rattle.nor_session.specs.WrittenOver.{IsWrittenOver};
 
-/// A restore changes nothing if the chip is the saved one already, for example after another restore.
+/// A restore changes nothing if the chip is already the saved one, for example after another restore.
 pub fn restored_stays()
     ensures { (journal : Content) (first : Chip) (old new : BusState) (report : Report)
         → SavesChip journal first → IsSame first old.chip → IsRestored journal old new report
@@ -29,9 +29,9 @@ pub fn power_lost_gives_back()
 {}
 
 /// After two sessions, one after the other, the earlier journal can restore its chip as soon as a restore from the
-/// later journal has ended. Each run has a bus of its own. Other restores from the later journal may have been stopped
-/// before: then that journal can still restore its chip. Between two runs a chip may lose its power, or be in files
-/// that were not overwritten to their end.
+/// later journal has succeeded. Each run has a bus of its own. Other restores from the later journal may have been
+/// stopped before: then that journal can still restore its chip. Between two runs a chip may lose its power, or be in
+/// files that were not overwritten to their end.
 pub fn undone_leads_back()
     ensures { (request later : Request) (image aim : List ℕ) (old mid mid' new new' back : BusState)
         (journal other : Content) (report : Report)
@@ -42,7 +42,7 @@ pub fn undone_leads_back()
 {}
 
 /// Two sessions, one after the other, are undone by restores from their journals in the reverse order. Each run has a
-/// bus of its own. Before each restore that ends, other restores from its journal may have been stopped: then that
+/// bus of its own. Before each restore that succeeds, other restores from its journal may have been stopped: then that
 /// journal can still restore its chip. Between two runs a chip may lose its power, or, after a session, be in files
 /// that were not overwritten to their end.
 pub fn undone_in_turn()
@@ -65,7 +65,7 @@ pub fn read_gives_back()
 {}
 
 /// A vault that was never sealed may hold the whole journal, for example if only its seal failed. If its bytes are read
-/// as a journal, that journal can restore the chip, to which nothing was done.
+/// as a journal, that journal can restore the chip, which is still the original one.
 pub fn begun_gives_back()
     ensures { (request : Request) (image : List ℕ) (old new : BusState) (bytes : List ℕ) (journal : Content)
         → IsModelled old → IsChip old.chip → HoldsBegun request image old.chip bytes

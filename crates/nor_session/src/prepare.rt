@@ -19,7 +19,8 @@ use nor_plan::{Plan, SectorPlan};
 use nor_probe::{Found, probe_counted};
 use nor_save::{Opening, Refusal, Scanned, first_held, read_on};
 
-/// The chip that was found, what must be changed, how many sectors are touched, and how many transactions were sent.
+/// The result of a restore's preparation: the chip that was found, what must be changed, how many sectors are touched,
+/// and how many transactions were sent.
 #[derive(Clone, Copy)]
 pub(crate) struct Prepared {
     pub found: Found,
@@ -28,7 +29,8 @@ pub(crate) struct Prepared {
     pub transactions: u64,
 }
 
-/// Identifies the chip, reads the sectors that the journal saved, and makes all checks of a restore.
+/// Identifies the chip, reads the sectors that the journal saved, and makes all checks of a restore. Returns error 1,
+/// 2, 16, 20, 17 or 9 (checked in this order), 12 or 13.
 #[tactic(auto, using(crate::proofs::SavedBytes::saved_room))]
 pub(crate) fn prepare<B: Bus>(bus: &mut B, journal: &Journal<'_>) -> Result<Prepared, Refusal>
     ensures room { length journal.now.saved ≤ 4096 }
@@ -49,7 +51,7 @@ pub(crate) fn prepare<B: Bus>(bus: &mut B, journal: &Journal<'_>) -> Result<Prep
     })
 }
 
-// Identifies a chip that the journal fits.
+// Identifies the chip, and checks that the journal fits it.
 fn open_saved<B: Bus>(bus: &mut B, journal: &Journal<'_>) -> Result<Opening, Refusal>
     ensures leaves { Looks most_opening (B.state bus.old) (B.state bus.new) }
     ensures opens { IfOk result (Opens None (B.state bus.old) (B.state bus.new)) }
@@ -63,7 +65,7 @@ fn open_saved<B: Bus>(bus: &mut B, journal: &Journal<'_>) -> Result<Opening, Ref
     Ok(opening)
 }
 
-// Identifies a chip with the journal's ID and size.
+// Identifies the chip, and checks that it has the journal's ID and size.
 fn open_of_kind<B: Bus>(bus: &mut B, journal: &Journal<'_>) -> Result<Opening, Refusal>
     ensures leaves { Looks most_opening (B.state bus.old) (B.state bus.new) }
     ensures opens { IfOk result (Opens None (B.state bus.old) (B.state bus.new)) }
@@ -78,14 +80,14 @@ fn open_of_kind<B: Bus>(bus: &mut B, journal: &Journal<'_>) -> Result<Opening, R
     Ok(opening)
 }
 
-// Whether the chip that was found has the journal's ID and size.
+// Returns whether the chip that was found has the journal's ID and size.
 fn is_of_kind(journal: &Journal<'_>, found: &Found) -> bool
     ensures { MatchBool result (IsOfKindFound journal.now found.now) (¬ IsOfKindFound journal.now found.now) }
 {
     journal.id() == found.id && journal.size() == found.size
 }
 
-// Checks the unique ID, and the status bits that a restore doesn't set.
+// Checks the unique ID, and the status bits that a restore can't write.
 fn judge_unit(journal: &Journal<'_>, opening: &Opening) -> Result<(), Refusal>
     ensures faults { IfErr result IsUnitRefusal }
     ensures fits { AcceptsUnit journal.now opening.now result }
@@ -131,7 +133,7 @@ fn scan_saved<B: Bus>(bus: &mut B, journal: &Journal<'_>) -> Result<Scanned, Sto
     Ok(scanned)
 }
 
-// Reads a sector. Returns what is needed to make it what was saved.
+// Reads a sector. Returns what is needed to turn it into the saved sector.
 fn plan_saved<B: Bus>(
     bus: &mut B,
     sector: u32,
@@ -148,7 +150,7 @@ fn plan_saved<B: Bus>(
     Ok(Plan::of(&*bytes, saved))
 }
 
-// Returns what must be changed. Refuses if the status is locked and would have to be written.
+// Returns what must be changed, or error 9 if the status is locked and would have to be written.
 fn judge_changes(
     journal: &Journal<'_>,
     opening: &Opening,

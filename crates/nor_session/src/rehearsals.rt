@@ -27,15 +27,15 @@ pub struct Rehearsal {
 
 /// Runs a session that may send at most the number of transactions given by the first of `stops`. If the session sealed
 /// the vault, runs restores, each with the next number of `stops`, until one ends. If no stop is left, a call may send
-/// the most transactions of a session on a chip of 16 MiB.
+/// the most transactions that a session needs on a chip of 16 MiB.
 ///
 /// There are at most 64 stops, and `vault` must be empty and unsealed. `image` and `request` are as for `session`.
 ///
 /// On a modelled bus that is steady, or whose chip was idle at the start, the chip's contents and non-volatile status
 /// bits are as before at every exit.
 ///
-/// Returns the session's error; if the vault was sealed, it may also be an error of a restore. On an honest bus 12 and
-/// 13 do not occur: a stop of the session or of a restore is part of the result.
+/// Returns the session's error; if the vault was sealed, it may also be an error of a restore. On a well-behaved bus
+/// errors 12 and 13 do not occur: a stop of the session or of a restore is part of the result.
 pub fn rehearse<B: Meter>(
     bus: &mut B,
     vault: &mut MemVault,
@@ -104,7 +104,7 @@ fn later(stops: &[u64]) -> &[u64]
     }
 }
 
-// Runs the session with the first stop. Returns whether it ended.
+// Runs the session with the first stop, if there is one. Returns whether it ended.
 fn stopped_session<B: Meter>(
     bus: &mut B,
     vault: &mut MemVault,
@@ -130,7 +130,7 @@ fn stopped_session<B: Meter>(
     }
 }
 
-// Restores from the journal that these bytes are. Returns how many restores were run.
+// Reads these bytes as a journal, and restores from it with these stops in turn. Returns how many restores were run.
 fn undo<B: Meter>(bus: &mut B, text: &[u8], stops: &[u64]) -> Result<u32, Refusal>
     requires few { length stops.now ≤ 64 }
     ensures { LeavesUndo text.now stops.now (B.state bus.old) (B.state bus.new) result }

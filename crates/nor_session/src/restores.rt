@@ -17,10 +17,11 @@ use nor_save::{Refusal, Report};
 /// unique ID it contains.
 ///
 /// On a modelled bus a restore that is stopped can be run again: if the journal could restore a chip at the start, it
-/// can restore that chip at every exit. In that case `Ok` leaves that chip, and the only possible error is 12.
+/// can restore that chip at every exit. In that case success leaves that chip, and the only possible error is 12.
 ///
-/// Returns error 1, 2, 16, 20, 17 or 9, checked in this order before anything is modified. Also returns 12 (the bus
-/// stopped), 13 (the chip stayed busy; not on an honest bus) or 14 (the chip holds other bytes than were written).
+/// Returns error 1 (no chip), 2 (unknown chip), 16 (another ID or size), 20 (another device), 17 (other status bits) or
+/// 9 (status locked), checked in this order before anything is modified. Also returns 12 (the bus stopped), 13 (the
+/// chip stayed busy; not on a well-behaved bus) or 14 (the bytes that were read back differ).
 pub fn restore<B: Bus>(bus: &mut B, journal: &Journal<'_>) -> Result<Report, Refusal>
     ensures gives_back { IsModelled (B.state bus.old)
         → GivesBack journal.now (B.state bus.old) (B.state bus.new) result }

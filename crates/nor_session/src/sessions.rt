@@ -21,13 +21,13 @@ use nor_save::{Refusal, Report, Request, judge_opening, open};
 /// is not used. Its contents afterwards are unspecified.
 ///
 /// On every bus no modifying command is sent before the vault is sealed. On a modelled bus the journal of a sealed
-/// `telling` vault can restore the original chip at every exit, even if the bus stopped inside a transaction. On an
-/// honest bus that is steady, or whose chip was idle at the start, an exit before the seal leaves the contents and the
-/// non-volatile status bits as they were.
+/// `telling` vault can restore the original chip at every exit, even if the bus stopped inside a transaction. On a
+/// well-behaved bus that is steady, or whose chip was idle at the start, an exit before the seal leaves the contents
+/// and the non-volatile status bits as they were.
 ///
-/// Returns an error from 1 to 8 before it uses the vault, and one from 9 to 11 before the vault is sealed. Returns 14
-/// (the chip holds other bytes than were written) only after the seal, and 12 (the bus stopped) or 13 (the chip stayed
-/// busy) at any time. On an honest bus 13 does not occur.
+/// Returns an error from 1 to 8 before it uses the vault, and one from 9 to 11 before the vault is sealed (`Refusal`
+/// has their meanings). Returns 14 (the bytes that were read back differ) only after the seal, and 12 (the bus stopped)
+/// or 13 (the chip stayed busy) at any time. On a well-behaved bus 13 does not occur.
 pub fn session<B: Bus, V: Vault>(
     bus: &mut B,
     vault: &mut V,

@@ -11,7 +11,7 @@ use Rattle.nor_session.proofs.Aiming.{none_written, none_sent, change_sends, cha
 use Rattle.nor_session.proofs.OfJournal.{restore_of_journal, counted}
 use Rattle.nor_session.proofs.restores.restore.Goals as goal
 
--- a check failed, or the bus stopped before
+-- the exit at which a check failed or the bus stopped before the first change
 pub returns-in_err-prepared : goal.returns-in_err-prepared
 returns-in_err-prepared g c =
     let journal = c.args.journal.now in let most = most_opening + length journal.saved in
@@ -35,7 +35,7 @@ returns-in_err-prepared g c =
           search (rules, none_written);
     })
 
--- the changes weren't finished
+-- the exit at which the changes failed
 pub returns-in_err-work : goal.returns-in_err-work
 returns-in_err-work g c =
     let journal = c.args.journal.now in let prepared = c.in_ok-prepared.prepared in
@@ -66,7 +66,7 @@ returns-in_err-work g c =
       };
     })
 
--- the changes were finished
+-- the exit after success
 pub overflow_add-result : goal.overflow_add-result
 overflow_add-result g c =
     let are : AreChanged c.args.journal.now c.in_ok-prepared.prepared (g.B.Bus.state c.args.bus.now)
