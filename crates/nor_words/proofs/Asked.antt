@@ -1,4 +1,4 @@
--- The job or fault of the arguments, from that of the options that they give.
+-- The job or fault of the arguments follows from that of the options that they give.
 use Rattle.std.proofs.Common.{◌≡◌, arith, Bool, List, [], Some, None, Result, Ok, Err}
 use Rattle.std.specs.Prelude.{MatchResult}
 use Rattle.clap.specs.declared.error.Error.{Error}
@@ -21,7 +21,7 @@ fault-told : (words : List Text) (fault : UsageFault) → refusals_of words ≡ 
 fault-told words (why.Words error) taken h = absurd (not-words _ _ _ _ _ _ _ _ error h)
 fault-told words _ taken h = search
 
--- if the options that the arguments give are a job or have a fault, then so do the arguments
+-- the job or fault of the options that the arguments give is that of the arguments
 pub asked-by_words : (words : List Text) (given : Texts) (r : Result Job UsageFault) → refusals_of words ≡ []
     → given ≡ given_by words
     → MatchResult r (λ job. (first_fault (usage_faults given) ≡ None) × IsAsked given job)

@@ -1,4 +1,4 @@
--- The result of `strip_prefix`, by `starts_with`; which texts describe a programmer.
+-- The result of `strip_prefix`, in terms of `starts_with`; and which texts describe a programmer.
 use Rattle.std.proofs.Common.{◌≡◌, ◌∙◌, true, false, List, Option, Some, None, ℕ, length, drop, ap, codes, option_map}
 use Rattle.std.proofs.Common.{arith, refl, sym, nat_eq}
 use Rattle.std.specs.Prelude.{option_and_then}
@@ -24,13 +24,13 @@ pub is_programmer-unnamed : (text : Text) → option_and_then chip_named (said t
     → is_programmer_text text ≡ false
 is_programmer-unnamed text unnamed = grind arith
 
--- a parser that is applied to an optional value
+-- a parser applied to an optional value returns what `option_and_then` does
 pub and_then-read : {T : Type 0} (f : Text → Option T) (o : Option (Bor Text)) (r : Option T)
     → MatchOption o (r ≡ None) (λ x. r ≡ f x.now) → option_and_then f (option_map (λ x. x.now) o) ≡ r
 and_then-read f None r h = sym h
 and_then-read f (Some x) r h = sym h
 
--- a value that needs no parser
+-- `option_and_then` with `Some` returns the optional value as it is
 pub and_then-some : {T : Type 0} (o : Option T) → option_and_then Some o ≡ o
 and_then-some None = refl
 and_then-some (Some x) = refl

@@ -1,4 +1,4 @@
--- Settings that are taken in one after the other: those that were, and those that remain.
+-- Settings that are taken in one after another: those taken in so far, and those that remain.
 use Rattle.std.proofs.Common.{◌≡◌, ◌∙◌, ℕ, ◌+◌, ◌<◌, ◌≤◌, ◌&&◌, ◌||◌, Bool, true, false, cond, List, [], ◌∷◌, Option}
 use Rattle.std.proofs.Common.{Some, None, length, drop, get_or, nat_le, is_some, refl, sym, ap, arith, inl, inr}
 use Rattle.std.specs.Prelude.{option_and_then}
@@ -17,9 +17,9 @@ use Rattle.nor_words.specs.declared.settings.Settings.{Settings}
 
 -- ---- one key
 
--- For one key, while settings are taken one after another. The key's value in all settings is the value in its field;
--- if the field is empty, it is the key's value in the settings that remain. If the field has a value, all settings have
--- the key once more than those that remain.
+-- Holds for one key, while settings are taken in one after another. The key's value in all settings is the value in its
+-- field; if the field is empty, it is the key's value in the settings that remain. If the field has a value, all
+-- settings have the key once more than those that remain.
 pub record Open {T : Type 0} (all left : List Text) (key : Text) (read : Text → Option T)
     (place : Option T) : Type 0 where
   pub value : option_and_then read (value_in all key) ≡ option_or place (option_and_then read (value_in left key))
@@ -106,13 +106,13 @@ any-key setting P each =
     (either _ _ _ each.stop (either _ _ _ each.unique (either _ _ _ each.busy
     (either _ _ _ each.power (λ none. cc))))))))
 
--- The state after some settings: those that don't remain all have known keys and correct values, and the fields have
--- their values.
+-- Holds after some settings were taken in: all of them have known keys and correct values, and the fields have their
+-- values.
 pub record Gathered (all left : List Text) (said : Settings) : Type 0 where
   pub sound : list_all is_setting left ≡ list_all is_setting all
   pub keys : EachKey (λ T key is_value read place. Open all left key read (place said))
 
--- the test that each setting must pass: a known key with a correct value, which no other setting has
+-- true for a setting that passes the test: it has a known key with a correct value, and no other setting has that key
 abbrev is_sound_in : List Text → Text → Bool
 is_sound_in all setting = is_setting setting && is_alone_in all setting
 
@@ -127,7 +127,7 @@ module _ (all : List Text) (n : ℕ) (setting : Text) (at : (n < length all) × 
             open-next all (drop (n + 1) all) setting key read (place old) (place new)) adds now.keys;
       }
 
-  -- a setting that can't be added has an unknown key or a wrong value, or its key is there twice
+  -- if a setting can't be added, some setting has an unknown key, a wrong value, or the same key as another
   pub gathered-refused : (said : Settings) → Gathered all (drop n all) said → IsRefused setting said
       → are_settings all ≡ false
   gathered-refused said before refused =
@@ -146,11 +146,11 @@ both-all p q [] more all = refl
 both-all p q (x ∷ xs) more all =
     let parts = and_parts _ _ all in rw (parts.0, more x parts.0) (both-all p q xs more parts.1)
 
--- each field has the value that the settings give its key
+-- Holds if each field has the value that the settings give its key.
 abbrev pub AreValues : List Text → Settings → Type 0
 AreValues all said = EachKey (λ T key is_value read place. option_and_then read (value_in all key) ≡ place said)
 
--- after the last setting no two had the same key, and each field has its value
+-- after the last setting, each setting passed the test, and each field has its value
 pub gathered-last : (all : List Text) (n : ℕ) (said : Settings) → Gathered all (drop n all) said → n ≡ length all
     → (are_settings all ≡ true) × AreValues all said
 gathered-last all n said before end =

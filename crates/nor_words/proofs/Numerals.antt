@@ -1,4 +1,4 @@
--- Numbers as digits, and ranges as two of them.
+-- The digits of numbers, and ranges, which are two numbers.
 use Rattle.std.proofs.Common.{◌≡◌, ℕ, ◌^◌, ◌<◌, ◌≤◌, ◌==◌, ◌&&◌, Bool, true, [], ◌∷◌, Option, Some, None, Result}
 use Rattle.std.proofs.Common.{Ok, Err, length, cond, ap, sym, refl, arith, inl, inr, nat_lt, nat_le, option_map}
 use Rattle.std.specs.Prelude.{option_and_then}
@@ -31,11 +31,11 @@ all_digits radix (c ∷ cs) all =
     let first : nat_lt (digit_value c) radix ≡ true = (and_parts _ _ all).0 in
     (grind (arith, nat_tests), all_digits radix cs (and_parts _ _ all).1)
 
--- the number, or `None` if it is above the greatest
+-- the number, or `None` if it is above `greatest`
 abbrev pub at_most : ℕ → ℕ → Option ℕ
 at_most greatest n = cond (nat_le n greatest) (Some n) None
 
--- the numeral, from the result of `from_str_radix` for at most `most` digits
+-- the numeral of a text of digits is what `from_str_radix` returns, or `None` if that is above `greatest`
 pub numeral-parsed : {E : Type 0} (radix most greatest : ℕ) (text : Text) (r : Result ℕ E) → radix ≤ 36
     → greatest < 2 ^ 64 → list_all (λ digit. is_digit digit radix) text ≡ true → length text ≤ most
     → ParsesUnsigned 64 radix text r

@@ -15,7 +15,7 @@ use Rattle.nor_words.specs.declared.job.Wanted.{Wanted}
 use Rattle.nor_words.specs.declared.job.Wanted.TheVariants as want
 use Rattle.nor_words.specs.declared.words.UsageFault.TheVariants as why
 
--- the list of faults, from whether the options have each
+-- the list of faults, given whether the options have each
 abbrev pub cases : (a b c d e f g h : Bool) → List Case
 cases a b c d e f g h = (a, why.NoProgrammer) ∷ (b, why.Programmer) ∷ (c, why.TwoOperations) ∷ (d, why.Range)
     ∷ (e, why.Journal) ∷ (f, why.Layout) ∷ (g, why.Unneeded) ∷ (h, why.Stops) ∷ []
@@ -42,7 +42,7 @@ not-there : {T : Type 0} (f : Text → Option T) (text : Option Text) → is_no 
 not-there f None sound none = refl
 not-there f (Some x) sound none = let bad = rw none at sound in cc
 
--- without a range, `-w` and `-E` the options ask for no change
+-- options without a fault, a range, `-w` and `-E` ask for no change
 pub no_change-wanted : (given : Texts) → Sound given → is_new_content given ≡ false
     → option_and_then range_of given.wp_range ≡ None → asks_change given ≡ false
 no_change-wanted given sound same none = rw (same, not-there range_of given.wp_range sound.range none) refl
@@ -51,7 +51,7 @@ no-use : (change : Bool) → not (nat_eq 0 (cond change 1 0)) ≡ false → chan
 no-use true h = cc
 no-use false h = refl
 
--- without a journal and stops the options ask for no change
+-- options without a fault, a journal and stops ask for no change
 no_change-kept : (given : Texts) → Sound given → given.journal ≡ None → option_and_then stops_of given.rehearse ≡ None
     → asks_change given ≡ false
 no_change-kept given sound journal none =
@@ -63,14 +63,14 @@ there : {T : Type 0} (f : Text → Option T) (text : Option Text) (x : T) → op
 there f None x h = cc
 there f (Some text) x h = refl
 
--- options that have a target ask for a change
+-- options that have a target of a change ask for a change
 change-wanted : (given : Texts) (wanted : Wanted) → IsWantedByWords given wanted → asks_change given ≡ true
 change-wanted given (want.Write image) is = rw is refl
 change-wanted given want.Erase is = rw (or_right (is_some given.write) given.erase is) refl
 change-wanted given (want.Range start len) is =
     or_right (is_new_content given) (is_some given.wp_range) (there range_of given.wp_range (start, len) is)
 
--- options that ask for a change without a journal have stops
+-- options without a fault that ask for a change, but have no journal, have stops
 pub stops-kept : {T : Type 0} (view : T → List ℕ) (given : Texts) (wanted : Wanted) (stops : Option T) → Sound given
     → IsWantedByWords given wanted → option_and_then stops_of given.rehearse ≡ option_map view stops
     → given.journal ≡ None → is_some stops ≡ true

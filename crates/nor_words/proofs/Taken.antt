@@ -1,4 +1,4 @@
--- The result of a parse of the program's options.
+-- The facts that follow from a successful parse of the program's options.
 use Rattle.std.proofs.Common.{◌≡◌, [], true, List, Ok, refl}
 use Rattle.clap.specs.Words.{App, FailsBy, HasMatchesOf, fault_of, found_of, is_simple, is_simple_and_free, matches_of}
 use Rattle.clap.specs.Words.{rows_of}

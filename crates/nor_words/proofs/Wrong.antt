@@ -1,4 +1,4 @@
--- Which values of options can't be parsed, from the results of their parsers.
+-- Which values of options can't be parsed, given the results of their parsers.
 use Rattle.std.proofs.Common.{◌≡◌, ◌&&◌, ◌||◌, ℕ, false, List, Option, Some, None, is_some}
 use Rattle.std.proofs.Common.{not, option_map, refl, sym}
 use Rattle.std.specs.Prelude.{option_and_then}
@@ -13,7 +13,7 @@ use Rattle.nor_words.specs.declared.programmer.Programmer.{Programmer}
 abbrev text_at : Option (Bor Text) → Option Text
 text_at = option_map (λ t. t.now)
 
--- the programmer that a text describes, or none
+-- Holds if the value describes this programmer, or if it describes none and this is `None`.
 abbrev pub Means : Option Text → Option Programmer → Type 0
 Means text found = MatchOption found (is_there is_programmer_text text ≡ false)
     (λ programmer. IsSomeAnd text (λ t. IsProgrammer t programmer))

@@ -1,4 +1,5 @@
--- The usage faults: which of the faults 2 to 9 options have that `clap` accepts, and each fault's number and message.
+-- The usage faults: which of faults 2 to 9 the options have if `clap` accepts the arguments, and the number and message
+-- of each fault.
 use Rattle.std.specs.Prelude.{◌&&◌, ◌||◌, ◌++◌, ℕ, Bool, false, Option, Some, None, List, [], ◌∷◌, codes, decimal, is_some, nat_eq, nat_lt, not, if◌then◌else◌}
 use Rattle.std.specs.Option.{option_map_or}
 use Rattle.nor_words.specs.Text.{Text, reads}
@@ -13,15 +14,15 @@ use Rattle.nor_words.specs.declared.words.UsageFault.TheVariants as why
 abbrev pub Case : Type 0
 Case = Bool × UsageFault
 
--- true if there is a text and it passes the test
+-- true if there is a value, and it passes the test
 abbrev pub is_there : (Text → Bool) → Option Text → Bool
 is_there test text = option_map_or test text false
 
--- true if there is a text and it fails the test
+-- true if there is a value, and it fails the test
 abbrev pub is_no : (Text → Bool) → Option Text → Bool
 is_no test = is_there (λ text. not (test text))
 
--- fault 6: true unless a change has exactly one of `--journal` and `--rehearse`, and anything else neither
+-- fault 6: true if a change doesn't have exactly one of `--journal` and `--rehearse`, or anything else has one of them
 abbrev pub has_wrong_journal : Texts → Bool
 has_wrong_journal given =
     not (nat_eq (how_many (is_some given.journal ∷ is_some given.rehearse ∷ [])) (if asks_change given then 1 else 0))
@@ -31,7 +32,7 @@ abbrev pub has_wrong_regions : Texts → Bool
 has_wrong_regions given = (is_some given.layout || is_some given.names)
     && not (is_some given.layout && (is_some given.names && takes_regions given))
 
--- the faults 2 to 9, in this order, and whether the options have each
+-- the faults 2 to 9, in this order, each with whether the options have it
 abbrev pub usage_faults : Texts → List Case
 usage_faults given =
     (not (is_some given.programmer) && not given.list, why.NoProgrammer)
@@ -55,7 +56,7 @@ first_fault (case ∷ cases) = if case.0 then Some case.1 else first_fault cases
 
 -- ---- messages
 
--- the number of a fault, which its message has
+-- the number of a fault, which its message contains
 abbrev pub number_of_usage_fault : UsageFault → ℕ
 number_of_usage_fault (why.Words error) = 1
 number_of_usage_fault why.NoProgrammer = 2
@@ -72,7 +73,8 @@ number_of_usage_fault why.Memory = 10
 abbrev pub numbered : ℕ → List ℕ
 numbered number = codes "Usage fault " ++ (decimal number ++ codes ".")
 
--- the message of a fault; fault 1 prints `clap`'s message first, and nothing is specified about that
+-- the message of a fault, or `None` for fault 1: nothing is specified about its message, which begins with that of
+-- `clap`
 abbrev pub usage_fault_text : UsageFault → Option (List ℕ)
 usage_fault_text (why.Words error) = None
 usage_fault_text fault = Some (numbered (number_of_usage_fault fault))

@@ -40,7 +40,8 @@ pub record Texts : Type 0 where
 abbrev pub is_flag_set : Option Text → Bool
 is_flag_set value = option_map_or (λ text. bytes_eq text (codes "true")) value false
 
--- the value of the option with this ID in the matches of a parse, and whether a flag is set there
+-- the value of the option with this ID in the matches of a parse (`text_in`), and whether the flag with this ID is set
+-- there (`is_set_in`)
 abbrev pub text_in : List Row → Text → Option Text
 text_in rows id = first_of id rows
 
@@ -74,7 +75,7 @@ given_in rows = record {
 abbrev pub given_by : List Text → Texts
 given_by words = given_in (matches_of options words)
 
--- the options that a `Given` of the code has
+-- the options in a `Given`, the type of the code, with each text as its bytes
 abbrev pub texts_of : Given → Texts
 texts_of given = record {
   programmer = option_map (λ text. text.now) given.programmer;
@@ -101,7 +102,7 @@ texts_of given = record {
 abbrev pub how_many : List Bool → ℕ
 how_many = count_by (λ asked. asked)
 
--- how many operations are asked for
+-- the number of operations that the options ask for
 abbrev pub operations : Texts → ℕ
 operations given = how_many (
     given.list ∷ given.flash_size ∷ given.wp_status ∷ given.wp_list

@@ -1,4 +1,4 @@
--- The job that options without a fault ask for.
+-- The job that options without a fault ask for, and its parts.
 use Rattle.std.specs.Prelude.{◌≡◌, true, false, Option, Some, None, not, option_and_then, option_map}
 use Rattle.std.specs.Borrow.{Bor}
 use Rattle.std.specs.Option.{IsSomeAnd}
@@ -20,22 +20,22 @@ use Rattle.nor_words.specs.declared.job.Task.TheVariants as task
 use Rattle.nor_words.specs.declared.job.Wanted.{Wanted}
 use Rattle.nor_words.specs.declared.job.Wanted.TheVariants as want
 
--- the option's value is this name of a file
+-- Holds if the option's value is this file name.
 abbrev pub NamesFile : Option Text → Bor Text → Type 0
 NamesFile option text = option ≡ Some text.now
 
--- the values of `-l` and `-i`, or `None` if both are missing
+-- Holds if the regions are the values of `-l` and `-i`, or `None` if both options are missing.
 abbrev pub IsRegions : Texts → Option Regions → Type 0
 IsRegions given None = (given.layout ≡ None) × (given.names ≡ None)
 IsRegions given (Some regions) = NamesFile given.layout regions.layout × NamesFile given.names regions.names
 
--- the target of a change is the one that the options ask for
+-- Holds if the target of a change is the one that the options ask for.
 abbrev pub IsWantedByWords : Texts → Wanted → Type 0
 IsWantedByWords given (want.Write image) = NamesFile given.write image
 IsWantedByWords given want.Erase = given.erase ≡ true
 IsWantedByWords given (want.Range start len) = option_and_then range_of given.wp_range ≡ Some (start, len)
 
--- the name after `--journal`, or the stops after `--rehearse`
+-- Holds if the journal is kept in the file named after `--journal`, or rehearsed with the stops after `--rehearse`.
 abbrev pub IsJournalUse : Texts → JournalUse → Type 0
 IsJournalUse given (uses.Journal file) = NamesFile given.journal file
 IsJournalUse given (uses.Rehearse stops) = option_and_then stops_of given.rehearse ≡ Some stops.items
@@ -48,7 +48,7 @@ pub record IsChange (given : Texts) (change : Change) : Type 0 where
   pub verify : change.verify ≡ not given.no_verify
   pub journal_use : IsJournalUse given change.journal_use
 
--- Holds if the operation is asked for; `Probe` if no operation is.
+-- Holds if the options ask for this operation. They ask for `Probe` if they have no operation.
 abbrev pub IsTask : Texts → Task → Type 0
 IsTask given task.Probe = operations given ≡ 0
 IsTask given task.FlashSize = given.flash_size ≡ true

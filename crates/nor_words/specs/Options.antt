@@ -14,15 +14,15 @@ valued id = record (new_rule id) { action = Some Set; value_names = 1 }
 abbrev pub flag : Text → Rule
 flag id = record (new_rule id) { action = Some SetTrue }
 
--- the option, written as `-` and this letter
+-- this option, when it is written as `-` and the given letter
 abbrev pub by_letter : Text → Rule → Rule
 by_letter letter rule = record rule { short = slice_get letter 0 }
 
--- the option, written as `--` and its name
+-- this option, when it is written as `--` and its name
 abbrev pub by_name : Rule → Rule
 by_name rule = record rule { long = Some rule.id }
 
--- the options that name a programmer or a chip, and the list of chips
+-- the options that name a programmer or a chip, and the one that lists the chips
 abbrev pub chip_rules : List Rule
 chip_rules =
     by_letter (codes "p") (valued (codes "programmer"))
@@ -69,7 +69,7 @@ pub record IsOption (option : Rule) (arg : Arg) : Type 0 where
   pub rule : rule_of arg ≡ option
   pub local : arg.global ≡ false
 
--- the command without options: the first argument isn't the program's name, and `clap`'s own help option is disabled
+-- the command without options: the program's name isn't among the arguments, and `clap`'s own help option is disabled
 abbrev pub no_options : App
 no_options = let app = new_app (codes "flashnor") in
     record app { top = record app.top { no_binary_name = true; disable_help_flag = true } }
@@ -86,7 +86,7 @@ options =
 
 -- ---- the table in src/options.rt
 
--- an option with a row's name and letter, which is neither a flag nor takes a value yet
+-- the option with a row's name and letter, before it says whether it takes a value
 abbrev pub named : Choice → Rule
 named choice = record (new_rule choice.name.now) {
   short = choice.letter;

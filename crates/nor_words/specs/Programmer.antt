@@ -23,7 +23,7 @@ emulated_size Tiny64 = 65536
 emulated_size W25q64fv = 8388608
 emulated_size W25q128fv = 16777216
 
--- the configuration of an emulated chip
+-- Holds for the configuration of this emulated chip.
 abbrev pub IsConfigOfEmulated : Emulated → Config → Type 0
 IsConfigOfEmulated Tiny64 config = IsTiny64 config
 IsConfigOfEmulated W25q64fv config = IsW25q64fv config
@@ -62,7 +62,7 @@ is_setting setting = may_have (key_of setting) (value_of setting)
 abbrev pub is_alone_in : List Text → Text → Bool
 is_alone_in settings setting = nat_le (count_by (has_key (key_of setting)) settings) 1
 
--- true if each has a known key with a correct value, and no two have the same key
+-- true if each setting has a known key with a correct value, and no two settings have the same key
 abbrev pub are_settings : List Text → Bool
 are_settings settings = list_all (λ setting. is_setting setting && is_alone_in settings setting) settings
 
@@ -74,7 +74,7 @@ settings_of text = pieces_of (drop 6 text)
 abbrev pub value_in : List Text → Text → Option Text
 value_in settings key = option_map value_of (find (has_key key) settings)
 
--- the value that the text of `-p` gives the key, if it has the key
+-- the value that the text of `-p` gives the key, or `None` if it lacks the key
 abbrev pub said : (text key : Text) → Option Text
 said text = value_in (settings_of text)
 
@@ -83,7 +83,7 @@ abbrev pub is_programmer_text : Text → Bool
 is_programmer_text text = starts_with nat_eq text (codes "dummy:")
     && (are_settings (settings_of text) && is_some (option_and_then chip_named (said text (codes "emulate"))))
 
--- true if the text describes a programmer and has a `stop=`
+-- true if the text describes a programmer with a `stop=`
 abbrev pub has_stop : Text → Bool
 has_stop text = is_programmer_text text && is_some (option_and_then decimal_number (said text (codes "stop")))
 

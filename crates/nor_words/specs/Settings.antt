@@ -1,4 +1,4 @@
--- Taking in the settings of a programmer, one after the other.
+-- The settings of a programmer, as they are taken in one after another.
 use Rattle.std.specs.Prelude.{◌≡◌, Bool, true, false, Option, None, Some, codes, is_some, option_map}
 use Rattle.nor_words.specs.declared.settings.Settings.{Settings}
 use Rattle.nor_words.specs.Numbers.{byte_number, decimal_number, polls_of, unique_number}
@@ -29,11 +29,11 @@ pub record PutsAt {T : Type 0} (key : Text) (read : Text → Option T) (setting 
   pub met : has_key key setting ≡ true → (old ≡ None) × (read (value_of setting) ≡ new) × (is_some new ≡ true)
   pub other : has_key key setting ≡ false → new ≡ old
 
--- the setting was added to those that were taken in before
+-- Holds if the setting was added to those that were taken in before.
 abbrev pub Adds : Text → (old new : Settings) → Type 0
 Adds setting old new = EachKey (λ T key is_value read place. PutsAt key read setting (place old) (place new))
 
--- The setting can't be added: its key is unknown or already has a value, or its value isn't valid for its key.
+-- Holds if the setting can't be added: its key is unknown or already has a value, or its value isn't valid for its key.
 abbrev pub IsRefused : Text → Settings → Type 0
 IsRefused setting said = EachKey (λ T key is_value read place.
     has_key key setting ≡ true → is_value (value_of setting) ≡ true → is_some (place said) ≡ true)

@@ -1,4 +1,4 @@
--- Which arguments are which job, which have a usage fault, and which are refused.
+-- Which arguments ask for which job, which have a usage fault, and which are refused.
 use Rattle.std.specs.Prelude.{◌≡◌, ◌≢◌, [], List, Some, None, ⊤, ◌⊎◌}
 use Rattle.clap.specs.Words.{Kinds, IsAmong, fault_of, kind_of}
 use Rattle.clap.specs.declared.error.Error.{Error}
@@ -30,7 +30,7 @@ IsFault words (why.Words error) = IsAmong (kind_of error) (refusals_of words)
 IsFault words why.Memory = ⊤
 IsFault words fault = (refusals_of words ≡ []) × (first_fault (usage_faults (given_by words)) ≡ Some fault)
 
--- the usage fault that an error of `clap` becomes: `Memory` if memory ran out, otherwise `Words`
+-- Holds for the usage fault that an error of `clap` becomes: `Memory` if memory ran out, otherwise `Words`.
 abbrev pub TellsError : Error → UsageFault → Type 0
 TellsError error fault =
     ((kind_of error ≡ kind.OutOfMemory) × (fault ≡ why.Memory))

@@ -105,7 +105,8 @@ impl<'a> Given<'a> {
         }
     }
 
-    /// Returns what the options ask a program for hardware for, or fault 2.
+    /// Returns the job of a program for hardware: the value of `-p`, and the operation or its fault. Returns fault 2 if
+    /// `-p` is missing.
     pub fn hardware_job(self) -> Result<HardwareJob<'a>, UsageFault> {
         match self.programmer {
             Some(programmer) => Ok(HardwareJob {

@@ -24,7 +24,7 @@ pub struct ChipJob<'a> {
     pub task: Task<'a>,
 }
 
-/// What the arguments ask a program for hardware for.
+/// The job of a program for hardware, as its arguments give it.
 #[derive(Drop)]
 pub struct HardwareJob<'a> {
     /// The value of `-p`, which isn't parsed.

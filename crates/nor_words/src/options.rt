@@ -214,8 +214,8 @@ pub struct Help {
     pub notes: &'static str,
 }
 
-/// Returns the `clap` command of a program for hardware: all options except `-L` and `--rehearse`, which need no chip
-/// or an emulated one. Fails only if memory runs out.
+/// Returns the `clap` command of a program for hardware. It has all options except `-L`, which needs no chip, and
+/// `--rehearse`, which needs an emulated one. Fails only if memory runs out.
 pub fn make_hardware_options<'a>(alloc: Global, help: Help) -> Result<Command<'a>, AllocError> {
     let mut command = Command::new(alloc, help.program)
         .no_binary_name(true)

@@ -106,9 +106,9 @@ pub fn request_of<'a>(alloc: Global, words: &'a [String]) -> Result<Job<'a>, Usa
     Given::of(&matches).job()
 }
 
-/// Returns what the arguments ask a program for hardware for, or one of the usage faults 1, 2 and 10. `words` has the
-/// arguments without the program's name. The options are those of flashnor except `-L` and `--rehearse`. The value of
-/// `-p` isn't parsed. Fault 10, out of memory, may be returned for any arguments.
+/// Returns the job of a program for hardware that the arguments ask for, or one of the usage faults 1, 2 and 10.
+/// `words` has the arguments without the program's name. The options are those of flashnor except `-L` and
+/// `--rehearse`. The value of `-p` isn't parsed. Fault 10, out of memory, may be returned for any arguments.
 pub fn operation_of<'a>(
     alloc: Global,
     help: Help,

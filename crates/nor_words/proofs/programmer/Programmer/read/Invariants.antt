@@ -3,7 +3,7 @@ use Rattle.nor_words.specs.Programmer.{settings_of}
 use Rattle.nor_words.proofs.Gathered.{Gathered}
 use Rattle.nor_words.proofs.programmer.Programmer.read.Given as goal
 
--- the settings so far and the remaining ones are the settings of the text
+-- the settings taken in so far and the remaining ones are the settings of the text
 abbrev pub invariant-loop-setting : goal.invariant-loop-setting
 invariant-loop-setting l =
     (goal.iterator-loop-setting).can_next l.setting-iterator
