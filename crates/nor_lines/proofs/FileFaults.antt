@@ -1,4 +1,4 @@
--- A file that fails while it is read ends the run with its own fault, or with out of memory.
+-- A file that can't be read ends the run with its own fault, or with out of memory.
 use Rattle.std.proofs.Common.{ℕ, arith}
 use Rattle.nor_words.specs.Text.{Text}
 use Rattle.nor_files.specs.Files.{View}
@@ -14,7 +14,7 @@ module _ (view : View) (name : Text) (size : ℕ) (unread : Happens view (Unread
   pub unread_opening : (fault : Fault) → IsUnreadFault name fault → IsOpeningFault view name size fault
   unread_opening fault is = grind arith
 
--- the fault of a journal that can't be read is a fault of one that can't be locked and read
+-- a fault of reading a journal is also a fault of locking and reading it
 pub reading_shares : (view : View) (name : Text) (most : ℕ) (fault : Fault) → IsReadingFault view name most fault
     → IsSharingFault view name most fault
 reading_shares view name most fault is = grind arith

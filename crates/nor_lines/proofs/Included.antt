@@ -1,4 +1,4 @@
--- Why names include nothing of a layout's text.
+-- The reasons why names include nothing of a layout's text.
 use Rattle.std.proofs.Common.{◌≡◌, ℕ, ◌+◌, false, List, [], ◌∷◌, Result, Ok, Err, arith, refl}
 use Rattle.nor_layout.specs.declared.fault.LayoutFault.{LayoutFault}
 use Rattle.nor_layout.specs.declared.fault.LayoutFault.TheVariants as layout

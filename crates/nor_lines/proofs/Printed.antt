@@ -14,7 +14,7 @@ appends_then = Appends-trans
 
 -- ---- the table of chips
 
--- the line of one more chip was printed
+-- after the line of one more chip, the lines of the first `i + 1` chips are printed
 pub chips_then : (a b c : Option (List ℕ)) (items : List Part) (i : ℕ) (none : Part) → i < length items
     → Appends a b (flat_map chip_line (take i items)) → Appends b c (chip_line (get_or items i none))
     → Appends a c (flat_map chip_line (take (i + 1) items))

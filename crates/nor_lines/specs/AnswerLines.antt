@@ -1,4 +1,4 @@
--- The printed lines of each answer, character by character.
+-- The printed lines of each answer, byte by byte.
 use Rattle.std.specs.Prelude.{◌≡◌, ℕ, Bool, List, [], ◌∷◌, ◌++◌, Option, Some, None, codes, decimal, flat_map, if◌then◌else◌}
 use Rattle.std.specs.Iterator.{Drains}
 use Rattle.nor_chip.specs.Offered.{GivesNextSet}
@@ -87,12 +87,12 @@ protection_lines protection = protected_line protection.range
 abbrev pub range_line : ℕ × ℕ → List ℕ
 range_line range = line (codes "0x" ∷ hex_digits 6 range.0 ∷ codes ",0x" ∷ hex_digits 6 range.1 ∷ [])
 
--- the lines of all ranges of an iterator, one line each
+-- Holds for the lines of all ranges that the iterator yields, one line per range.
 abbrev pub AreRangeLines : Offered → List ℕ → Type 0
 AreRangeLines walk text =
     (ranges : List (ℕ × ℕ)) × Drains GivesNextSet walk ranges × (text ≡ flat_map range_line ranges)
 
--- the lines of each answer
+-- Holds for the lines of this answer.
 abbrev pub AreLines : Answer → List ℕ → Type 0
 AreLines answer.Chips text = text ≡ chip_lines
 AreLines (answer.Found found) text = text ≡ found_line found

@@ -1,4 +1,4 @@
--- The printed lines of faults, character by character.
+-- The printed lines of faults, byte by byte.
 use Rattle.std.specs.Prelude.{ℕ, List, [], ◌∷◌, ◌++◌, Option, Some, None, codes, decimal}
 use Rattle.std.specs.Fmt.{with_newline}
 use Rattle.std.specs.List.{concat}
@@ -13,7 +13,7 @@ use Rattle.nor_lines.specs.declared.messages.Fault.{Fault}
 use Rattle.nor_lines.specs.declared.messages.Fault.TheVariants as end
 use Rattle.nor_lines.specs.declared.messages.FileFault.{FileFault}
 
--- the text for the line of a layout that has a fault, if the fault is in one line
+-- the part of a message that names the line of a layout; empty if the fault isn't in one line
 abbrev pub place : Option ℕ → List ℕ
 place (Some number) = codes " at line " ++ decimal number
 place None = []
@@ -23,7 +23,7 @@ abbrev pub file_text : FileFault → Text → List ℕ
 file_text fault name =
     concat (codes "File fault " ∷ decimal (file_number fault) ∷ codes ": " ∷ escaped name ∷ codes "." ∷ [])
 
--- the text of each fault, if it is known; that of a usage fault contains the parser's message
+-- the text of a fault; `None` for usage fault 1 and for help, whose texts contain what the parser says
 abbrev pub text_of : Fault → Option (List ℕ)
 text_of (end.Usage fault) = usage_text fault
 text_of end.NoText = Some (codes "error: invalid UTF-8 was detected in one or more arguments\n\nUsage fault 1.")
@@ -33,6 +33,6 @@ text_of (end.File fault name) = Some (file_text fault name.now)
 text_of (end.Refused refusal) =
     Some (concat (codes "Error " ∷ decimal (number_of refusal) ∷ codes ": " ∷ refusal_text refusal ∷ codes "." ∷ []))
 
--- the line of a fault: its text and a line feed
+-- the line of a fault: its text and a line feed; `None` if its text isn't known
 abbrev pub line_of : Fault → Option (List ℕ)
 line_of fault = with_newline (text_of fault)

@@ -1,4 +1,5 @@
--- The faults of files. A fault of a file occurs only if the view allows that failure of the file of that name.
+-- The faults of files. A fault of a file occurs only if the `View` of the files allows that failure of the file of that
+-- name.
 use Rattle.std.specs.Prelude.{◌≡◌, ◌≢◌, ◌<◌, ◌+◌, ◌⊎◌, ℕ, List, None, length}
 use Rattle.nor_call.specs.declared.refusal.Refusal.TheVariants.{Memory}
 use Rattle.nor_words.specs.Text.{Text}
@@ -12,34 +13,34 @@ use Rattle.nor_lines.specs.declared.messages.Fault.{Fault}
 use Rattle.nor_lines.specs.declared.messages.Fault.TheVariants as end
 use Rattle.nor_lines.specs.declared.messages.FileFault.TheVariants as file
 
--- the file of this name fails while it is read, or memory runs out
+-- Holds for the faults of a file of this name that can't be read, and for out of memory.
 abbrev pub IsUnreadFault : Text → Fault → Type 0
 IsUnreadFault name (end.Refused refusal) = refusal ≡ Memory
 IsUnreadFault name (end.File file.Read of) = of.now ≡ name
 IsUnreadFault name _ = ⊥
 
--- the chip's file of this name can't be locked, or opened to be written or read
+-- Holds for the faults of a file of this name that can't be locked, or opened to be written or read.
 abbrev pub IsUnheldFault : HoldFault → Text → Fault → Type 0
 IsUnheldFault (why.Unread error) name fault = IsUnreadFault name fault
 IsUnheldFault why.Unheld name (end.File file.Write of) = of.now ≡ name
 IsUnheldFault why.Busy name (end.File file.Taken of) = of.now ≡ name
 IsUnheldFault _ name _ = ⊥
 
--- a read of at most `most` bytes fails: the file is missing or can't be read, or memory runs out
+-- Holds for the faults of reading at most `most` bytes: the file is missing or can't be read, or memory runs out.
 abbrev pub IsReadingFault : View → Text → ℕ → Fault → Type 0
 IsReadingFault view name most (end.Refused refusal) = refusal ≡ Memory
 IsReadingFault view name most (end.File file.Read of) =
     (of.now ≡ name) × (Reads name most None view ⊎ Happens view (Unread name))
 IsReadingFault view name most _ = ⊥
 
--- the file of this name may have at most `most` bytes, and has more
+-- Holds for the fault of a file of this name that may have at most `most` bytes, and has more.
 abbrev pub IsTooLong : View → Text → ℕ → Fault → Type 0
 IsTooLong view name most (end.File file.Read of) =
     (of.now ≡ name) × ((bytes : List ℕ) × IsRead view name (most + 1) bytes × (most < length bytes))
 IsTooLong view name most _ = ⊥
 
--- The fault of reading a chip's file, which must have `len` bytes: it has another length or can't be read, or memory
--- runs out. A missing file is no fault.
+-- Holds for the faults of reading a chip's file, which must have `len` bytes: it has another length or can't be read,
+-- or memory runs out. A missing file is no fault.
 abbrev pub IsOpeningFault : View → Text → ℕ → Fault → Type 0
 IsOpeningFault view name len (end.Refused refusal) = refusal ≡ Memory
 IsOpeningFault view name len (end.File file.Read of) = (of.now ≡ name) × Happens view (Unread name)
@@ -47,8 +48,8 @@ IsOpeningFault view name len (end.File file.Length of) =
     (of.now ≡ name) × ((bytes : List ℕ) × IsRead view name (len + 1) bytes × (length bytes ≢ len))
 IsOpeningFault view name len _ = ⊥
 
--- The fault of locking and reading a chip's file, which must have `len` bytes. In addition to the faults of reading it,
--- it may have become missing, be read-only, be locked by another run, or fail to sync.
+-- Holds for the faults of locking and reading a chip's file, which must have `len` bytes. In addition to the faults of
+-- reading it, the file may have become missing, be read-only, be locked by another run, or fail to sync.
 abbrev pub IsHoldingFault : View → Text → ℕ → Fault → Type 0
 IsHoldingFault view name len (end.File file.Read of) =
     (of.now ≡ name) × (Reads name (len + 1) None view ⊎ Happens view (Unread name))
@@ -57,15 +58,15 @@ IsHoldingFault view name len (end.File file.Write of) =
 IsHoldingFault view name len (end.File file.Taken of) = (of.now ≡ name) × Happens view (Busy name)
 IsHoldingFault view name len fault = IsOpeningFault view name len fault
 
--- The fault of locking and reading a journal. In addition to the faults of reading it, the lock may fail, or another
--- process may have it.
+-- Holds for the faults of locking and reading a journal. In addition to the faults of reading it, the lock may fail, or
+-- another process may have locked it.
 abbrev pub IsSharingFault : View → Text → ℕ → Fault → Type 0
 IsSharingFault view name most (end.File file.Write of) = (of.now ≡ name) × Happens view (Unheld name)
 IsSharingFault view name most (end.File file.Taken of) = (of.now ≡ name) × Happens view (Busy name)
 IsSharingFault view name most fault = IsReadingFault view name most fault
 
--- the file of this name can't be created or emptied, exists and must not, or is locked by another process, or memory
--- runs out
+-- Holds for the faults of creating a file of this name: it can't be created or truncated, exists and must not, or is
+-- locked by another process; or memory runs out.
 abbrev pub IsMaking : View → Text → Fault → Type 0
 IsMaking view name (end.Refused refusal) = refusal ≡ Memory
 IsMaking view name (end.File file.Write of) = (of.now ≡ name) × Happens view (Unmade name)

@@ -17,7 +17,7 @@ file_number file.Length = 3
 file_number file.Exists = 4
 file_number file.Taken = 5
 
--- the arguments could not be collected: out of memory, or not UTF-8
+-- Holds for the fault of arguments that could not be collected: out of memory, or not UTF-8.
 abbrev pub IsOfWords : Error → Fault → Type 0
 IsOfWords error fault = ((error_kind error ≡ Kinds.OutOfMemory) × (fault ≡ end.Usage usage.Memory))
     ⊎ ((error_kind error ≢ Kinds.OutOfMemory) × (fault ≡ end.NoText))

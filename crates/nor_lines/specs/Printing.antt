@@ -1,4 +1,4 @@
--- What is printed for the result of a run.
+-- The lines that are printed for the result of a run.
 use Rattle.std.specs.Prelude.{◌≡◌, ℕ, ⊤, List, Option, Result, Ok, Err}
 use Rattle.std.specs.Io.KnownBytes.{Appends}
 use Rattle.clap.specs.Words.{kind_of}
@@ -9,7 +9,7 @@ use Rattle.nor_lines.specs.declared.answers.Answer.{Answer}
 use Rattle.nor_lines.specs.declared.messages.Fault.{Fault}
 use Rattle.nor_lines.specs.declared.messages.Fault.TheVariants as end
 
--- if the contents of a writer are known, they grew by one of these texts
+-- Holds if the contents of a writer, as far as they are known, grew by a text for which `IsText` holds.
 abbrev pub Prints : (List ℕ → Type 0) → (old new : Option (List ℕ)) → Type 0
 Prints IsText old new = (text : List ℕ) × IsText text × Appends old new text
 
@@ -19,7 +19,7 @@ IsAnswered (Ok found) = ⊤
 IsAnswered (Err (end.Usage (usage.Words error))) = kind_of error ≡ kind.DisplayHelp
 IsAnswered (Err fault) = ⊥
 
--- the lines of the answer were printed; nothing is known about the parser's help text
+-- Holds if the lines of the answer were printed. Nothing is known about the parser's help.
 abbrev pub PrintsAnswer : Result Answer Fault → (old new : Option (List ℕ)) → Type 0
 PrintsAnswer (Ok found) old new = Prints (AreLines found) old new
 PrintsAnswer outcome old new = IsAnswered outcome

@@ -22,13 +22,13 @@ use Rattle.nor_lines.specs.Files.{IsReadingFault, IsTooLong}
 use Rattle.nor_lines.specs.declared.messages.Fault.{Fault}
 use Rattle.nor_lines.specs.declared.messages.Fault.TheVariants as end
 
--- the kind of work that a session is asked for
+-- the kind of change that a session is asked for
 abbrev pub what_of : Wanted → What
 what_of (wanted.Write image) = what.Write
 what_of wanted.Erase = what.Erase
 what_of (wanted.Range start len) = what.WpRange start len
 
--- the request of a change, for the named chip and the given ranges
+-- the request of a change, for the given name of the chip and the given ranges of addresses
 abbrev pub request_for : Change → Option ChipName → Option (List Span) → Request
 request_for change named ranges = record {
   what = what_of change.wanted;
@@ -38,52 +38,54 @@ request_for change named ranges = record {
   verify = change.verify;
 }
 
--- The text is a layout, each name is one of its regions, and the ranges contain the addresses of all named regions.
+-- Holds if the text is a layout, each name is one of its regions, and the ranges contain the addresses of all named
+-- regions.
 pub record AreIncluded (text names : List ℕ) (ranges : List Span) : Type 0 where
   pub regions : List Region
   pub layout : IsLayout text regions
   pub known : are_known regions names ≡ true
   pub union : (a : ℕ) → contains ranges a ≡ is_included regions names a
 
--- The ranges are those of the named regions in the layout's file, which has at most 16 MiB.
+-- Holds if the ranges are those of the named regions in the layout's file, which has at most 16 MiB.
 pub record AreOfLayout (view : View) (regions : Regions) (ranges : List Span) : Type 0 where
   pub text : List ℕ
   pub read : IsRead view regions.layout.now 16777217 text
   pub whole : length text ≤ 16777216
   pub included : AreIncluded text regions.names.now ranges
 
--- there are ranges if and only if regions are named
+-- Holds if there are no ranges when no regions are named, and otherwise the ranges of the named regions.
 abbrev pub AreRangesOf : View → Option Regions → Option (List Span) → Type 0
 AreRangesOf view None ranges = ranges ≡ None
 AreRangesOf view (Some regions) None = ⊥
 AreRangesOf view (Some regions) (Some ranges) = AreOfLayout view regions ranges
 
--- The text is no layout, for any regions. `first` is the first fault of its lines.
+-- Holds if the text is no layout, and `fault` is the first fault of its lines.
 pub record IsNoLayout (text : List ℕ) (fault : LayoutFault) : Type 0 where
   pub none : (regions : List Region) → ¬ IsLayout text regions
   pub first : layout_says text ≡ Err fault
 
--- The text is a layout, and one of the names is not among its regions.
+-- Holds if the text is a layout, and one of the names is not among its regions.
 pub record AreUnknown (text names : List ℕ) : Type 0 where
   pub regions : List Region
   pub layout : IsLayout text regions
   pub unknown : are_known regions names ≡ false
 
--- why the names include nothing: the text is no layout, a name is unknown, or memory ran out
+-- Holds for the reasons why the names include nothing: the text is no layout, a name is unknown, or memory ran out.
 abbrev pub IncludesNone : (text names : List ℕ) → LayoutFault → Type 0
 IncludesNone text names layout.Memory = AsksMemory text
 IncludesNone text names layout.NoRegion = AreUnknown text names
 IncludesNone text names fault = IsNoLayout text fault
 
--- A layout fault: the layout's file has at most 16 MiB, and this is why the named regions include nothing of it.
+-- Holds for a layout fault: the layout's file has at most 16 MiB, and the fault says why the named regions include
+-- nothing of it.
 pub record IsLayoutFault (view : View) (regions : Regions) (fault : LayoutFault) : Type 0 where
   pub text : List ℕ
   pub read : IsRead view regions.layout.now 16777217 text
   pub whole : length text ≤ 16777216
   pub why : IncludesNone text regions.names.now fault
 
--- the faults of including regions: those of the layout's text and names, of reading its file, and of a file of more
--- than 16 MiB
+-- Holds for the faults of including regions: those of the layout's text and names, of reading its file, and of a file
+-- of more than 16 MiB.
 abbrev pub FailsToInclude : View → Option Regions → Fault → Type 0
 FailsToInclude view None fault = ⊥
 FailsToInclude view (Some regions) (end.Layout fault) = IsLayoutFault view regions fault

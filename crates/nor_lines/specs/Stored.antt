@@ -6,38 +6,40 @@ use Rattle.nor_files.specs.Files.{AreApart, Failure, FilesState, IsKnown, IsSett
 use Rattle.nor_files.specs.Files.Failure.{Unwritten}
 use Rattle.nor_words.specs.Text.{Text}
 
--- the failure is possible on these files, at any time
+-- Holds if this failure is possible on these files, at any time.
 abbrev pub Happens : View → Failure → Type 0
 Happens view failure = view.nature.fails failure ≡ true
 
--- at most `most` bytes of the file were read, and they are these
+-- Holds if at most `most` bytes of the file were read, and these are the bytes.
 abbrev pub IsRead : View → Text → ℕ → List ℕ → Type 0
 IsRead view name most bytes = Reads name most (Some bytes) view
 
--- the bytes that were read from a file, if one is named; if it has more than `len` bytes, `len` and one more are read
+-- Holds if `found` has the bytes that were read from a file, or is `None` if no file is named or it is missing. If the
+-- file has more than `len` bytes, `len` and one more are read.
 abbrev pub IsFileFound : View → Option (Bor Text) → ℕ → Option (List ℕ) → Type 0
 IsFileFound view None len found = found ≡ None
 IsFileFound view (Some name) len found = Reads name.now (len + 1) found view
 
--- The bytes are those of a file that is named and has exactly `len` bytes; or the bytes `missing` if none is named or
--- it is missing.
+-- Holds if the bytes are those of a file that is named and has exactly `len` bytes; or the bytes `missing` if no file
+-- is named or it is missing.
 pub record AreOfFile (view : View) (name : Option (Bor Text)) (len : ℕ) (missing bytes : List ℕ) : Type 0 where
   pub found : Option (List ℕ)
   pub is_found : IsFileFound view name len found
   pub whole : IfSome found (λ all. length all ≡ len)
   pub same : bytes ≡ unwrap_or found missing
 
--- if a file is named and the files obey their contract, it durably has exactly these bytes
+-- Holds if no file is named, or if the named file durably has exactly these bytes, as long as the files obey their
+-- contract.
 abbrev pub Has : Option (Bor Text) → List ℕ → FilesState → Type 0
 Has None bytes files = ⊤
 Has (Some name) bytes files = is_lawful files.view ≡ true → IsSettled name.now (Some bytes) files
 
--- the file was written with these bytes; or it could not be written, and its name is given
+-- Holds if the file was written with these bytes; or if it could not be written, and its name is given as failed.
 abbrev pub ArePut : Option (Bor Text) → List ℕ → Option (Bor Text) → FilesState → Type 0
 ArePut name bytes None files = Has name bytes files
 ArePut name bytes (Some failed) files = (name ≡ Some failed) × Happens files.view (Unwritten failed.now)
 
--- if a file could not be written, it is the one named here
+-- Holds if the only file that may have failed to be written is the one named here.
 abbrev pub IsToldOf : (name failed : Option (Bor Text)) → View → Type 0
 IsToldOf name None view = ⊤
 IsToldOf name (Some failed) view = (name ≡ Some failed) × Happens view (Unwritten failed.now)
@@ -48,17 +50,17 @@ abbrev pub IsNot : Nature → Option (Bor Text) → Text → Type 0
 IsNot nature None name = ⊤
 IsNot nature (Some other) name = AreApart nature other.now name
 
--- the two names are apart, if both are given
+-- Holds if the two names are apart, provided that both are given.
 abbrev pub AreTwo : Nature → (one other : Option (Bor Text)) → Type 0
 AreTwo nature None other = ⊤
 AreTwo nature (Some one) other = IsNot nature other one.now
 
--- if a file is named, it is as it was
+-- Holds if no file is named, or if the named file is as it was.
 abbrev pub StaysOf : Option (Bor Text) → (old new : FilesState) → Type 0
 StaysOf None old new = ⊤
 StaysOf (Some name) old new = Stays name.now old new
 
--- if a file is named, a host crash may leave nothing of it that it could not leave before
+-- Holds if no file is named, or if a host crash may leave nothing of the named file that it could not leave before.
 abbrev pub LeavesNoMoreOf : Option (Bor Text) → (old new : FilesState) → Type 0
 LeavesNoMoreOf None old new = ⊤
 LeavesNoMoreOf (Some name) old new = LeavesNoMore name.now old new
@@ -68,8 +70,8 @@ abbrev pub IsMissing : Option (Bor Text) → View → Type 0
 IsMissing None view = ⊤
 IsMissing (Some name) view = IsKnown name.now view → view.seen name.now ≡ None
 
--- If a file is named and known, a host crash may leave nothing of it that it could not leave before, except an empty
--- file if it was missing.
+-- Holds if no file is named, or if a host crash may leave nothing of the named file that it could not leave before,
+-- except an empty file if it was missing. A file that isn't known is not covered.
 abbrev pub MakesNothing : Option (Bor Text) → (old new : FilesState) → Type 0
 MakesNothing None old new = ⊤
 MakesNothing (Some name) old new = IsKnown name.now old.view → LeavesOrEmpty name.now old new

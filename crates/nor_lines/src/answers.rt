@@ -11,7 +11,7 @@ pub type Outcome = Result<Answer, Refusal>;
 /// The answer of a job that succeeded.
 #[derive(Drop)]
 pub enum Answer {
-    /// A request for the table of chips.
+    /// The table of chips, which `-L` lists.
     Chips,
     /// The chip that was identified.
     Found(Found),

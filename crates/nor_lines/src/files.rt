@@ -63,8 +63,8 @@ pub fn unread(name: &str) -> Fault<'_>
     Fault::File { fault, name }
 }
 
-/// Creates or empties the file of this name, and returns a vault in it. A journal is never emptied: it is file fault 4.
-/// `making` lists the other faults.
+/// Creates the file of this name or truncates it, and returns a vault in it. A file that is a journal is never
+/// truncated: that is file fault 4. `making` lists the other faults.
 pub fn empty<'a, R: Store>(rt: &mut R, name: &'a str) -> Result<R::Filed, Fault<'a>>
     ensures nature { (R.state rt.new).view.nature ≡ (R.state rt.old).view.nature }
     ensures fresh { IfOk result (λ vault. IsFresh (R.Filed.state vault)) }
@@ -80,8 +80,8 @@ pub fn empty<'a, R: Store>(rt: &mut R, name: &'a str) -> Result<R::Filed, Fault<
     }
 }
 
-/// Creates the file of this name, and returns a vault in it. If the file exists it is left as it is: file fault 4.
-/// `making` lists the other faults.
+/// Creates the file of this name, and returns a vault in it. If the file exists it is left as it is: that is file fault
+/// 4. `making` lists the other faults.
 pub fn make<'a, R: Store>(rt: &mut R, name: &'a str) -> Result<R::Filed, Fault<'a>>
     ensures nature { (R.state rt.new).view.nature ≡ (R.state rt.old).view.nature }
     ensures fresh { IfOk result (λ vault. IsFresh (R.Filed.state vault)) }
@@ -101,8 +101,8 @@ pub fn make<'a, R: Store>(rt: &mut R, name: &'a str) -> Result<R::Filed, Fault<'
     }
 }
 
-/// Creates or empties the file of this name, and returns a buffered writer to it. A journal is never emptied: it is
-/// file fault 4. `making` lists the other faults.
+/// Creates the file of this name or truncates it, and returns a buffered writer to it. A file that is a journal is
+/// never truncated: that is file fault 4. `making` lists the other faults.
 pub fn create_log<'a, R: Store>(rt: &mut R, name: &'a str) -> Result<BufWriter<R::Log>, Fault<'a>>
     ensures nature { (R.state rt.new).view.nature ≡ (R.state rt.old).view.nature }
     ensures others { is_lawful (R.state rt.old).view ≡ true
@@ -116,9 +116,9 @@ pub fn create_log<'a, R: Store>(rt: &mut R, name: &'a str) -> Result<BufWriter<R
     BufWriter::new(rt.alloc(), file).map_err(|_| Fault::Refused(Refusal::Memory))
 }
 
-/// Returns the fault of a file that can't be created or emptied.
+/// Returns the fault of a file that can't be created or truncated.
 ///
-/// - file fault 4 if the file exists and must be new, or is a journal, which is never emptied
+/// - file fault 4 if the file exists and must be new, or is a journal, which is never truncated
 /// - file fault 5 if another process has locked the file
 /// - error 18 if memory ran out
 /// - otherwise file fault 2
@@ -145,7 +145,7 @@ pub fn taken(name: &str) -> Fault<'_>
     Fault::File { fault, name }
 }
 
-/// Returns the fault of a file that can't be created, emptied or written (file fault 2).
+/// Returns the fault of a file that can't be created, truncated or written (file fault 2).
 pub fn unmade(name: &str) -> Fault<'_>
     ensures { result ≡ Faults.File FileFaults.Write name.entry }
 {
@@ -169,7 +169,7 @@ pub fn read_journal<'a, R: Store>(rt: &mut R, journal: &'a str) -> Result<Vec<u8
     }
 }
 
-/// Returns the fault of a file that can't be locked or opened to be written.
+/// Returns the fault of a file that can't be locked, or opened to be read or written.
 pub fn unheld(fault: HoldFault, name: &str) -> Fault<'_>
     ensures { IsUnheldFault fault name.now result }
 {

@@ -9,16 +9,16 @@ use std::alloc::AllocError;
 use std::io::ErrorKind;
 use std::{fmt, io};
 
-/// The failure of a file.
+/// A failure of a file. Its message has the number that is given here.
 #[derive(Clone, Copy)]
 pub enum FileFault {
     /// The file is missing, can't be looked up or read, or is a layout of more than 16 MiB.
     Read = 1,
-    /// The file can't be created, emptied, locked, written or synced, or it is the trace and lost a line.
+    /// The file can't be created, truncated, locked, written or synced, or it is the trace and lost a line.
     Write,
     /// The image has another length than the chip, or the status file does not have two bytes.
     Length,
-    /// The journal of a change already exists, or a file that would be emptied is a journal.
+    /// The journal of a change already exists, or a file that would be truncated is a journal.
     Exists,
     /// The file has another role in the run, another run has locked it, or the program prints to it.
     Taken,
@@ -35,14 +35,14 @@ impl FileFault {
     }
 }
 
-/// The fault that ends a run with status 1, displayed as its text on standard error. An argument fault that asks for
-/// help is printed to standard output and does not set status 1.
+/// The fault that ends a run with status 1, displayed as its text on standard error. A request for help is a fault of
+/// the arguments, too, but is printed to standard output, and does not set status 1.
 #[derive(Drop)]
 pub enum Fault<'a> {
     /// A fault of the arguments, or a request for help.
     Usage(UsageFault),
-    /// Arguments that are not UTF-8, so that nothing can be parsed. It has the number of arguments that the parser
-    /// refuses.
+    /// Arguments that are not UTF-8, so that nothing can be parsed. This is printed as usage fault 1, as if the parser
+    /// had refused the arguments.
     NoText,
     /// A layout, or the names of its regions, that can't be used.
     Layout(LayoutFault),
@@ -87,7 +87,7 @@ impl From<AllocError> for Fault<'_> {
     }
 }
 
-// Written out because a derived text has no contract.
+// Not derived, because a derived `Display` has no contract.
 impl fmt::Display for Fault<'_> {
     ghost use Rattle.nor_lines.specs.FaultLines.{text_of};
 
@@ -111,7 +111,7 @@ impl fmt::Display for Fault<'_> {
     }
 }
 
-// The number of the line with a layout's fault, if the fault is in one line.
+// The part of a message that names the layout's line with the fault, if the fault is in one line.
 #[derive(Drop)]
 struct Place(Option<usize>);
 

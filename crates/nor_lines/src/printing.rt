@@ -1,4 +1,4 @@
-//! Prints the answer, the help or the fault of a run, one line each.
+//! Prints the lines of the answer, the help or the fault of a run.
 ghost use Rattle.std.specs.Prelude.{◌≡◌, IsTrue, IsSome, IsNone, OnOk, IfSome, Err, flat_map};
 ghost use Rattle.std.specs.Io.KnownBytes.{Appends};
 ghost use Rattle.nor_probe.specs.Table.{chips};
@@ -18,7 +18,7 @@ use nor_words::UsageFault;
 use std::io::Write;
 use std::{fmt, io};
 
-/// Returns the parser's text if it is help that was requested.
+/// Returns the parser's text if the fault is a request for help.
 pub fn help_of<'a>(fault: &'a Fault<'_>) -> Option<&'a WordsError>
     ensures some { IsSome result → IsAnswered (Err fault.now) }
     ensures none { IsNone result → IsAnswered (Err fault.now) → ⊥ }

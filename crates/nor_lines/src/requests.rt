@@ -1,4 +1,4 @@
-//! The request of a change, and the addresses of the regions it includes.
+//! The request of a change, and the addresses of the regions that it includes.
 ghost use Rattle.std.specs.Prelude.{◌≡◌, IfOk, IfErr, option_copied};
 ghost use Rattle.nor_lines.specs.Requests.{AreIncluded, AreRangesOf, FailsToInclude, IncludesNone, request_for, what_of};
 
@@ -46,7 +46,7 @@ fn included_in(alloc: Global, text: &[u8], names: &str) -> Result<Ranges, Layout
     Layout::read(alloc, text)?.include(names)
 }
 
-/// Returns the request of a change. If `named` is given the chip must have that name; `included` are the included
+/// Returns the request of a change. If `named` is given, the chip must have that name; `included` has the included
 /// addresses.
 pub fn request_for(
     change: &Change<'_>,

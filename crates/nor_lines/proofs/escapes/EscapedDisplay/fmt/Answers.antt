@@ -14,7 +14,7 @@ escaped_none : (text : List ℕ) → length text ≡ 0 → escaped text ≡ []
 escaped_none [] none = ap (flat_map escaped_character) chars-nil
 escaped_none (byte ∷ rest) none = absurd (omega (arith, none))
 
--- one more character was written
+-- the invariant of the loop still holds after one more character was written
 pub loop-character-preserved : goal.loop-character-preserved
 loop-character-preserved g c =
     let held = c.loop-character.invariant in
@@ -28,7 +28,7 @@ loop-character-preserved g c =
           ),
     )
 
--- every character was written
+-- after the loop, every character was written
 pub returns-clause-writes : goal.returns-clause-writes
 returns-clause-writes g c = λ plain _.
     let so_far = c.loop-character.invariant.1 plain in
