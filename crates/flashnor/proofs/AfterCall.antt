@@ -1,4 +1,4 @@
--- The effect of a call on the chip and its journal, and the contents that it read of other files.
+-- The effect of a call on the chip and its journal, and the contents of other files that it read.
 use Rattle.std.proofs.Common.{◌≡◌, ◌∙◌, ℕ, List, Option, None, Some}
 use Rattle.std.proofs.Common.{Result, inl, inr}
 use Rattle.std.proofs.Common.{sym, true}
@@ -35,7 +35,7 @@ use Rattle.flashnor.proofs.Traced.{reads_before}
 
 -- ---- the chip and the journal after the call
 
--- a journal in a file is kept while other files are written
+-- a journal in a file is kept while another file is written
 pub kept_after : {file : Text} {vault : VaultState} {s2 s3 : FilesState} → Stays file s2 s3 → IsKeptFile file vault s2
     → IsKeptFile file vault s3
 kept_after stays kept = record {

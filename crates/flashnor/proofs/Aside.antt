@@ -35,7 +35,7 @@ whole_of : (found : Found) (n m : ℕ) → n ≡ m → IsSomeAnd found (λ all. 
 whole_of None n m same many = absurd many
 whole_of (Some all) n m same many = many ∙ same
 
--- if no file is named, none is found
+-- if no file is named, no contents are found
 pub none_found : (view : View) (name : Option (Bor Text)) (len : ℕ) (found : Found) → IsFileFound view name len found
     → name ≡ None → found ≡ None
 none_found view None len found is none = is
@@ -43,7 +43,8 @@ none_found view (Some name) len found is none = absurd cc
 
 -- ---- a file that is moved aside
 
--- a file that a run found keeps its length; a file that the run did not find may be moved aside again
+-- a file that a run found keeps its length; a file that the run did not find, and that was missing at first, may be
+-- moved aside again
 aside_of : (other : Bor Text) (was found left : Found) (len : ℕ) (mid new : FilesState) → AreAtRest mid
     → ((name : Name) → new.may_leave name (new.view.seen name)) → IsFileFound mid.view (Some other) len found
     → IfSome found (λ all. length all ≡ len) → LeavesAsLong (Some other) mid new → (was ≡ None) × (left ≡ None)
@@ -59,7 +60,7 @@ aside_of other was (Some all) left len mid new rest still is whole long aside =
       inr aside,
     )
 
--- the content found is one that a run may have left, or there is none if there was no file at first
+-- the contents found are contents that a run may have left, or there are none if there was no file at first
 pub pick : (one other : Option (Bor Text)) (was found left : Found) (len : ℕ) (mid new : FilesState) → NameOne one other
     → AreAtRest mid → ((name : Name) → new.may_leave name (new.view.seen name)) → IsFileFound mid.view other len found
     → IfSome found (λ all. length all ≡ len) → LeavesAsLong other mid new → MayFind one was left new

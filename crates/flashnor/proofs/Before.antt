@@ -1,4 +1,4 @@
--- The effect on files of a run that ends before its call, or whose task does not change the chip.
+-- The files after a run that ends before its call, or whose task does not change the chip.
 use Rattle.std.proofs.Common.{◌≡◌, ◌∙◌, Option, None, Some, arith, false, inl, inr, refl, subst, sym, true, true≢false}
 use Rattle.std.specs.Borrow.{Bor}
 use Rattle.nor_files.specs.Calls.{LeaveNoMore, LeavesNoMore, LeavesOrEmpty}
@@ -16,7 +16,7 @@ use Rattle.nor_lines.specs.Stored.{AreTwo, IsNot, LeavesNoMoreOf, MakesNothing, 
 use Rattle.flashnor.specs.Tasks.{journal_by, journal_of, keeps_journal, made_by, puts_back}
 use Rattle.flashnor.proofs.Stays.{StayApart, apart, known_after, known_at_rest, not_after, not_that, stays_same}
 
--- a promise about all files holds for a file that is named
+-- a promise about all files holds for the file that is named, if one is
 pub leaves_of : (old new : FilesState) (name : Option (Bor Text)) → LeaveNoMore old new → LeavesNoMoreOf name old new
 leaves_of old new None leave = tt
 leaves_of old new (Some name) leave = leave name.now
@@ -43,7 +43,7 @@ pub two_kept : (nature : Nature) (done : Task) (one : Option (Bor Text)) → Are
 two_kept nature (task.Change change) one two = two
 two_kept nature _ one two = two_none nature one
 
--- roles depend only on the nature of the files, which calls keep
+-- whether each file has one role depends only on the nature of the files, which calls keep
 pub roles_after : {old new : Nature} (job : ChipJob) → new ≡ old → HaveOneRole old job → HaveOneRole new job
 roles_after job same roles = subst (λ (n : Nature). HaveOneRole n job) (sym same) roles
 
@@ -54,7 +54,7 @@ module _ (nature : Nature) (job : ChipJob) (roles : HaveOneRole nature job) wher
   pub status_made : AreTwo nature job.programmer.status (made_by job.task)
   status_made = two_made nature job.task job.programmer.status roles.status_output roles.status_journal
 
--- if all files stay except the trace and the created file, the chip's files stay too
+-- if each file has one role, and all files stay except the trace and the created file, the chip's files stay too
 pub stays_but : (job : ChipJob) (old new : FilesState) → HaveOneRole old.view.nature job
     → StayApart job.programmer.trace (made_by job.task) old new → StayBut job.programmer (made_by job.task) old new
 stays_but job old new roles stay = record {
@@ -106,7 +106,7 @@ keeps_still files programmer done =
     })
     (λ any _ _. (same any).leaves) (λ journal _. (same journal.now).leaves) (λ file _ left can. inl can)
 
--- A session whose journal already exists, and that wrote only its trace.
+-- a task that creates a journal changes the chip
 puts_journal : (done : Task) (file : Bor Text) → journal_by done ≡ Some file → puts_back done ≡ true
 puts_journal done file is = grind arith
 
@@ -130,7 +130,7 @@ keeps_existing job old new file is own stay =
 
 module _ (old mid new : FilesState) (rest : AreAtRest old) (nature : mid.view.nature ≡ old.view.nature)
     (known : KnownStay old mid) (first : LeaveNoMore old mid) where
-  -- if a journal is not created, its file is left as it was, or empty if it was missing
+  -- if creating a journal fails, its file is left as it was, or empty if it was missing
   or_empty : (named : Option (Bor Text)) (file : Bor Text) → named ≡ Some file → MakesNothing named mid new
       → LeavesOrEmpty file.now old new
   or_empty named file is makes left can =
@@ -141,7 +141,7 @@ module _ (old mid new : FilesState) (rest : AreAtRest old) (nature : mid.view.na
         | inr empty ↦ inr (sym same ∙ empty.0, empty.1)
       ]
 
-  -- a call that was not made because of its trace or of a file of its task
+  -- the call was not made, because of a fault of its trace or of a file of its task
   pub keeps_before : (job : ChipJob) → HaveOneRole old.view.nature job → puts_back job.task ≡ true
       → StayApart job.programmer.trace (made_by job.task) mid new → MakesNothing (journal_by job.task) mid new
       → KeepsFiles job.programmer job.task old new

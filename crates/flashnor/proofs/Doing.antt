@@ -41,7 +41,7 @@ module _ (request : Request) (image : List ℕ) (old new : BusState) (vault vaul
   same : vault'.sealed ≡ false → IsSame old.chip new.chip
   same unsealed = (((looks unsealed).looked modelled.honest).stays.calm calm)
 
-  -- a change can be undone from the seal of its journal on, even if it returned an error
+  -- `HasKeptChange` holds for a session that succeeded, and for one that returned an error
   pub kept : (outcome : Result Answer Refusal)
       → MatchResult outcome (TellsDone request image old new) (GivesUp request image old new vault vault')
       → (IsOk outcome → vault'.sealed ≡ true) → HasKeptChange request image old new vault vault' outcome

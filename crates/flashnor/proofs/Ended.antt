@@ -1,4 +1,4 @@
--- How calls and jobs end a run.
+-- How a run ends, from the end of its call and of its job.
 use Rattle.std.proofs.Common.{◌≡◌, ◌≢◌, ℕ, List, Option, Result, Ok, Err, IfOk, arith, false, inl, inr, refl, subst}
 use Rattle.nor_call.specs.declared.refusal.Refusal.{Refusal}
 use Rattle.nor_words.specs.Text.{Text}
@@ -61,7 +61,7 @@ module _ (files after : FilesState) (on_chip : ChipJob) (unwritten : Unwritten) 
 
 -- ---- what the files hold
 
--- nothing is claimed for a call that returned an error
+-- `HoldsResult` claims nothing for a call that returned an error
 pub holds_told : (on_chip : ChipJob) (unwritten : Unwritten) (outcome : Result Answer Refusal)
     (told : Result Answer Fault) (old new : FilesState) → IsToldAs outcome told
     → ((found : Answer) → outcome ≡ Ok found → unwritten ≡ all_written
@@ -70,7 +70,7 @@ pub holds_told : (on_chip : ChipJob) (unwritten : Unwritten) (outcome : Result A
 holds_told on_chip unwritten (Ok found) told old new tells holds = rw tells (holds found refl)
 holds_told on_chip unwritten (Err refusal) told old new tells holds = rw tells tt
 
--- nothing is claimed for a task that does not change the chip
+-- `HoldsChange` claims nothing for a rehearsal
 looked_kept : (programmer : Programmer) (named : Option ChipName) (change : Change) (kept : JournalUse)
     (found : Answer) (old new : FilesState) → keeps_journal kept ≡ false
     → HoldsChange programmer named change kept found old new
@@ -135,7 +135,7 @@ module _ (files after : FilesState) (words : List Text) where
       prints = prints;
     }
 
--- a run without memory for its arguments did nothing
+-- a run without memory for its arguments changed no file
 pub is_without_memory : (files : FilesState) (words : List Text) (out out' err err' : Option (List ℕ)) (ending : Ending)
     → HasPrinted (Err (end.Usage usage.Memory)) all_written out out' err err' ending → IsStatus files files words out out' err err' ending
 is_without_memory files words out out' err err' ending prints =

@@ -1,4 +1,4 @@
--- The effect on all files of reading the chip's files.
+-- The files after the chip's files were read.
 use Rattle.std.proofs.Common.{◌≡◌, ◌+◌, ◌∙◌, ℕ, Bool, Option, None, Some, Ok, IsSomeAnd, ap, arith, false, inl, inr}
 use Rattle.std.proofs.Common.{is_some, option_map, refl, sym, take}
 use Rattle.std.specs.Borrow.{Bor}
@@ -30,7 +30,7 @@ missing_settled {name = name} {there = there} {old = old} gone known holds place
 
 -- ---- faults
 
--- a read afterwards returns what a read before would have returned
+-- if all known files stayed, a read afterwards returns what a read before would have returned
 reads_before : (name : Name) (most : ℕ) (found : Found) (a b : FilesState) → b.view.nature ≡ a.view.nature
     → KnownStay a b → Reads name most found b.view → Reads name most found a.view
 reads_before name most found a b same stay reads known =

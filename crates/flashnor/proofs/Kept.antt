@@ -1,4 +1,4 @@
--- The effect on files of a run that changes a chip, for every task, and the contents of the files at its end.
+-- The files after a run that changes a chip: at every exit, and after success.
 use Rattle.std.proofs.Common.{◌≡◌, ◌<◌, ◌/◌, ◌%◌, ◌∙◌, ◌∷◌, [], ℕ, Bool, List, Option, None, Some}
 use Rattle.std.proofs.Common.{Result, Ok, IfSome, ap, arith, inl, inr, length, refl, replicate}
 use Rattle.std.proofs.Common.{subst, sym, true}
@@ -109,7 +109,7 @@ module _ (job : ChipJob) (held : Held) (s0 s1 s2 : FilesState) (bus bus' : BusSt
         as_long job.programmer.status held.status_there _ _ s0 s1 s3 is_held.stay is_held.status status_many
         is_amid.status
 
-    -- each byte that is opened from what may be left is that of the old or the new chip
+    -- each byte of a chip that is opened from what may be left is that of the old or the new chip
     over : (image status : Found) (later : BusState) → MayFind job.programmer.image read.bytes.found image s3
         → MayFind job.programmer.status read.status.found status s3 → IsOpenedFrom image status bus.chip.config later.chip
         → IsWrittenOver bus.chip bus'.chip later.chip
@@ -149,13 +149,13 @@ module _ (job : ChipJob) (held : Held) (s0 s1 s2 : FilesState) (bus bus' : BusSt
           idle = from.idle;
         }
 
-    -- from the locking of the files to the end of the call
+    -- the files stay from the locking of the chip's files to the end of the call
     call_stays : (made : Option (Bor Text)) → StayApart job.programmer.trace made s1 s2 → (name : Text)
         → IsNot s0.view.nature job.programmer.trace name → IsNot s0.view.nature made name → Stays name s1 s2
     call_stays made stay' name traced other =
         stay' name (not_after job.programmer.trace name nature1 traced) (not_after made name nature1 other)
 
-    -- from the end of the call on
+    -- the files stay from the end of the call on
     last_stays : (name : Text) → IsNot s0.view.nature job.programmer.image name
         → IsNot s0.view.nature job.programmer.status name → Stays name s2 s3
     last_stays name image status =
@@ -175,7 +175,7 @@ module _ (job : ChipJob) (held : Held) (s0 s1 s2 : FilesState) (bus bus' : BusSt
         stays_on (is_held.stay name)
         (stays_on (call_stays made stay' name none.trace other) (last_stays name none.image none.status))
 
-    -- a sealed journal restores the original chip, and is durable in its file
+    -- a sealed journal can restore the original chip, and is durable in its file
     leads_kept : {request : Request} {image : List ℕ} {outcome : Result Answer Refusal} (file : Bor Text)
         → (made : HasMadeChange request image (uses.Journal file) bus bus' amid s2 outcome)
         → IsKeptFile file.now made.vault' s3 → made.vault'.sealed ≡ true
@@ -193,7 +193,7 @@ module _ (job : ChipJob) (held : Held) (s0 s1 s2 : FilesState) (bus bus' : BusSt
           rw saves.is at (in_file.settled is),
         )
 
-    -- a session with its journal in a file
+    -- a session with its journal in a file keeps its promise about the files
     keeps_change : {request : Request} {image : List ℕ} {outcome : Result Answer Refusal} (kept : JournalUse)
         → keeps_journal kept ≡ true → StayApart job.programmer.trace (journal_of kept) s1 s2
         → AreTwo s0.view.nature job.programmer.image (journal_of kept)

@@ -66,7 +66,7 @@ module _ {T E : Type 0} {name : Name} {had bytes : List ℕ} {a b : FilesState} 
         (has, same, rw (same_Some first had (ready.settled.leaves (Some first) was)) at mix)
   ]
 
-  -- the file while its length is set
+  -- what a host crash may leave of the file while its length is set
   pub amid_cut : {result : Result T E} {c : FilesState} → SetsLength name (length bytes) result b c
       → LeavesFileAmid name true had bytes c
   amid_cut sets left can = elim (sets.leaves left can) [
@@ -79,7 +79,7 @@ module _ {T E : Type 0} {name : Name} {had bytes : List ℕ} {a b : FilesState} 
         (has, is ∙ ap Some uncut, mix)
   ]
 
-  -- the file after it was synced, or its sync failed
+  -- what a host crash may leave of the file after it was synced, or its sync failed
   pub amid_over : {two : T} {c : FilesState} (d : FilesState) (result : Result T E)
       → SetsLength {E = E} name (length bytes) (Ok two) b c → Syncs name result c d
       → LeavesFileAmid name true had bytes d
@@ -97,11 +97,11 @@ module _ {T E : Type 0} {name : Name} {had bytes : List ℕ} {a b : FilesState} 
 
 -- ---- the contents of a file that is created
 
--- the contents before it is overwritten: zero bytes, one more than `bytes` has
+-- the contents of a new file before it is overwritten: zero bytes, one more than `bytes` has
 abbrev pub blank : List ℕ → List ℕ
 blank bytes = with_length (length bytes + 1) []
 
--- the contents after it is overwritten
+-- the contents of a new file after it is overwritten
 abbrev pub filled : List ℕ → List ℕ
 filled bytes = written_over bytes (blank bytes)
 
@@ -115,7 +115,7 @@ filled_length : (bytes : List ℕ) → length (filled bytes) ≡ length bytes + 
 filled_length bytes =
     omega (arith, length-append bytes (drop (length bytes) (blank bytes)), length-drop (length bytes) (blank bytes), blank_length bytes)
 
--- truncated to the length of `bytes` it has exactly `bytes`
+-- truncated to the length of `bytes`, the new file has exactly `bytes`
 cut_to : (bytes : List ℕ) → with_length (length bytes) (filled bytes) ≡ bytes
 cut_to bytes =
     let none : length bytes - length (filled bytes) ≡ 0 = omega (arith, filled_length bytes) in
@@ -130,8 +130,8 @@ longer bytes content more same = absurd (omega (arith, more, same))
 
 -- ---- states of the file
 
--- Calls on a file that was ready to be created with these bytes, of which the last may have failed. If it succeeded,
--- the file has this content.
+-- Holds after calls on a file that was ready to be created with these bytes. The last call may have failed. If it
+-- succeeded, the file has this content.
 pub record IsChanged {T E : Type 0} (name : Name) (bytes content : List ℕ) (result : Result T E)
     (old new : FilesState) : Type 0 where
   pub work : WorkOn name old new
@@ -140,7 +140,7 @@ pub record IsChanged {T E : Type 0} (name : Name) (bytes content : List ℕ) (re
   pub seen : (one : T) → result ≡ Ok one → (had : List ℕ) → IsReadyFile name false had bytes old
       → new.view.seen name ≡ Some content
 
--- The file exists with this content. A host crash may only lose its name.
+-- Holds if the file exists with this content, and a host crash may only lose its name.
 pub record IsNew (name : Name) (bytes content : List ℕ) (old new : FilesState) : Type 0 where
   pub work : WorkOn name old new
   pub whole : length content ≡ length bytes → content ≡ bytes
@@ -150,7 +150,7 @@ pub record IsNew (name : Name) (bytes content : List ℕ) (old new : FilesState)
 
 -- ---- the calls in sequence
 
--- The effect of a call that creates the file of this name, sets its length, overwrites or syncs it.
+-- a call that creates the file of this name, sets its length, overwrites it or syncs it
 module _ {T E : Type 0} (F : Type 0) (name : Name) (result : Result T E) (old new : FilesState) where
   abbrev Keeps : Type 0
   Keeps = new.view.nature ≡ old.view.nature
@@ -194,7 +194,7 @@ made {bytes = bytes} make = record {
   ];
 }
 
--- a host crash may leave no file, or a content that is complete if its length is right
+-- a host crash may leave nothing of a new file, or contents that are complete if their length is right
 of_new : {name : Name} {bytes content : List ℕ} {old new : FilesState} → IsNew name bytes content old new
     → (had : List ℕ) → IsReadyFile name false had bytes old → LeavesFileAmid name false had bytes new
 of_new {content = content} is had ready left can = elim (is.leaves had ready left can) [
@@ -274,7 +274,7 @@ module _ {T E F : Type 0} {name : Name} {bytes content : List ℕ} {one : T} {ol
     seen = λ one ok. absurd cc;
   }
 
--- its directory was synced, or the sync failed
+-- the directory of the file was synced, or the sync failed
 module _ {T E : Type 0} {name : Name} {bytes : List ℕ} {old mid : FilesState} (is : IsNew name bytes bytes old mid)
     (new : FilesState) (had : List ℕ) (ready : IsReadyFile name false had bytes old) where
   pub amid_placed : (result : Result T E) → (IsKnown name mid.view → Places name result mid new)

@@ -1,4 +1,4 @@
--- A session whose journal already exists.
+-- The faults of a session whose journal already exists.
 use Rattle.std.proofs.Common.{ℕ, Option, None, Some, IsSomeAnd, inl, inr}
 use Rattle.std.specs.Borrow.{Bor}
 use Rattle.nor_files.specs.Files.{View}
@@ -10,7 +10,7 @@ use Rattle.nor_lines.specs.declared.messages.Fault.{Fault}
 use Rattle.nor_lines.specs.declared.messages.Fault.TheVariants as end
 use Rattle.nor_lines.specs.declared.messages.FileFault.TheVariants as file
 
--- the fault of a chip's file that can't be opened is a fault of a file that can't be locked and read
+-- a fault of opening a chip's file is also a fault of locking and reading it
 opens_not : (view : View) (name : Text) (len : ℕ) (fault : Fault) → IsOpeningFault view name len fault
     → IsHoldingFault view name len fault
 opens_not view name len (end.File file.Read of) (is, happens) = (is, inr happens)

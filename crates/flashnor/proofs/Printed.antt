@@ -14,7 +14,7 @@ use Rattle.nor_lines.specs.declared.messages.Fault.{Fault}
 use Rattle.nor_lines.specs.declared.messages.Fault.TheVariants as end
 use Rattle.flashnor.specs.declared.printing.Ending.{Ending}
 
--- if a line is known, it and the lines after it were printed
+-- if the first line is known, it and the lines after it were printed
 pub tells_both : (line : Option (List ℕ)) (a b c : Option (List ℕ)) (others : List ℕ) → IfSome line (Appends a b) → Appends b c others
     → IfSome (option_append line (Some others)) (Appends a c)
 tells_both None a b c others one two = tt
@@ -26,7 +26,7 @@ tells_well (Ok found) unwritten err err' answered told = told
 tells_well (Err (end.Usage (usage.Words error))) unwritten err err' answered told = tt
 tells_well _ unwritten err err' answered told = absurd answered
 
--- the end of a run with an answer, or with help
+-- `HasPrinted` holds after a run with an answer or help
 pub printed_well : (outcome : Result Answer Fault) (unwritten : Unwritten) (out out' err err' : Option (List ℕ)) (ending : Ending)
     (is_printed : Bool) → IsAnswered outcome → (is_printed ≡ true → PrintsAnswer outcome out out')
     → EndsWell is_printed unwritten err err' ending → HasPrinted outcome unwritten out out' err err' ending
@@ -39,7 +39,7 @@ printed_well outcome unwritten out out' err err' ending is_printed answered prin
   silent = λ _ all. ends.silent all;
 }
 
--- a fault that is not help
+-- `HasPrinted` holds after a run with a fault that is not help
 pub printed_badly : (fault : Fault) (unwritten : Unwritten) (out err err' : Option (List ℕ)) (ending : Ending)
     → (IsAnswered (Err fault) → ⊥) → EndsBadly fault unwritten err err' ending
     → HasPrinted (Err fault) unwritten out out err err' ending

@@ -46,7 +46,7 @@ finds_ready programmer named old new found ready name finds =
     let part : emulated_part programmer.chip ≡ part_in found = shows programmer old _ ready finds.part in
     record { part = sym part; name = rw part name }
 
--- the errors of the identification, on a ready bus
+-- on a ready bus an error of the identification is one that `FindRefuses` allows
 pub refuses_ready : (programmer : Programmer) (named : Option ChipName) (old new : BusState) (fault : ProbeFault)
     → IsReady programmer old → Tells named old new fault → FindRefuses programmer named (of_probe fault)
 refuses_ready programmer named old new Probes.OtherName ready tells = λ has.
@@ -60,7 +60,7 @@ refuses_ready programmer named old new _ ready tells =
     let bad = sym (shown_with programmer.chip programmer.unique old.chip.config ready.config) ∙ tells.0 in
     cc
 
--- The bus after it got its contents, then the setting for power cuts, then its number of transactions.
+-- the bus is ready after it got its contents, then the setting for power cuts, then its number of transactions
 pub opens_held : (programmer : Programmer) (content : Content) (allowed : ℕ) (first last : BusState)
     → HoldsFiles programmer content first → allowed ≡ allowance_of programmer
     → Allows allowed (record first { steady = is_none programmer.power }) last → OpensChip programmer content last
@@ -109,6 +109,6 @@ passes_none bus modelled calm = record {
   name = tt;
 }
 
--- a bus to which nothing was sent
+-- a bus to which nothing was sent was only read
 pub looks_none : (most : ℕ) (bus : BusState) → Looks most bus bus
 looks_none most bus = looks_more 0 most bus bus (omega arith) (looks_at_none bus)

@@ -32,7 +32,7 @@ as_many view name len missing bytes are many = ap length are.same
     ∙ (elim are.found as (λ f. IfSome f (λ all. length all ≡ len) → length (unwrap_or f missing) ≡ len)
     [ None ↦ λ _. many | Some all ↦ λ whole. whole ]) are.whole
 
--- the number of bytes of an opened chip is the number that was read
+-- the sizes of an opened chip and of its files
 module _ {programmer : Programmer} {files : FilesState} (first : Opened programmer files) where
   pub opened_size : first.bus.chip.config.size ≡ (emulated_part programmer.chip).size
   opened_size = size_with programmer.chip programmer.unique first.bus.chip.config first.opens.ready.config
@@ -43,7 +43,7 @@ module _ {programmer : Programmer} {files : FilesState} (first : Opened programm
 
 -- ---- what is opened from the files that may be left
 
--- each byte is that of `had` or that of `bytes`
+-- Holds if each byte is that of `had` or that of `bytes`
 abbrev pub IsEither : (had bytes has : List ℕ) → Type 0
 IsEither had bytes has = (i : ℕ) → (slice_index has i ≡ slice_index had i) ⊎ (slice_index has i ≡ slice_index bytes i)
 

@@ -25,7 +25,7 @@ known_by W25q128fv config is = w25q128fv_known config is
 size_by : (chip : Emulated) (config : Config) → IsConfigOfEmulated chip config → config.size ≡ (emulated_part chip).size
 size_by chip config is = grind arith
 
--- a geometry that is that of the chip gives the chip type of TINY64
+-- a geometry that fits the chip gives the chip type of TINY64
 by_geometry : (config : Config) → config.size ≡ 65536 → config.kinds ≡ all_kinds → (says : Result Geometry SfdpFault)
     → ((geometry : Geometry) → says ≡ Ok geometry → HasGeometry geometry config)
     → IsOk (part_by_sfdp (254 ∷ 16 ∷ 16 ∷ []) says)
@@ -55,7 +55,7 @@ shown_by _ config unique is known = rw is.id refl
 
 -- ---- with the given unique ID
 
--- except for its unique ID the chip is an emulated one
+-- an emulated chip with another unique ID is the emulated chip in all else
 made_with : (chip : Emulated) (number : Option (List ℕ)) (config : Config) → IsConfigWith chip number config
     → (unique : List ℕ) × IsConfigOfEmulated chip (record config { unique = unique })
 made_with chip None config is = (config.unique, is)

@@ -21,7 +21,7 @@ stays_on one other = record {
 
 -- ---- names that are apart
 
--- the order of the two names does not matter
+-- if one name is apart from another, the other is apart from the first
 pub apart_swapped : (nature : Nature) (one other : Name) → AreApart nature one other → AreApart nature other one
 apart_swapped nature one other apart = (apart.1, apart.0)
 
@@ -33,13 +33,13 @@ pub not_after : {old new : Nature} (one : Option (Bor Text)) (any : Text) → ne
     → IsNot new one any
 not_after one any same not = subst (λ (n : Nature). IsNot n one any) (sym same) not
 
--- `AreTwo` with the names exchanged
+-- `AreTwo` with a file's name says that this name is apart from the other
 pub not_that : (nature : Nature) (one : Option (Bor Text)) (file : Bor Text) → AreTwo nature one (Some file)
     → IsNot nature one file.now
 not_that nature None file two = tt
 not_that nature (Some one) file two = apart_swapped nature file.now one.now two
 
--- each file stays if its name is apart from these two, if they are given
+-- Holds if each file stays whose name is apart from these two, if they are given.
 abbrev pub StayApart : (one other : Option (Bor Text)) → (old new : FilesState) → Type 0
 StayApart one other old new = (any : Name) → IsNot old.view.nature one any → IsNot old.view.nature other any
     → Stays any old new

@@ -1,4 +1,4 @@
--- The call of a job after its trace was created.
+-- The call of a job after its trace was created, in terms of the files from before that.
 use Rattle.std.proofs.Common.{◌≡◌, ◌∙◌, ℕ, Option, None, Some, IsSomeAnd, ap, arith, inl, inr, option_map, sym, take, true}
 use Rattle.std.specs.Borrow.{Bor}
 use Rattle.nor_files.specs.Calls.{Reads}
@@ -19,7 +19,7 @@ view_but trace name old mid is nature others = record {
   stays = λ any not known. let stays = others known.lawful any (rw is at not) in (stays.out, stays.seen);
 }
 
--- the view after the trace was created, if one is named
+-- if creating the trace keeps all other files, `IsViewBut` holds
 pub view_apart : (trace : Option (Bor Text)) (old mid : FilesState) → mid.view.nature ≡ old.view.nature
     → (is_lawful old.view ≡ true → (name : Name) → IsNot old.view.nature trace name → Stays name old mid)
     → IsViewBut trace old.view mid.view
@@ -28,7 +28,7 @@ view_apart trace old mid nature others = record {
   stays = λ any not known. let stays = others known.lawful any not in (stays.out, stays.seen);
 }
 
--- if all known files stay, and then all except the trace, then all except the trace stay in all
+-- if all known files stay, and then all except the trace, all except the trace stay over both steps
 pub view_before : (trace : Option (Bor Text)) (old mid : FilesState) (amid : View) → mid.view.nature ≡ old.view.nature
     → KnownStay old mid → IsViewBut trace mid.view amid → IsViewBut trace old.view amid
 view_before trace old mid amid nature stay but = record {
@@ -39,7 +39,7 @@ view_before trace old mid amid nature stay but = record {
       (same.0 ∙ stays.out, same.1 ∙ stays.seen);
 }
 
--- a read after the trace was created returns what a read before would have returned
+-- a read after the trace was created returns what a read before would have returned, if the file isn't the trace
 pub reads_before : (trace : Option (Bor Text)) (file : Text) (most : ℕ) (found : Found) (old amid : View)
     → IsNot old.nature trace file
     → IsViewBut trace old amid → Reads file most found amid → Reads file most found old
@@ -48,14 +48,14 @@ reads_before trace file most found old amid not but reads = λ known.
     reads (record { lawful = lawful_after but.nature known.lawful; in_store = same.0 ∙ known.in_store })
     ∙ ap (option_map (take most)) same.1
 
--- a file that is missing after the trace was created was missing before
+-- a file other than the trace that is missing after the trace was created was missing before
 pub missing_before : (trace : Option (Bor Text)) (file : Bor Text) (old amid : View) → IsNot old.nature trace file.now
     → IsViewBut trace old amid → IsMissing (Some file) amid → IsMissing (Some file) old
 missing_before trace file old amid not but gone = λ known.
     let same = but.stays file.now not known in
     sym same.1 ∙ gone (record { lawful = lawful_after but.nature known.lawful; in_store = same.0 ∙ known.in_store })
 
--- a host crash may leave no more of a file other than the trace than it could before the trace was created
+-- if a host crash may leave no more of a journal than after the trace was created, it may leave no more than before
 pub makes_nothing_before : (name : Bor Text) (journal : Option (Bor Text)) (old mid new : FilesState)
     → mid.view.nature ≡ old.view.nature → IsNot old.view.nature journal name.now
     → (is_lawful old.view ≡ true → OthersStay name.now old mid) → MakesNothing journal mid new

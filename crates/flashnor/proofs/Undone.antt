@@ -1,5 +1,5 @@
--- Runs that follow one another: the journal can restore the original chip after each restore, and a restore that ends
--- leaves it.
+-- Runs that follow one another: the journal can restore the original chip after each restore, and a restore that
+-- succeeds leaves it.
 use mathlib.Core.HLevel.{is_prop→PathP}
 use Rattle.std.proofs.Common.{◌≡◌, ◌<◌, ◌∙◌, ◌++◌, ◌∷◌, [], ℕ, Bool, List, Option, None, Some, Result}
 use Rattle.std.proofs.Common.{Ok, ◌⊎◌, IfSome, IsTrue, ap, arith, drop, inl, inr, length, option_map, refl, replicate}
@@ -77,7 +77,7 @@ same_with chip (Some number) one other a b =
 
 -- ---- names
 
--- if both name the same file, the same may be found for both
+-- if two programmers name the same file, the same contents may be found of both
 found_one : (one other : Option (Bor Text)) (was left : Found) (files : FilesState) → NameOne one other
     → MayFind other was left files → MayFind one was left files
 found_one None None was left files same can = can
@@ -88,7 +88,7 @@ found_one (Some one) None was left files same can = absurd same
 turned : (one other : Option (Bor Text)) → NameOne one other → NameOne other one
 turned one other same = grind arith
 
--- if no more may be left of a file, no more may be found of it
+-- if a host crash may leave no more of a file than before, a run may find no more of it
 less_of : (one other : Option (Bor Text)) (was left : Found) (old new : FilesState) → NameOne one other
     → LeavesNoMoreOf other old new → MayFind one was left new → MayFind one was left old
 less_of None None was left old new same less can = can
@@ -121,7 +121,7 @@ same_journal journal other n sound is reads =
 
 module _ (programmer : Programmer) (file : Text) (start : FilesState) (first : Opened programmer start)
     (other : Programmer) (same : HaveOneChip programmer other) where
-  -- if no more may be found of the files, the journal can still restore the original chip from them
+  -- if no more may be found of the files than before, the journal can still restore the original chip from them
   leads_less : (old new : FilesState) → LeavesNoMore file old new
       → ((found : Found) → MayFind programmer.image first.read.bytes.found found new
       → MayFind programmer.image first.read.bytes.found found old)
@@ -135,7 +135,7 @@ module _ (programmer : Programmer) (file : Text) (start : FilesState) (first : O
     back = λ i s opened can_i can_s from. leads.back i s opened (image i can_i) (status s can_s) from;
   }
 
-  -- if the file was missing at first, the original chip has the contents that stand for a missing file
+  -- if the image was missing at first, the original chip has the bytes that stand for a missing image
   first_byte : first.read.bytes.found ≡ None → (a : ℕ)
       → slice_index (replicate first.bus.chip.config.size 255) a ≡ first.bus.chip.bytes a
   first_byte none a =
@@ -147,14 +147,14 @@ module _ (programmer : Programmer) (file : Text) (start : FilesState) (first : O
 
   module _ (mid : FilesState) (rest : AreAtRest mid) (still : (name : Name) → mid.may_leave name (mid.view.seen name))
       (leads : LeadsBack file first mid) where
-    -- the journal that the run reads is the one in the file
+    -- the journal that the run reads is the one that was left in the file
     one_journal : (journal : Journal) → IsContent journal → IsRead mid.view file 16793662 (text journal)
         → journal ≡ leads.journal
     one_journal journal is reads =
         same_journal leads.journal journal 16793662 leads.sound is (reads (known_at_rest rest file)
         ∙ ap (option_map (take 16793662)) (leads.left (mid.view.seen file) (still file)))
 
-    -- a run opens the chip from files that may be left
+    -- the run opened this chip from files that may be left
     module _ (found : Opened other mid) where
       one_setup : found.bus.chip.config ≡ first.bus.chip.config
       one_setup =
@@ -174,7 +174,7 @@ module _ (programmer : Programmer) (file : Text) (start : FilesState) (first : O
             idle = found.opens.ready.idle;
           }
 
-      -- the journal can restore the original chip from it
+      -- the journal can restore the original chip from the chip that the run opened
       can_back : (journal : Journal) → IsContent journal → IsRead mid.view file 16793662 (text journal)
           → CanGiveBack journal first.bus.chip found.bus
       can_back journal is reads =
@@ -184,7 +184,7 @@ module _ (programmer : Programmer) (file : Text) (start : FilesState) (first : O
           (found_one programmer.status other.status _ _ mid same.status
           (left_seen mid rest still other.status _ _ found.read.status.is_found found.read.status.whole _)) from)
 
-    -- the contents that may be found after a restore
+    -- contents of the files that may be found after a restore
     module _ (new : FilesState) (still' : (name : Name) → new.may_leave name (new.view.seen name))
         (kept : LeavesRestorable other file mid new) (image status : Found) (later : BusState)
         (can_image : MayFind programmer.image first.read.bytes.found image new)
@@ -258,7 +258,7 @@ module _ (programmer : Programmer) (file : Text) (start : FilesState) (first : O
           ])
           is.idle
 
-    -- on every exit of a restore
+    -- `LeadsBack` holds at every exit of a restore
     leads_restored : (new : FilesState) → ((name : Name) → new.may_leave name (new.view.seen name))
         → KeepsRestorable other file mid new → LeadsBack file first new
     leads_restored new still' (inl none) =
@@ -273,11 +273,10 @@ module _ (programmer : Programmer) (file : Text) (start : FilesState) (first : O
 
   -- ---- at the end
 
-  -- files that hold a chip open to that chip
+  -- files that durably hold the original chip open to that chip
   module _ (chip : Chip) (new : FilesState) (lawful : is_lawful new.view ≡ true) (is : IsSame first.bus.chip chip)
       (put : ArePutBack other chip None None new) where
-    -- the content that is left of a named file is the one that was written; a file that was missing at first may be
-    -- missing
+    -- the contents left of a named file are those that were written; a file that was missing at first may be missing
     settled : (name given : Option (Bor Text)) (was : Found) (bytes : List ℕ) (left : Found) → (given ≡ None → was ≡ None)
         → NameOne given name → ArePut name bytes None new → MayFind given was left new
         → ((was ≡ None) × (left ≡ None)) ⊎ (left ≡ Some bytes)

@@ -12,11 +12,11 @@ use Rattle.flashnor.specs.Holding.{AreAmid, AreReady, IsReady, LeavesAmid, Settl
 use Rattle.nor_lines.specs.Stored.{ArePut, AreTwo, Happens, IsNot, IsToldOf}
 use Rattle.flashnor.proofs.Stays.{known_after, lawful_after, not_after, not_that, settled_after}
 
--- each file stays if its name is apart from the given one
+-- Holds if each file stays whose name is apart from the given one.
 abbrev OthersOf : Option (Bor Text) → (old new : FilesState) → Type 0
 OthersOf name old new = is_lawful old.view ≡ true → (any : Name) → IsNot old.view.nature name any → Stays any old new
 
--- A file was written, if one is named, or could not be written.
+-- Holds after a file was written, if one is named, or could not be written.
 abbrev PutsBack : Option (Bor Text) → (there : Bool) → (bytes : List ℕ) → (failed : Option (Bor Text))
     → (old new : FilesState) → Type 0
 PutsBack name there bytes failed old new = record {
@@ -42,7 +42,7 @@ ready_still one (Some name) there had bytes a b two same others ready =
       as_many = ready.as_many;
     }
 
--- a write to one file keeps the content of the other file, and the contents that may be left of it
+-- a write to the other file keeps the contents of this file, and the contents that may be left of it
 still : (there : Bool) (had bytes : List ℕ) (a b c : FilesState) (one other : Option (Bor Text))
     → AreTwo a.view.nature one other → b.view.nature ≡ a.view.nature → OthersOf other b c
     → IsReady one there had bytes a

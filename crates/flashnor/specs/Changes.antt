@@ -37,28 +37,29 @@ use Rattle.nor_lines.specs.declared.answers.Answer.TheVariants as answer
 
 -- ---- sessions
 
--- the session ended, and the chip is the one that the request asks for
+-- Holds if the session succeeded, and the chip is the one that the request asks for.
 abbrev pub TellsDone : Request → List ℕ → (old new : BusState) → Answer → Type 0
 TellsDone request image old new (answer.Done report) = IsDone request image old new report
 TellsDone request image old new _ = ⊥
 
--- A session that returned an error. After errors 1 to 11 the chip is as before, after errors 1 to 8 the vault is too.
+-- Holds after a session returned an error. After errors 1 to 11 the chip is as before, after errors 1 to 8 the vault is
+-- too.
 pub record GivesUp (request : Request) (image : List ℕ) (old new : BusState)
     (vault vault' : VaultState) (refusal : Refusal) : Type 0 where
   pub refuses : SessionTells request image old new vault vault' refusal
   pub same : number_of refusal ≤ 11 → IsSame old.chip new.chip
   pub unused : number_of refusal ≤ 8 → vault' ≡ vault
 
--- A chip that a later run opens. Until the vault is sealed, it is the original chip. After that, a journal whose
--- encoding is the bytes of a faithful (`telling`) vault can restore the original chip from it.
+-- Holds for a chip that a later run opens. If the vault isn't sealed, it is the original chip. If the vault is sealed
+-- and faithful (`telling`), a journal whose encoding is the vault's bytes can restore the original chip from it.
 pub record IsSafe (old opened : BusState) (vault : VaultState) : Type 0 where
   pub same : vault.sealed ≡ false → IsSame old.chip opened.chip
   pub back : vault.sealed ≡ true → vault.telling ≡ true
       → (journal : Journal) → IsContent journal → vault.bytes ≡ text journal → CanGiveBack journal old.chip opened
 
--- A session, with its journal in a vault, on every exit. Until the vault is sealed the chip is as before; after that
--- the session can be undone. `over`: both hold for each chip that interrupted writing of the new chip to the old chip's
--- files may leave.
+-- Holds for a session, with its journal in a vault, at every exit. Until the vault is sealed the chip is as before;
+-- after that the session can be undone. `over`: both hold for each chip that may be left if writing the new chip to the
+-- old chip's files is interrupted.
 pub record HasKeptChange (request : Request) (image : List ℕ) (old new : BusState) (vault vault' : VaultState)
     (outcome : Result Answer Refusal) : Type 0 where
   pub told : MatchResult outcome (TellsDone request image old new) (GivesUp request image old new vault vault')
@@ -69,21 +70,21 @@ pub record HasKeptChange (request : Request) (image : List ℕ) (old new : BusSt
 
 -- ---- rehearsals
 
--- A rehearsal under these stops, with the vault as it was at the end.
+-- Describes the result of a rehearsal with these stops, and with the vault as it was at the end.
 pub record IsRehearsed (request : Request) (image stops : List ℕ) (chip : Chip)
     (vault : VaultState) (rehearsal : Rehearsal) : Type 0 where
   pub counts : IsRehearsal (length stops) vault rehearsal
-  -- The session ended if it was allowed the bound of all sessions on a chip of this size; and only if it was allowed
-  -- the transactions that this session needs.
+  -- The session ended if it was allowed the bound of all sessions on a chip of this size; and only if it was allowed at
+  -- least the fewest transactions that this session needs.
   pub ended : most_of (chip.config.size / 4096) ≤ first_allowance stops → rehearsal.ended ≡ true
   pub enough : rehearsal.ended ≡ true → CanEnd request image (first_allowance stops) chip
-  -- The journal was sealed if identification and scan were allowed their bound; and only if the request is accepted and
-  -- they were allowed the transactions that they take. A sealed journal saves the touched sectors.
+  -- The journal was sealed if the identification and the scan were allowed their bound; and only if the request is
+  -- accepted and they were allowed the fewest transactions that they need. A sealed journal saves the touched sectors.
   pub fits : SealFits request (first_allowance stops) chip rehearsal.sealed
   pub accepted : rehearsal.sealed ≡ true → IsAccepted request image chip
   pub saves : rehearsal.sealed ≡ true
       → JournalSaves (head_of chip) chip.bytes (is_touched chip.bytes (wanted request image chip)) vault.bytes
-  -- The restores were run under the remaining stops in turn.
+  -- The restores were run with the remaining stops in turn.
   pub restores : rehearsal.sealed ≡ true
       → AreRestores (sector_count (is_touched chip.bytes (wanted request image chip))) (drop 1 stops) rehearsal.restores
 
@@ -92,7 +93,7 @@ TellsRehearsed request image stops chip vault (answer.Rehearsed rehearsal) =
     IsRehearsed request image stops chip vault rehearsal
 TellsRehearsed request image stops chip vault _ = ⊥
 
--- A rehearsal leaves the chip as before, on every exit.
+-- Holds for a rehearsal at every exit: the chip is as before.
 pub record HasRehearsed (request : Request) (image stops : List ℕ) (old new : BusState) (vault vault' : VaultState)
     (outcome : Result Answer Refusal) : Type 0 where
   pub same : IsSame old.chip new.chip
@@ -105,13 +106,14 @@ pub record IsKeptFile (name : Text) (vault : VaultState) (files : FilesState) : 
   pub seen : files.view.seen name ≡ Some vault.bytes
   pub settled : vault.sealed ≡ true → IsSettled name (Some vault.bytes) files
 
--- the journal is in the file, if the files obey their contract; in a rehearsal it is in memory, in a faithful vault
+-- Holds if the journal is in the file, provided that the files obey their contract; or, in a rehearsal, if it is in
+-- memory, in a faithful vault.
 abbrev pub IsKeptIn : JournalUse → (vault vault' : VaultState) → FilesState → Type 0
 IsKeptIn (uses.Journal file) vault vault' files =
     is_lawful files.view ≡ true → IsKeptFile file.now vault' files
 IsKeptIn (uses.Rehearse stops) vault vault' files = vault.telling ≡ true
 
--- the result of a change or a rehearsal, for the vault before and after it
+-- the result of a change or a rehearsal, given its vault before and after it
 abbrev pub HasDone : Request → List ℕ → JournalUse → (old new : BusState) → (vault vault' : VaultState)
     → Result Answer Refusal → Type 0
 HasDone request image (uses.Journal file) old new vault vault' outcome =
@@ -119,8 +121,8 @@ HasDone request image (uses.Journal file) old new vault vault' outcome =
 HasDone request image (uses.Rehearse stops) old new vault vault' outcome =
     HasRehearsed request image stops.items old new vault vault' outcome
 
--- A change or a rehearsal was made, with its journal in a file or in memory. A journal in a file is a new file: before
--- the change the file was missing.
+-- Describes the result of a change or a rehearsal, with its journal in a file or in memory. A journal in a file is a
+-- new file: before the change the file was missing.
 pub record HasMadeChange (request : Request) (image : List ℕ) (kept : JournalUse) (old new : BusState)
     (before : View) (after : FilesState) (outcome : Result Answer Refusal) : Type 0 where
   pub missing : IsMissing (journal_of kept) before
@@ -132,40 +134,40 @@ pub record HasMadeChange (request : Request) (image : List ℕ) (kept : JournalU
 
 -- ---- restores
 
--- the restore ended, and the chip is the one that the journal saves
+-- Holds if the restore succeeded, and the chip is the one that the journal saves.
 abbrev pub TellsRestored : Journal → (old new : BusState) → Answer → Type 0
 TellsRestored journal old new (answer.Done report) = IsRestored journal old new report
 TellsRestored journal old new _ = ⊥
 
--- identification failed, for the name or for another reason
+-- Holds if the identification returned this error, for the name or for another reason.
 abbrev pub ProbeRefuses : Option ChipName → (old new : BusState) → Refusal → Type 0
 ProbeRefuses named old new refusal =
     (fault : ProbeFault) × (refusal ≡ of_probe fault) × Tells named old new fault
 
--- A restore that returned an error: it does not accept the chip, which is then as before, or the bus stopped.
+-- Holds after a restore returned an error: it does not accept the chip, which is then as before, or the bus stopped.
 pub record RestoreRefuses (journal : Journal) (old new : BusState) (refusal : Refusal) : Type 0 where
   pub refuses : RestoreTells journal old new refusal
   pub same : IsJudgedFirst refusal → IsSame old.chip new.chip
 
--- the chip has the given name, if one is given
+-- Holds if the chip has the given name, if one is given.
 abbrev pub HasGivenName : Option ChipName → Chip → Type 0
 HasGivenName None chip = ⊤
 HasGivenName (Some name) chip = IsNamed (Some name) chip.config
 
--- Identification found the given name, if one is given. The chip is as before, and the bus is modelled and steady or
--- idle.
+-- Holds after the identification found the given name, if one is given. The chip is as before, and the bus is modelled
+-- and steady or idle.
 pub record Passes (named : Option ChipName) (old new : BusState) : Type 0 where
   pub same : IsSame old.chip new.chip
   pub modelled : IsModelled new
   pub calm : IsCalm new
   pub name : HasGivenName named old.chip
 
--- A restore, after an identification if a name is given. Each original chip that the journal could restore before the
--- restore, it can still restore from each chip that interrupted writing to the files may leave. If the restore ended,
--- the chip is that original chip.
+-- Describes the result of a restore, which identifies the chip first if a name is given. Take an original chip that the
+-- journal could restore before the restore: from each chip that may be left if writing to the files is interrupted, the
+-- journal can still restore it. If the restore succeeded, the chip is that original chip.
 pub record HasRestored (journal : Journal) (named : Option ChipName) (old new : BusState)
     (outcome : Result Answer Refusal) : Type 0 where
-  -- the bus after that identification, which checks the name
+  -- the bus after the identification for the name, if one is given
   pub found : BusState
   pub looks : Looks most_probe old found
   pub same : IsSame old.chip found.chip

@@ -22,7 +22,7 @@ use Rattle.flashnor.specs.declared.chips.Content.{Content}
 use Rattle.nor_lines.specs.declared.messages.Fault.{Fault}
 use Rattle.nor_lines.specs.declared.messages.Fault.TheVariants as end
 
--- the configuration of an emulated chip, with the given unique ID, or eight zero bytes if none is given
+-- Holds for the configuration of an emulated chip with the given unique ID, or with eight zero bytes if none is given.
 abbrev pub IsConfigWith : Emulated → Option (List ℕ) → Config → Type 0
 IsConfigWith chip None config = IsConfigOfEmulated chip config
 IsConfigWith chip (Some unique) config =
@@ -32,8 +32,9 @@ IsConfigWith chip (Some unique) config =
 abbrev pub allowance_of : Programmer → ℕ
 allowance_of programmer = unwrap_or programmer.stop 18446744073709551615
 
--- A well-behaved (`honest`) bus to the emulated chip, which is idle; nothing was sent yet. `left` transactions are
--- carried out. If `power=` is given the bus is not steady: a stop cuts the chip's power.
+-- Holds for a well-behaved (`honest`) bus to the emulated chip, which is idle; nothing was sent yet. The bus carries
+-- out the number of transactions that `stop=` gives (`allowance_of`). If `power=` is given it is not steady: a stop
+-- cuts the chip's power.
 pub record IsReady (programmer : Programmer) (bus : BusState) : Type 0 where
   pub config : IsConfigWith programmer.chip programmer.unique bus.chip.config
   pub idle : bus.chip.busy ≡ 0
@@ -42,25 +43,25 @@ pub record IsReady (programmer : Programmer) (bus : BusState) : Type 0 where
   pub steady : bus.steady ≡ is_none programmer.power
   pub still : IsNothing bus.sent
 
--- The contents of the chip's files. FFh stands for a missing or unnamed image, clear status bytes for a missing or
--- unnamed status file.
+-- Holds for the contents of the chip's files. FFh stands for a missing or unnamed image, clear status bytes for a
+-- missing or unnamed status file.
 pub record IsContentOf (view : View) (programmer : Programmer) (content : Content) : Type 0 where
   pub bytes : AreOfFile view programmer.image (emulated_part programmer.chip).size
       (replicate (emulated_part programmer.chip).size 255) content.bytes.items
   pub status : AreOfFile view programmer.status 2 (0 ∷ 0 ∷ []) content.status
 
--- The chip has these bytes, and the non-volatile status bits and the write enable latch of these status bytes.
+-- Holds if the chip has these bytes, and the non-volatile status bits and the write enable latch of these status bytes.
 pub record HasContent (content : Content) (chip : Chip) : Type 0 where
   pub bytes : (a : ℕ) → chip.bytes a ≡ slice_index content.bytes.items a
   pub kept : chip.kept ≡ kept_in content.status
   pub latch : chip.latch ≡ (slice_index content.status 0 / 2 % 2 == 1)
 
--- The bus is ready, and the chip has the contents of its files.
+-- Holds if the bus is ready, and the chip has the contents of its files.
 pub record OpensChip (programmer : Programmer) (content : Content) (bus : BusState) : Type 0 where
   pub ready : IsReady programmer bus
   pub holds : HasContent content bus.chip
 
--- The bus before transactions are allowed and before a stop can cut the power.
+-- Holds for the bus before transactions are allowed and before a stop can cut the power.
 pub record HoldsFiles (programmer : Programmer) (content : Content) (bus : BusState) : Type 0 where
   pub config : IsConfigWith programmer.chip programmer.unique bus.chip.config
   pub idle : bus.chip.busy ≡ 0
@@ -70,27 +71,28 @@ pub record HoldsFiles (programmer : Programmer) (content : Content) (bus : BusSt
   pub kept : bus.chip.kept ≡ kept_in content.status
   pub latch : bus.chip.latch ≡ (slice_index content.status 0 / 2 % 2 == 1)
 
--- A simulated bus that opens the chip. After each operation the chip is busy for the number of polls that `busy=`
--- gives, or none without it; a power cut leaves bytes of the value of `power=`.
+-- Holds for a simulated bus that opens the chip. After each operation the chip is busy for the number of polls that
+-- `busy=` gives, or none without it; a power cut leaves bytes of the value of `power=`.
 pub record StartsBus (programmer : Programmer) (content : Content) (bus : SimBus) : Type 0 where
   pub opens : OpensChip programmer content (state_of bus)
   pub pace : pace_of bus ≡ unwrap_or programmer.busy 0
   pub fill : fill_of bus ≡ programmer.power
 
--- the faults of reading the chip's files, or out of memory
+-- Holds for the faults of reading the chip's files, and for out of memory.
 abbrev pub FailsToOpen : View → Programmer → Fault → Type 0
 FailsToOpen view programmer fault = (fault ≡ end.Refused Memory)
     ⊎ (IsSomeAnd programmer.image (λ name. IsOpeningFault view name.now (emulated_part programmer.chip).size fault)
     ⊎ IsSomeAnd programmer.status (λ name. IsOpeningFault view name.now 2 fault))
 
--- the faults of locking and reading the chip's files, or out of memory
+-- Holds for the faults of locking and reading the chip's files, and for out of memory.
 abbrev pub FailsToHold : View → Programmer → Fault → Type 0
 FailsToHold view programmer fault = (fault ≡ end.Refused Memory)
     ⊎ (IsSomeAnd programmer.image (λ name. IsHoldingFault view name.now (emulated_part programmer.chip).size fault)
     ⊎ IsSomeAnd programmer.status (λ name. IsHoldingFault view name.now 2 fault))
 
--- The chip's files, after it was written back. If the files obey their contract, a file that is named and was written
--- has durably the chip's bytes or status bytes. The others, whose names are given, could not be written.
+-- Holds for the chip's files after the chip was written back. If the files obey their contract, a file that is named
+-- and was written has durably the chip's bytes or status bytes. A file whose name is given as `image` or `status` could
+-- not be written.
 pub record ArePutBack (programmer : Programmer) (chip : Chip) (image status : Option (Bor Text))
     (files : FilesState) : Type 0 where
   pub bytes : List ℕ

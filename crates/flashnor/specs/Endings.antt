@@ -16,17 +16,18 @@ use Rattle.nor_lines.specs.declared.messages.Fault.TheVariants as end
 use Rattle.nor_lines.specs.declared.messages.FileFault.TheVariants as file
 use Rattle.flashnor.specs.declared.printing.Ending.{Ending}
 
--- every file was written
+-- no file that could not be written
 abbrev pub all_written : Unwritten
 all_written = record { image = None; status = None; trace = None }
 
--- the lines of the run's fault, if known, followed by those of files that could not be written
+-- the lines of the run's fault, if there is one, followed by those of files that could not be written; `None` if the
+-- fault's line isn't known
 abbrev pub lines_told : Result Answer Fault → Unwritten → Option (List ℕ)
 lines_told (Ok found) unwritten = Some (lines_of_unwritten unwritten)
 lines_told (Err fault) unwritten = option_append (line_of fault) (Some (lines_of_unwritten unwritten))
 
--- The end of a run without a fault of its own, after its answer or help was printed or could not be. Only lines of
--- files that could not be written are printed to standard error. The status is 0 if and only if the answer or help was
+-- The end of a run without a fault of its own, after its answer or help was printed or could not be printed. Standard
+-- error gets only the lines of files that could not be written. The status is 0 if and only if the answer or help was
 -- printed and every file was written.
 pub record EndsWell (is_printed : Bool) (unwritten : Unwritten) (err err' : Option (List ℕ))
     (ending : Ending) : Type 0 where
@@ -36,14 +37,14 @@ pub record EndsWell (is_printed : Bool) (unwritten : Unwritten) (err err' : Opti
   pub told : ending.told ≡ true → Appends err err' (lines_of_unwritten unwritten)
   pub silent : unwritten ≡ all_written → err' ≡ err
 
--- The end of a run with a fault: the lines of the fault and of files that could not be written.
+-- The end of a run with a fault: the lines of the fault and of files that could not be written. The status is 1.
 pub record EndsBadly (fault : Fault) (unwritten : Unwritten) (err err' : Option (List ℕ))
     (ending : Ending) : Type 0 where
   pub status : ending.status ≡ 1
   pub printed : ending.printed ≡ false
   pub told : ending.told ≡ true → IfSome (lines_told (Err fault) unwritten) (Appends err err')
 
--- The output of a run with this result to standard output and standard error, and its status.
+-- The output of a run with this result to standard output and standard error, and its exit status.
 pub record HasPrinted (outcome : Result Answer Fault) (unwritten : Unwritten) (out out' err err' : Option (List ℕ))
     (ending : Ending) : Type 0 where
   -- the status is 0 or 1, and 0 if and only if the answer or the help was printed and every file was written
@@ -52,11 +53,12 @@ pub record HasPrinted (outcome : Result Answer Fault) (unwritten : Unwritten) (o
   -- if printing succeeded, the lines of the answer, and those of the faults, were appended
   pub printed : ending.printed ≡ true → PrintsAnswer outcome out out'
   pub told : ending.told ≡ true → IfSome (lines_told outcome unwritten) (Appends err err')
-  -- a run without an answer prints nothing to standard output, and one without a fault nothing to standard error
+  -- a run without an answer or help prints nothing to standard output, and one without a fault nothing to standard
+  -- error
   pub no_output : (IsAnswered outcome → ⊥) → out' ≡ out
   pub silent : IsAnswered outcome → unwritten ≡ all_written → err' ≡ err
 
--- the run ended with an `Ending` for which `IsEnding` holds, and which has this exit status
+-- Holds if the run ended with an `Ending` for which `IsEnding` holds, and which has this exit status.
 abbrev pub EndsWith : (Ending → Type 0) → ℕ → Type 0
 EndsWith IsEnding status = (ending : Ending) × IsEnding ending × (status ≡ ending.status)
 
@@ -66,8 +68,8 @@ pub record IsUnread (error : Error) (out out' err err' : Option (List ℕ)) (end
   pub of_words : IsOfWords error fault
   pub prints : HasPrinted (Err fault) all_written out out' err err' ending
 
--- The end of a run that could not keep the descriptors of the standard streams in use: the fault of a file that can't
--- be read.
+-- The end of a run that could not keep the descriptors of the standard streams in use: it has the fault of a file that
+-- can't be read.
 pub record IsWithoutStreams (out out' err err' : Option (List ℕ)) (ending : Ending) : Type 0 where
   pub name : Bor Text
   pub prints : HasPrinted (Err (end.File file.Read name)) all_written out out' err err' ending

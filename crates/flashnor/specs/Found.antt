@@ -22,11 +22,11 @@ emulated_part Tiny64 = record {
 emulated_part W25q64fv = w25q64fv
 emulated_part W25q128fv = w25q128fv
 
--- the given name, if one is given, is the one of the emulated chip
+-- Holds if the given name, if one is given, is that of the emulated chip.
 abbrev pub HasName : Option ChipName → Emulated → Type 0
 HasName named chip = IsWanted named (emulated_part chip).name
 
--- The emulated chip was found, under the given name if one is given.
+-- Holds if the emulated chip was found, with the given name if one is given.
 pub record IsEmulatedFound (named : Option ChipName) (chip : Emulated) (found : Found) : Type 0 where
   pub part : part_in found ≡ emulated_part chip
   pub name : HasName named chip

@@ -1,4 +1,4 @@
--- The chip's files in a run that changes the chip: locked before they are read, until they are written back.
+-- The chip's files in a run that changes the chip: from when they are locked and read until they are written back.
 use Rattle.std.specs.Prelude.{◌≡◌, ◌⊎◌, ◌∷◌, [], ℕ, Bool, true, false, List, Option, None, Some, ⊤, length, replicate}
 use Rattle.std.specs.Borrow.{Bor}
 use Rattle.nor_files.specs.Calls.{IsMixed}
@@ -10,42 +10,43 @@ use Rattle.nor_words.specs.Text.{Text}
 use Rattle.flashnor.specs.Found.{emulated_part}
 use Rattle.flashnor.specs.declared.holding.Held.{Held}
 
--- if a file is named, it is this, and a host crash leaves it so
+-- Holds if no file is named, or if the named file durably has these contents.
 abbrev pub Settles : Option (Bor Text) → Found → FilesState → Type 0
 Settles None content files = ⊤
 Settles (Some name) content files = IsSettled name.now content files
 
--- A file of the chip was read, and no file has changed. The contents that were read are durable.
+-- Holds after a file of the chip was read, if one is named. No file has changed, and the contents that were read are
+-- durable.
 pub record IsHeld (name : Option (Bor Text)) (found : Found) (old new : FilesState) : Type 0 where
   pub stay : AllStay old new
   pub settled : Settles name found new
 
--- the contents of a file, or nothing if it is missing
+-- the contents of a file that exists if `there` is set, and else is missing
 abbrev pub was : (there : Bool) → List ℕ → Found
 was true bytes = Some bytes
 was false bytes = None
 
--- Both files of the chip were read, and no file has changed. The contents that were read are durable, as is the absence
--- of a missing file.
+-- Holds after both files of the chip were read. No file has changed. The contents that were read are durable, as is the
+-- absence of a missing file.
 pub record AreHeld (programmer : Programmer) (held : Held) (old new : FilesState) : Type 0 where
   pub stay : AllStay old new
   pub image : Settles programmer.image (was held.image_there held.content.bytes.items) new
   pub status : Settles programmer.status (was held.status_there held.content.status) new
 
--- The contents that stand for missing files: FFh, and clear status bytes.
+-- Holds if the right contents stand for missing files: FFh, and clear status bytes.
 pub record StandsFor (programmer : Programmer) (held : Held) : Type 0 where
   pub image : held.image_there ≡ false
       → held.content.bytes.items ≡ replicate (emulated_part programmer.chip).size 255
   pub status : held.status_there ≡ false → held.content.status ≡ 0 ∷ 0 ∷ []
 
--- The contents that a host crash may leave of a file that is overwritten or created. Each byte of an overwritten file
--- is old or new. A created file is missing, has a wrong length, or is complete.
+-- Holds for the contents that a host crash may leave of a file that is overwritten or created. Each byte of an
+-- overwritten file is old or new. A created file is missing, has a wrong length, or is complete.
 abbrev pub IsAmid : (there : Bool) → (had bytes : List ℕ) → Found → Type 0
 IsAmid true had bytes left = (has : List ℕ) × (left ≡ Some has) × IsMixed had bytes has
 IsAmid false had bytes left = (left ≡ None)
     ⊎ ((has : List ℕ) × (left ≡ Some has) × (length has ≡ length bytes → has ≡ bytes))
 
--- a host crash may leave only that
+-- Holds if a host crash may leave of this file only contents that `IsAmid` allows.
 abbrev pub LeavesFileAmid : Text → (there : Bool) → (had bytes : List ℕ) → FilesState → Type 0
 LeavesFileAmid name there had bytes files = (left : Found) → files.may_leave name left → IsAmid there had bytes left
 
@@ -53,26 +54,26 @@ abbrev pub LeavesAmid : Option (Bor Text) → (there : Bool) → (had bytes : Li
 LeavesAmid None there had bytes files = ⊤
 LeavesAmid (Some name) there had bytes files = LeavesFileAmid name.now there had bytes files
 
--- A file durably has the contents that were read from it, and gets the same number of bytes.
+-- Holds if a file durably has the contents that were read from it, and is to get the same number of bytes.
 pub record IsReadyFile (name : Text) (there : Bool) (had bytes : List ℕ) (files : FilesState) : Type 0 where
   pub known : IsKnown name files.view
   pub settled : IsSettled name (was there had) files
   pub as_many : length had ≡ length bytes
 
--- if a file is named, it is ready in this way
+-- Holds if no file is named, or if the named file is ready to be written (`IsReadyFile`).
 abbrev pub IsReady : Option (Bor Text) → (there : Bool) → (had bytes : List ℕ) → FilesState → Type 0
 IsReady None there had bytes files = ⊤
 IsReady (Some name) there had bytes files = IsReadyFile name.now there had bytes files
 
--- Both files of the chip durably have the contents that were read from them, and get the same number of bytes: those of
--- the chip `new`.
+-- Holds if both files of the chip durably have the contents that were read from them, and are to get the same number of
+-- bytes: those of the chip `new`.
 pub record AreReady (programmer : Programmer) (image_there status_there : Bool) (bytes bits : List ℕ) (new : Chip)
     (files : FilesState) : Type 0 where
   pub image : (put : List ℕ) → AreChipBytes new put → IsReady programmer.image image_there bytes put files
   pub status : IsReady programmer.status status_there bits (status_of new) files
 
--- A host crash leaves each byte of a file that existed as it was, or as that of the chip `new`. A file that is created
--- is missing, has a wrong length, or has the bytes of `new`.
+-- Holds if a host crash leaves each byte of a file that existed as it was, or as that of the chip `new`. A file that is
+-- created is missing, has a wrong length, or has the bytes of `new`.
 pub record AreAmid (programmer : Programmer) (image_there status_there : Bool) (had bits : List ℕ) (new : Chip)
     (files : FilesState) : Type 0 where
   pub put : List ℕ

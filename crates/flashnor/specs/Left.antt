@@ -16,13 +16,14 @@ use Rattle.flashnor.specs.Chips.{IsContentOf, OpensChip}
 use Rattle.nor_lines.specs.Stored.{IsNot, IsRead, LeavesNoMoreOf}
 use Rattle.flashnor.specs.declared.chips.Content.{Content}
 
--- The contents that a later run may find of a file, if one is named: those that a host crash may leave. If the file was
--- missing at first and you moved it aside, there is no file.
+-- Holds for the contents that a later run may find of a file, if one is named: those that a host crash may leave. If
+-- the file was missing at first and you moved it aside, there is no file.
 abbrev pub MayFind : Option (Bor Text) → (was found : Found) → FilesState → Type 0
 MayFind None was found files = found ≡ None
 MayFind (Some name) was found files = files.may_leave name.now found ⊎ ((was ≡ None) × (found ≡ None))
 
--- The chip that a run opens, idle, from files of the right length. FFh and clear status bytes stand for missing files.
+-- Holds for the chip that a run opens, idle, from files of the right length. FFh and clear status bytes stand for
+-- missing files.
 pub record IsOpenedFrom (image status : Found) (setup : Config) (chip : Chip) : Type 0 where
   pub config : chip.config ≡ setup
   pub whole : IfSome image (λ bytes. length bytes ≡ setup.size)
@@ -31,7 +32,7 @@ pub record IsOpenedFrom (image status : Found) (setup : Config) (chip : Chip) : 
   pub kept : chip.kept ≡ kept_in (unwrap_or status (0 ∷ 0 ∷ []))
   pub idle : chip.busy ≡ 0
 
--- a host crash may leave only this journal of the file of that name
+-- Holds if a host crash may leave only this journal in the file of that name.
 abbrev pub LeavesJournal : (file : Text) → Journal → FilesState → Type 0
 LeavesJournal file journal files = (left : Found) → files.may_leave file left → left ≡ Some (text journal)
 
@@ -42,8 +43,8 @@ pub record Opened (programmer : Programmer) (files : FilesState) : Type 0 where
   pub bus : BusState
   pub opens : OpensChip programmer content bus
 
--- `Is` holds for the bus of each later run that opens the chip's files, for all contents that a host crash may leave. A
--- file that the first run found missing may be moved aside.
+-- Holds if `Is` holds for the bus of each later run that opens the chip's files, for all contents that a host crash may
+-- leave. A file that the first run found missing may be moved aside.
 abbrev pub LeavesOnly : {programmer : Programmer} {old : FilesState} → Opened programmer old → (BusState → Type 0)
     → FilesState → Type 0
 LeavesOnly {programmer} first Is files = (image status : Found) (opened : BusState)
@@ -51,8 +52,8 @@ LeavesOnly {programmer} first Is files = (image status : Found) (opened : BusSta
     → MayFind programmer.status first.read.status.found status files
     → IsOpenedFrom image status first.bus.chip.config opened.chip → Is opened
 
--- A host crash may leave only one journal in the file of that name. From each chip that a later run may open, that
--- journal can restore the original chip. A file of the chip that was missing at first may be moved aside.
+-- Holds if a host crash may leave only one journal in the file of that name, and that journal can restore the original
+-- chip from each chip that a later run may open. A file of the chip that was missing at first may be moved aside.
 pub record LeadsBack {programmer : Programmer} {old : FilesState} (file : Text) (first : Opened programmer old)
     (files : FilesState) : Type 0 where
   pub journal : Journal
@@ -60,23 +61,23 @@ pub record LeadsBack {programmer : Programmer} {old : FilesState} (file : Text) 
   pub left : LeavesJournal file journal files
   pub back : LeavesOnly first (CanGiveBack journal first.bus.chip) files
 
--- The name is apart from those of the programmer's image, status file and trace.
+-- Holds if the name is apart from those of the programmer's image, status file and trace.
 pub record IsNoFileOf (nature : Nature) (programmer : Programmer) (name : Text) : Type 0 where
   pub image : IsNot nature programmer.image name
   pub status : IsNot nature programmer.status name
   pub trace : IsNot nature programmer.trace name
 
--- if the file that is named existed, a host crash leaves it with the same number of bytes
+-- Holds if no file is named, or if a named file that existed is left with the same number of bytes by a host crash.
 abbrev pub LeavesAsLong : Option (Bor Text) → (old new : FilesState) → Type 0
 LeavesAsLong None old new = ⊤
 LeavesAsLong (Some name) old new = (had : List ℕ) → old.view.seen name.now ≡ Some had → (left : Found)
     → new.may_leave name.now left → IsSomeAnd left (λ has. length has ≡ length had)
 
--- On every exit of a run that changes a chip, with its journal in the file of this name, which was missing before.
--- `same`: until the journal is sealed, all contents that a host crash may leave of the chip's files open to the
+-- Holds at every exit of a run that changes a chip, with its journal in the file of this name, which was missing
+-- before. `same`: until the journal is sealed, all contents that a host crash may leave of the chip's files open to the
 -- original chip. `back`: after that the file is one journal, and it can restore the original chip. A missing file of
--- the chip may be moved aside. One that existed keeps its length. Each file stays whose name is apart from those of the
--- trace, the chip's files and the journal.
+-- the chip may be moved aside. A file of the chip that existed keeps its length. Every other file stays, if its name is
+-- apart from those of the trace, the chip's files and the journal.
 pub record LeavesWayBack (programmer : Programmer) (file : Text) (old new : FilesState) : Type 0 where
   pub missing : old.view.seen file ≡ None
   pub others : (name : Text) → IsNoFileOf old.view.nature programmer name → AreApart old.view.nature file name
@@ -88,8 +89,8 @@ pub record LeavesWayBack (programmer : Programmer) (file : Text) (old new : File
   pub same : sealed ≡ false → LeavesOnly first (λ opened. IsSame first.bus.chip opened.chip) new
   pub back : sealed ≡ true → LeadsBack file first new
 
--- Nothing was changed, and nothing was created except the trace and, if its file was missing, an empty file for the
--- journal. If the trace has the name of one of the chip's files, that file was not created either.
+-- Holds if nothing was changed, and nothing was created except the trace and, if its file was missing, an empty file
+-- for the journal. If the trace has the name of one of the chip's files, that file was not created either.
 pub record LeavesAll (programmer : Programmer) (file : Text) (old new : FilesState) : Type 0 where
   pub image : LeavesNoMoreOf programmer.image old new
   pub status : LeavesNoMoreOf programmer.status old new
@@ -97,24 +98,24 @@ pub record LeavesAll (programmer : Programmer) (file : Text) (old new : FilesSta
       → LeavesNoMore name old new
   pub empty : LeavesOrEmpty file old new
 
--- the promise of a run that changes a chip: it was interrupted before anything was changed, or the original chip can be
--- restored
+-- Holds for a run that changes a chip if it was interrupted before anything was changed, or if the original chip can be
+-- restored.
 abbrev pub KeepsFirst : Programmer → (file : Text) → (old new : FilesState) → Type 0
 KeepsFirst programmer file old new =
     LeavesAll programmer file old new ⊎ LeavesWayBack programmer file old new
 
--- Nothing was changed, and nothing was created except the trace. If the trace has the name of another file of the run,
--- that file was not created either.
+-- Holds if nothing was changed, and nothing was created except the trace. If the trace has the name of another file of
+-- the run, that file was not created either.
 pub record LeavesSources (programmer : Programmer) (file : Text) (old new : FilesState) : Type 0 where
   pub image : LeavesNoMoreOf programmer.image old new
   pub status : LeavesNoMoreOf programmer.status old new
   pub journal : LeavesNoMore file old new
   pub others : (name : Text) → IsNot old.view.nature programmer.trace name → LeavesNoMore name old new
 
--- On every exit of a run that restores from the journal in the file of this name. Each original chip that the journal
--- could restore from the opened chip, it still can, from all contents that a host crash may leave of the chip's files.
--- A file of the chip that was missing may be moved aside. One that existed keeps its length. The journal stays, and so
--- does each file whose name is apart from those of the trace and the chip's files.
+-- Holds at every exit of a run that restores from the journal in the file of this name. Take an original chip that the
+-- journal could restore from the opened chip: from all contents that a host crash may leave of the chip's files, the
+-- journal can still restore it. A file of the chip that was missing may be moved aside. A file that existed keeps its
+-- length. The journal stays, and so does each file whose name is apart from those of the trace and the chip's files.
 pub record LeavesRestorable (programmer : Programmer) (file : Text) (old new : FilesState) : Type 0 where
   pub others : (name : Text) → IsNoFileOf old.view.nature programmer name → Stays name old new
   pub image : LeavesAsLong programmer.image old new
@@ -126,7 +127,7 @@ pub record LeavesRestorable (programmer : Programmer) (file : Text) (old new : F
   pub stays : Stays file old new
   pub back : (first : Chip) → CanGiveBack journal first found.bus → LeavesOnly found (CanGiveBack journal first) new
 
--- the promise of a restore: it was interrupted before anything was changed, or the original chip can still be restored
+-- Holds for a restore if it was interrupted before anything was changed, or if the original chip can still be restored.
 abbrev pub KeepsRestorable : Programmer → (file : Text) → (old new : FilesState) → Type 0
 KeepsRestorable programmer file old new =
     LeavesSources programmer file old new ⊎ LeavesRestorable programmer file old new

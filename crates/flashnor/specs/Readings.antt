@@ -23,19 +23,19 @@ use Rattle.flashnor.specs.Found.{HasName, IsEmulatedFound, emulated_part}
 use Rattle.nor_lines.specs.declared.answers.Answer.{Answer}
 use Rattle.nor_lines.specs.declared.answers.Answer.TheVariants as answer
 
--- The errors of identification of an emulated chip: another name than the given one, or fewer transactions than
--- identification may take. No other error occurs on a ready bus.
+-- Holds for the errors of the identification of an emulated chip: another name than the given one, or fewer
+-- transactions than the identification may take. No other error occurs on a ready bus.
 abbrev pub FindRefuses : Programmer → Option ChipName → Refusal → Type 0
 FindRefuses programmer named OtherName = HasName named programmer.chip → ⊥
 FindRefuses programmer named Stopped = allowance_of programmer < most_probe
 FindRefuses programmer named _ = ⊥
 
--- the answer is the chip, which has the given name
+-- Holds if the answer is the chip, which has the given name.
 abbrev pub TellsFound : Programmer → Option ChipName → Answer → Type 0
 TellsFound programmer named (answer.Found found) = IsEmulatedFound named programmer.chip found
 TellsFound programmer named _ = ⊥
 
--- the answer is the size of the chip, which has the given name
+-- Holds if the answer is the size of the chip, which has the given name.
 abbrev pub TellsSize : Programmer → Option ChipName → Answer → Type 0
 TellsSize programmer named (answer.Size size) =
     HasName named programmer.chip × (size ≡ (emulated_part programmer.chip).size)
@@ -76,7 +76,7 @@ pub record HasTold (tells : Protection → Answer → Type 0) (named : Option Ch
   pub modelled : IsModelled old → ProtectionModelled named old result
   pub told : AnswersCall tells result outcome
 
--- The chip was identified or refused, and only looked at.
+-- Holds after the identification of the chip, which sends no modifying command: the chip was found or refused.
 pub record HasLookedUp (tells : Answer → Type 0) (programmer : Programmer) (named : Option ChipName)
     (old new : BusState) (outcome : Result Answer Refusal) : Type 0 where
   pub looks : Looks most_probe old new

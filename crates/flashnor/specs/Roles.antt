@@ -44,9 +44,9 @@ named_by (task.Change change) = record {
 named_by (task.Restore journal) = record { layout = None; wanted = None; output = None; journal = Some journal }
 named_by _ = record { layout = None; wanted = None; output = None; journal = None }
 
--- The pairs of files that must be apart. If the task changes the chip, its image and its status differ from each other
--- and from the files that are only read. Each file that is always written differs from every other file. The image to
--- write may be the chip's image.
+-- Holds if the pairs of files that must be apart are apart. If the task changes the chip, its image and its status file
+-- differ from each other and from the files that are only read. Each file that is always written differs from every
+-- other file. The image to write may be the chip's image.
 pub record HaveOneRole (nature : Nature) (job : ChipJob) : Type 0 where
   pub status : puts_back job.task ≡ true → AreTwo nature job.programmer.image job.programmer.status
   pub image_layout : puts_back job.task ≡ true → AreTwo nature job.programmer.image (named_by job.task).layout
@@ -66,7 +66,8 @@ pub record HaveOneRole (nature : Nature) (job : ChipJob) : Type 0 where
   pub layout_journal : AreTwo nature (named_by job.task).layout (named_by job.task).journal
   pub wanted_journal : AreTwo nature (named_by job.task).wanted (named_by job.task).journal
 
--- The trace's name is apart from those of the chip's files, the layout, the image to compare or write, and the journal.
+-- Holds if the trace's name is apart from those of the chip's files, the layout, the image to compare or write, and the
+-- journal.
 pub record HasOwnTrace (nature : Nature) (job : ChipJob) : Type 0 where
   pub image : AreTwo nature job.programmer.image job.programmer.trace
   pub status : AreTwo nature job.programmer.status job.programmer.trace
@@ -96,7 +97,8 @@ place_of role.Wanted = 4
 place_of role.Output = 5
 place_of role.Journal = 6
 
--- A file in that role is written. A journal counts as written, even in a restore: no other file may have its role.
+-- True if the file in that role is written. A journal counts as written, even in a restore: no other file may have its
+-- role.
 abbrev pub is_written : ChipJob → Role → Bool
 is_written job role.Image = puts_back job.task
 is_written job role.Status = puts_back job.task
@@ -104,8 +106,8 @@ is_written job role.Layout = false
 is_written job role.Wanted = false
 is_written job _ = true
 
--- The two roles need different files: at least one of them is written, and they are not the chip's image and the image
--- to write.
+-- True if the two roles need different files: at least one of them is written, and they are not the chip's image and
+-- the image to write.
 abbrev pub must_differ : ChipJob → (earlier later : Role) → Bool
 must_differ job role.Image role.Wanted = false
 must_differ job earlier later =
@@ -117,7 +119,7 @@ IsShared nature earlier later (end.File file.Taken of) = IsSomeAnd earlier (λ o
     (of.now ≡ other.now) × (nature.fails (Shared one.now other.now) ≡ true)))
 IsShared nature earlier later _ = ⊥
 
--- two roles that need different files have one
+-- Holds if the fault is that two roles have one file, but need different files.
 abbrev pub IsTwice : Nature → ChipJob → Fault → Type 0
 IsTwice nature job fault = (earlier later : Role) × (must_differ job earlier later ≡ true)
     × IsShared nature (file_in job earlier) (file_in job later) fault
@@ -128,7 +130,7 @@ IsPrintedTo nature named (end.File file.Taken of) = IsSomeAnd named (λ name.
     (of.now ≡ name.now) × (nature.fails (Printed name.now) ≡ true))
 IsPrintedTo nature named _ = ⊥
 
--- a file of the job that is written is one that the program prints to
+-- Holds if the fault is that the program prints to a file of the job that is written.
 abbrev pub IsStream : Nature → ChipJob → Fault → Type 0
 IsStream nature job fault = (written : Role) × (is_written job written ≡ true)
     × IsPrintedTo nature (file_in job written) fault
@@ -139,10 +141,10 @@ IsUnseenFile nature named (end.File file.Read of) = IsSomeAnd named (λ name.
     (of.now ≡ name.now) × (nature.fails (Unread of.now) ≡ true))
 IsUnseenFile nature named _ = ⊥
 
--- a file of the job can't be looked up
+-- Holds if the fault is that a file of the job can't be looked up.
 abbrev pub IsUnseen : Nature → ChipJob → Fault → Type 0
 IsUnseen nature job fault = (role : Role) × IsUnseenFile nature (file_in job role) fault
 
--- the faults of comparing a job's files
+-- Holds for the faults of comparing a job's files.
 abbrev pub FailsRoles : Nature → ChipJob → Fault → Type 0
 FailsRoles nature job fault = IsTwice nature job fault ⊎ (IsStream nature job fault ⊎ IsUnseen nature job fault)

@@ -1,4 +1,4 @@
--- The results of a run: its call, its faults, what it leaves of files, and its exit status.
+-- The results of a run: its call, its faults, the files that it leaves, and its exit status.
 use Rattle.std.specs.Prelude.{◌≡◌, ◌≤◌, ◌⊎◌, ℕ, Bool, true, false, List, Option, None, Some, Result, Ok, Err, ⊤}
 use Rattle.std.specs.Prelude.{IsSomeAnd, OnSome, drop, map, string_bytes}
 use Rattle.std.specs.Borrow.{Bor}
@@ -58,7 +58,7 @@ use Rattle.flashnor.specs.declared.printing.Ending.{Ending}
 
 -- ---- calls
 
--- A change was requested, with the ranges of the regions and the image read.
+-- Describes the result of a change or rehearsal, with the ranges of the regions and with the image that was read.
 pub record ChangesChip (view : View) (after : FilesState) (chip : Emulated) (named : Option ChipName)
     (change : Change) (old new : BusState) (outcome : Result Answer Refusal) : Type 0 where
   pub ranges : Option (List Span)
@@ -67,15 +67,15 @@ pub record ChangesChip (view : View) (after : FilesState) (chip : Emulated) (nam
   pub buffer : IsBufferOf view chip change.wanted image
   pub changed : HasMadeChange (request_for change named ranges) image change.journal_use old new view after outcome
 
--- The chip was read out into the file, in the ranges of the regions if there are any.
+-- Describes the result of reading the chip out into the file, in the ranges of the regions if there are any.
 pub record DoesRead (view after : View) (named : Option ChipName) (file : Text) (regions : Option Regions)
     (old new : BusState) (outcome : Result Answer Refusal) : Type 0 where
   pub ranges : Option (List Span)
   pub included : AreRangesOf view regions ranges
   pub read : HasReadOut named file ranges old new after outcome
 
--- The chip was compared with the image in the file, in the ranges of the regions. At most one byte more is read than
--- the largest chip has.
+-- Describes the result of comparing the chip with the image in the file, in the ranges of the regions if there are any.
+-- At most one byte more is read than the largest chip has.
 pub record DoesVerify (view : View) (named : Option ChipName) (file : Text) (regions : Option Regions)
     (old new : BusState) (outcome : Result Answer Refusal) : Type 0 where
   pub ranges : Option (List Span)
@@ -84,7 +84,8 @@ pub record DoesVerify (view : View) (named : Option ChipName) (file : Text) (reg
   pub read : IsRead view file 16777217 image
   pub verified : HasVerified named ranges image old new outcome
 
--- The journal in the file was restored. At most one byte more is read than the longest journal has.
+-- Describes the result of a restore from the journal in the file. At most one byte more is read than the longest
+-- journal has.
 pub record DoesRestore (view : View) (named : Option ChipName) (file : Text) (old new : BusState)
     (outcome : Result Answer Refusal) : Type 0 where
   pub journal : Journal
@@ -111,28 +112,28 @@ DoesJob view after programmer named (task.Change change) old new outcome =
 DoesJob view after programmer named (task.Restore journal) old new outcome =
     DoesRestore view named journal.now old new outcome
 
--- if the task changes the chip, these are the names of its files that could not be written, otherwise none was to be
--- written
+-- Holds if the names are those of the chip's files that could not be written. No name is given if the task does not
+-- change the chip, since its files are not written then.
 abbrev pub AreTold : Bool → Programmer → Unwritten → View → Type 0
 AreTold true programmer unwritten view =
     IsToldOf programmer.image unwritten.image view × IsToldOf programmer.status unwritten.status view
 AreTold false programmer unwritten view = (unwritten.image ≡ None) × (unwritten.status ≡ None)
 
--- The view after the trace was created, if one is named: each known file whose name is apart from the trace's is as
--- before.
+-- Holds for the view after the trace was created, if one is named: each known file whose name is apart from the trace's
+-- is as before.
 pub record IsViewBut (trace : Option (Bor Text)) (old amid : View) : Type 0 where
   pub nature : amid.nature ≡ old.nature
   pub stays : (name : Name) → IsNot old.nature trace name → IsKnown name old
       → (amid.out name ≡ old.out name) × (amid.seen name ≡ old.seen name)
 
--- the call was made, after the trace was created; the other files of the job were read after that
+-- Holds if the call was made after the trace was created; the other files of the job were read after that.
 abbrev pub DoesTraced : (files after : FilesState) → ChipJob → (old new : BusState) → Result Answer Refusal → Type 0
 DoesTraced files after job old new outcome = (amid : View) × IsViewBut job.programmer.trace files.view amid
     × DoesJob amid after job.programmer job.named job.task old new outcome
 
--- The call was made, and each file of the job has one role. The bus was started as the programmer says, to the chip
--- that its files hold. `left`: if the files were at rest and the task changes the chip, the chip was written back.
--- `traced`: a trace that lost a line is the programmer's.
+-- Holds if the call was made, and each file of the job has one role. The bus was started as the programmer says, to the
+-- chip that its files hold. `left`: if the files were at rest and the task changes the chip, the chip was written back.
+-- `traced`: the only trace that may have lost a line is the programmer's.
 pub record IsCalled (files after : FilesState) (job : ChipJob) (unwritten : Unwritten)
     (outcome : Result Answer Refusal) : Type 0 where
   pub roles : HaveOneRole files.view.nature job
@@ -150,24 +151,24 @@ pub record IsCalled (files after : FilesState) (job : ChipJob) (unwritten : Unwr
 
 -- ---- faults from before the call
 
--- the faults of reading the image of a change
+-- Holds for the faults of reading the image of a change.
 abbrev pub FailsToRead : View → Wanted → Fault → Type 0
 FailsToRead view (wanted.Write image) fault = IsReadingFault view image.now 16777217 fault
 FailsToRead view wanted.Erase fault = fault ≡ end.Refused Memory
 FailsToRead view (wanted.Range start len) fault = ⊥
 
--- the faults of creating the journal of a change
+-- Holds for the faults of creating the journal of a change.
 abbrev pub FailsToKeep : View → JournalUse → Fault → Type 0
 FailsToKeep view (uses.Journal file) fault = IsMaking view file.now fault
 FailsToKeep view (uses.Rehearse stops) fault = ⊥
 
--- the faults of locking and reading a journal, and error 15 if it is invalid
+-- Holds for the faults of locking and reading a journal, and for error 15 if it is invalid.
 abbrev pub FailsToRestore : View → Text → Fault → Type 0
 FailsToRestore view name (end.Refused (BadJournal fault)) =
     (bytes : List ℕ) × IsRead view name 16793662 bytes × HasFault bytes fault
 FailsToRestore view name fault = IsSharingFault view name 16793662 fault
 
--- the faults of a task before its call
+-- Holds for the faults of a task before its call.
 abbrev pub FailsBefore : View → Task → Fault → Type 0
 FailsBefore view (task.Read file regions) fault =
     FailsToInclude view regions fault ⊎ IsMaking view file.now fault
@@ -179,20 +180,20 @@ FailsBefore view (task.Change change) fault =
 FailsBefore view (task.Restore journal) fault = FailsToRestore view journal.now fault
 FailsBefore view _ fault = ⊥
 
--- the faults of opening the chip's files; if the task changes the chip they are locked too
+-- Holds for the faults of opening the chip's files. If the task changes the chip, the files are locked too.
 abbrev pub FailsToStart : Bool → View → Programmer → Fault → Type 0
 FailsToStart true view programmer fault = FailsToHold view programmer fault
 FailsToStart false view programmer fault = FailsToOpen view programmer fault
 
--- the faults of creating a trace, or those after it and before the call; the trace's file is compared with the others
--- after it was created
+-- Holds for the faults of creating a trace, and for those after it and before the call. The trace's file is compared
+-- with the others after it was created.
 abbrev pub FailsTraced : View → ChipJob → Fault → Type 0
 FailsTraced view on_chip fault = IsSomeAnd on_chip.programmer.trace (λ name. IsMaking view name.now fault)
     ⊎ (FailsRoles view.nature on_chip fault
     ⊎ ((amid : View) × IsViewBut on_chip.programmer.trace view amid × FailsBefore amid on_chip.task fault))
 
--- the faults of a job that occur before its call: of the roles of its files, of the chip's files, of the trace, or of
--- its task
+-- Holds for the faults of a job that occur before its call: those of the roles of its files, of the chip's files, of
+-- the trace, and of its task.
 abbrev pub FailsJob : View → ChipJob → Fault → Type 0
 FailsJob view on_chip fault = FailsRoles view.nature on_chip fault
     ⊎ (FailsToStart (puts_back on_chip.task) view on_chip.programmer fault
@@ -200,21 +201,21 @@ FailsJob view on_chip fault = FailsRoles view.nature on_chip fault
 
 -- ---- the files at every exit of a run
 
--- The chip's files are as they were. Each file is, too, whose name is apart from those of the trace and of the file
--- that the task creates.
+-- Holds if the chip's files are as they were, and so is each file whose name is apart from those of the trace and of
+-- the file that the task creates.
 pub record StayBut (programmer : Programmer) (made : Option (Bor Text)) (old new : FilesState) : Type 0 where
   pub image : StaysOf programmer.image old new
   pub status : StaysOf programmer.status old new
   pub others : (name : Name) → IsNot old.view.nature programmer.trace name → IsNot old.view.nature made name
       → Stays name old new
 
--- a change with a journal in a file keeps what can be restored; a rehearsal leaves the files as they were, except the
--- trace
+-- Holds for a change: with a journal in a file, the original chip can still be restored; a rehearsal leaves the files
+-- as they were, except the trace.
 abbrev pub KeepsChange : Programmer → JournalUse → (old new : FilesState) → Type 0
 KeepsChange programmer (uses.Journal file) old new = KeepsFirst programmer file.now old new
 KeepsChange programmer (uses.Rehearse stops) old new = StayBut programmer None old new
 
--- the promise of each task about the files, at every exit
+-- The promise of each task about the files, at every exit.
 abbrev pub KeepsFiles : Programmer → Task → (old new : FilesState) → Type 0
 KeepsFiles programmer (task.Change change) old new = KeepsChange programmer change.journal_use old new
 KeepsFiles programmer (task.Restore journal) old new = KeepsRestorable programmer journal.now old new
@@ -222,8 +223,8 @@ KeepsFiles programmer done old new = StayBut programmer (made_by done) old new
 
 -- ---- the files after a run that ends with an answer
 
--- A change ended with this answer, and all files were written. The chip's files hold the requested chip. The journal's
--- file holds one journal, which restores the original chip. A host crash loses neither.
+-- Holds after a change ended with this answer, and all files were written. The chip's files hold the requested chip.
+-- The journal's file holds one journal, which can restore the original chip. A host crash loses neither.
 pub record HoldsTarget (programmer : Programmer) (named : Option ChipName) (change : Change) (file : Text)
     (found : Answer) (old new : FilesState) : Type 0 where
   pub first : Opened programmer old
@@ -234,13 +235,13 @@ pub record HoldsTarget (programmer : Programmer) (named : Option ChipName) (chan
   pub image : List ℕ
   pub buffer : IsBufferOf old.view programmer.chip change.wanted image
   pub target : TellsDone (request_for change named ranges) image first.bus last found
-  -- the files hold that chip, and the journal
+  -- the files hold the requested chip and the journal
   pub held : ArePutBack programmer last.chip None None new
   pub leads : LeadsBack file first new
   pub settled : IsSettled file (Some (text leads.journal)) new
 
--- A restore ended with this answer, and all files were written. The chip's files hold the chip that the journal
--- restores, and a host crash does not lose it. The journal's file is as it was.
+-- Holds after a restore ended with this answer, and all files were written. The chip's files hold the chip that the
+-- journal restores, and a host crash does not lose it. The journal's file is as it was.
 pub record HoldsRestored (programmer : Programmer) (file : Text) (found : Answer) (old new : FilesState) : Type 0 where
   pub opened : Opened programmer old
   pub last : BusState
@@ -252,11 +253,11 @@ pub record HoldsRestored (programmer : Programmer) (file : Text) (found : Answer
   pub same : IsSame opened.bus.chip probed.chip
   pub target : TellsRestored journal probed last found
   pub back : (first : Chip) → CanGiveBack journal first opened.bus → IsSame first last.chip
-  -- the files hold it, and the journal
+  -- the files hold the restored chip and the journal
   pub held : ArePutBack programmer last.chip None None new
   pub stays : Stays file old new
 
--- the result of a change with a journal in a file; nothing is claimed for a rehearsal
+-- The result of a change with a journal in a file. Nothing is claimed for a rehearsal.
 abbrev pub HoldsChange : Programmer → Option ChipName → Change → JournalUse → Answer → (old new : FilesState) → Type 0
 HoldsChange programmer named change (uses.Journal file) found old new =
     HoldsTarget programmer named change file.now found old new
@@ -269,7 +270,8 @@ HoldsTask programmer named (task.Restore journal) found old new =
     HoldsRestored programmer journal.now found old new
 HoldsTask programmer named done found old new = ⊤
 
--- If a run ends with an answer and all files were written, they hold the result of its task.
+-- Holds if the files hold the result of the task, when the run ended with an answer and all files were written. Nothing
+-- is claimed after a fault.
 abbrev pub HoldsResult : ChipJob → Unwritten → Result Answer Fault → (old new : FilesState) → Type 0
 HoldsResult job unwritten (Ok found) old new = unwritten ≡ all_written
     → HoldsTask job.programmer job.named job.task found old new
@@ -282,14 +284,14 @@ abbrev pub IsToldAs : Result Answer Refusal → Result Answer Fault → Type 0
 IsToldAs (Ok found) outcome = outcome ≡ Ok found
 IsToldAs (Err refusal) outcome = outcome ≡ Err (end.Refused refusal)
 
--- A job on a chip ends with the result of its call, or with a fault from before the call.
+-- Holds if a job on a chip ends with the result of its call, or with a fault from before the call.
 abbrev pub EndsJob : (files after : FilesState) → ChipJob → Unwritten → Result Answer Fault → Type 0
 EndsJob files after on_chip unwritten (Ok found) = IsCalled files after on_chip unwritten (Ok found)
 EndsJob files after on_chip unwritten (Err (end.Refused refusal)) =
     IsCalled files after on_chip unwritten (Err refusal) ⊎ FailsJob files.view on_chip (end.Refused refusal)
 EndsJob files after on_chip unwritten (Err fault) = FailsJob files.view on_chip fault
 
--- only the job of listing the chips has the list as its answer
+-- Holds if the result is one of this job. Only the job of listing the chips has their list as its answer.
 abbrev pub AnswersJob : (files after : FilesState) → Job → Unwritten → Result Answer Fault → Type 0
 AnswersJob files after job.List unwritten (Ok answer.Chips) = (unwritten ≡ all_written) × AllStay files after
 AnswersJob files after job.List unwritten _ = ⊥
@@ -297,15 +299,15 @@ AnswersJob files after (job.Chip on_chip) unwritten outcome = EndsJob files afte
     × (AreAtRest files → KeepsFiles on_chip.programmer on_chip.task files after)
     × (AreAtRest files → HoldsResult on_chip unwritten outcome files after)
 
--- A usage fault is one that the arguments cause, and no file is changed. Every other result is that of the job given by
--- the arguments, with the names of the files that could not be written.
+-- Holds if the arguments lead to this result. A usage fault is one that the arguments have, and no file is changed.
+-- Every other result is that of the job given by the arguments, with the names of the files that could not be written.
 abbrev pub AnswersWords : (files after : FilesState) → List Text → Result Answer Fault → Unwritten → Type 0
 AnswersWords files after words (Err (end.Usage fault)) unwritten =
     IsFault words fault × (unwritten ≡ all_written) × AllStay files after
 AnswersWords files after words outcome unwritten =
     (asked : Job) × IsJob words asked × AnswersJob files after asked unwritten outcome
 
--- A run without a fault: the arguments ask for help, or for a job that was done. In that case each file was written,
+-- Holds for a run without a fault. The arguments ask for help, or for a job that was done; then each file was written,
 -- and exactly the lines of the answer went to standard output.
 abbrev pub Succeeds : (files after : FilesState) → List Text → (out out' : Option (List ℕ)) → Type 0
 Succeeds files after words out out' = IsAmong kind.DisplayHelp (refusals_of words)
@@ -315,14 +317,14 @@ Succeeds files after words out out' = IsAmong kind.DisplayHelp (refusals_of word
 abbrev pub words_of : IntoIter (String Global) Global → List Text
 words_of args = map string_bytes (drop 1 (into_iter_items args))
 
--- How a run ended, and what the streams hold before and after, if known. The status is 0 or 1. It is 1 if the arguments
--- ask for nothing, and 0 only if the run succeeds.
+-- Describes how a run ended, and what the streams hold before and after, if known. The status is 0 or 1. It is 1 if the
+-- arguments ask for nothing, and 0 only if the run succeeds.
 pub record IsStatus (files after : FilesState) (words : List Text) (out out' err err' : Option (List ℕ))
     (ending : Ending) : Type 0 where
   pub few : ending.status ≤ 1
   pub refused : IsRefused words → ending.status ≡ 1
   pub succeeds : ending.status ≡ 0 → Succeeds files after words out out'
-  -- the result of the run, and what was printed of it
+  -- the result of the run, and what was printed about it
   pub outcome : Result Answer Fault
   pub unwritten : Unwritten
   pub answers : AnswersWords files after words outcome unwritten

@@ -7,7 +7,7 @@ use Rattle.nor_words.specs.declared.job.JournalUse.TheVariants as uses
 use Rattle.nor_words.specs.declared.job.Task.{Task}
 use Rattle.nor_words.specs.declared.job.Task.TheVariants as task
 
--- a change keeps its journal in a file
+-- True if a change keeps its journal in a file.
 abbrev pub keeps_journal : JournalUse → Bool
 keeps_journal (uses.Journal file) = true
 keeps_journal (uses.Rehearse stops) = false
@@ -17,7 +17,8 @@ abbrev pub journal_of : JournalUse → Option (Bor Text)
 journal_of (uses.Journal file) = Some file
 journal_of (uses.Rehearse stops) = None
 
--- after the call the chip is written back to its files: the task is a restore, or a change that is not a rehearsal
+-- True if the chip is written back to its files after the call: the task is a restore, or a change that is not a
+-- rehearsal.
 abbrev pub puts_back : Task → Bool
 puts_back (task.Change change) = keeps_journal change.journal_use
 puts_back (task.Restore journal) = true

@@ -1,4 +1,4 @@
--- Runs that follow one another, from an interrupted change to the restore that ends.
+-- Runs that follow one another, from an interrupted change to the restore that succeeds.
 use Rattle.std.specs.Prelude.{◌≡◌, ⊤, Option, None, Some, Result}
 use Rattle.std.specs.Borrow.{Bor}
 use Rattle.nor_chip.specs.Chip.{IsSame}
@@ -16,9 +16,9 @@ use Rattle.nor_lines.specs.declared.answers.Answer.{Answer}
 use Rattle.flashnor.specs.declared.holding.Unwritten.{Unwritten}
 use Rattle.nor_lines.specs.declared.messages.Fault.{Fault}
 
--- The files that a run finds after an earlier run ended, was killed, or was interrupted by a host crash: no file is
--- open for a vault or a log. The journal is one that may be left. Each file of the chip is too, unless it was missing
--- at first and was moved aside.
+-- Holds for the files that a run finds after an earlier run ended, was killed, or was interrupted by a host crash. No
+-- file is open for a vault or a log. The journal is one that may be left. Each file of the chip is too, unless it was
+-- missing at first and was moved aside.
 pub record Follows {programmer : Programmer} {start : FilesState} (file : Text) (first : Opened programmer start)
     (old new : FilesState) : Type 0 where
   pub rest : AreAtRest new
@@ -28,25 +28,25 @@ pub record Follows {programmer : Programmer} {start : FilesState} (file : Text) 
   pub status : (found : Found) → MayFind programmer.status first.read.status.found found new
       → MayFind programmer.status first.read.status.found found old
 
--- either both name no file or both name the same
+-- Holds if both name no file, or both name the same file.
 abbrev pub NameOne : (one other : Option (Bor Text)) → Type 0
 NameOne None None = ⊤
 NameOne (Some one) (Some other) = other.now ≡ one.now
 NameOne _ _ = ⊥
 
--- The two programmers have the same chip and files; trace, `stop=`, `busy=` and `power=` may differ.
+-- Holds if the two programmers have the same chip and files; trace, `stop=`, `busy=` and `power=` may differ.
 pub record HaveOneChip (one other : Programmer) : Type 0 where
   pub chip : other.chip ≡ one.chip
   pub unique : other.unique ≡ one.unique
   pub image : NameOne one.image other.image
   pub status : NameOne one.status other.status
 
--- the task restores the journal in the file of this name
+-- Holds if the task restores from the journal in the file of this name.
 abbrev pub Restores : Text → Task → Type 0
 Restores file (task.Restore journal) = journal.now ≡ file
 Restores file _ = ⊥
 
--- A run restores a journal that can restore the original chip, with this result.
+-- Holds if a run restores from a journal that can restore the original chip, with this result.
 pub record RestoresFirst {programmer : Programmer} {start : FilesState} (file : Text)
     (first : Opened programmer start) (on_chip : ChipJob) (unwritten : Unwritten) (told : Result Answer Fault)
     (old mid new : FilesState) : Type 0 where
@@ -56,6 +56,6 @@ pub record RestoresFirst {programmer : Programmer} {start : FilesState} (file : 
   pub restores : Restores file on_chip.task
   pub answers : AnswersJob mid new (job.Chip on_chip) unwritten told
 
--- even if the host then crashes, a later run that opens the chip's files opens the original chip
+-- Holds if a later run that opens the chip's files opens the original chip, even if the host crashes before it.
 abbrev pub LeavesFirst : {programmer : Programmer} {start : FilesState} → Opened programmer start → FilesState → Type 0
 LeavesFirst first files = LeavesOnly first (λ opened. IsSame first.bus.chip opened.chip) files

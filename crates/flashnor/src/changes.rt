@@ -26,7 +26,7 @@ use nor_probe::ChipName;
 use nor_session::{Refusal, Request, rehearse, restore, session};
 use nor_words::{Change, Emulated, JournalUse, Wanted};
 
-/// Changes the chip, or rehearses the change. An error is a fault that occurred before the session.
+/// Changes the chip, or rehearses the change. Returns a fault if one occurred before the session.
 #[tactic(auto, using(crate::proofs::Doing::does_change))]
 pub fn change_chip<'a, R: Store, B: Meter>(
     rt: &mut R,
@@ -120,7 +120,7 @@ fn change_with_journal<B: Bus, V: Vault>(
     Ok(Answer::Done(report))
 }
 
-// Rehearses the session of a request under the given stops, with its journal in `vault`.
+// Rehearses the session of a request with the given stops, and with its journal in `vault`.
 fn rehearse_change<B: Meter>(
     bus: &mut B,
     vault: &mut MemVault,
@@ -138,8 +138,8 @@ fn rehearse_change<B: Meter>(
     Ok(Answer::Rehearsed(rehearsal))
 }
 
-/// Restores the chip from the journal in the file of this name, which is locked against runs that would write it. An
-/// error is a fault that occurred before the restore, such as error 15 for an invalid journal.
+/// Restores the chip from the journal in the file of this name, which is locked against runs that would write it.
+/// Returns a fault if one occurred before the restore, for example error 15 for an invalid journal.
 pub fn restore_chip<'a, R: Store, B: Bus>(
     rt: &mut R,
     bus: &mut B,

@@ -1,4 +1,4 @@
-//! The emulated chip: its contents as its files have them, and the bus to it.
+//! The emulated chip: its contents, which are read from its files, and the bus to it.
 ghost use Rattle.std.specs.Prelude.{◌≡◌, ◌∷◌, [], IfOk, IfErr, IfSome, IsSomeAnd, option_map, replicate};
 ghost use Rattle.std.specs.Prelude.{unwrap_or, vec_len};
 ghost use Rattle.nor_chip.specs.Sim.{pace_of, torn_of};
@@ -20,8 +20,8 @@ pub struct Content {
     pub status: [u8; 2],
 }
 
-/// Reads the chip's files. FFh stands for an image that is not named or missing, and clear status bytes for a status
-/// file.
+/// Reads the chip's files. FFh stands for the bytes of an image that is missing or not named, and clear status bytes
+/// for a status file that is missing or not named.
 pub fn read_content<'a, R: Store>(rt: &R, programmer: &Programmer<'a>) -> Result<Content, Fault<'a>>
     ensures len { IfOk result (λ content. vec_len content.bytes ≡ (emulated_part programmer.now.chip).size) }
     ensures ok { IfOk result (IsContentOf (R.state rt.now).view programmer.now) }
@@ -119,7 +119,8 @@ pub fn start(programmer: &Programmer<'_>, content: Content) -> SimBus
     bus
 }
 
-// Returns a bus to the emulated chip with these contents, which keeps its power and carries out no transaction yet.
+// Returns a bus to the emulated chip with these contents. It carries out no transaction yet, and a stop keeps the
+// chip's power.
 fn hold(programmer: &Programmer<'_>, content: Content) -> SimBus
     requires { vec_len content.bytes ≡ (emulated_part programmer.now.chip).size }
     ensures held { HoldsFiles programmer.now content (⟦<SimBus as Bus>⟧.state result) }

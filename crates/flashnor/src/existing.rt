@@ -1,4 +1,4 @@
-//! Sessions whose journal already exists: it is not overwritten, and the run ends without a call.
+//! Sessions whose journal already exists: the run ends with a fault, before any call, and the journal stays as it is.
 ghost use Rattle.std.specs.Prelude.{◌≡◌, IfErr, IfSome, IsSome, IsSomeAnd, Some, true};
 ghost use Rattle.nor_files.specs.Files.{AreAtRest, Name, Stays, is_lawful};
 ghost use Rattle.nor_files.specs.Files.Failure.{There};
@@ -15,7 +15,7 @@ use nor_files::Store;
 use nor_lines::{Fault, FileFault, create_log, read_included};
 use nor_words::{Change, ChipJob, JournalUse, Task};
 
-/// Returns the file of the task's journal if it already exists and the task is to create it.
+/// Returns the file of the task's journal, if the task is to create it and it already exists.
 pub fn existing_journal<'a, R: Store>(rt: &R, task: &Task<'a>) -> Option<&'a str>
     ensures { IfSome result (λ file. (journal_by task.now ≡ Some file)
         × Happens (R.state rt.now).view (There file.now)) }
@@ -34,8 +34,8 @@ pub fn existing_journal<'a, R: Store>(rt: &R, task: &Task<'a>) -> Option<&'a str
 /// Returns the first fault of a session whose journal exists.
 ///
 /// Everything that a session reads before it creates its journal is read first, and the first fault of these reads is
-/// returned. If none occurs, the fault is file fault 4. The run creates or empties only the trace, if its name is apart
-/// from those of the job's other files.
+/// returned. If there is none, the fault is file fault 4. The run creates or truncates only the trace, if the trace's
+/// name is apart from those of the job's other files.
 pub fn fault_before<'a, R: Store>(rt: &mut R, job: &ChipJob<'a>, journal: &'a str) -> Fault<'a>
     requires makes { journal_by job.now.task ≡ Some journal }
     requires there { Happens (R.state rt.old).view (There journal.now) }
@@ -70,7 +70,7 @@ fn read_all<'a, R: Store>(rt: &mut R, job: &ChipJob<'a>) -> Result<(), Fault<'a>
     Ok(())
 }
 
-// Creates or empties the trace's file, if one is requested.
+// Creates the trace's file or truncates it, if a trace is requested.
 fn make_trace<'a, R: Store>(rt: &mut R, trace: Option<&'a str>) -> Result<(), Fault<'a>>
     ensures nature { (R.state rt.new).view.nature ≡ (R.state rt.old).view.nature }
     ensures others { is_lawful (R.state rt.old).view ≡ true → (name : Name)

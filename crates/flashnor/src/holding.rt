@@ -1,4 +1,4 @@
-//! The chip's files in a run that changes the chip: locked before they are read, until they are written back.
+//! The chip's files in a run that changes the chip: from when they are locked and read until they are written back.
 ghost use Rattle.std.specs.Prelude.{◌≡◌, ◌+◌, true, false, List, ℕ, None, Some, IfErr, IfOk, IfSome, IsSomeAnd, OnErr, OnOk};
 ghost use Rattle.std.specs.Prelude.{option_map, vec_len};
 ghost use Rattle.nor_files.specs.Calls.{LeaveNoMore};
@@ -29,8 +29,8 @@ pub struct Held {
 /// Locks the chip's files against other runs and reads them. FFh stands for a missing image, and clear status bytes for
 /// a missing status file.
 ///
-/// If the files obey the contract of `Store` and none is open for a vault or a log (`AreAtRest`), what was read is
-/// durable: a host crash leaves it.
+/// If the files obey the contract of `Store` and none is open for a vault or a log (`AreAtRest`), the contents that
+/// were read are durable: a host crash leaves them.
 pub fn hold_content<'a, R: Store>(
     rt: &mut R,
     programmer: &Programmer<'a>,
@@ -122,7 +122,7 @@ pub struct Unwritten<'a> {
 }
 
 /// Writes the chip's bytes and status bytes to the files that are named. Writes the status file even if the image could
-/// not be written. Returns the names of the files that could not be written.
+/// not be written. Returns the name of the image and that of the status file, each if the file could not be written.
 pub fn write_back<'a, R: Store>(
     rt: &mut R,
     programmer: &Programmer<'a>,

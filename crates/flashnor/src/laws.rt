@@ -14,10 +14,10 @@ use nor_files::Store;
 
 /// Proves that the original chip of a change can be restored, however often a restore is interrupted.
 ///
-/// `leads`: if the journal restores the original chip from any files that may be left, it still does after each run
-/// that restores it, wherever that run was interrupted. `ends`: the first such run that returns an answer and writes
-/// all files leaves the original chip, even if the host then crashes. Between two runs a file of the chip that was
-/// missing before the change may be moved aside.
+/// `leads`: if the journal can restore the original chip from any files that may be left, it still can after each run
+/// that restores from it, wherever that run was interrupted. `ends`: the first of these runs that returns an answer and
+/// writes all files leaves the original chip, even if the host then crashes. Between two runs a file of the chip that
+/// was missing before the change may be moved aside.
 ///
 /// The contract of `run_over` supplies the premise: on files at rest, an interrupted change leaves files from which the
 /// journal restores the original chip, or files that open to the original chip.

@@ -1,4 +1,4 @@
-//! Prints the result and the faults of a run, one line each, and chooses the exit status.
+//! Prints the result and the faults of a run, and chooses the exit status.
 ghost use Rattle.std.specs.Prelude.{◌≡◌, ◌↔◌, IsTrue, None};
 ghost use Rattle.std.specs.Io.KnownBytes.{Appends};
 ghost use Rattle.flashnor.specs.Endings.{EndsBadly, EndsWell, HasPrinted, all_written};
@@ -20,7 +20,8 @@ pub struct Ending {
 }
 
 /// Prints the result of a run: its answer or help to `output`; its fault and a line for each file that could not be
-/// written to `errors`. A line that can't be printed is lost; if it belongs to the answer or the help, the status is 1.
+/// written to `errors`. A line that can't be printed is lost. If it is a line of the answer or of the help, the status
+/// is 1.
 #[tactic(auto, using(crate::proofs::Printed::printed_well, crate::proofs::Printed::printed_badly))]
 pub fn print_end<O: Write, E: Write>(
     output: &mut O,

@@ -72,7 +72,7 @@ pub fn list_ranges<B: Bus>(bus: &mut B, named: Option<ChipName>) -> Outcome
     Ok(Answer::Ranges(offered(protection.size)))
 }
 
-/// Reads the chip into the file of this name. An error is a fault that occurred before the reading.
+/// Reads the chip into the file of this name. Returns a fault if one occurred before the chip was read.
 pub fn read_chip<'a, R: Store, B: Bus>(
     rt: &mut R,
     bus: &mut B,
@@ -111,7 +111,7 @@ fn read_into<B: Bus, V: Vault>(
     Ok(Answer::Read(report))
 }
 
-/// Compares the chip with the image in the file of this name. An error is a fault that occurred before the comparison.
+/// Compares the chip with the image in the file of this name. Returns a fault if one occurred before the comparison.
 pub fn verify_chip<'a, R: Store, B: Bus>(
     rt: &R,
     bus: &mut B,

@@ -136,7 +136,7 @@ impl<'a> Work<'a> {
     }
 }
 
-// Performs the job given by the arguments.
+// Performs the job given by the arguments. Returns its result, which isn't printed yet.
 fn run<'a, R: Store>(rt: &mut R, words: &'a [String]) -> Work<'a>
     ensures { AnswersWords (R.state rt.old) (R.state rt.new) (map string_bytes words.now) result.answer
         result.unwritten }
@@ -151,7 +151,7 @@ fn run<'a, R: Store>(rt: &mut R, words: &'a [String]) -> Work<'a>
     }
 }
 
-// Performs the job's task on its chip. An error is a fault that occurred before the call to the engine.
+// Performs the job's task on its chip. Returns a fault if one occurred before the call to the engine.
 #[tactic(auto, using(crate::proofs::Ended::holds_looked))]
 fn work_on_chip<'a, R: Store>(rt: &mut R, job: &ChipJob<'a>) -> Result<Work<'a>, Fault<'a>>
     ensures ok { IfOk result (λ work.
@@ -265,7 +265,7 @@ impl<'a> Called<'a> {
     }
 }
 
-// Performs the job's task, with a trace if one is requested. An error is a fault that occurred before the call.
+// Performs the job's task, with a trace if one is requested. Returns a fault if one occurred before the call.
 fn call_on<'a, R: Store>(
     rt: &mut R,
     mut bus: SimBus,
@@ -301,7 +301,7 @@ fn call_on<'a, R: Store>(
     Ok(Called::of_traced(traced, name, outcome))
 }
 
-// Performs the job's task on its chip. An error is a fault that occurred before the call.
+// Performs the job's task on its chip. Returns a fault if one occurred before the call.
 fn do_task<'a, R: Store, B: Meter>(
     rt: &mut R,
     bus: &mut B,
