@@ -9,8 +9,8 @@ use std::io::{Read, Write};
 use std::os::unix::fs::FileTypeExt;
 use std::{fs, io};
 
-/// A port over a device file. The file must have a timeout for reads, or a silent programmer blocks the program forever
-/// (`stty min 0 time 50`).
+/// A port over a device file. Reads of the file must time out (`stty min 0 time 50`); otherwise a silent programmer
+/// blocks the program forever.
 #[derive(Drop)]
 pub struct DevicePort<F> {
     file: F,
@@ -20,7 +20,7 @@ impl DevicePort<File> {
     /// Opens a character device, and locks it against other programs. Nothing is sent.
     ///
     /// Returns `NoDevice` if the name refers to any other file, `InUse` if another program has locked the device, and
-    /// `System` if it can't be opened or locked.
+    /// `System` if the device is missing, or can't be opened or locked.
     pub fn open(rt: &HostRuntime, name: &str) -> Result<DevicePort<File>, Fault> {
         if !fs::metadata(rt, name)?.file_type().is_char_device() {
             return Err(Fault::NoDevice);

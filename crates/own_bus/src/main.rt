@@ -1,13 +1,14 @@
 //! An example of a bus of your own. `docs/OWN_BUS.md` explains it.
 //!
-//! Without arguments it plays a serial programmer with a simulated chip: it reads the chip out into a file, changes the
-//! chip with a journal, and restores it. Then it starts the change over a bus that speaks no serprog, whose wires are
-//! cut. With the name of a serial port it identifies the chip at the programmer there, and changes nothing.
+//! Without arguments it uses a serial programmer and a chip that it simulates: it reads the chip out into a file,
+//! changes the chip with a journal, and restores it. Then it begins the change on a second simulated chip, over a bus
+//! that speaks no serprog and whose wires are cut. With the name of a serial port it identifies the chip at that
+//! programmer, and changes nothing.
 //!
 //! - `main.rt`: the steps of the example
 //! - `device.rt`: a port over a device file
 //! - `own.rt`: the bus for a programmer that does not speak serprog, over the trait `Wires`, which you implement
-//! - `played.rt`: a port and wires to a simulated chip
+//! - `played.rt`: a simulated programmer and simulated wires, each with a simulated chip
 //! - `fault.rt`: the errors that end the example
 #![tactic(auto)]
 
@@ -32,7 +33,7 @@ use played::{PlayedPort, PlayedWires};
 use std::alloc::Global;
 use std::{env, fs};
 
-/// The bus of the example over a port: it pauses between polls, and reads data twice.
+/// The example's bus over a port. It pauses between polls that show BUSY, and reads data (03h) twice.
 type PortBus<'a, P> = Paced<ReadTwice<SerprogBus<P>>, &'a HostRuntime>;
 
 fn main(rt: HostRuntime) -> Result<(), Fault> {
@@ -42,7 +43,7 @@ fn main(rt: HostRuntime) -> Result<(), Fault> {
     }
 }
 
-// Identifies the chip at the programmer that this port reaches.
+// Identifies the chip at the programmer that `port` reaches, and prints the chip's size.
 fn identify_chip<P: Port<Cause = std::io::Error> + Drop>(
     rt: &HostRuntime,
     port: P,
@@ -55,7 +56,8 @@ fn identify_chip<P: Port<Cause = std::io::Error> + Drop>(
     Ok(())
 }
 
-// Opens a bus over this port. No port of the example is honest, so nothing is promised of its programmer.
+// Identifies the programmer at `port`, and returns a bus to its chip. No port of the example is honest, so no contract
+// promises anything about the programmer.
 fn open<P: Port + Drop>(
     rt: &HostRuntime,
     port: P,
@@ -68,7 +70,7 @@ fn open<P: Port + Drop>(
     Ok(Paced::new(bus, rt))
 }
 
-// Reads, changes and restores a simulated chip at a programmer in memory.
+// Runs the example without hardware: reads, changes and restores a simulated chip, and then interrupts a change.
 fn play(rt: &HostRuntime) -> Result<(), Fault> {
     let mut bus = open(rt, PlayedPort::new(erased_chip(rt.alloc())?))?;
     let found = probe(&mut bus, None)?;
@@ -99,7 +101,7 @@ fn back_up<B: Bus>(rt: &HostRuntime, bus: &mut B) -> Result<(), Fault> {
     Ok(())
 }
 
-// Writes the backup with another first byte, with a journal in a new file.
+// Writes the backup to the chip with its first byte changed to 5Ah. The journal is in a new file.
 fn change<B: Bus>(rt: &HostRuntime, bus: &mut B, journal: &str) -> Result<Report, Fault> {
     let mut image = fs::read(rt, "chip.bin")?;
     if let Some(first) = image.first_mut() {
@@ -110,7 +112,8 @@ fn change<B: Bus>(rt: &HostRuntime, bus: &mut B, journal: &str) -> Result<Report
     Ok(report)
 }
 
-// Tries the change once more with the journal that can restore the chip. The journal must stay as it was.
+// Tries a second change with the file name of the existing journal. The change must be refused, and the program prints
+// whether the journal stayed as it was.
 fn change_again<B: Bus>(rt: &HostRuntime, bus: &mut B) -> Result<(), Fault> {
     let before = fs::read(rt, "undo.journal")?;
     match change(rt, bus, "undo.journal") {
@@ -148,7 +151,8 @@ fn print_counts(rt: &HostRuntime, what: &str, done: &Report) -> Result<(), Fault
     Ok(())
 }
 
-// Starts the change over wires that are cut after 10 transactions, while the session scans the chip.
+// Begins the change of an erased chip over wires that are cut after 10 transactions, while the session scans the chip.
+// Prints the error and its cause.
 fn cut_off(rt: &HostRuntime) -> Result<(), Fault> {
     let mut bus = OwnBus::new(PlayedWires::new(erased_chip(rt.alloc())?, 10));
     let refusal = match change(rt, &mut bus, "second.journal") {

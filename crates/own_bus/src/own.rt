@@ -1,21 +1,22 @@
-//! A bus of your own, about which nothing is assumed.
+//! A bus of your own. No contract assumes anything about it.
 ghost use Rattle.std.proofs.lemmas.Bool.{false≢true};
 ghost use Rattle.nor_chip.specs.Bus.{unknown_bus};
 
 use nor_chip::{Bus, Sent, Stopped, heard_after};
 
-/// The wires to a chip. You implement this trait for your hardware.
+/// The wires to a chip. Implement this trait for your hardware.
 pub trait Wires {
-    /// What went wrong on the wires.
+    /// The reason why a transaction failed.
     type Cause: Drop;
 
-    /// Makes one transaction: pulls chip select low, sends `out`, fills `reply` with the bytes that the chip sends
-    /// then, and releases chip select, even after an error. `out` has at most 260 bytes and `reply` at most 4,096.
+    /// Makes one transaction: pulls chip select low, sends `out`, then reads bytes from the chip until `reply` is full,
+    /// and releases chip select. Must release chip select after an error, too. `out` has at most 260 bytes and `reply`
+    /// at most 4,096.
     fn transact(&mut self, out: &[u8], reply: &mut [u8]) -> Result<(), Self::Cause>;
 }
 
-/// A bus over wires about which nothing is assumed. It keeps the cause of the last transaction that failed, since error
-/// 12 says only that the bus stopped.
+/// A bus over `wires`, about which no contract assumes anything. The bus keeps the cause of the last transaction that
+/// failed, since error 12 contains no cause.
 #[derive(Drop)]
 pub struct OwnBus<W: Wires + Drop> {
     pub wires: W,

@@ -1,4 +1,5 @@
-//! A port and wires to a simulated chip, so that the example needs no hardware.
+//! A simulated programmer behind a port, and simulated wires, each with a simulated chip: the example needs no
+//! hardware.
 ghost use Rattle.std.proofs.lemmas.Bool.{false≢true};
 ghost use Rattle.nor_serprog.specs.Device.{unknown_port};
 
@@ -9,10 +10,11 @@ use nor_serprog::{Port, frame_len};
 use std::io::ErrorKind;
 use std::{fmt, io, mem};
 
-// The longest frame is that of a page program: a header of 7 bytes, an opcode, three address bytes and a page.
+// The length of the longest frame, a page program: a header of 7 bytes, an opcode, three address bytes and 256 data
+// bytes.
 const MOST_BEGUN: usize = 267;
 
-// ACK and a sector.
+// The length of the longest reply: ACK and the 4,096 bytes of a sector.
 const MOST_PENDING: usize = 4097;
 
 const ACK: u8 = 0x06;
@@ -25,11 +27,11 @@ const COMMANDS: [u8; 33] = [
     0, 0, 0, 0,
 ];
 
-/// A port to a serprog programmer in memory, with a simulated chip.
+/// A port to a simulated serprog programmer with a simulated chip.
 #[derive(Drop)]
 pub struct PlayedPort {
     chip: SimBus,
-    // The bytes of a command that is not complete yet, and the reply bytes that were not received yet.
+    // The bytes sent of an incomplete command, and the reply bytes that the host hasn't received yet.
     begun: ArrayVec<u8, MOST_BEGUN>,
     pending: ArrayVec<u8, MOST_PENDING>,
 }
@@ -43,14 +45,14 @@ impl PlayedPort {
         }
     }
 
-    // Adds these bytes to the reply.
+    // Appends these bytes to the pending replies.
     fn reply(&mut self, bytes: &[u8]) -> io::Result<()> {
         self.pending
             .try_extend_from_slice(bytes)
             .map_err(|_| ErrorKind::OutOfMemory.into())
     }
 
-    // Carries out a whole command (serprog protocol, flashrom's Documentation/serprog-protocol.txt).
+    // Carries out a complete command (flashrom's Documentation/serprog-protocol.txt).
     fn carry_out(&mut self, frame: &[u8]) -> io::Result<()> {
         match frame {
             [0x00 | 0x12, ..] => self.reply(&[ACK]),
@@ -64,7 +66,8 @@ impl PlayedPort {
         }
     }
 
-    // Carries out one transaction of the chip, of at most 4,096 reply bytes.
+    // Carries out one transaction with the chip, and appends its reply: at most 4,096 bytes after ACK, or NAK if the
+    // simulated bus stops.
     fn operate(&mut self, out: &[u8], replies: u16) -> io::Result<()> {
         let mut reply = [0; 4096];
         let len = usize::from(replies).min(4096);
@@ -111,7 +114,7 @@ impl Port for PlayedPort {
     }
 }
 
-/// The wires were cut.
+/// The error of a transaction on wires that were cut.
 #[derive(Clone, Copy, Debug, PartialEq, Eq)]
 pub struct Cut;
 
@@ -121,17 +124,17 @@ impl fmt::Display for Cut {
     }
 }
 
-/// Wires to a simulated chip, which are cut after a number of transactions.
+/// Wires to a simulated chip. They are cut after a given number of transactions.
 #[derive(Drop)]
 pub struct PlayedWires {
     chip: SimBus,
     left: u64,
-    /// The number of modifying commands sent.
+    /// The number of modifying commands that were sent.
     pub modifying: u64,
 }
 
 impl PlayedWires {
-    /// Returns wires that carry out the given number of transactions.
+    /// Returns wires that carry out `left` transactions, and are cut then.
     pub fn new(chip: SimBus, left: u64) -> PlayedWires {
         PlayedWires {
             chip,
