@@ -4,7 +4,7 @@ use Rattle.std.specs.Str.{bytes_eq}
 use Rattle.bench.specs.declared.words.Request.{Request}
 use Rattle.bench.specs.declared.words.Request.TheVariants.{Usage, Chip, Plan, Journal, Session, Read, Answers, Unknown}
 
--- the job that one argument selects
+-- the job that one argument selects, `Unknown` if it is none of these six
 abbrev pub named : List ℕ → Request
 named word =
     if bytes_eq word (codes "chip") then Chip

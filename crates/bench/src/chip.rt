@@ -36,9 +36,9 @@ const PROGRAMS: Aim = Aim {
     rounds: 301,
 };
 
-/// Prints the time of the simulated chip's reads, erases and programs, each as a ratio to a reference that copies the
-/// same number of bytes sector by sector. The reference for reads copies 16 MiB of memory to a buffer, the one for
-/// erases and programs a buffer to that memory. Returns a checksum of all results.
+/// Prints the time of the simulated chip's reads, erases and programs, each as a ratio to a reference that copies 16
+/// MiB sector by sector. The reference for reads copies each sector of memory to a buffer. The reference for erases and
+/// programs copies the buffer to each sector. Returns a checksum of all results.
 pub fn measure<R: Clock + Print + AllocGlobal>(rt: &R) -> Result<u64, Fault> {
     let mut bus = open_bus(rt.alloc())?;
     let mut memory = erased_bytes(rt.alloc())?;
@@ -153,7 +153,7 @@ impl Work for Programs<'_> {
     }
 }
 
-// The reference for reads.
+// The reference for reads: copies each sector of the memory to a buffer.
 #[derive(Drop)]
 struct CopiesOut<'a> {
     memory: &'a [u8],
@@ -171,7 +171,7 @@ impl Work for CopiesOut<'_> {
     }
 }
 
-// The plain work with which erases and programs are compared: copies one sector into each sector of the memory.
+// The reference for erases and programs: copies one sector to each sector of the memory.
 #[derive(Drop)]
 struct CopiesIn<'a> {
     memory: &'a mut [u8],

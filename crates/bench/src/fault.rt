@@ -1,4 +1,4 @@
-//! The errors that end a measurement.
+//! The errors that end a run of the program.
 
 use nor_chip::{Stopped, WrongLength};
 use nor_driver::Halt;
@@ -14,11 +14,11 @@ pub enum Fault {
     System(io::Error),
     /// The program is out of memory.
     Memory,
-    /// The simulated chip can't be created, its bus stopped, or it stayed busy.
+    /// The simulated chip can't be created, its bus stopped, or a wait for the chip timed out.
     Chip,
     /// The journal can't be written.
     Vault(VaultFault),
-    /// The bytes that were written are no journal.
+    /// The bytes that were written are no valid journal.
     Journal(JournalFault),
     /// A session, a restore or a reading returned an error.
     Refused(Refusal),

@@ -51,8 +51,8 @@ pub fn answer<R: Print + AllocGlobal>(rt: &R) -> Result<(), Fault> {
     Ok(())
 }
 
-// Writes the journal of a chip whose bytes are all 5Ah to an empty, unsealed vault. The vault is sealed if that
-// succeeds.
+// Writes the journal of a chip whose bytes are all 5Ah to `vault`, which must be empty and unsealed. If the result is
+// `Ok`, the vault is sealed.
 fn write<V: Vault>(vault: &mut V) -> Result<(), VaultFault>
     requires { IsFresh (V.state vault.old) }
     ensures { OnOk result ((V.state vault.new).sealed ≡ true) }
@@ -89,7 +89,7 @@ impl Work for Reading<'_> {
     }
 }
 
-// The reference: a digest of all bytes of the journal.
+// The reference: computes the SHA-256 digest of all bytes of the journal.
 #[derive(Drop)]
 struct Digests<'a> {
     bytes: &'a [u8],

@@ -24,7 +24,8 @@ const BOUNDS: Aim = Aim {
     rounds: 10001,
 };
 
-/// Prints the time of each comparison as a ratio to a copy of a sector. Returns a checksum of all results.
+/// Prints the time of `differs` and of `bounds`, each as a ratio to copies of the same number of sectors. Returns a
+/// checksum of all results.
 pub fn measure<R: Clock + Print + AllocGlobal>(rt: &R) -> Result<u64, Fault> {
     let mut copies = Copies(Sectors::new(rt.alloc())?);
     let mut work = Differs(Sectors::new(rt.alloc())?);
@@ -33,7 +34,7 @@ pub fn measure<R: Clock + Print + AllocGlobal>(rt: &R) -> Result<u64, Fault> {
     Ok(sum ^ compare(rt, BOUNDS, &mut work, &mut copies)?)
 }
 
-/// Does each comparison once, and prints the results.
+/// Makes `PASSES` comparisons with `differs` and `PASSES` with `bounds`, and prints the sums of their results.
 pub fn answer<R: Print + AllocGlobal>(rt: &R) -> Result<(), Fault> {
     let differ = Differs(Sectors::new(rt.alloc())?).run()?;
     let sum = Bounds(Sectors::new(rt.alloc())?).run()?;
@@ -41,7 +42,7 @@ pub fn answer<R: Print + AllocGlobal>(rt: &R) -> Result<(), Fault> {
     Ok(())
 }
 
-// A sector, a copy of it, and space for one more, each in an allocation of its own, as in a real program.
+// An old sector, its target, and space for a copy, each in an allocation of its own, as in a real program.
 #[derive(Drop)]
 struct Sectors {
     old: Box<[u8; SECTOR_LEN as usize]>,
@@ -57,7 +58,8 @@ impl Sectors {
         Ok(Sectors { old, target, copy })
     }
 
-    // Changes only the last byte, differently in each pass.
+    // Makes the target differ from the old sector in the last byte only, by a value that differs from that of the pass
+    // before.
     fn touch(&mut self, pass: u32) {
         self.target[4095] = self.old[4095] ^ ((pass % 255) as u8 + 1);
     }
@@ -95,7 +97,7 @@ impl Work for Bounds {
     }
 }
 
-// The reference: a copy of each sector.
+// The reference: copies the target sector in each pass.
 #[derive(Drop)]
 struct Copies(Sectors);
 

@@ -1,4 +1,4 @@
-//! The whole W25Q128FV, read out into memory and compared with an image.
+//! A readout of a whole W25Q128FV into memory, and a verification against an image.
 
 use crate::fault::Fault;
 use crate::timing::{Aim, Work, compare};
@@ -65,7 +65,7 @@ pub fn answer<R: Print + AllocGlobal>(rt: &R) -> Result<(), Fault> {
     Ok(())
 }
 
-// Returns the contents of the chip, 5Ah everywhere.
+// Returns the contents of the chip: each byte is 5Ah.
 fn bytes(alloc: Global) -> Result<Vec<u8>, AllocError> {
     vec![in alloc; 0x5A; CHIP]
 }
@@ -104,7 +104,7 @@ impl Work for Verifying<'_> {
     }
 }
 
-/// The reference: a copy of an image into new memory.
+/// The reference: copies the image into newly allocated memory.
 #[derive(Drop)]
 pub struct Copies<'a> {
     pub alloc: Global,

@@ -119,7 +119,7 @@ fn saved(alloc: Global, bytes: &[u8]) -> Result<MemVault, Fault> {
     Ok(vault)
 }
 
-// A session that writes a whole image to an erased chip. The erase is timed, too.
+// Erases the chip, and writes a whole image in a session. Both are timed.
 #[derive(Drop)]
 struct Writing {
     alloc: Global,
@@ -140,7 +140,7 @@ impl Work for Writing {
     }
 }
 
-// A restore of all sectors of a journal to an erased chip. The erase and the reading of the journal are timed, too.
+// Erases the chip, reads a journal of all its sectors, and restores them. All three are timed.
 #[derive(Drop)]
 struct Restoring<'a> {
     bus: SimBus,
@@ -159,7 +159,7 @@ impl Work for Restoring<'_> {
     }
 }
 
-// A session that writes the image, after `flips` has inverted bits of one of its bytes. If `flips` is 0 and the chip
+// Inverts the bits `flips` in one byte of the image, and writes the image in a session. If `flips` is 0 and the chip
 // has the image, the session changes nothing.
 #[derive(Drop)]
 struct Touching {
@@ -180,7 +180,7 @@ impl Work for Touching {
     }
 }
 
-// The reference: a digest of all bytes of a journal.
+// The reference: computes the SHA-256 digest of all bytes of a journal.
 #[derive(Drop)]
 struct Digests<'a> {
     bytes: &'a [u8],

@@ -8,7 +8,7 @@ use std::time::{Duration, Instant};
 
 /// A piece of work that is timed.
 pub trait Work {
-    /// Does the work once. The result depends on what was done, so that the compiler can't remove the work.
+    /// Does the work once. The result depends on the work, so that the compiler can't remove it.
     fn run(&mut self) -> Result<u64, Fault>;
 }
 
@@ -19,7 +19,7 @@ pub fn look_at(bytes: &[u8; SECTOR_LEN as usize], sum: u64) -> u64 {
 }
 
 /// A measurement: the name of the work (`what`) and of the reference (`beside`), and the greatest acceptable ratio of
-/// their times.
+/// the work's time to the reference's (`at_most`).
 #[derive(Clone, Copy)]
 pub struct Aim {
     pub what: &'static str,
@@ -58,7 +58,8 @@ impl fmt::Display for Outcome {
     }
 }
 
-/// Prints the lines for work that took 111 ms and 150 ms if the reference took 100 ms, to test their form.
+/// Prints the lines for two pieces of work, of 111 ms and 150 ms, with a reference of 100 ms. The gate compares these
+/// lines, which tests their form.
 pub fn answer<R: Print>(rt: &R) -> Result<(), Fault> {
     let aim = Aim {
         what: "timing",
@@ -74,8 +75,8 @@ pub fn answer<R: Print>(rt: &R) -> Result<(), Fault> {
     Ok(())
 }
 
-/// Measures work and its reference, and prints the ratio of their shortest times. The two are done in turn, so that a
-/// slow moment of the machine affects both. Returns the sum of all their results, modulo 2^64.
+/// Times `work` and its reference `plain` in turn, each `aim.rounds` times, and prints the ratio of their shortest
+/// times. A slow moment of the machine then affects both. Returns the sum of all their results, modulo 2^64.
 pub fn compare<R: Clock + Print, W: Work, P: Work>(
     rt: &R,
     aim: Aim,

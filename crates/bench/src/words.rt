@@ -5,7 +5,7 @@ ghost use Rattle.bench.specs.Words.{named, request_of};
 /// The job of a run.
 #[derive(Clone, Copy, Debug, PartialEq, Eq)]
 pub enum Request {
-    /// No argument: print how to use the program.
+    /// No argument: print the usage.
     Usage,
     /// `chip`: measure the simulated chip.
     Chip,
@@ -23,8 +23,8 @@ pub enum Request {
     Unknown,
 }
 
-/// Returns the job that the arguments `words`, without the program's name, select. More than one argument gives
-/// `Request::Unknown`.
+/// Returns the job that the arguments `words` select. They don't include the program's name. Returns `Request::Unknown`
+/// for more than one argument.
 pub fn request_of(words: &[String]) -> Request
     ensures { result ≡ request_of (map string_bytes words.now) }
 {
