@@ -10,8 +10,8 @@ use nor_chip::{Bus, Meter};
 use std::alloc::Global;
 
 /// Performs the action on `bus`, and compares its result with the expected one. Returns `Unread` if a value in the line
-/// can't be parsed, `Differs` if the result differs, and `Stopped` if the bus stops a transaction that it must carry
-/// out.
+/// can't be parsed, `Differs` if the result differs from the expected one, and `Stopped` if the bus stops a transaction
+/// that it must carry out.
 pub fn take(alloc: Global, bus: &mut Way<'_>, action: Action<'_>) -> Result<(), Fault> {
     match action {
         Action::Carries(exchange) => carry(alloc, bus, exchange),
@@ -24,8 +24,8 @@ pub fn take(alloc: Global, bus: &mut Way<'_>, action: Action<'_>) -> Result<(), 
     }
 }
 
-// Sends a transaction that the bus must carry out. Before the transaction each byte of the reply buffer differs from
-// the expected one, so that the comparison fails if the bus writes nothing.
+// Sends a transaction that the bus must carry out. The reply buffer first gets bytes that all differ from the expected
+// ones, so that the comparison fails if the bus writes nothing.
 fn carry(alloc: Global, bus: &mut Way<'_>, exchange: Exchange<'_>) -> Result<(), Fault> {
     let out = bytes_of(alloc, exchange.out)?;
     let wanted = bytes_of(alloc, exchange.reply)?;
@@ -37,7 +37,7 @@ fn carry(alloc: Global, bus: &mut Way<'_>, exchange: Exchange<'_>) -> Result<(),
     agree_bytes(alloc, &reply, &wanted)
 }
 
-// Sends a transaction that the bus must stop, and checks that the reply buffer keeps its bytes.
+// Sends a transaction at which the bus must stop, and checks that the bytes of the reply buffer stay as they were.
 fn stop(alloc: Global, bus: &mut Way<'_>, exchange: Exchange<'_>) -> Result<(), Fault> {
     let out = bytes_of(alloc, exchange.out)?;
     let wanted = bytes_of(alloc, exchange.reply)?;

@@ -9,27 +9,28 @@ use nor_chip::{Config, Delays, Offered, SimBus, offered};
 use std::alloc::{AllocError, Global};
 use std::str::Lines;
 
-/// The chip after the actions of a case, and the number of transactions.
+/// The chip after the actions of a case, and the number of transactions that the bus did not stop.
 #[derive(Drop)]
 pub struct Left {
     pub chip: SimBus,
     pub sent: u64,
 }
 
-/// The checker of a case's questions: the chip's configuration, its state after the actions, and the trace.
+/// The data with which the checks of a case compare: the chip's configuration, its state after the actions, and the
+/// trace.
 #[derive(Drop)]
 pub struct Answers<'a> {
     config: Config,
     left: Left,
     trace: Lines<'a>,
-    // whether the case has a line of the trace
+    // whether a check of this case compared a line of the trace
     is_traced: bool,
     // the protectable ranges that no line has checked yet
     sets: Offered,
 }
 
 impl<'a> Answers<'a> {
-    /// Constructs the checker of a chip with this configuration, of its state after the actions, and of this trace.
+    /// Returns the checker for a chip of this configuration, its state `left` after the actions, and the trace `log`.
     pub fn new(config: Config, left: Left, log: &'a [u8]) -> Answers<'a> {
         Answers {
             config,
@@ -40,8 +41,8 @@ impl<'a> Answers<'a> {
         }
     }
 
-    /// Checks one question. Returns `Differs` if the actual value differs from the expected one, and `Unread` if a
-    /// value can't be parsed.
+    /// Makes one check. Returns `Differs` if the actual value differs from the expected one, and `Unread` if a value
+    /// can't be parsed.
     pub fn check(&mut self, alloc: Global, question: Question<'_>) -> Result<(), Fault> {
         match question {
             Question::Array(places, bytes) => self.check_array(alloc, places, bytes),
@@ -81,7 +82,7 @@ impl<'a> Answers<'a> {
         }
     }
 
-    /// Checks, if the case has a line of the trace, that the trace has no further lines.
+    /// Checks that the trace has no further lines. Does nothing if no check of the case compared a line of the trace.
     pub fn end(mut self, alloc: Global) -> Result<(), Fault> {
         match self.trace.next() {
             Some(line) if self.is_traced => {
@@ -95,8 +96,8 @@ impl<'a> Answers<'a> {
         }
     }
 
-    // Checks that the bytes from `places.0` up to, but not including, `places.1` have one value, and all others
-    // another: `ff else 00`, or `ff` for the whole chip.
+    // Checks that the bytes from `places.0` up to, but not including, `places.1` have one value, and all other bytes a
+    // second one. `bytes` has both values, as `ff else 00`, or one value for the whole chip, as `ff`.
     fn check_array(&self, alloc: Global, places: (u32, u32), bytes: &str) -> Result<(), Fault> {
         let (inside, outside) = bytes.split_once(" else ").unwrap_or((bytes, bytes));
         let (inside, outside) = (byte_of(inside)?, byte_of(outside)?);
@@ -115,15 +116,15 @@ impl<'a> Answers<'a> {
         Ok(())
     }
 
-    // Checks that this is the next line of the trace.
+    // Checks that `line` is the next line of the trace.
     fn check_trace(&mut self, alloc: Global, line: &str) -> Result<(), Fault> {
         self.is_traced = true;
         let came = self.trace.next().unwrap_or("the trace's end");
         agree(alloc, String::from_str(alloc, came)?, line)
     }
 
-    // Checks that the next protectable range is this one, that `status` has the least protection bits for it, and that
-    // they protect exactly this range. Only the first and the last address of each sector are compared.
+    // Checks that `set` is the next protectable range, that `status` has the least protection bits for it, and that
+    // these bits protect exactly this range. Only the first and the last address of each sector are compared.
     fn check_set(&mut self, alloc: Global, set: (u32, u32), status: &str) -> Result<(), Fault> {
         let (start, len) = set;
         let came = match self.sets.next() {

@@ -1,4 +1,4 @@
-//! The functions of nor_driver that wait for a chip or modify it.
+//! Calls of the functions of nor_driver that wait for a chip or modify it.
 
 ghost use Rattle.std.specs.Prelude.{◌≡◌, ◌<◌, true, IfOk};
 ghost use Rattle.nor_driver.specs.Units.{is_aligned};
@@ -32,8 +32,8 @@ pub fn answer(alloc: Global, bus: &mut Way<'_>, call: Call<'_>) -> Result<String
     }
 }
 
-// Programs bytes within one page. Returns `Unread` if there are none, they cross the end of the page, or the address is
-// 1000000h or above.
+// Programs bytes within one page. Returns `Unread` if `bytes` is empty or crosses the end of the page, or if the
+// address is 1000000h or above.
 fn program(alloc: Global, bus: &mut Way<'_>, address: u32, bytes: &[u8]) -> Result<String, Fault> {
     let room = 256 - (address % 256) as usize;
     if address >= 0x100_0000 || bytes.is_empty() || bytes.len() > room {
@@ -42,7 +42,7 @@ fn program(alloc: Global, bus: &mut Way<'_>, address: u32, bytes: &[u8]) -> Resu
     Ok(text_of(alloc, program_page(bus, address, bytes))?)
 }
 
-// Writes the status registers with these protection bits. Returns `Unread` if they aren't below 64.
+// Writes the status registers with the protection bits `code`. Returns `Unread` if `code` is 64 or more.
 fn protect(alloc: Global, bus: &mut Way<'_>, status: [u8; 2], code: u32) -> Result<String, Fault> {
     let Ok(code) = u8::try_from(code) else {
         return Err(Fault::Unread);
@@ -53,8 +53,8 @@ fn protect(alloc: Global, bus: &mut Way<'_>, status: [u8; 2], code: u32) -> Resu
     Ok(text_of(alloc, write_status(bus, Status::of(status), code))?)
 }
 
-// Returns the erase with this opcode that begins at this sector. Returns `Unread` if the opcode is another than 20, 52,
-// D8 or C7, the sector isn't below 4,096, or the erase block isn't aligned.
+// Returns the erase with this opcode that begins at this sector. Returns `Unread` unless the opcode is 20, 52, d8 or
+// c7, the sector is below 4,096, and the erase block is aligned.
 fn erase_of(opcode: &str, sector: u32) -> Result<Erase, Fault>
     ensures reachable { IfOk result (λ erase. erase.sector < 4096) }
     ensures aligned { IfOk result (λ erase. is_aligned erase.unit erase.sector ≡ true) }

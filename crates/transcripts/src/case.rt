@@ -1,4 +1,4 @@
-//! The cases of a text, and how each is played.
+//! Parses a text into cases, and plays a case.
 
 use crate::actions;
 use crate::answers::{Answers, Left};
@@ -14,7 +14,7 @@ struct Line<'a> {
     step: Step<'a>,
 }
 
-/// A case: a chip, and the lines of what is done and what must result.
+/// A case: a chip, and the lines with its actions and checks.
 #[derive(Drop)]
 pub struct Case<'a> {
     pub name: &'a str,
@@ -23,7 +23,7 @@ pub struct Case<'a> {
     lines: Vec<Line<'a>>,
 }
 
-/// Parses the cases of a text. Returns the first line that can't be parsed, with its number.
+/// Parses the cases of a text. Returns the fault of the first line that can't be parsed, and the line's number.
 pub fn cases_of<'a>(alloc: Global, text: &'a str) -> Result<Vec<Case<'a>>, Halt> {
     let mut cases = Vec::new(alloc);
     let mut number = 0_usize;
@@ -34,8 +34,8 @@ pub fn cases_of<'a>(alloc: Global, text: &'a str) -> Result<Vec<Case<'a>>, Halt>
     Ok(cases)
 }
 
-// Parses one line into the list of cases. `case` begins a case, and each other line belongs to the last one; empty
-// lines and lines that begin with `#` are skipped.
+// Parses one line, and adds it to the list of cases. A line `case` begins a case, and any other line belongs to the
+// case before it. Empty lines and lines that begin with `#` are skipped.
 fn read_line<'a>(
     alloc: Global,
     cases: &mut Vec<Case<'a>>,
@@ -66,8 +66,8 @@ fn read_line<'a>(
 }
 
 impl Case<'_> {
-    /// Plays the case on a chip of its own, and returns the first failure. A case without a chip or without a line of
-    /// actions or checks fails.
+    /// Plays the case on a chip of its own, and returns the first failure. A case fails if it has no line `chip`, or
+    /// neither an action nor a check.
     pub fn play(&self, alloc: Global) -> Result<(), Halt> {
         let Some(setup) = self.setup else {
             return at(self.number, Err(Fault::Unread));
@@ -80,8 +80,8 @@ impl Case<'_> {
         self.ask(alloc, Answers::new(setup.config, chip, &log))
     }
 
-    // Performs all actions on a fresh bus, and returns the chip and the number of transactions. Fails at the first
-    // action that fails, and if a line of the trace was lost.
+    // Performs all actions on a new bus, and returns the chip and the number of transactions. Returns the fault of the
+    // first action that fails, or `Lost` if a line of the trace was lost.
     fn act(&self, alloc: Global, setup: Setup, log: &mut Vec<u8>) -> Result<Left, Halt> {
         let mut bus = match setup.bus(alloc, log) {
             Ok(bus) => bus,
@@ -108,7 +108,7 @@ impl Case<'_> {
         })
     }
 
-    // Checks all questions, and then that the trace has no further lines if the case has a line of it.
+    // Makes all checks. If one of them compared a line of the trace, checks that the trace has no further lines.
     fn ask(&self, alloc: Global, mut answers: Answers<'_>) -> Result<(), Halt> {
         for line in &self.lines {
             if let Step::Asks(question) = line.step {

@@ -1,11 +1,11 @@
-//! Bytes and addresses in hexadecimal digits.
+//! Parses bytes and addresses in hexadecimal digits.
 
 use crate::fault::Fault;
 use hex::FromHex;
 use std::alloc::{AllocError, Global};
 
-/// Parses bytes in hexadecimal, with spaces between groups, for example `02 0000fe 1122`. `ff*8` repeats the bytes of a
-/// group eight times.
+/// Parses groups of hexadecimal bytes with spaces between them, for example `02 0000fe 1122`. The group `ff*8` is eight
+/// bytes FFh.
 pub fn bytes_of(alloc: Global, words: &str) -> Result<Vec<u8>, Fault> {
     let mut bytes = Vec::new(alloc);
     for word in words.split_whitespace() {

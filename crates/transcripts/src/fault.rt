@@ -1,4 +1,4 @@
-//! The faults of lines and of the program.
+//! The faults of a line, a case or the program.
 
 use hex::FromHexError;
 use nor_chip::{Stopped, WrongLength};

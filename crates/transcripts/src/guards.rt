@@ -7,8 +7,8 @@ use crate::fault::Fault;
 use nor_chip::{Config, SECTOR_LEN, Status, code_for, protected, unit_protected};
 use std::alloc::{AllocError, Global};
 
-/// Checks that the status protects exactly the addresses from `start` up to, but not including, `end`. Compares only
-/// the first and the last address of each sector.
+/// Checks that `status` protects exactly the addresses from `start` up to, but not including, `end`. Checks only the
+/// first and the last address of each sector. Returns `Differs` for the first address with another result.
 pub fn check(
     alloc: Global,
     config: Config,

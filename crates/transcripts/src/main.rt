@@ -5,15 +5,15 @@
 //!
 //! - `main.rt`: reads the cases, plays them and prints the results
 //! - `case.rt`: parses the text into cases, and plays one case
-//! - `step.rt`: the lines of a case, parsed
+//! - `step.rt`: the parsed lines of a case
 //! - `setup.rt`: the chip of a case, and the bus to it
 //! - `actions.rt`: transactions and calls of nor_driver, and the comparison of their results
-//! - `calls.rt`: calls of nor_driver that wait for a chip or modify it
+//! - `calls.rt`: calls of the functions of nor_driver that wait for a chip or modify it
 //! - `answers.rt`: checks of the chip, the trace and the protection after all actions
 //! - `guards.rt`: checks of protected ranges
 //! - `digits.rt`: parses bytes and addresses in hexadecimal
 //! - `agree.rt`: comparisons that return a fault
-//! - `fault.rt`: the faults of a line
+//! - `fault.rt`: the faults of a line, a case or the program
 #![tactic(auto)]
 
 mod actions;

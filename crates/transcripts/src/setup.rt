@@ -12,14 +12,14 @@ pub type Way<'a> = TraceBus<SpoiltBus<SimBus>, &'a mut Vec<u8>>;
 // A setting with which the faulty bus spoils nothing, because a byte has no bit 8.
 const HONEST: Spoil = Spoil::Low(8);
 
-/// The parsed line `chip`: the chip, and the state in which it and the bus to it start.
+/// The parsed line `chip`: the chip, and the initial state of the chip and of the bus to it.
 #[derive(Clone, Copy)]
 pub struct Setup {
     pub config: Config,
     start: Start,
 }
 
-// The state in which a chip and the bus to it start.
+// The initial state of a chip and of the bus to it.
 #[derive(Clone, Copy)]
 struct Start {
     fill: u8,
@@ -99,9 +99,9 @@ fn spoil_of(key: &str, value: &str) -> Result<Spoil, Fault> {
     }
 }
 
-// Returns the configuration with this name. In addition to the emulated chips there are two chips of 128 KiB, so that
-// no erase block is the whole chip. `BLOCKS` has erase blocks of 32 and 64 KiB and no block protection; `SECTORS` has
-// block protection and only 4 KiB sectors.
+// Returns the configuration with this name. In addition to the emulated chips there are two chips of 128 KiB, which are
+// larger than an erase block of 64 KiB. `BLOCKS` has erase blocks of 32 and 64 KiB and no block protection; `SECTORS`
+// has block protection and only 4 KiB sectors.
 fn config_of(name: &str) -> Option<Config> {
     let id = [0xAA, 0x11, 0x22];
     match name {

@@ -1,4 +1,4 @@
-//! The lines of a case.
+//! The parsed lines of a case.
 
 use crate::digits::{address_of, places_of};
 use crate::fault::Fault;
@@ -39,13 +39,14 @@ pub enum Call<'a> {
 /// A check that is made after all actions.
 #[derive(Clone, Copy)]
 pub enum Question<'a> {
-    /// `array START..END = BYTE else BYTE`: the byte at each address in the range, and the byte at each other address.
+    /// `array START..END = BYTE else BYTE`: the value of each byte in the range, and the value of each other byte.
+    /// `END` is the address after the last one.
     Array((u32, u32), &'a str),
     /// `status = BYTES`: status 1 and status 2.
     Status(&'a str),
-    /// `sent = COUNT`: the number of transactions.
+    /// `sent = COUNT`: the number of transactions that the bus did not stop.
     Sent(&'a str),
-    /// `| LINE`: the next line of the trace. If a case has lines like this one, the trace must have no others.
+    /// `| LINE`: the next line of the trace. A case has all lines of its trace, or none.
     Traced(&'a str),
     /// `guards STATUS = START..END`: this status protects exactly this range.
     Guards(&'a str, (u32, u32)),
@@ -60,7 +61,8 @@ pub enum Question<'a> {
     Least((u32, u32), &'a str),
     /// `size SIZE SFDP = made`, or `= none`: whether a chip may have this size and this number of SFDP bytes.
     Size(&'a str, &'a str),
-    /// `bytes COUNT = TEXT`: what the simulated chip reports for this number of bytes, `taken` if it accepts them.
+    /// `bytes COUNT = TEXT`: the error text of the simulated chip for this number of bytes, or `taken` if the chip
+    /// accepts them.
     Bytes(usize, &'a str),
 }
 
