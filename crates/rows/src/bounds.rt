@@ -1,4 +1,4 @@
-//! No call sends more transactions than its bound, on faulty buses and on the slowest chip.
+//! Calls keep their bounds of transactions on faulty buses and on the slowest chip.
 ghost use Rattle.std.specs.Prelude.{◌≡◌, false};
 
 use crate::held::assert_held;
@@ -29,8 +29,8 @@ const READINGS: [Reading; 4] = [
 ];
 
 impl Reading {
-    // Returns the most transactions of the call on a chip of `sectors` sectors: 65,540 to find the chip, and the
-    // readings after that.
+    // Returns the bound of the call on a chip of `sectors` sectors: 65,540 transactions to find the chip, and the reads
+    // after that.
     fn most(self, sectors: u32) -> u64 {
         match self {
             Reading::Probe => 65_540,
@@ -137,9 +137,10 @@ fn assert_written(rt: &impl Abort, alloc: Global, row: Row, bus: &SimBus) {
     assert!(rt; bus.bytes() == wanted.as_slice());
 }
 
-// The session and the restore nearly reach their bound: they send 271 and 241 of its 274 operations, each with 65,536
-// polls. The restore identifies the chip with seven transactions, reads sixteen sectors, fifteen of them again before
-// it programs them, and all sixteen to verify them. It erases the last sector and programs the 240 pages of the others.
+// The session and the restore nearly reach their common bound, which allows 274 operations: they send 271 and 241
+// operations, each with 65,536 polls. The restore identifies the chip with seven transactions, reads sixteen sectors,
+// fifteen of them again before it programs them, and all sixteen to verify them. It erases the last sector and programs
+// the 240 pages of the others.
 #[test]
 fn the_slowest_session_and_its_restore(rt: HostRuntime) {
     let row = Row::EachPageIsProgrammed;

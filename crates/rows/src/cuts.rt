@@ -1,11 +1,11 @@
-//! Sessions that are stopped after each number of transactions, and one restore after each stop. The rows of `undone`,
-//! whose restores are stopped too, aren't repeated here.
+//! Sessions that are stopped after each number of transactions, and one restore after each stop. The rows of
+//! `undone.rt` are left out here: that file also stops their restores.
 use crate::row::{Row, Start};
 use crate::runs::Runs;
 
 // Each row has the first number of allowed transactions, and the number of runs: one for each number up to the
-// session's length. The large chip starts three transactions before the seal. All transactions before these only read
-// the chip, as on the small ones.
+// session's length. For the large chip the first number is three less than the session needs to seal its vault. The
+// transactions before that only read the chip, as on the small chips.
 const ROWS: [(Row, u64, u64); 4] = [
     (Row::ABitFalls, 0, 29),
     (Row::NineSectorsAreErased, 0, 39),

@@ -1,4 +1,4 @@
-//! A bus on which one transaction fails, and all others succeed.
+//! A bus on which one transaction fails, and the other allowed transactions succeed.
 ghost use Rattle.std.specs.Prelude.{false};
 ghost use Rattle.std.proofs.lemmas.Bool.{false≢true};
 
@@ -7,13 +7,13 @@ use nor_chip::{Bus, Meter, SimBus, Stopped, heard_after};
 /// The way in which the transaction fails.
 #[derive(Clone, Copy)]
 pub enum Fault {
-    /// The bus stops at it.
+    /// The bus stops at this transaction.
     Stop,
-    /// Each bit of its reply is inverted.
+    /// The bus inverts each bit of the reply.
     Spoil,
 }
 
-/// A bus on which at most one transaction fails. It carries out the ones after that, up to its allowance.
+/// A bus on which at most one transaction fails. After the failure the bus carries out `allowed` transactions.
 #[derive(Drop)]
 pub struct OnceBus {
     pub bus: SimBus,
@@ -23,7 +23,7 @@ pub struct OnceBus {
     allowed: u64,
     /// The number of transactions requested, including the one that failed.
     pub asked: u64,
-    /// The first four bytes sent in the transaction that failed; if it is shorter, its first byte and zeros.
+    /// The first four bytes sent in the transaction that failed. If it sent fewer, its first byte and zeros.
     pub met: [u8; 4],
     heard: bool,
 }

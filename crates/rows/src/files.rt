@@ -1,5 +1,5 @@
-//! Vaults over files on which one call fails and all others succeed. The vault reports each failure, and repeats no
-//! call.
+//! Vaults over a file on which one call fails and all others succeed. The vault must report the failure, and must not
+//! repeat the call.
 ghost use Rattle.std.specs.Prelude.{None};
 
 use crate::held::assert_held;
@@ -77,8 +77,8 @@ impl OnceFile {
             && Journal::read(&self.bytes).is_ok()
     }
 
-    // True if the file received the same writes as `right` up to write `n`, counted from 0, and no sync, and has the
-    // bytes that `right` had before that write.
+    // True if the last call on the file was write `n`, counted from 0, and its writes and bytes before that are those
+    // of `right`.
     fn ends_before(&self, right: &OnceFile, n: usize) -> bool {
         let (Some(writes), Some(before)) = (
             right.writes.get(0..n.saturating_add(1)),
@@ -192,8 +192,8 @@ fn a_file_that_fails_once_ends_the_session(rt: HostRuntime) {
     }
 }
 
-// Puts five bytes into a file that accepts two per write and fails at the second write. Asserts that the error contains
-// the number of bytes accepted before, and that nothing is written or synced again.
+// Puts five bytes into a vault over a file that accepts two bytes per write and fails at the second write. Asserts that
+// the error contains the number of bytes accepted before, and that the vault makes no further write or sync.
 fn put_half(rt: &impl Abort, alloc: Global, failure: Failure) {
     let mut vault = FileVault::new(OnceFile::new(alloc, 2, Some(failure)));
     let told = vault.put(b"piece");
@@ -202,7 +202,8 @@ fn put_half(rt: &impl Abort, alloc: Global, failure: Failure) {
     assert!(rt; file.has(&[0, 2], Syncs::NONE, b"pi"));
 }
 
-// Puts five bytes into a file, and makes its sync fail. Asserts that nothing is written or synced again.
+// Puts five bytes into a vault over a file whose sync fails, and seals it. Asserts that the vault makes no further
+// write or sync.
 fn put_all(rt: &impl Abort, alloc: Global) {
     let mut vault = FileVault::new(OnceFile::new(alloc, 5, Some(Failure::Sync)));
     let told = [vault.put(b"piece"), vault.seal()];

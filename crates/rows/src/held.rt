@@ -1,4 +1,4 @@
-//! An assertion for runs that are numbered.
+//! An assertion whose message has the number of a run.
 use std::process::Abort;
 
 /// Ends the test with a message that contains `number`, if `holds` is false. `number` identifies the run, for example

@@ -1,5 +1,5 @@
-//! nor_plan's comparisons of two slices that are equal or differ in one byte. The lengths are those of a page and a
-//! sector, and some around 0 and around 32, the number of bytes that are compared at a time.
+//! nor_plan's comparisons of two slices that are equal or differ in one byte. The lengths are a page, a sector, and
+//! lengths near 0 and near 32: nor_plan compares 32 bytes at a time.
 use crate::held::assert_held;
 use nor_plan::{PageSpan, bounds, differs, raises, spans};
 
@@ -23,8 +23,8 @@ fn is_same_to_itself(length: usize) -> bool {
     }
 }
 
-// True if the comparisons find the only difference of two slices of this length, one bit of the byte at `place`. They
-// must find the position in both directions, and a raised bit in only one.
+// True if the comparisons find the only difference of two slices of this length: one bit of the byte at `place`. They
+// must find its position with either slice as the old one. `raises` must return true only if `lower` is the old one.
 fn differs_at(length: usize, place: usize) -> bool {
     let lower = [0xA5u8; LONGEST];
     let mut higher = [0xA5u8; LONGEST];

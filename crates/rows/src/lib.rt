@@ -1,5 +1,5 @@
-//! Tests across crates of what the public calls do when a bus, a vault or a file fails, or when their input is
-//! malformed. The crate has no other code.
+//! Tests of the public calls across crates: with a bus, a vault or a file that fails, and with malformed input. The
+//! crate has no other code.
 //!
 //! Shared by the tests:
 //!
@@ -13,30 +13,30 @@
 //! Stops and power failures:
 //!
 //! - `cuts.rt`: sessions that are stopped after each number of transactions, and one restore after each stop
-//! - `undone.rt`: the same, but the restore is stopped, too, and a second one follows
+//! - `undone.rt`: sessions that are stopped, restores that are stopped, too, and a second restore
 //! - `torn.rt`: sessions and restores that are stopped inside each of their transactions
 //! - `power.rt`: sessions and restores during which the chip loses its power
 //! - `rehearsed.rt`: rehearsals with each stop, and on faulty buses
-//! - `once.rt`: after a stop no call sends anything more
+//! - `once.rt`: no call sends anything after a stop, and none reads a spoilt reply again
 //! - `readings.rt`: reading calls that are stopped, or whose vault refuses a piece
 //!
 //! Faulty buses, vaults and files:
 //!
-//! - `lies.rt`: the errors of sessions and restores on faulty buses, and the restores after them
-//! - `bounds.rt`: the most transactions of a call, on faulty buses and on the slowest chip
+//! - `lies.rt`: the errors of sessions and restores on faulty buses, and restores after them on a well-behaved bus
+//! - `bounds.rt`: calls keep their bounds of transactions, on faulty buses and on the slowest chip
 //! - `vaults.rt`: sessions whose vault refuses a call
 //! - `files.rt`: sessions whose journal is in a file that fails once
 //! - `sinks.rt`: vaults and files that accept everything, refuse a call, write short or can't be synced
 //! - `traced.rt`: a trace whose log refuses lines
-//! - `losses.rt`: the model of files, when a call fails and the host crashes
+//! - `losses.rt`: the model of files: calls that fail, and host crashes
 //!
 //! serprog (nor_serprog), over a port in memory:
 //!
-//! - `serprog_model.rt`: the port, and the programmer and chip behind it
+//! - `serprog_model.rt`: a port to a simulated programmer and chip
 //! - `serprog_frames.rt`: the bytes of each command
-//! - `serprog_handshakes.rt`: how a link is synchronized, and how a programmer is identified
-//! - `serprog_buses.rt`: sessions over the bus, and failures of the port
-//! - `serprog_wrappers.rt`: paced polls, and readings that are made twice
+//! - `serprog_handshakes.rt`: synchronization of a link, and identification of a programmer
+//! - `serprog_buses.rt`: transactions over the bus, and faults of the programmer and of the port
+//! - `serprog_wrappers.rt`: pauses between polls, and reads that are made twice
 //!
 //! Single calls:
 //!
@@ -45,7 +45,7 @@
 //! - `kernels.rt`: nor_plan's comparisons of two slices
 //! - `sets.rt`: sets of addresses made from spans
 //! - `texts.rt`: malformed and very long layouts and journals
-//! - `words.rt`: arguments, with enough memory
+//! - `words.rt`: arguments of the command line, with enough memory
 #![tactic(auto)]
 
 #[cfg(test)]

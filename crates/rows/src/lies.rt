@@ -14,15 +14,16 @@ const TIMEOUT: Refusal = Refusal::Timeout { address: 0 };
 const MISMATCH: Refusal = Refusal::Mismatch { address: 0 };
 
 // Asserts that the call returned this error after this number of transactions. Restores on a well-behaved bus if the
-// vault is sealed, and asserts that the chip is then as before.
+// vault is sealed, and asserts that afterwards the chip is as before the session.
 fn assert_lied(rt: &impl Abort, alloc: Global, row: Row, lied: Lied, told: (Refusal, u64)) {
     let (refusal, sent) = told;
     assert!(rt; lied.refusal == Some(refusal) && lied.sent == sent);
     lied.assert_given_back(rt, alloc, row);
 }
 
-// Each row has the session, the fault, the error, and the number of transactions sent. They are counted from 1: 1 to 7
-// identify a TINY64, and 8 to 23 scan it; 1 to 4 identify a W25Q64FV, and 5 to 2,052 scan it. Then the sessions send:
+// Each row has the session, the fault, the error, and the number of transactions sent. Transactions are counted from 1:
+// 1 to 7 identify a TINY64, and 8 to 23 scan it; 1 to 4 identify a W25Q64FV, and 5 to 2,052 scan it. Then the sessions
+// send:
 //
 // - `ABitRises`: 24 enables the erase, 25 is the erase, 26 its poll; 27 enables the program, 28 is the program, 29 its
 //   poll; 30 reads the sector to verify it.
@@ -30,11 +31,11 @@ fn assert_lied(rt: &impl Abort, alloc: Global, row: Row, lied: Lied, told: (Refu
 //   sector to verify it.
 // - `NineSectorsAreErased`: 25 erases sectors 0 to 7, 28 sector 8; 30 to 38 read them to verify them, up to the first
 //   difference.
-// - `AGuardedByteIsProgrammed`: 2,053 enables the status write that lifts the protection, 2,054 is this write, 2,055 its
-//   poll. A timeout of a status write has the address 0.
+// - `AGuardedByteIsProgrammed`: 2,053 enables the status write that clears the protection bits, 2,054 is this write,
+//   2,055 its poll. A timeout of a status write has the address 0.
 //
-// A wait gives up after 65,536 polls. An ID of zeros means that there is no chip. Clearing bit 0 leaves a TINY64's ID
-// as it is, but changes the first letter of the SFDP signature.
+// A wait gives up after 65,536 polls. An ID of zeros means that there is no chip. If bit 0 of each reply byte is
+// cleared, a TINY64's ID stays as it is, but the first letter of the SFDP signature changes.
 const SESSIONS: [(Row, Spoil, (Refusal, u64)); 10] = [
     (Row::ABitRises, Spoil::Fill(0xFF), (TIMEOUT, 65_536)),
     (Row::ABitRises, Spoil::Fill(0x00), (Refusal::NoChip, 2)),
@@ -148,9 +149,9 @@ fn lie_past_the_seal(rt: &impl Abort, alloc: Global, row: Row) -> u64 {
     runs
 }
 
-// Each row has the number of its runs. A session's erases and programs address only saved sectors, and its status
-// writes change only protection bits. The sectors were saved before the fault. So one restore undoes any single fault
-// after the seal.
+// Each row has its number of runs. Each fault begins after the seal, so the saved sectors are correct. The session's
+// erases and programs address only these sectors, and its status writes change only protection bits. So one restore on
+// a well-behaved bus restores the chip.
 const PAST_THE_SEAL: [(Row, u64); 6] = [
     (Row::AByteIsProgrammed, 2 * 5),
     (Row::ABitRises, 2 * 7),
@@ -181,8 +182,9 @@ fn lie_to_restores(rt: &impl Abort, alloc: Global, row: Row, stop: u64, length: 
     }
 }
 
-// Each row has the number of transactions after which the session is stopped, and the length of the restore. The stops
-// leave a sector erased, a byte programmed, and protection lifted or set again.
+// Each row has the number of transactions after which the session is stopped, and the number of transactions of the
+// restore. After the five stops: a sector is erased, a byte is programmed, a sector is erased, the protection bits are
+// cleared, and they are set again.
 const BEHIND: [(Row, u64, u64); 5] = [
     (Row::ABitRises, 25, 13),
     (Row::AByteIsProgrammed, 26, 12),

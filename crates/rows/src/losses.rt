@@ -1,10 +1,10 @@
-//! Small changes of files in memory, cut off after each call.
+//! Changes of files in the model of files, interrupted after each call.
 use nor_files::{Loss, Memory, Store};
 use nor_journal::Vault;
 use std::alloc::{AllocError, Global};
 use std::io;
 
-// Four bytes are saved in a journal, and changed once it is sealed.
+// Saves the four bytes of `image` in a new journal. If the journal was sealed and closed, overwrites `image` in place.
 fn change<S: Store>(files: &mut S) -> io::Result<()> {
     let mut journal = files.vault_in_new("journal")?;
     let _ = journal.put(b"abcd");
@@ -16,7 +16,8 @@ fn change<S: Store>(files: &mut S) -> io::Result<()> {
     Ok(())
 }
 
-// Returns the files that are left by a change whose first `left` calls succeed, after this loss.
+// Makes the change with files whose first `left` calls succeed. Returns the files that are left after `loss`. If
+// `is_torn` is true and the last of these calls is `write_over`, it writes only the first half of its bytes, and fails.
 fn left_of(alloc: Global, left: u64, is_torn: bool, loss: Loss) -> Result<Memory, AllocError> {
     let mut files = Memory::new(alloc, left);
     files.put("image", b"abcd")?;
@@ -58,7 +59,8 @@ fn changes_are_lost_until_they_are_synced(rt: HostRuntime) -> Result<(), AllocEr
     Ok(())
 }
 
-// A file is made, and given two bytes and a length.
+// Creates `status`, sets its length to 3, writes two bytes, and opens a log. After the creation and after the write it
+// syncs.
 fn fill<S: Store>(files: &mut S) -> io::Result<()> {
     files.make("status")?;
     files.sync_folder("status")?;

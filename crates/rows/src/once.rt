@@ -1,5 +1,5 @@
-//! After a stop each call ends and sends nothing more, even though the bus would carry it out. A spoilt reply isn't
-//! read again.
+//! After a stop each call returns and sends nothing more, even though the bus would carry out more transactions. No
+//! call reads a spoilt reply again, except a poll that shows BUSY.
 use crate::failing::{Fault, OnceBus};
 use crate::held::assert_held;
 use crate::row::{Row, Start, erased};
@@ -31,7 +31,7 @@ enum Command {
 }
 
 impl Command {
-    // Carries out the operation. True if it returns that the bus stopped.
+    // Carries out the operation. Returns true if its result is that the bus stopped.
     fn is_stopped(self, bus: &mut OnceBus) -> bool {
         match self {
             Command::Poll => poll(bus) == Err(Stopped),
@@ -49,8 +49,8 @@ impl Command {
         }
     }
 
-    // Stops each of the operation's `length` transactions in turn, and then none, on a chip with these delays. Asserts
-    // that the operation then returns the stop and sends nothing more.
+    // Runs the operation on a chip with these delays, with a stop at each of its `length` transactions in turn, and at
+    // last without a stop. Asserts that after a stop it returns the stop and sends nothing more.
     fn stop_at_each(self, rt: &impl Abort, alloc: Global, delays: Delays, length: u64) {
         for n in 0..=length {
             let bus = erased(rt, alloc, Config::tiny64(), [0x00, 0x00], delays);
@@ -89,9 +89,9 @@ fn a_stop_ends_each_command(rt: HostRuntime) {
     }
 }
 
-// The chip shows BUSY in one poll, at first and after each operation. So an operation has four transactions. A session
-// or restore identifies the chip with eight transactions if the chip is known by its SFDP, and with five if it is in
-// the table. Two of these (status 2 and the unique ID) aren't part of a probe; `wp_status` sends one of the two.
+// The chip shows BUSY in one poll at first, and in one after each operation, so an operation has four transactions. A
+// session or restore identifies the chip with eight transactions if the chip is known by its SFDP, and with five if it
+// is in the table. Two of these (status 2 and the unique ID) aren't part of a probe; `wp_status` sends one of the two.
 //
 // On the two blocks:
 //

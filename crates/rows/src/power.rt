@@ -1,6 +1,5 @@
-//! Sessions and restores during which the chip loses its power, at each of their transactions. The chips show BUSY in
-//! two polls after each operation. An interrupted erase or program leaves 00h, 5Ah or FFh in the bytes that it works
-//! on.
+//! Sessions and restores during which the chip loses its power, at each transaction in turn. The chips show BUSY in two
+//! polls after each operation. An interrupted erase or program leaves 00h, 5Ah or FFh in the bytes that it works on.
 //!
 //! Each test counts its runs: one for a stop before the seal, and after any other stop one more than the restore has
 //! transactions. An operation takes five transactions. After a loss of power the chip is idle, so the identification
@@ -12,7 +11,7 @@ use crate::runs::Runs;
 use std::alloc::Global;
 use std::process::Abort;
 
-// Runs a row with each fill byte: 00h, 5Ah and FFh. Asserts that the number of runs is `runs`, which is the same for each
+// Runs a row with each fill byte: 00h, 5Ah and FFh. Asserts the number of runs: `runs`, which is the same for each
 // fill, plus the number of runs after an interrupted operation, which `cut_off` has for each fill.
 fn lose_at_each(rt: &impl Abort, alloc: Global, row: Row, runs: u64, cut_off: [u64; 3]) {
     let [zeros, others, ones] = cut_off;

@@ -1,5 +1,5 @@
-//! Probes: what SFDP bytes mean (JESD216), which chips are found, which transactions are sent, and how long a probe
-//! waits.
+//! Tests of probes: the meaning of SFDP bytes (JESD216), the chips that are found, the transactions sent, and the
+//! longest wait.
 use crate::held::assert_held;
 use crate::row::{Start, erased, put_run};
 use nor_chip::{ALL_KINDS, Config, Delays, Meter, SimBus, Spoil, SpoiltBus, TINY64_SFDP, TraceBus};
@@ -12,7 +12,7 @@ const SECTORS_ALONE: Kinds = Kinds {
     k64: false,
 };
 
-// The results of a probe on each emulated chip, with BP0 set in status 1.
+// The results of probes of the emulated chips, with BP0 set in status 1.
 const TINY64: Found = Found {
     name: ChipName::Sfdp,
     id: [0xFE, 0x10, 0x10],
@@ -58,7 +58,8 @@ const BY_SFDP: Answer = Ok(Probed {
     transactions: 5,
 });
 
-// Returns the result of a probe of a chip whose ID isn't in the table and whose SFDP bytes mean `said`.
+// Returns the expected result of a probe of a chip whose ID isn't in the table and whose SFDP bytes have the meaning
+// `said`.
 fn answer_of(said: Said) -> Answer {
     let (size, kinds) = match said {
         Ok(geometry) => geometry,
@@ -88,7 +89,8 @@ fn bus_to(rt: &impl Abort, alloc: Global, config: Config, delays: Delays, allowe
     bus
 }
 
-// Probes a chip whose ID isn't in the table. Its SFDP bytes are a TINY64's, except for the bytes `run` from `at` on.
+// Probes a chip whose ID isn't in the table. Its SFDP bytes are those of a TINY64, with the bytes `run` from position
+// `at` on.
 fn answer_to(rt: &impl Abort, alloc: Global, at: usize, run: &[u8]) -> Answer {
     let mut sfdp = TINY64_SFDP;
     put_run(&mut sfdp, at, run);
@@ -99,7 +101,8 @@ fn answer_to(rt: &impl Abort, alloc: Global, at: usize, run: &[u8]) -> Answer {
 // The meaning of SFDP bytes: a size and erase types, or a fault.
 type Said = Result<(u32, Kinds), SfdpFault>;
 
-// Each row overwrites a run of a TINY64's SFDP bytes. These bytes are:
+// Each row has a position and the bytes that replace a TINY64's SFDP bytes there, and their meaning. The SFDP bytes
+// are:
 //
 // - from 00h on, the header, with the major revision at 05h
 // - from 08h on, the parameter header, with its revision at 0Ah, the table's length at 0Bh and its address at 0Ch
@@ -161,7 +164,7 @@ fn sfdp_says_a_geometry_or_its_first_fault(rt: HostRuntime) {
 const TINY64_SENT: &str = "05 > 04\n9f > fe1010\n\
     5a00000000 > 8 bytes\n5a00000800 > 8 bytes\n5a00001000 > 36 bytes\n";
 
-// A chip without SFDP bytes replies FFh, so the table is read at FFFFFFh.
+// The transactions to a chip without SFDP bytes. It replies FFh, so the probe reads the table at FFFFFFh.
 const SILENT_SENT: &str = "05 > 04\n9f > aa1122\n\
     5a00000000 > 8 bytes\n5a00000800 > 8 bytes\n5affffff00 > 36 bytes\n";
 
@@ -271,9 +274,9 @@ const WAITED_LONG: Answer = Ok(Probed {
 
 const STOPPED: Answer = Err(ProbeFault::Stopped);
 
-// Each row has the number of polls that show BUSY at first, the fault, the number of allowed transactions, and the
-// result. `HONEST` is a fault that never occurs. On a faulty bus no clause distinguishes a stop from a timeout; this
-// test does.
+// Each row has the number of polls that show BUSY at first, the fault of the bus, the number of allowed transactions,
+// and the result. `HONEST` is a fault that never occurs. On a faulty bus no clause distinguishes a stop from a timeout,
+// so this test checks which of the two is returned.
 const WAITS: [(u16, Spoil, u64, Answer); 6] = [
     (3, HONEST, 8, WAITED),
     (3, HONEST, 7, STOPPED),

@@ -1,4 +1,4 @@
-//! Readings whose vault refuses a piece, readings that are stopped, and the status that a reading reports.
+//! Reading calls: with a vault that refuses a piece, with stops, and the status that they report.
 use crate::held::assert_held;
 use crate::row::{Row, Start};
 use crate::runs::AMPLE;
@@ -8,8 +8,9 @@ use nor_read::{Protection, read_out, verify, wp_status};
 use nor_session::{Refusal, Report};
 use std::alloc::Global;
 
-// Each row has the number of the refused call, the number of bytes that it keeps, the error, and the number of bytes in
-// the vault. The chip's sixteen sectors are one piece, so there is no second call.
+// Each row has the number of the vault's call that is refused, the number of bytes that the vault keeps of it, the
+// error, and the number of bytes in the vault at the end. All sixteen sectors of the chip are one piece, so there is no
+// second call.
 const CASES: [(u64, usize, Option<Refusal>, usize); 4] = [
     (1, 0, Some(Refusal::Output { written: 0 }), 0),
     (1, 5000, Some(Refusal::Output { written: 5000 }), 5000),
@@ -33,7 +34,7 @@ fn a_vault_that_refuses_ends_the_reading(rt: HostRuntime) {
 
 type Sent = Result<u64, Refusal>;
 
-// Returns the number of transactions of a reading, or its error.
+// Returns the number of transactions of a reading call, or its error.
 fn sent(answer: Result<Report, Refusal>) -> Sent {
     Ok(answer?.transactions)
 }
@@ -93,7 +94,7 @@ fn any_stop_of_a_look_at_the_protection_is_told(rt: HostRuntime) {
     }
 }
 
-// The write enable latch is bit 1 of status register 1. It is set at the start, and no command of a reading clears it.
+// The write enable latch (bit 1 of status 1) is set at the start, and no command of a reading call clears it.
 #[test]
 fn a_reading_reports_the_status_that_it_found(rt: HostRuntime) {
     let row = Row::ABitRises;

@@ -11,8 +11,8 @@ use nor_session::{Refusal, Rehearsal, rehearse};
 use std::alloc::Global;
 use std::process::Abort;
 
-// Rehearses with these stops, and asserts that the chip is as before. Returns the result, and whether the vault is
-// sealed.
+// Rehearses the row's session with these stops, and asserts that afterwards the chip is as before. Returns the result,
+// and whether the vault is sealed.
 fn rehearsed(
     rt: &impl Abort,
     alloc: Global,
@@ -40,7 +40,7 @@ fn restore_behind(stop: u64) -> Option<u64> {
     }
 }
 
-// The session sends 30 transactions. A restore that was stopped is followed by one that isn't.
+// The session sends 30 transactions. After a restore that was stopped, the rehearsal runs another one without a stop.
 #[test]
 fn each_pair_of_stops_tells_how_it_went(rt: HostRuntime) {
     let row = Row::ABitRises;

@@ -5,8 +5,8 @@ use nor_session::{Request, What};
 use std::alloc::Global;
 use std::process::Abort;
 
-// The contents of a whole chip: FFh, except `count` bytes `byte` from address `from` on. The bytes `run`, from address
-// `at` on, overwrite both.
+// The contents of a whole chip: FFh, except `count` bytes `byte` from address `from` on. The bytes `run` replace both
+// from address `at` on.
 #[derive(Clone, Copy)]
 struct Bytes {
     from: usize,
@@ -42,7 +42,7 @@ pub fn put(bytes: &mut [u8], place: usize, byte: u8) {
     }
 }
 
-/// The state of the chip at the start of a run, and the effect of a stop.
+/// The state of the chip at the start of a session, and the effects of a stop on the bus and the chip.
 #[derive(Clone, Copy)]
 pub struct Start {
     pub delays: Delays,
@@ -51,12 +51,12 @@ pub struct Start {
     /// If this is `Some`, the chip loses its power at a stop, and this byte determines what is left of a running
     /// operation (`SimBus::lose`).
     pub fill: Option<u8>,
-    /// The number of bytes of its transaction that a stop sends. `None` sends none.
+    /// The number of bytes that the bus sends of the transaction at which it stops. `None` sends none.
     pub torn: Option<u32>,
 }
 
 impl Start {
-    /// An idle chip whose operations take no time, on a bus that keeps the chip's power at a stop.
+    /// An idle chip that shows no BUSY after operations, on a bus whose stop sends no byte and keeps the chip's power.
     pub const IDLE: Start = Start {
         delays: Delays { now: 0, each: 0 },
         latch: false,
@@ -104,7 +104,7 @@ impl Start {
         }
     }
 
-    /// Returns this start, with stops that send the first `count` bytes of their transaction.
+    /// Returns this start, except that a stop sends the first `count` bytes of its transaction.
     pub const fn torn(self, count: u32) -> Start {
         Start {
             torn: Some(count),
@@ -113,33 +113,33 @@ impl Start {
     }
 }
 
-/// A session that is tested. Each writes to a chip of its own.
+/// A session that is tested. Each has a chip of its own.
 #[derive(Clone, Copy)]
 pub enum Row {
-    /// One byte of an erased chip is programmed.
+    /// Programs one byte of an erased chip.
     AByteIsProgrammed,
-    /// A bit of one byte rises from 0 to 1, so the sector of that byte is erased.
+    /// Changes a bit of one byte from 0 to 1, so the sector of that byte is erased.
     ABitRises,
-    /// A bit of one byte falls from 1 to 0, which needs no erase.
+    /// Changes a bit of one byte from 1 to 0, which needs no erase.
     ABitFalls,
-    /// Four bytes are programmed, two on each side of a page boundary.
+    /// Programs four bytes, two on each side of a page boundary.
     TwoPagesAreProgrammed,
-    /// Nine sectors are erased, with one erase of 32 KiB and one of 4 KiB.
+    /// Erases nine sectors, with one erase of 32 KiB and one of 4 KiB.
     NineSectorsAreErased,
-    /// The whole chip is erased, with one erase.
+    /// Erases the whole chip, with one command.
     TheChipIsErased,
-    /// One page of a sector full of 00h is included and becomes FFh. The sector is erased, and its other fifteen pages
-    /// are programmed again.
+    /// Changes one included page of a sector full of 00h to FFh. The session erases the sector, and programs its other
+    /// fifteen pages again.
     TheRestOfASectorStays,
-    /// The last byte before the protected range is programmed.
+    /// Programs the last byte before the protected range.
     AByteBelowTheGuardIsProgrammed,
-    /// The first byte of the protected range is programmed. The protection is lifted before that and set again
-    /// afterwards.
+    /// Programs the first byte of the protected range. The session clears the protection bits first, and sets them
+    /// again at the end.
     AGuardedByteIsProgrammed,
-    /// Every byte of a TINY64 without erases of 32 and 64 KiB is changed. Fifteen sectors are erased, and each page of
-    /// all sixteen sectors is programmed.
+    /// Changes every byte of a TINY64 without erases of 32 and 64 KiB. The session erases fifteen sectors, and programs
+    /// each page of all sixteen sectors.
     EachPageIsProgrammed,
-    /// Sectors 8 to 39 of a chip of 256 KiB are erased, with three erases of 32, 64 and 32 KiB.
+    /// Erases sectors 8 to 39 of a chip of 256 KiB, with three erases of 32, 64 and 32 KiB.
     ThirtyTwoSectorsAreErased,
 }
 
@@ -193,7 +193,7 @@ pub fn large(rt: &impl Abort, k32: bool, k64: bool) -> Config {
     Config::new([0xAA, 0x11, 0x22], 262_144, k32, k64, false, &sfdp).expect(rt, "a size")
 }
 
-// The chip, contents and request of a row's session, and the number of transactions that it sends if nothing stops it.
+// The chip, contents and request of a row's session, and the numbers of its transactions if no stop occurs.
 #[derive(Clone, Copy)]
 struct Written {
     chip: Chip,
@@ -259,12 +259,12 @@ impl Row {
         self.written().chip.sectors()
     }
 
-    /// Returns the least number of allowed transactions with which the vault is sealed.
+    /// Returns the least number of allowed transactions with which the session seals its vault.
     pub fn sealed_at(self, start: Start) -> u64 {
         u64::from(self.written().sealed) + u64::from(start.delays.now)
     }
 
-    /// Returns the least number of allowed transactions with which the session ends.
+    /// Returns the least number of allowed transactions with which the session succeeds.
     pub fn ends_at(self, start: Start) -> u64 {
         let Written {
             length,
@@ -310,7 +310,7 @@ pub fn erased(
     SimBus::new(config, bytes, status, delays).expect(rt, "as many bytes as the chip has")
 }
 
-/// Returns the addresses of the region `part` of a layout; without a layout, returns `None`.
+/// Returns the addresses of the region `part` of a layout, or `None` if `layout` is `None`.
 pub fn included(rt: &impl Abort, alloc: Global, layout: Option<&[u8]>) -> Option<Ranges> {
     let layout = Layout::read(alloc, layout?).expect(rt, "a layout");
     Some(layout.include("part").expect(rt, "a region"))
@@ -352,7 +352,7 @@ fn on_tiny64(old: Bytes, image: Bytes, length: u32, operations: u32) -> Written 
     }
 }
 
-// The scan sends one transaction, since only one sector holds included addresses.
+// Returns the session of that row. Its scan sends one transaction, since only one sector contains included addresses.
 fn the_rest_of_a_sector_stays() -> Written {
     Written {
         part: Some(b"0x800:0x8ff part"),
@@ -378,8 +378,8 @@ fn on_w25q64fv(image: Bytes, unlock: bool, length: u32, operations: u32) -> Writ
 }
 
 fn each_page_is_programmed() -> Written {
-    // After identification and scan: three transactions for each operation, one to read the sector that isn't erased
-    // before it is programmed, and sixteen to verify.
+    // After the identification and the scan, the session sends three transactions for each operation, one that reads
+    // the sector without an erase before it is programmed, and sixteen to verify.
     let operations = 15 + 16 * 16;
     let length = 23 + 3 * operations + 1 + 16;
     let old = first(61_440, 0x00);
@@ -390,7 +390,7 @@ fn each_page_is_programmed() -> Written {
     }
 }
 
-// The scan sends 64 transactions, and the verification 32.
+// Returns the session of that row. Its scan sends 64 transactions, and its verification 32.
 fn thirty_two_sectors_are_erased() -> Written {
     let old = Bytes {
         from: 0x8000,

@@ -9,7 +9,7 @@ use nor_session::{Refusal, Report, restore, session};
 use std::alloc::Global;
 use std::process::Abort;
 
-/// More transactions than a restore of any row sends.
+/// A number of transactions that is enough for a restore of any row.
 pub const AMPLE: u64 = 10_000;
 
 /// Runs a row's session on a bus to its chip, and returns its result.
@@ -44,8 +44,8 @@ impl Cut {
     }
 }
 
-// Returns the number of transactions of a call that ended, and `None` if it was stopped. Asserts that there is no other
-// error.
+// Returns the number of transactions of a call that succeeded, and `None` if it was stopped. Asserts that no other
+// error occurred.
 fn ended(rt: &impl Abort, answer: Result<Report, Refusal>) -> Option<u64> {
     match answer {
         Ok(report) => Some(report.transactions),
@@ -56,7 +56,7 @@ fn ended(rt: &impl Abort, answer: Result<Report, Refusal>) -> Option<u64> {
     }
 }
 
-/// The runs of a row from one start.
+/// A row with its start. The methods run its session and restores.
 #[derive(Drop)]
 pub struct Runs {
     alloc: Global,
@@ -78,7 +78,7 @@ impl Runs {
         }
     }
 
-    /// Returns these runs, with restores whose stops send the first `count` bytes of their transaction.
+    /// Returns these runs, except that the stop of a restore sends the first `count` bytes of its transaction.
     pub fn with_restores_torn(self, count: u32) -> Runs {
         Runs {
             torn: Some(count),
@@ -86,8 +86,8 @@ impl Runs {
         }
     }
 
-    /// Runs the session on a new chip, with `allowed` transactions. Asserts that it ends, and that its vault is sealed,
-    /// if and only if the row's numbers say so.
+    /// Runs the session on a new chip, with `allowed` transactions. Asserts that it succeeds if and only if `allowed`
+    /// is at least its length, and that its vault is sealed if and only if `allowed` is at least `Row::sealed_at`.
     pub fn cut(&self, rt: &impl Abort, allowed: u64) -> Cut {
         let mut bus = self.row.bus(rt, self.alloc, self.start);
         bus.allow(allowed);
@@ -200,8 +200,8 @@ fn ends_within(rt: &impl Abort, cut: &mut Cut, allowed: u64) -> bool {
     true
 }
 
-/// Asserts that the chip is as a row's session found it, with the write enable latch clear, as it is if no write enable
-/// was sent.
+/// Asserts that the chip is as before the row's session, and that the write enable latch is clear, as after a session
+/// that sent no write enable.
 pub fn assert_untouched(rt: &impl Abort, alloc: Global, row: Row, bus: &SimBus) {
     Runs::new(rt, alloc, row, Start::IDLE).assert_as_before(rt, bus);
     assert!(rt; bus.status() == row.status());

@@ -1,4 +1,4 @@
-//! Transactions over a serprog port in memory, and what each fault leaves.
+//! Transactions over a serprog port in memory, and the state of the bus after each fault.
 
 use crate::serprog_model::{Fault, Model};
 use nor_chip::Bus;
@@ -35,7 +35,7 @@ fn a_chip_is_read_and_programmed(rt: HostRuntime) -> Result<(), Fail> {
     Ok(())
 }
 
-// The text of the cause that a bus keeps.
+// Returns the text of the cause that the bus keeps, empty if there is none.
 fn cause(alloc: Global, bus: &SerprogBus<Model>) -> Result<String, Fail> {
     match bus.cause() {
         Some(cause) => Ok(format!(in alloc; "{cause}")?),
@@ -43,7 +43,8 @@ fn cause(alloc: Global, bus: &SerprogBus<Model>) -> Result<String, Fail> {
     }
 }
 
-// Each fault stops the bus with a cause of its own. Nothing more is sent before the programmer is in step again.
+// Each fault stops the bus, and the bus keeps the cause. The bus sends nothing more until `synchronize` succeeds, and
+// works again after that.
 #[test]
 fn each_fault_stops_the_bus(rt: HostRuntime) -> Result<(), Fail> {
     let faults = [
@@ -73,7 +74,7 @@ fn each_fault_stops_the_bus(rt: HostRuntime) -> Result<(), Fail> {
     Ok(())
 }
 
-// After a frame that was cut off nothing is sent again, not even to synchronize.
+// If the port fails inside a frame, the bus sends nothing more, not even to synchronize.
 #[test]
 fn a_cut_frame_is_never_completed(rt: HostRuntime) -> Result<(), Fail> {
     let mut model = Model::new(rt.alloc())?;

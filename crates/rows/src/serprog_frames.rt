@@ -1,8 +1,8 @@
-//! Frames of serprog, byte by byte.
+//! The frames of serprog commands, byte by byte.
 
 use nor_serprog::{Command, frame_len};
 
-// Frames as flashrom 1.3 sends them, by the table of the protocol.
+// The expected frames follow the table of commands in flashrom's Documentation/serprog-protocol.txt.
 #[test]
 fn frames_are_those_of_the_protocol(rt: HostRuntime) {
     let read_id = Command::Operate {

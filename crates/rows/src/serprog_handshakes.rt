@@ -1,4 +1,4 @@
-//! The commands that a serprog programmer receives before the first transaction.
+//! The handshake before the first transaction: synchronization of the link, and identification of a serprog programmer.
 
 use crate::serprog_model::Model;
 use nor_serprog::{Link, Programmer};
@@ -18,7 +18,7 @@ fn a_programmer_is_identified(rt: HostRuntime) -> Result<(), Fail> {
     Ok(())
 }
 
-// The text of the error that identifying a programmer ends with.
+// Identifies a programmer. Returns the text of the error, or `identified`.
 fn refusal(alloc: Global, model: Model) -> Result<String, Fail> {
     let mut link = Link::new(model);
     match Programmer::identify(&mut link, Some(1_000_000)) {
@@ -86,7 +86,7 @@ fn a_limit_that_is_too_small_is_an_error(rt: HostRuntime) -> Result<(), Fail> {
     Ok(())
 }
 
-// Bytes that an earlier run left unread are skipped, even if they end like a reply to SYNCNOP.
+// The handshake skips reply bytes that an earlier run left unread, even if their end equals the reply to SYNCNOP.
 #[test]
 fn stale_bytes_are_skipped(rt: HostRuntime) -> Result<(), Fail> {
     let stale: [&[u8]; 4] = [

@@ -1,4 +1,4 @@
-//! A serprog programmer in memory, in front of a simulated chip.
+//! A simulated serprog programmer with a simulated chip.
 
 ghost use Rattle.std.proofs.lemmas.Bool.{false≢true};
 ghost use Rattle.nor_serprog.specs.Device.{unknown_port};
@@ -10,29 +10,30 @@ use std::alloc::Global;
 use std::test::Fail;
 use std::{fmt, mem};
 
-// The most bytes of an incomplete frame, and of the pending replies: those to a read of a sector, after stale bytes.
+// Capacities: for the bytes of an incomplete frame, and for the replies that weren't received yet. The second has room
+// for the reply to a read of a sector, and for stale bytes before it.
 const MOST_BEGUN: usize = 300;
 
 const MOST_PENDING: usize = 5000;
 
-/// A fault of the model at one O_SPIOP, in place of its correct reply.
+/// A fault of the model at one O_SPIOP command. The model does this in place of the correct reply.
 #[derive(Clone, Copy, Debug, PartialEq, Eq)]
 pub enum Fault {
-    /// Replies NAK, and the chip is not selected.
+    /// Replies NAK, and does not select the chip.
     Nak,
-    /// Carries it out, and the reply is lost.
+    /// Carries out the command, and sends no reply.
     Silent,
-    /// Carries it out, and only ACK and half of the replies arrive.
+    /// Carries out the command, and sends only ACK and the first half of the reply bytes.
     Short,
-    /// Replies with a byte that is neither ACK nor NAK.
+    /// Carries out the command, and replies with a byte that is neither ACK nor NAK.
     Strange,
-    /// Flips a bit of the first reply.
+    /// Carries out the command, and flips a bit of the first reply byte.
     Flip,
-    /// Receives the opcode and the lengths, and then the port fails.
+    /// Receives the header of the command, and then the port fails.
     Cut,
 }
 
-/// The port failed: the programmer is silent, or the port was cut.
+/// The reason why the port failed: no reply byte arrived, or the port was cut.
 #[derive(Clone, Copy, Debug, PartialEq, Eq)]
 pub enum Cause {
     Silent,
@@ -48,7 +49,8 @@ impl fmt::Display for Cause {
     }
 }
 
-/// A programmer, by the document of the protocol. The fields are what it replies to queries.
+/// A programmer that follows flashrom's Documentation/serprog-protocol.txt. Fields without a comment have the replies
+/// to queries, or the number of O_SPIOP commands so far (`operations`).
 #[derive(Drop)]
 pub struct Model {
     pub chip: SimBus,
@@ -57,20 +59,20 @@ pub struct Model {
     pub longest_write: [u8; 3],
     pub longest_read: [u8; 3],
     pub buffer: [u8; 2],
-    /// The opcode of a command that the map leaves out.
+    /// The opcode of a command that the reply to Q_CMDMAP leaves out.
     pub lacks: Option<u8>,
-    /// The number of the O_SPIOP at which `fault` happens.
+    /// The number of the O_SPIOP command, counted from 0, at which `fault` occurs.
     pub fault_at: u32,
     pub fault: Option<Fault>,
     pub operations: u32,
-    /// How many bytes were sent to the model.
+    /// The number of bytes sent to the model.
     pub received: u32,
     begun: ArrayVec<u8, MOST_BEGUN>,
     pub pending: ArrayVec<u8, MOST_PENDING>,
 }
 
 impl Model {
-    /// A programmer without faults, in front of an erased chip of 64 KiB that carries out any number of transactions.
+    /// Returns a programmer without faults, with an erased chip of 64 KiB. Its bus carries out `u64::MAX` transactions.
     pub fn new(alloc: Global) -> Result<Model, Fail> {
         let idle = Delays { now: 0, each: 0 };
         let erased = vec![in alloc; 0xFF; 65536]?;
@@ -97,7 +99,7 @@ impl Model {
         let _ = self.pending.try_extend_from_slice(bytes);
     }
 
-    // Carries out the command that is whole.
+    // Carries out the complete command in `begun`.
     fn carry_out(&mut self) {
         let frame = mem::replace(&mut self.begun, ArrayVec::new());
         match frame.as_slice() {
@@ -140,7 +142,7 @@ impl Model {
         self.reply(&answer);
     }
 
-    // One transaction with the chip.
+    // Carries out one O_SPIOP command: a transaction with the chip, or the fault.
     fn operate(&mut self, out: &[u8], replies: u16) {
         let fault = if self.operations == self.fault_at {
             self.fault

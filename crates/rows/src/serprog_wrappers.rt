@@ -1,4 +1,4 @@
-//! Pauses between the polls of a bus, and readings that differ.
+//! Pauses between polls that show BUSY, and two reads of the same bytes that differ.
 
 use crate::serprog_model::{Fault, Model};
 use nor_chip::{Bus, Config, Delays, Meter, SimBus};
@@ -8,7 +8,7 @@ use std::io;
 use std::test::Fail;
 use std::time::{Clock, Duration};
 
-// A clock that stands still and adds up how long it is asked to sleep.
+// A clock whose time never advances. It adds up the milliseconds for which it is asked to sleep.
 #[derive(Drop)]
 struct Asked<'a> {
     millis: &'a Cell<u64>,
@@ -29,7 +29,8 @@ impl Clock for Asked<'_> {
     }
 }
 
-// A chip that shows BUSY to 600 polls: 16 without a pause, up to the 512th 1 ms before each, and then 8 ms.
+// The chip shows BUSY in 600 polls. The bus sends 16 polls without a pause, polls 17 to 512 after 1 ms each, and polls
+// 513 to 601 after 8 ms each.
 #[test]
 fn polls_of_a_busy_chip_are_paced(rt: HostRuntime) -> Result<(), Fail> {
     let delays = Delays { now: 600, each: 0 };

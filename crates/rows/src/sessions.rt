@@ -1,5 +1,5 @@
-//! Sessions on chips of 256 KiB with different erase types, on a chip that is busy for long, and with requests that
-//! verify or do not.
+//! Sessions on chips of 256 KiB with different erase types, on a chip that is busy at the start, and with and without
+//! verification.
 use crate::held::assert_held;
 use crate::row::{Row, Start, large};
 use nor_chip::{Config, Delays, Meter, SimBus};
@@ -30,8 +30,9 @@ fn blank(
     session(&mut bus, &mut vault, &mut image, &request).expect(rt, "the session ends")
 }
 
-// Each row has whether the chip has erases of 32 and 64 KiB, the number of erases of sectors 8 to 39, and the number of
-// transactions: three for each erase, seven to identify the chip, 64 to scan it, and 32 to verify the sectors.
+// Each row has: whether the chip has erases of 32 KiB, and of 64 KiB; the number of erases that a session needs for
+// sectors 8 to 39; and its number of transactions: three for each erase, seven to identify the chip, 64 to scan it, and
+// 32 to verify the sectors.
 const UNITS: [(bool, bool, u32, u64); 4] = [
     (false, true, 17, 154),
     (true, false, 4, 115),
@@ -52,7 +53,7 @@ fn sectors_are_erased_by_the_largest_units(rt: HostRuntime) {
 }
 
 // A session on an idle TINY64 that has nothing to change sends 23 transactions. Here it also sends 65,535 polls that
-// show BUSY. The write enable latch is set while the operation runs, and clear after it.
+// show BUSY. The write enable latch is set until the chip's operation ends.
 #[test]
 fn a_busy_chip_is_waited_for(rt: HostRuntime) {
     let busy = Delays {

@@ -2,8 +2,8 @@
 use crate::held::assert_held;
 use nor_layout::{Ranges, Span};
 
-// Each row has the first and the last address of each span, and those of each span of their set; `None` if they make
-// none.
+// Each row has the first and the last address of each span, and those of each span of the resulting set, or `None` if
+// `Ranges::of` rejects the spans.
 const SETS: &[(&[(u32, u32)], Option<&[(u32, u32)]>)] = &[
     (&[], Some(&[])),
     (&[(7, 7)], Some(&[(7, 7)])),
@@ -24,7 +24,7 @@ const SETS: &[(&[(u32, u32)], Option<&[(u32, u32)]>)] = &[
     (&[(1, u32::MAX), (0, 0)], Some(&[(0, u32::MAX)])),
 ];
 
-// Returns the set of at most eight spans.
+// Returns the set of the spans with these first and last addresses, at most eight.
 fn set_of(ends: &[(u32, u32)]) -> Option<Ranges> {
     let mut spans = [Span::default(); 8];
     for (slot, (first, last)) in spans.iter_mut().zip(ends) {

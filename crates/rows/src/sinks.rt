@@ -1,4 +1,4 @@
-//! Vaults and files that accept a whole journal, refuse a call, write short or can't be synced.
+//! Vaults and files that accept a whole journal, refuse a call, accept only part of a write, or can't be synced.
 ghost use Rattle.std.specs.Prelude.{take, Some};
 ghost use Rattle.nor_journal.specs.Vault.{IsFresh};
 
@@ -29,7 +29,8 @@ const DIGEST: [u8; 32] = [
     0x83, 0xD5, 0xFA, 0x75, 0xB9, 0xC2, 0x79, 0x2D, 0x91, 0x66, 0x46, 0xFB, 0x18, 0x8C, 0x93, 0x13,
 ];
 
-/// Writes a journal of the chip that `chip` describes, with the unique ID zero. It saves sector 0, all FFh.
+/// Writes a journal for the ID, status and size in `chip`, with the unique ID zero. The journal saves sector 0, all
+/// FFh.
 fn save<V: Vault>(vault: &mut V, chip: &Journal<'_>) -> Result<(), VaultFault>
     requires { IsFresh (V.state vault.old) }
 {
@@ -59,8 +60,8 @@ fn mem_vault_refuses(rt: HostRuntime) {
     assert!(rt; vault.bytes() == b"journal".as_slice());
 }
 
-// The five calls that write the journal: one each for the header, the record, the end mark and the digest, and the
-// seal. Each has its number, the number of bytes before its piece, and the length of its piece.
+// The five calls of the vault that write the journal: for the header, the record, the end mark and the digest, and the
+// seal. Each row has the call's number, the number of bytes before its piece, and the length of its piece.
 const CALLS: [(u64, usize, usize); 5] = [
     (1, 0, 25),
     (2, 25, 4100),
@@ -88,8 +89,8 @@ fn assert_broken(
     assert_held(rt, holds, nth);
 }
 
-// Refuses each call in turn, after `kept` bytes of its piece. Asserts that the error contains the number of bytes kept,
-// and that the vault holds the prefix of the right journal that ends there.
+// Writes the journal into vaults that refuse each call in turn, after `kept` bytes of its piece. Asserts that the error
+// contains the number of bytes kept, and that the vault holds the prefix of the journal `right` that ends there.
 fn refuse_each(rt: &impl Abort, alloc: Global, right: &[u8], kept: usize) {
     for (nth, before, piece) in CALLS {
         let put = piece.min(kept);
@@ -99,8 +100,8 @@ fn refuse_each(rt: &impl Abort, alloc: Global, right: &[u8], kept: usize) {
     }
 }
 
-// The vault keeps a prefix of a refused piece, and the error contains its length. So the vault holds a prefix of the
-// journal. Nothing is refused if the call to be refused isn't made.
+// The vault keeps a prefix of a refused piece, and the error contains the length of that prefix, so the vault holds a
+// prefix of the journal. No call has number 0 or 6: a vault that refuses one of these accepts the whole journal.
 #[test]
 fn each_call_of_a_writer_is_refused(rt: HostRuntime) {
     let chip = Journal::read(&EMPTY).expect(&rt, "a journal");
@@ -188,14 +189,14 @@ const FILES: [(usize, u32, bool, Result<(), VaultFault>, usize); 9] = [
     (1, u32::MAX, true, Ok(()), 4161),
     (4096, u32::MAX, true, Ok(()), 4161),
     (usize::MAX, 4, true, Ok(()), 4161),
-    // no write succeeds; each write accepts no bytes
+    // in the first of these rows no write succeeds, in the second each write accepts no bytes
     (2, 0, true, Err(VaultFault { kept: 0 }), 0),
     (0, u32::MAX, true, Err(VaultFault { kept: 0 }), 0),
     // the second write of the first piece fails
     (2, 1, true, Err(VaultFault { kept: 2 }), 2),
     // the first write is the header, the second is half of the record, and the third fails
     (2050, 2, true, Err(VaultFault { kept: 2050 }), 2075),
-    // the write of the digest fails; the sync fails
+    // in the first of these rows the write of the digest fails, in the second the sync
     (usize::MAX, 3, true, Err(VaultFault { kept: 0 }), 4129),
     (usize::MAX, 4, false, Err(VaultFault { kept: 0 }), 4161),
 ];
@@ -214,7 +215,8 @@ fn saved(chip: &Journal<'_>, file: SmallFile) -> (Result<(), VaultFault>, usize,
     )
 }
 
-// A write that accepts no bytes is an error, too. After a failed sync the error contains 0 bytes kept.
+// The vault also returns an error if a write accepts no bytes. After a failed sync the error says that 0 bytes were
+// kept.
 #[test]
 fn files_that_refuse(rt: HostRuntime) {
     let chip = Journal::read(&EMPTY).expect(&rt, "a journal");
@@ -255,8 +257,8 @@ impl VaultFile for KnownFile {
     }
 }
 
-// Asserts that a vault in memory and a vault in a file accept a piece of this length, and that the file is then synced
-// with it.
+// Asserts that a vault in memory and a vault in a file accept a piece of this length, and that the file is synced after
+// all its bytes were written.
 fn assert_taken(rt: &impl Abort, alloc: Global, length: usize) {
     let piece = vec![in alloc; 0x5A; length].expect(rt, "memory");
     let mut memory = MemVault::new(alloc);

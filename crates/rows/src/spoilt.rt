@@ -1,4 +1,4 @@
-//! Sessions and restores on a faulty bus, and what must hold for them nevertheless.
+//! Sessions and restores on a faulty bus, and assertions that must hold on any bus.
 use crate::held::assert_held;
 use crate::row::{Row, Start};
 use crate::runs::{AMPLE, Cut, Runs, keep};
@@ -20,7 +20,7 @@ pub fn most(sectors: u32) -> u64 {
     65_542 + 3 * sectors + 65_538 * (17 * sectors + 2)
 }
 
-/// Returns the four kinds of fault, each with the number `n`.
+/// Returns a bus fault of each of the four kinds, with the number `n`.
 pub fn lies(n: u8) -> [Spoil; 4] {
     let first = u64::from(n);
     [
@@ -31,7 +31,7 @@ pub fn lies(n: u8) -> [Spoil; 4] {
     ]
 }
 
-/// Returns a bus that spoils `bus` and allows `u64::MAX` transactions.
+/// Returns a faulty bus over `bus`, which carries out `u64::MAX` transactions.
 pub fn spoilt(mut bus: SimBus, spoil: Spoil) -> SpoiltBus<SimBus> {
     bus.allow(u64::MAX);
     SpoiltBus::new(bus, spoil)
@@ -46,7 +46,7 @@ pub struct Lied {
 }
 
 impl Lied {
-    /// Runs the row's session on a bus with this fault. Asserts that it keeps its bound.
+    /// Runs the row's session on a bus with this fault. Asserts that the session keeps its bound.
     pub fn session(rt: &impl Abort, alloc: Global, row: Row, spoil: Spoil) -> Lied {
         let mut bus = spoilt(row.bus(rt, alloc, Start::IDLE), spoil);
         let mut vault = MemVault::new(alloc);
@@ -73,7 +73,8 @@ impl Lied {
         Lied { refusal, sent, cut }
     }
 
-    /// Restores on the well-behaved bus if the vault is sealed. Asserts that the chip is then as before the session.
+    /// Restores on the well-behaved bus if the vault is sealed. Asserts that afterwards the chip is as before the
+    /// session.
     pub fn assert_given_back(self, rt: &impl Abort, alloc: Global, row: Row) {
         let Lied { mut cut, .. } = self;
         if cut.vault.is_sealed() {

@@ -1,4 +1,4 @@
-//! Calls on a bus that fails once, at each of their transactions in turn.
+//! Calls on a bus on which one transaction fails: each transaction of the call in turn.
 ghost use Rattle.nor_journal.specs.Vault.{IsFresh};
 
 use crate::failing::{Fault, OnceBus};
@@ -13,8 +13,8 @@ use nor_session::{Refusal, Report, Request, What, restore, session};
 use std::alloc::Global;
 use std::process::Abort;
 
-/// A session with its chip and image. The chip is erased, except that each of some sectors has one byte 00h. The image
-/// is FFh, except for four bytes.
+/// A session with its chip and image. The chip is erased, except that some sectors have one byte 00h each. The image is
+/// FFh, except for four bytes.
 #[derive(Clone, Copy)]
 pub enum Job {
     /// A chip of two blocks of 64 KiB. The session erases a sector and a block, and writes the four bytes in the two
@@ -55,7 +55,8 @@ impl Job {
         }
     }
 
-    // Returns the address of the first byte 00h, and the number of sectors that have one, at the same position.
+    // Returns the address of the first byte 00h, and the number of successive sectors that have one at the same
+    // position.
     fn cleared(self) -> (usize, usize) {
         match self {
             Job::OnTwoBlocks => (0xF010, 17),
@@ -149,7 +150,8 @@ impl Stage {
         stage
     }
 
-    // Runs the session without a failure, and asserts that the chip then has the image. Returns its journal.
+    // Runs the session without a failure, and asserts that afterwards the chip has the image. Returns the session's
+    // journal.
     fn kept(&self, rt: &impl Abort) -> Vec<u8> {
         let mut bus = self.bus(rt, Call::Session, Fault::Stop, None);
         let mut vault = MemVault::new(self.alloc);
@@ -211,8 +213,8 @@ impl Stage {
         (refusal, bus.asked)
     }
 
-    /// Stops each transaction of a call in turn. Asserts that the call then returns `Stopped` and sends nothing more.
-    /// Returns the number of transactions.
+    /// Runs a call with a stop at each of its transactions in turn, and without a stop. Asserts that after a stop it
+    /// returns `Stopped` and sends nothing more. Returns the call's number of transactions.
     pub fn stop_at_each(&self, rt: &impl Abort, call: Call) -> u64 {
         let (right, length) = self.right(rt, call);
         for n in 0..=length {
@@ -229,8 +231,9 @@ impl Stage {
         length
     }
 
-    /// Spoils each reply of a call in turn. Checks the result if the reply is a poll's, or a sector's that is compared
-    /// or written to the output. Returns the number of replies that were checked.
+    /// Runs a call with each of its replies spoilt in turn. Checks the result if the spoilt reply is that of a poll, or
+    /// of a sector that is compared or written to the output. `touched` is the number of sectors that the call
+    /// verifies. Returns the number of checked results.
     pub fn spoil_each(&self, rt: &impl Abort, call: Call, touched: u64) -> u64 {
         let right = self.right(rt, call);
         let mut spoilt: u64 = 0;
@@ -246,9 +249,9 @@ impl Stage {
     }
 }
 
-// Returns the error and the number of transactions of a call if the reply of transaction `n`, counted from 0, is
-// spoilt. `met` has the first bytes of that transaction. Returns `None` unless the reply is a poll's, or a sector's
-// that is compared or written to the output.
+// Returns the expected error and number of transactions of a call if the reply of transaction `n`, counted from 0, is
+// spoilt. `met` has the first bytes of that transaction. Returns `None` unless the reply is that of a poll, or of a
+// sector that is compared or written to the output.
 fn told_of_spoilt(
     call: Call,
     touched: u64,

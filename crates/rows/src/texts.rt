@@ -9,7 +9,7 @@ use std::process::Abort;
 
 const LONG: usize = 1_000_000;
 
-// Returns a million equal bytes between the bytes `before` and `after`.
+// Returns the bytes `before`, a million bytes `byte`, and the bytes `after`.
 fn long(rt: &impl Abort, alloc: Global, before: &[u8], byte: u8, after: &[u8]) -> Vec<u8> {
     let run = [byte; 1000];
     let mut text = before.to_vec(alloc).expect(rt, "memory");
@@ -31,7 +31,8 @@ fn fault_of(told: Option<(usize, LineFault)>) -> Option<LayoutFault> {
 }
 
 // Each row has the bytes before a million equal bytes, the repeated byte, the bytes after them, and the fault with its
-// line. The layout is one line, or a million empty lines with or without another line after them.
+// line, if the layout has one. The layout is one line, or a million empty lines with or without another line after
+// them.
 const LAYOUTS: &[(&[u8], u8, &[u8], Option<(usize, LineFault)>)] = &[
     (b"", b':', b"", Some((1, LineFault::Line))),
     (b"", b' ', b"", Some((1, LineFault::Line))),
@@ -55,8 +56,9 @@ fn layouts_of_a_million_bytes(rt: HostRuntime) {
     }
 }
 
-// A name has bytes from 21h to 7Eh, except comma and colon. A line feed ends the line, so the name is empty. An address
-// has only hexadecimal digits. If a line feed replaces it, line 1 is empty, and line 2 has no start address.
+// A name has bytes from 21h to 7Eh, except comma and colon. If its byte is a line feed, the line ends there and the
+// name is empty. An address has only hexadecimal digits. If its byte is a line feed, line 1 is empty, and line 2 has no
+// start address.
 #[test]
 fn a_name_and_an_address_of_each_byte(rt: HostRuntime) {
     for byte in 0..=255 {
@@ -120,8 +122,8 @@ fn journal_of_a_sector(rt: &impl Abort, alloc: Global) -> Vec<u8> {
 }
 
 // Returns the fault of the journal of `journal_of_a_sector` after the lowest bit of the byte at `place` was inverted.
-// At 25 the sector's number 0 becomes 1, which only the digest detects. At another byte of the number, or of the end
-// mark, it becomes a number that no sector has.
+// At position 25 the sector's number changes from 0 to 1, which only the digest detects. At another byte of the number,
+// or in the end mark, the change results in a number that no sector has.
 const fn fault_of_change(place: usize) -> JournalFault {
     match place {
         0..=7 => JournalFault::Magic,

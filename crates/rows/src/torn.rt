@@ -1,5 +1,5 @@
-//! Sessions and restores whose stops cut a transaction: each stop sends the first bytes of the next transaction, and
-//! then the chip keeps its power or loses it.
+//! Sessions and restores that are stopped inside a transaction: each stop sends the first bytes of the next
+//! transaction, and after that the chip keeps its power or loses it.
 //!
 //! Each test asserts how many sessions or restores it stopped.
 use crate::row::{Row, Start};
@@ -7,12 +7,12 @@ use crate::runs::Runs;
 use std::alloc::Global;
 use std::process::Abort;
 
-// How many bytes a stop sends: none, each number up to that of the longest transaction, and for most rows more than
-// that. A transaction that reads the SFDP has five bytes, and one that programs two bytes has six.
+// The numbers of bytes that a stop sends. The longest transactions of the rows are a read of the SFDP, which sends five
+// bytes, and a program of two bytes, which sends six.
 const SHORT: [u32; 7] = [0, 1, 2, 3, 4, 5, 6];
 
-// The numbers of bytes for the row that programs whole pages. Such a transaction has 260 bytes, of which four precede
-// the data. To try each number would take minutes.
+// The numbers of bytes that a stop sends for the row that programs whole pages. A program of a page sends 260 bytes, of
+// which four precede the data. A test with each number would take minutes.
 const LONG: [u32; 10] = [0, 1, 2, 3, 4, 5, 6, 132, 259, 260];
 
 // Two chips that keep their power, one of them busy at first and after each operation, and chips that lose it, one for
@@ -43,7 +43,7 @@ struct Stops {
 impl Stops {
     const NONE: Stops = Stops { kept: 0, lost: 0 };
 
-    // Returns these stops and `more` of them, in runs with this start.
+    // Returns these stops and `more` stops in runs with this start.
     fn with(self, start: Start, more: u64) -> Stops {
         let Stops { kept, lost } = self;
         if start.fill.is_some() {
@@ -105,8 +105,9 @@ fn stop_all(rt: &impl Abort, alloc: Global, row: Row, counts: &[u32]) -> Stops {
     stops
 }
 
-// The sessions send 28, 30, 30, 31, 38 and 42 transactions on an idle chip. On the other chips each operation takes
-// two more polls, and on the slow chip the first wait takes three more.
+// Each row has the numbers of stops at which the chip keeps its power, and loses it. The sessions send 28, 30, 30, 31,
+// 38 and 42 transactions on an idle chip. On the other chips each operation takes two more polls, and on the slow chip
+// the first wait takes three more.
 const SESSIONS: [(Row, u64, u64); 6] = [
     (Row::AByteIsProgrammed, 7 * 61, 7 * 3 * 30),
     (Row::ABitRises, 7 * 67, 7 * 3 * 34),
@@ -124,7 +125,8 @@ fn each_cut_of_a_session(rt: HostRuntime) {
     }
 }
 
-// The session sends 57 transactions on an idle chip, with 16 operations.
+// The stops of the row that programs whole pages. Its session sends 57 transactions on an idle chip, with 16
+// operations.
 const SESSIONS_OF_PAGES: Stops = Stops {
     kept: 10 * 149,
     lost: 10 * 3 * 89,
@@ -137,8 +139,8 @@ fn each_cut_of_a_session_that_programs_pages(rt: HostRuntime) {
     assert!(rt; stops == SESSIONS_OF_PAGES);
 }
 
-// The session sends 112 transactions on an idle chip, with three operations, and seals the vault after 71. The first
-// stop is three transactions before the seal.
+// The stops of the row with large erases. Its session sends 112 transactions on an idle chip, with three operations,
+// and seals the vault after 71. The first stop is three transactions before the seal.
 const SESSIONS_OF_LARGE_ERASES: Stops = Stops {
     kept: 7 * 44,
     lost: 7 * 50,
@@ -152,14 +154,17 @@ fn each_cut_of_a_session_with_large_erases(rt: HostRuntime) {
     assert!(rt; stops == SESSIONS_OF_LARGE_ERASES);
 }
 
-// The first stop is three transactions before the seal. On an idle chip there are 8 stops, and one operation.
+// The stops of the row that programs a byte below the protected range. The first stop is three transactions before the
+// seal. On an idle chip there are 8 stops. The session has one operation, which takes two more polls on the other
+// chips.
 const SESSIONS_BELOW_THE_RANGE: Stops = Stops {
     kept: 7 * 8,
     lost: 7 * 2 * 10,
 };
 
-// The first stop is three transactions before the seal. On an idle chip there are 14 stops, and three operations, of
-// which two are status writes.
+// The stops of the row that programs a byte in the protected range. The first stop is three transactions before the
+// seal. On an idle chip there are 14 stops. The session has three operations, of which two are status writes. Each
+// takes two more polls on the other chips.
 const SESSIONS_IN_THE_RANGE: Stops = Stops {
     kept: 7 * 14,
     lost: 7 * 2 * 20,
@@ -199,7 +204,8 @@ fn each_cut_of_a_restore(rt: HostRuntime) {
     }
 }
 
-// The session's stop sends no data of a page program, one byte, or all, and the restore's stop each number of bytes.
+// The session's stop sends no data byte of a page program, one, or both. The restore's stop sends each number of bytes
+// of `SHORT`.
 const RESTORES_OF_TWO_PAGES: Stops = Stops {
     kept: 5_152,
     lost: 9_492,

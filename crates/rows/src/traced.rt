@@ -1,5 +1,5 @@
-//! Which lines a trace reports as lost if its log refuses them. By the clauses of `TraceBus` nothing else depends on
-//! that.
+//! The lines that a trace reports as lost if its log refuses them. By the contract of `TraceBus`, only this report
+//! depends on the log.
 use crate::held::assert_held;
 use crate::row::{Start, erased};
 use nor_chip::{Bus, Config, Meter, SimBus, TraceBus};
@@ -7,8 +7,8 @@ use std::alloc::Global;
 use std::io::{self, BufWriter, ErrorKind, Write};
 use std::process::Abort;
 
-// A log that accepts `good` writes, and then in turn refuses one and accepts one. It accepts flushes if `flushes` is
-// true.
+// A log that accepts `good` writes, and then alternately refuses one and accepts one. It accepts flushes if `flushes`
+// is true.
 #[derive(Drop)]
 struct Failing<'a> {
     lines: &'a mut Vec<u8>,
@@ -128,8 +128,8 @@ fn flushed(rt: &impl Abort, alloc: Global, lines: &mut Vec<u8>, flushes: bool) -
     (before, bus.lost())
 }
 
-// A line in the log's buffer is reported as lost if a flush of the bus fails, even if the sink has received the line.
-// It isn't if the flush succeeds.
+// A line in the log's buffer is reported as lost if and only if a flush of the bus fails, even if the sink has received
+// the line.
 #[test]
 fn what_the_sink_refuses_is_lost_at_the_latest_by_a_flush(rt: HostRuntime) {
     for flushes in [true, false] {

@@ -1,8 +1,8 @@
-//! Sessions that are stopped after each number of transactions. The restore after each stop is stopped after each
-//! number of its own transactions, and a second restore follows.
+//! Sessions that are stopped after each number of transactions. Each restore after that is stopped after each number of
+//! its own transactions, and a second restore follows.
 //!
-//! Each test counts its runs. A stop before the seal is one run. After any other stop, a restore is run with 0, 1, ..
-//! transactions allowed until it ends, so there is one run more than it has transactions.
+//! Each test counts its runs. A stop before the seal is one run. After any other stop, the restore is run with 0, 1, ..
+//! allowed transactions until it succeeds. The number of runs is one more than the restore's number of transactions.
 //!
 //! A restore identifies the chip, with seven transactions on a TINY64 and four on a W25Q64FV, and reads the one saved
 //! sector. If the sector and the protection are as saved, it ends. Otherwise it sends its operations, each with a write

@@ -1,8 +1,8 @@
 //! Arguments of the command line, with enough memory.
 use nor_words::request_of;
 
-// The contract of `request_of` lets it return out of memory for any arguments, so it doesn't exclude a body that always
-// does. This test does.
+// The contract of `request_of` allows the error "out of memory" for any arguments. A body that always returns this
+// error fulfils it, but fails this test.
 #[test]
 fn words_memory(rt: HostRuntime) {
     let mut words = Vec::new(rt.alloc());
