@@ -11,7 +11,7 @@ use nor_session::{Request, What};
 use std::alloc::Global;
 use std::fmt::Write;
 
-/// A chip, a request, and the image for it.
+/// A chip, a request, and the request's image.
 #[derive(Drop)]
 pub struct Case {
     pub chip: Chip,
@@ -23,8 +23,8 @@ pub struct Case {
 }
 
 impl Case {
-    /// Draws the next case. One case in five has a chip with block protection, so that the errors of protection occur
-    /// often enough.
+    /// Draws a case. One case in five has a chip with block protection, so that errors of protection occur often
+    /// enough.
     pub fn next(alloc: Global, dice: &mut Dice) -> Result<Case, Fault> {
         let chip = chip_for(alloc, dice)?;
         let image = image_for(alloc, dice, &chip)?;
@@ -61,7 +61,7 @@ impl Case {
         false
     }
 
-    /// Returns the last included address, or `None` if the whole chip is included.
+    /// Returns the greatest included address, or `None` if the whole chip is included.
     pub fn last_included(&self) -> Option<u32> {
         match &self.included {
             Some(spans) => spans.iter().map(|span| span.last).max(),
@@ -104,7 +104,7 @@ fn request_for(
     Ok((request, spans))
 }
 
-// Draws an image for a chip: its bytes with changes. One image in 25 has its length changed.
+// Draws an image for a chip: the chip's bytes with changes. For one image in 25 the length is changed, too.
 fn image_for(alloc: Global, dice: &mut Dice, chip: &Chip) -> Result<Vec<u8>, Fault> {
     let mut image = chip.bytes.to_vec(alloc)?;
     contents::alter(dice, image.as_mut_slice());
@@ -140,8 +140,8 @@ fn change_guarded(dice: &mut Dice, chip: &Chip, image: &mut [u8]) {
     }
 }
 
-// Draws what the request asks for. A protection range is drawn for 8 chips in 20 with block protection, and for 1 in 20
-// without it.
+// Draws the operation of the request: a write, an erase or a protection range. The range is drawn for 8 of 20 chips
+// with block protection, and for 1 of 20 chips without it.
 fn what_for(dice: &mut Dice, chip: &Chip) -> What {
     let ranges = if chip.config.scheme { 8 } else { 1 };
     if dice.hits(ranges, 20) {
@@ -169,7 +169,7 @@ fn name_for(dice: &mut Dice, chip: &Chip) -> Option<ChipName> {
     }
 }
 
-// Draws one to four spans of addresses. A span seldom ends past the chip's end.
+// Draws one to four spans of addresses.
 fn spans_for(alloc: Global, dice: &mut Dice, chip: &Chip) -> Result<Vec<Span>, Fault> {
     let mut spans = Vec::new(alloc);
     for _ in 0..dice.pick(1, &[2, 3, 4]) {
@@ -178,7 +178,8 @@ fn spans_for(alloc: Global, dice: &mut Dice, chip: &Chip) -> Result<Vec<Span>, F
     Ok(spans)
 }
 
-// Draws a span: up to a few hundred bytes, up to a few sectors, or up to half of the chip.
+// Draws a span of up to 300 bytes, one sector, 40,000 bytes, or half of the chip. About one span in 40 may end past the
+// chip's end.
 fn span_for(dice: &mut Dice, size: u32) -> Span {
     let sector = contents::sector(dice, size / SECTOR_LEN);
     let offset = dice.pick(0, &[0, 0x800, 0xFFF, 0x100]);
@@ -198,7 +199,7 @@ fn span_for(dice: &mut Dice, size: u32) -> Span {
     }
 }
 
-// Returns the ranges that are included if all these spans are regions of a layout.
+// Returns the ranges of a layout that has each span as a region, with all its regions included.
 fn ranges_of(alloc: Global, spans: &[Span]) -> Result<Ranges, Fault> {
     let mut names = String::from_str(alloc, "r0")?;
     let mut text = String::new(alloc);

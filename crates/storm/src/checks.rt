@@ -31,7 +31,7 @@ impl Ran {
     }
 }
 
-/// Runs the session of a case on a bus with this stop.
+/// Runs the session of a case on a bus with this stop, and returns its result.
 pub fn run(alloc: Global, case: &Case, stop: Stop) -> Result<Ran, Fault> {
     let mut image = case.image.to_vec(alloc)?;
     let bus = case.chip.bus(alloc, stop)?;
@@ -65,8 +65,8 @@ fn is_quiet(bus: &SimBus, chip: &Chip) -> bool {
     now & 0x01 == 0 && (now & 0x02 == 0 || chip.status[0] & 0x02 != 0)
 }
 
-/// Checks that a refused session returned this error, changed neither the bytes nor the non-volatile status bits,
-/// sealed no vault, and sent the expected transactions.
+/// Checks that a refused session returned this error, changed neither the bytes nor the non-volatile status bits, left
+/// its vault unsealed, and sent the expected transactions.
 pub fn check_refused(alloc: Global, case: &Case, refusal: Refusal, ran: &Ran) -> Result<(), Fault> {
     agree_all(&[
         (ran.answer == Err(refusal), "the refusal of a session"),
@@ -98,7 +98,7 @@ pub fn check_ended(case: &Case, wanted: &Wanted, lines: &str, ran: &Ran) -> Resu
     traces::check_lines(sent, lines, "a session")
 }
 
-/// Checks that the report has the given chip and counts the given work.
+/// Checks that the report describes this chip and counts this work.
 pub fn check_report(chip: &Chip, work: Work, report: &Report) -> Result<(), Fault> {
     check_found(chip, &report.found)?;
     let touched = u64::from(report.touched) == work.touched;
@@ -109,7 +109,7 @@ pub fn check_report(chip: &Chip, work: Work, report: &Report) -> Result<(), Faul
     ])
 }
 
-/// Checks that the chip that was found is the given one.
+/// Checks that `found` describes `chip`, after the chip's first wait.
 pub fn check_found(chip: &Chip, found: &Found) -> Result<(), Fault> {
     let config = &chip.config;
     let named = found.name == verdicts::name_of(config);
@@ -125,7 +125,7 @@ pub fn check_found(chip: &Chip, found: &Found) -> Result<(), Fault> {
     ])
 }
 
-/// Checks that the chip on the bus matches the target, and is idle.
+/// Checks that the chip on the bus has the target's bytes and non-volatile status bits, and is idle.
 pub fn check_wanted(wanted: &Wanted, bus: &SimBus) -> Result<(), Fault> {
     let bytes = bus.bytes() == wanted.bytes.as_slice();
     let kept = guards::kept(bus.status()) == guards::kept(wanted.status);

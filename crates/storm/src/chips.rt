@@ -1,4 +1,4 @@
-//! Random chips, as plain values.
+//! Random chips, as values without a bus.
 
 use crate::contents;
 use crate::dice::Dice;
@@ -9,7 +9,7 @@ use crate::parameters::{self, Told};
 use nor_chip::{Config, Delays, Meter, SECTOR_LEN, SimBus};
 use std::alloc::Global;
 
-/// A chip at a moment.
+/// A chip: its configuration and its present state.
 #[derive(Drop)]
 pub struct Chip {
     pub config: Config,
@@ -51,8 +51,8 @@ impl Chip {
     }
 }
 
-/// Draws a chip of 64, 128 or 256 KiB without block protection, known only by its SFDP. A few have SFDP bytes that are
-/// not accepted, or an ID that means that there is no chip.
+/// Draws a chip of 64, 128 or 256 KiB without block protection, whose ID isn't in the table. A few of these chips have
+/// SFDP bytes that a probe rejects, or an ID that means that there is no chip.
 pub fn small(alloc: Global, dice: &mut Dice) -> Result<Chip, Fault> {
     let told = Told {
         size: dice.pick(65_536, &[131_072, 262_144]),
@@ -99,8 +99,8 @@ pub fn large(alloc: Global, dice: &mut Dice) -> Result<Chip, Fault> {
     chip_of(alloc, dice, config, status)
 }
 
-/// Draws status bytes. About a third are locked, at least a third have no protection bits or only BP0 set, and at least
-/// one in eight has undefined protection bits.
+/// Draws status bytes. About a third of them are locked. At least a third have no protection bit set, or only BP0. At
+/// least one in eight has protection bits that the datasheets don't define.
 pub fn protection(dice: &mut Dice) -> Status {
     let lock1 = dice.pick(0x80, &[0x00, 0x00, 0x00, 0x00]);
     let lock2 = dice.pick(0x01, &[0x00, 0x00, 0x00, 0x00]);

@@ -3,7 +3,7 @@
 use crate::dice::Dice;
 use nor_chip::SECTOR_LEN;
 
-/// How the bytes of some sectors change.
+/// The way in which the bytes of some sectors change.
 #[derive(Clone, Copy)]
 enum Style {
     /// All bytes become FFh.
@@ -12,15 +12,15 @@ enum Style {
     Cleared,
     /// All bytes become random.
     Any,
-    /// Bits of a few bytes fall.
+    /// Bits of up to 40 bytes change from 1 to 0.
     Falls,
-    /// Bits of a few bytes rise.
+    /// Bits of up to 40 bytes change from 0 to 1.
     Rises,
     /// One byte becomes random.
     OneByte,
 }
 
-/// Draws the number of a sector below `sectors`. The ends of the chip, and sectors near the end of a range that
+/// Draws the number of a sector below `sectors`. Sectors near the ends of the chip, and near the ends of ranges that
 /// protection bits can select, are more likely.
 pub fn sector(dice: &mut Dice, sectors: u32) -> u32 {
     let last = sectors.saturating_sub(1);
@@ -68,8 +68,8 @@ pub fn paint(dice: &mut Dice, bytes: &mut [u8]) {
     }
 }
 
-/// Makes an image from a chip's bytes: changes up to six runs of sectors, sometimes after all bytes of a small chip
-/// were replaced.
+/// Makes an image from a chip's bytes: changes up to six runs of sectors. For about one small chip in five it first
+/// replaces all bytes.
 pub fn alter(dice: &mut Dice, image: &mut [u8]) {
     let small = image.len() <= 262_144;
     if small && dice.hits(1, 10) {
@@ -104,8 +104,8 @@ fn change_run(dice: &mut Dice, bytes: &mut [u8], style: Style) {
     }
 }
 
-// Draws a run of sectors: its first sector and its length. It has one to three sectors, or begins at a multiple of 32
-// or 64 KiB and has at least that length.
+// Draws a run of sectors: its first sector and its length. The run has one to three sectors, or begins at a multiple of
+// 32 or 64 KiB and has at least that length.
 fn run_for(dice: &mut Dice, sectors: u32) -> (u32, usize) {
     let from = sector(dice, sectors);
     match dice.below(4) {
@@ -129,7 +129,8 @@ fn change(dice: &mut Dice, sector: &mut [u8], style: Style) {
     }
 }
 
-// Changes bytes at `places` random positions of a sector. Their bits only fall, only rise, or do both.
+// Changes bytes at `places` random positions of a sector. With `Falls` their bits only change from 1 to 0, with `Rises`
+// only from 0 to 1, and with any other style they become random.
 fn change_some(dice: &mut Dice, sector: &mut [u8], places: u32, style: Style) {
     for _ in 0..places {
         let at = dice.below(SECTOR_LEN) as usize;

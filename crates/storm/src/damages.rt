@@ -1,11 +1,11 @@
-//! Damaged journals, which must be rejected.
+//! Checks that damaged journals are rejected.
 
 use crate::dice::Dice;
 use crate::fault::{Fault, agree};
 use nor_journal::{Journal, JournalFault};
 use std::alloc::Global;
 
-// How a journal is damaged.
+// The way in which a journal is damaged.
 #[derive(Clone, Copy)]
 enum Damage {
     CutOff,
@@ -13,7 +13,8 @@ enum Damage {
     Changed,
 }
 
-/// Truncates a journal, appends a byte to it, or changes one of its bytes, and checks that it is then rejected.
+/// Truncates a copy of the journal, appends a byte to it, or changes one of its bytes, and checks that `Journal::read`
+/// rejects the result.
 pub fn check(alloc: Global, dice: &mut Dice, journal: &[u8]) -> Result<(), Fault> {
     let mut bytes = journal.to_vec(alloc)?;
     let damage = make(dice, &mut bytes)?;
@@ -55,7 +56,7 @@ fn check_damaged(bytes: &[u8], damage: Damage) -> Result<(), Fault> {
     }
 }
 
-// Draws a position below `length`: half of the time any one, otherwise one of the last 40.
+// Draws a position below `length`: half of the time any position, otherwise one of the last 40.
 fn place(dice: &mut Dice, length: usize) -> usize {
     let length = u32::try_from(length).unwrap_or(u32::MAX);
     let at = if dice.hits(1, 2) {

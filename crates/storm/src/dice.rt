@@ -1,4 +1,4 @@
-//! Random numbers that can be repeated: the same seed and case yield the same numbers in each run.
+//! Reproducible random numbers: the same seed and case yield the same numbers in each run.
 
 use rand_core::Rng;
 use rand_pcg::Pcg32;
@@ -12,8 +12,8 @@ pub struct Dice {
 }
 
 impl Dice {
-    /// Returns the numbers of one case under a seed. Each case has its own stream, so that it can be run without the
-    /// others.
+    /// Returns the source for one case of a seed. Each case has its own stream of numbers, so that it can be run
+    /// without the others.
     pub fn new(seed: u64, case: u64) -> Dice {
         let mixed = case.wrapping_mul(0x9E37_79B9_7F4A_7C15);
         Dice {
@@ -27,8 +27,8 @@ impl Dice {
         below(&mut self.words, n)
     }
 
-    /// Draws how many bytes of its transaction a stop sends. One stop in three has such a number: up to 6, up to 260
-    /// (the length of a full page program), or all bytes.
+    /// Draws the number of bytes that a stop sends of its transaction. Returns `None` for two stops in three, which
+    /// send none. For the others the number is up to 6, up to 260 (the length of a full page program), or all bytes.
     pub fn cut(&mut self) -> Option<u32> {
         match below(&mut self.cuts, 12) {
             0 | 1 => Some(below(&mut self.cuts, 7)),
@@ -44,7 +44,7 @@ impl Dice {
         self.words.next_u64().checked_rem(n).unwrap_or(0)
     }
 
-    /// Draws a choice that is true `times` times out of `of` on average.
+    /// Returns true `times` times out of `of` on average.
     pub fn hits(&mut self, times: u32, of: u32) -> bool {
         self.below(of) < times
     }
@@ -54,12 +54,12 @@ impl Dice {
         self.words.next_u32().to_be_bytes()[0]
     }
 
-    /// Makes each byte random.
+    /// Sets each byte to a random value.
     pub fn fill(&mut self, bytes: &mut [u8]) {
         self.words.fill_bytes(bytes);
     }
 
-    /// Draws one of `first` and `others`, each with the same probability.
+    /// Draws `first` or one of `others`, each with the same probability.
     pub fn pick<T: Copy>(&mut self, first: T, others: &[T]) -> T {
         let count = u32::try_from(others.len()).unwrap_or(u32::MAX);
         let at = self.up_to(u64::from(count));

@@ -1,4 +1,4 @@
-//! The reasons why a run ends early.
+//! The faults that end a run before its last case.
 
 use nor_chip::WrongLength;
 use nor_journal::JournalFault;
@@ -6,25 +6,25 @@ use nor_layout::LayoutFault;
 use std::alloc::{AllocError, AllocFailed};
 use std::io;
 
-/// Why a run ended before its last case.
+/// The fault that ended a run before its last case.
 #[derive(Debug, Drop)]
 pub enum Fault {
     /// The command line can't be read, or a line can't be printed.
     System(io::Error),
     /// Out of memory.
     Memory,
-    /// The case itself can't be made.
+    /// The case can't be drawn or set up.
     Case,
-    /// The result differs from the reference implementation's, in what the text names.
+    /// The result differs from that of the reference implementation. The text names the difference.
     Differs(&'static str),
-    /// The call sent another transaction than the reference implementation. The number of the first such transaction is
-    /// counted from 1.
+    /// The call, which the text names, sent a transaction that differs from that of the reference implementation. The
+    /// number of the first difference is counted from 1.
     Sends(&'static str, u64),
-    /// A comparison did not detect the error that the text names.
+    /// A comparison did not detect a planted error. The text names the error.
     Untold(&'static str),
 }
 
-/// Returns `Differs` unless `agrees` is set.
+/// Returns `Differs` if `agrees` is false.
 pub fn agree(agrees: bool, what: &'static str) -> Result<(), Fault> {
     if agrees {
         Ok(())
@@ -33,8 +33,8 @@ pub fn agree(agrees: bool, what: &'static str) -> Result<(), Fault> {
     }
 }
 
-/// Returns `Differs` for the first of these that is false. The list is one call because each exit of a function is
-/// proved separately.
+/// Returns `Differs` for the first comparison that is false. Callers pass a list, since the prover would prove each
+/// exit of several calls separately.
 pub fn agree_all(things: &[(bool, &'static str)]) -> Result<(), Fault> {
     for (agrees, what) in things {
         if !*agrees {

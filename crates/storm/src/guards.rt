@@ -1,4 +1,5 @@
-//! The addresses that each value of the protection bits protects, by the table in the datasheets.
+//! The addresses that each value of the protection bits protects, by the table in the datasheets of W25Q64FV and
+//! W25Q128FV.
 
 /// Status 1 and status 2.
 pub type Status = [u8; 2];
@@ -40,7 +41,7 @@ pub fn is_undefined(code: u8) -> bool {
     code / 16 % 2 == 1 && code % 8 == 6
 }
 
-// Returns the length of the part of the chip that SEC and BP select.
+// Returns the length of the range at an end of the chip that SEC and BP select.
 fn part_len(code: u8, size: u32) -> u32 {
     let by_sectors = code / 16 % 2 == 1;
     match (by_sectors, code % 8) {

@@ -1,17 +1,18 @@
-//! A bus that sets a bit in the replies to one opcode.
+//! A faulty bus that sets a bit in the replies to one opcode.
 ghost use Rattle.std.proofs.lemmas.Bool.{false≢true};
 ghost use Rattle.nor_chip.specs.Bus.{unknown_bus};
 
 use nor_chip::{Bus, Sent, Stopped, heard_after};
 
-/// Which bit is set in each reply byte, and in the replies to which opcode.
+/// The opcode, and the bit that the bus sets in each byte of the replies to it.
 #[derive(Clone, Copy)]
 pub struct High {
     pub opcode: u8,
     pub bit: u8,
 }
 
-/// A faulty bus: with `Some`, a bit is set in each byte that is replied to one opcode.
+/// A faulty bus over `bus`. If `high` is `Some`, it sets a bit in each byte of the replies to one opcode; otherwise it
+/// has no fault.
 #[derive(Drop)]
 pub struct HighBus<B> {
     bus: B,
@@ -21,7 +22,7 @@ pub struct HighBus<B> {
 }
 
 impl<B: Bus> HighBus<B> {
-    /// Returns a bus over this one.
+    /// Returns a bus over `bus` with the fault `high`.
     pub fn new(bus: B, high: Option<High>) -> HighBus<B> {
         HighBus {
             bus,

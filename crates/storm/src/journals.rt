@@ -1,4 +1,4 @@
-//! The bytes that a session writes to its vault, by simple rules.
+//! The bytes that a session must write to its vault, by simple rules.
 
 use crate::cases::Case;
 use crate::chips::Chip;
@@ -12,8 +12,8 @@ use std::alloc::Global;
 // The length of what follows the records: an end mark of four bytes and a SHA-256.
 const END_LEN: usize = 36;
 
-/// Returns the journal without its end mark and digest, after the sectors below `below` were scanned: the header, and a
-/// record for each touched sector in ascending order.
+/// Returns the journal after the sectors below `below` were scanned: the header, and a record for each touched sector
+/// in ascending order. The end mark and the digest are missing.
 pub fn begun(alloc: Global, case: &Case, wanted: &Wanted, below: u32) -> Result<Vec<u8>, Fault> {
     let mut text = Vec::new(alloc);
     put_head(&mut text, &case.chip)?;
@@ -52,8 +52,9 @@ fn put_record(text: &mut Vec<u8>, number: u32, sector: &[u8]) -> Result<(), Faul
     Ok(())
 }
 
-/// Checks the vault of a session on a faulty bus: it holds exactly what the reference implementation put by the same
-/// replies, which is nothing, a journal without its end mark and digest, or a complete journal.
+/// Checks the vault of a session on a faulty bus. If `sealed` is true, the vault must be sealed, and hold a journal
+/// that begins with `begun` and has only the end mark and the digest after it. Otherwise it must be unsealed and hold
+/// exactly `begun`.
 pub fn check_put(vault: &MemVault, begun: &[u8], sealed: bool) -> Result<(), Fault> {
     let held = vault.bytes();
     let same = if sealed {
@@ -68,8 +69,8 @@ pub fn check_put(vault: &MemVault, begun: &[u8], sealed: bool) -> Result<(), Fau
     ])
 }
 
-/// Checks the vault of a session that was refused after its whole scan: it holds the journal without its end mark and
-/// digest.
+/// Checks the vault of a session that was refused after its whole scan: it must hold the journal without the end mark
+/// and the digest.
 pub fn check_refused(
     alloc: Global,
     case: &Case,
@@ -83,8 +84,8 @@ pub fn check_refused(
     )
 }
 
-/// Checks the vault of a session that stopped after `sent` transactions, before its seal. It holds the header if the
-/// chip was identified, and the records of the touched sectors that were scanned.
+/// Checks the vault of a session that stopped after `sent` transactions, before its seal. It must hold the header if
+/// the chip was identified, and the records of the touched sectors that were scanned.
 pub fn check_stopped(
     alloc: Global,
     case: &Case,
@@ -99,7 +100,8 @@ pub fn check_stopped(
     agree(held == begun.as_slice(), "the journal that a stop leaves")
 }
 
-// Returns the number after that of the last sector scanned, if `scanned` sectors were scanned.
+// Returns one more than the number of the last sector that was scanned, if `scanned` sectors were scanned; 0 if none
+// was.
 fn below(case: &Case, scanned: u64) -> u32 {
     let mut below = 0;
     let mut left = scanned;

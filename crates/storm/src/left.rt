@@ -1,4 +1,4 @@
-//! Chips after calls that follow each other, compared with a model after each call.
+//! Runs successive calls on a chip and on its model, and compares the two after each call.
 
 use crate::cases::Case;
 use crate::checks::{self, Ran};
@@ -23,7 +23,7 @@ pub struct Accepted<'a> {
     pub lines: &'a str,
 }
 
-/// A chip after a call, which may have been stopped.
+/// A chip after a call that succeeded or was stopped.
 #[derive(Drop)]
 pub struct Left {
     pub bus: SimBus,
@@ -31,11 +31,11 @@ pub struct Left {
     pub sent: Vec<u8>,
     /// True if the call succeeded.
     pub ended: bool,
-    // the chip of the reference implementation
+    // the model of the chip in the reference implementation
     model: Model,
 }
 
-// A call under a stop, with the lines that it sends without a stop.
+// A call with a stop, and the lines that it sends without a stop.
 #[derive(Clone, Copy)]
 struct Call<'a> {
     whole: &'a str,
@@ -43,12 +43,12 @@ struct Call<'a> {
 }
 
 impl<'a> Call<'a> {
-    // True if the call succeeds: the stop comes after all its transactions.
+    // True if the stop is after all transactions of the call, so that the call succeeds.
     fn ends(self) -> bool {
         self.stop.after >= lines::count(self.whole)
     }
 
-    // Returns the lines that the call sends. A transaction that the stop interrupts has no line.
+    // Returns the lines that the call sends before the stop. A transaction that the stop interrupts has no line.
     fn lines(self) -> &'a str {
         lines::first(self.whole, self.stop.after)
     }
@@ -63,8 +63,8 @@ fn restore_lines_on(alloc: Global, accepted: Accepted<'_>, chip: &Chip) -> Resul
     transactions::restore(alloc, chip, saved.sectors, &restored)
 }
 
-/// Runs an accepted session under a stop. Checks that it succeeds if and only if the stop comes after all its
-/// transactions, that it sends the first of them, and that it leaves the chip as the model does.
+/// Runs an accepted session with a stop. Checks that the session succeeds if and only if the stop is after all its
+/// transactions, that it sends exactly the transactions before the stop, and that afterwards the chip equals the model.
 pub fn run(alloc: Global, accepted: Accepted<'_>, stop: Stop) -> Result<(Left, MemVault), Fault> {
     let ran = checks::run(alloc, accepted.case, stop)?;
     let call = Call {
@@ -82,7 +82,7 @@ pub fn run(alloc: Global, accepted: Accepted<'_>, stop: Stop) -> Result<(Left, M
     Ok((left, ran.vault))
 }
 
-// Returns the model of a chip after a call, or a fault if the chip on the bus differs from it.
+// Returns the model of `chip` after a call, or a fault if the chip on the bus differs from the model.
 fn model_behind(alloc: Global, chip: &Chip, call: Call<'_>, bus: &SimBus) -> Result<Model, Fault> {
     let mut model = Model::of(alloc, chip)?;
     model.call(call.whole, call.stop);
@@ -105,9 +105,9 @@ fn check_session(call: Call<'_>, ran: &Ran) -> Result<(), Fault> {
     traces::check_trace(ran.sent.as_slice(), call.lines(), "a stopped session")
 }
 
-/// Restores from the journal of a session under a stop, on the chip that the previous call left. Checks that the
-/// restore succeeds if and only if the stop comes after all its transactions, that it sends the first of them, and that
-/// it leaves the chip as the model does.
+/// Restores from the journal of a session, with a stop, on the chip that the previous call left. Checks that the
+/// restore succeeds if and only if the stop is after all its transactions, that it sends exactly the transactions
+/// before the stop, and that afterwards the chip equals the model.
 pub fn restore(
     alloc: Global,
     accepted: Accepted<'_>,

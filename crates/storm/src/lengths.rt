@@ -1,4 +1,4 @@
-//! How many transactions a call sends, from its steps.
+//! The number of transactions that a call sends, computed from its steps.
 
 use crate::cases::Case;
 use crate::chips::Chip;
@@ -6,7 +6,7 @@ use crate::verdicts;
 use crate::wanted::Work;
 use nor_session::{Refusal, What};
 
-/// Returns the sum of a few numbers. None of them is near the greatest `u64`.
+/// Returns the sum of a few numbers, which are all far below the greatest `u64`.
 fn sum(numbers: &[u64]) -> u64 {
     let mut sum = 0_u64;
     for number in numbers {
@@ -15,8 +15,8 @@ fn sum(numbers: &[u64]) -> u64 {
     sum
 }
 
-/// Returns the number of transactions of a probe: polls until BUSY is clear, the ID, and three reads of SFDP. SFDP
-/// isn't read if the ID is in the table, or means that there is no chip.
+/// Returns the number of transactions of a probe: polls until BUSY is clear, the ID, and three reads of SFDP. A probe
+/// doesn't read SFDP if the ID is in the table, or means that there is no chip.
 pub fn probe(chip: &Chip) -> u64 {
     let polls = u64::from(chip.delays.now) + 1;
     let known = verdicts::is_in_table(&chip.config) || verdicts::is_no_chip(&chip.config);
@@ -47,8 +47,8 @@ pub fn saving(case: &Case) -> u64 {
     sum(&[opening(&case.chip), scanned])
 }
 
-/// Returns the number of transactions of a session that is refused. Errors 1 to 3 are returned after the probe, 9 and
-/// 10 after the scan, and the others after the identification.
+/// Returns the number of transactions of a session that is refused with this error. Errors 1 to 3 are returned after
+/// the probe, 9 and 10 after the scan, and the others after the identification.
 pub fn refused(case: &Case, refusal: Refusal) -> u64 {
     match refusal {
         Refusal::NoChip | Refusal::UnknownChip(_) | Refusal::OtherName => probe(&case.chip),
@@ -57,8 +57,8 @@ pub fn refused(case: &Case, refusal: Refusal) -> u64 {
     }
 }
 
-/// Returns the number of transactions of the changes: one read for each touched sector that isn't erased, and the
-/// operations. An operation is a write enable, a command, and polls until BUSY is clear.
+/// Returns the number of transactions of the changes to a chip: one read for each touched sector that isn't erased, and
+/// the operations. An operation is a write enable, a command, and polls until BUSY is clear.
 pub fn changes(chip: &Chip, work: Work) -> u64 {
     let operations = sum(&[work.erases, work.programs, work.status_writes]);
     let each = u64::from(chip.delays.each) + 3;
@@ -72,7 +72,7 @@ pub fn session(case: &Case, work: Work) -> u64 {
     sum(&[saving(case), changes(&case.chip, work), checked])
 }
 
-/// Returns the number of transactions of a restore that succeeds, from a journal with `saved` sectors. It always
+/// Returns the number of transactions of a restore that succeeds, from a journal with `saved` sectors. A restore always
 /// verifies.
 pub fn restore(chip: &Chip, saved: u64, work: Work) -> u64 {
     sum(&[opening(chip), saved, changes(chip, work), work.touched])

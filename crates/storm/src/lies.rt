@@ -30,7 +30,7 @@ struct Told {
     sent: Vec<u8>,
 }
 
-/// Checks a session on a faulty bus. `count` is the number of its transactions on a bus without a fault.
+/// Checks a session on a faulty bus. `count` is the session's number of transactions on a bus without a fault.
 pub fn check_session(alloc: Global, dice: &mut Dice, case: &Case, count: u64) -> Result<(), Fault> {
     let lie = lie_for(dice, count);
     let mut image = case.image.to_vec(alloc)?;
@@ -71,7 +71,8 @@ fn tell_session(alloc: Global, bus: Faulty, case: &Case) -> (Told, Put) {
     (Told { answer, sent }, put)
 }
 
-/// Checks a restore of `chip` on a faulty bus, from a journal with these contents.
+/// Checks a restore of `chip` on a faulty bus, from a journal with the contents `saved`. `count` is the restore's
+/// number of transactions on a bus without a fault.
 pub fn check_restore(
     alloc: Global,
     dice: &mut Dice,
@@ -121,7 +122,7 @@ fn check(ran: &Ran, told: Told, call: &'static str) -> Result<(), Fault> {
     check_answer(ran.answer, told.answer, count)
 }
 
-// Returns how many transactions both sent.
+// Checks that the call and the reference implementation sent the same transactions. Returns their number.
 fn check_sent(sent: &[u8], told: &[u8], call: &'static str) -> Result<u64, Fault> {
     let sent = traces::text(sent)?;
     traces::check_lines(sent, traces::text(told)?, call)?;
@@ -153,14 +154,14 @@ struct Read {
     sent: Vec<u8>,
 }
 
-// The chip as the reference implementation read it, and the trace.
+// The result of the reference implementation for a reading call, with the chip as it read it, and its trace.
 #[derive(Drop)]
 struct Known {
     answer: Result<Case, Halt>,
     sent: Vec<u8>,
 }
 
-/// Checks a reading call on a faulty bus.
+/// Checks a reading call on a faulty bus. `count` is the call's number of transactions on a bus without a fault.
 pub fn check_reading(
     alloc: Global,
     dice: &mut Dice,
@@ -225,7 +226,7 @@ fn check_known(
     }
 }
 
-// How a bus lies.
+// The fault of a bus.
 #[derive(Clone, Copy)]
 enum Lie {
     Spoilt(Spoil),
@@ -235,8 +236,9 @@ enum Lie {
 // A bus with one of these faults.
 type Faulty = HighBus<SpoiltBus<SimBus>>;
 
-// Draws a fault of the bus. Three in four faults of a clear bit are replaced by a set bit in the replies to one opcode,
-// half of the time that of status 2. No more is drawn for that, so other faults stay as they are for each seed.
+// Draws a fault of the bus. About three of four faults that clear a bit are replaced by one that sets this bit in the
+// replies to one opcode, half of the time 35h (status 2). The replacement draws no random number, so the other faults
+// of each seed don't change.
 fn lie_for(dice: &mut Dice, count: u64) -> Lie {
     let opcodes = [0x35, 0x05, 0x35, 0x9F, 0x35, 0x03, 0x35, 0x4B];
     let high = usize::try_from(count / 4 % 8)
@@ -251,8 +253,8 @@ fn lie_for(dice: &mut Dice, count: u64) -> Lie {
     }
 }
 
-// Draws a fault of a `SpoiltBus`. A fault that begins at a transaction is in the last quarter of the call for half of
-// the draws, and anywhere for the others.
+// Draws a fault of a `SpoiltBus`. A fault that begins at a transaction begins in the last quarter of the call for half
+// of the draws, and anywhere for the other half.
 fn spoil_for(dice: &mut Dice, count: u64) -> Spoil {
     let late = count / 4 * 3;
     let number = if dice.hits(1, 2) {

@@ -1,4 +1,4 @@
-//! The trace lines of transactions, one line for each.
+//! The lines of a trace, one for each transaction.
 
 use crate::chips::Chip;
 use crate::fault::Fault;
@@ -8,8 +8,8 @@ use nor_chip::SECTOR_LEN;
 use std::alloc::Global;
 use std::fmt::Write;
 
-/// The lines of the transactions sent so far, and the status bits that the chip's next replies depend on. If memory ran
-/// out for a line, `whole` returns a fault.
+/// The lines of the transactions sent so far, and the chip's status bits, BUSY and latch, which determine its next
+/// replies. If memory ran out for a line, `whole` returns a fault.
 #[derive(Drop)]
 pub struct Lines {
     text: String,
@@ -21,7 +21,7 @@ pub struct Lines {
 }
 
 impl Lines {
-    /// Returns an empty list for a chip in its present state.
+    /// Returns an empty list for a chip in this state.
     pub fn new(alloc: Global, chip: &Chip) -> Lines {
         Lines {
             text: String::new(alloc),

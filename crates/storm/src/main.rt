@@ -1,21 +1,22 @@
-//! A random differential test of sessions, restores, rehearsals and reading calls on simulated chips. Each case is made
-//! from a seed and compared with a reference implementation, which is written from the specification and shares no code
-//! with the engine.
+//! A random differential test of sessions, restores, rehearsals and reading calls on simulated chips. Each case is
+//! drawn from a seed, and its results are compared with those of a reference implementation. The reference
+//! implementation is written from the specification, and has no code of the engine for what a call checks, saves, sends
+//! and changes.
 //!
 //! - `words.rt`: the command line: seeds, number of cases, first case
-//! - `runs.rt`: runs the cases of a seed, and chooses which checks a case gets
-//! - `dice.rt`: random numbers that depend only on seed and case
+//! - `runs.rt`: runs the cases of a seed, and draws which checks each case gets
+//! - `dice.rt`: random numbers that depend only on the seed and the number of the case
 //! - `cases.rt`: a random chip with a request and an image
 //! - `chips.rt`: random chips
 //! - `contents.rt`: random bytes of chips and images
 //! - `parameters.rt`: random SFDP bytes, and a reference parser for them
-//! - `guards.rt`: which addresses the protection bits protect
+//! - `guards.rt`: the addresses that each value of the protection bits protects
 //! - `verdicts.rt`: the error that a call must return
 //! - `wanted.rt`: the target of a session or restore, and the work that it takes
-//! - `lengths.rt`: how many transactions a call sends
-//! - `transactions.rt`: which transactions a call sends, in order
+//! - `lengths.rt`: the number of transactions that a call sends
+//! - `transactions.rt`: the transactions that a call sends, in order
 //! - `lines.rt`: the trace line of each transaction
-//! - `pace.rt`: how long a chip is busy, and when its write enable latch is set
+//! - `pace.rt`: BUSY and the write enable latch of a chip
 //! - `journals.rt`: the bytes that a session writes to its vault
 //! - `model.rt`: a reference model of the chip, also for stops inside a transaction and power failures
 //! - `checks.rt`: compares sessions that are not stopped
@@ -27,6 +28,7 @@
 //! - `damages.rt`: checks that damaged journals are rejected
 //! - `readings.rt`: compares the calls that only read
 //! - `lies.rt`: compares calls on faulty buses
+//! - `high.rt`: a faulty bus that sets a bit in the replies to one opcode
 //! - `told.rt`: the reference implementation over a faulty bus, which acts on the replies of that bus
 //! - `tally.rt`: counts the cases of each kind
 //! - `wrongs.rt`: checks that the comparisons detect errors
@@ -97,7 +99,7 @@ fn run_all(rt: &HostRuntime, job: Job) -> Result<ExitCode, Fault> {
         failed = failed.saturating_add(told);
     }
     println!(rt; "{passed} passed, {failed} failed")?;
-    // A run without cases shows nothing, so it is a failure.
+    // A run without a case tests nothing, so it fails.
     if failed == 0 && passed > 0 {
         Ok(ExitCode::SUCCESS)
     } else {
@@ -105,7 +107,8 @@ fn run_all(rt: &HostRuntime, job: Job) -> Result<ExitCode, Fault> {
     }
 }
 
-// Runs the cases of a seed. Returns how many agreed before the first failure, and the number of failures: 0 or 1.
+// Runs the cases of a seed, and prints the tally. Returns the number of cases that agreed before the first failure, and
+// the number of failures: 0 or 1. If a kind of case is too rare, that is a failure, too.
 fn run(rt: &HostRuntime, job: Job, seed: u64) -> Result<(u64, u64), Fault> {
     let (tally, halt) = runs::run(rt.alloc(), job, seed);
     eprintln!(rt; "Seed {seed}. {tally}")?;
@@ -124,7 +127,7 @@ fn run(rt: &HostRuntime, job: Job, seed: u64) -> Result<(u64, u64), Fault> {
     Ok((job.count, 0))
 }
 
-// Prints what ended a run, and the command that runs this case again.
+// Prints the case and the fault that ended a run, and the command that runs this case again.
 fn tell(rt: &HostRuntime, seed: u64, halt: &Halt) -> io::Result<()> {
     let case = halt.case;
     tell_fault(rt, seed, case, &halt.fault)?;

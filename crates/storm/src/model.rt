@@ -1,4 +1,4 @@
-//! A reference model of the chip: the effect of each transaction, which is given as a line of a trace, and of a stop.
+//! A reference model of the chip: the effect of each transaction, given as a line of a trace, and the effect of a stop.
 
 use crate::chips::Chip;
 use crate::fault::{Fault, agree_all};
@@ -8,13 +8,12 @@ use crate::pace::Pace;
 use nor_chip::SimBus;
 use std::alloc::Global;
 
-/// After which transaction a bus stops, and how.
+/// The transaction at which a bus stops, and the effect of the stop.
 #[derive(Clone, Copy)]
 pub struct Stop {
     /// The number of transactions that are carried out before the stop.
     pub after: u64,
-    /// The number of bytes of the next transaction that are sent, or all if the transaction has fewer. With `None` no
-    /// byte is sent.
+    /// The number of bytes that are sent of the next transaction, all if it has fewer. With `None` no byte is sent.
     pub cut: Option<u32>,
     /// The byte that each byte of a running program or erase becomes if the chip then loses its power. With `None` the
     /// chip keeps its power.
@@ -39,7 +38,7 @@ impl Stop {
     }
 }
 
-/// A chip, and the operation that it performs while it is busy.
+/// The model: a chip, and the operation that it performs while it is busy.
 #[derive(Drop)]
 pub struct Model {
     pub chip: Chip,
@@ -49,7 +48,7 @@ pub struct Model {
 // The operation of a busy chip.
 #[derive(Clone, Copy)]
 enum Work {
-    // An operation that began before the model was made. Its kind isn't known.
+    // An operation that began before the model was made. The model doesn't know its kind.
     Unknown,
     // A program or an erase: its first address, and the number of bytes.
     Bytes(u32, u32),
@@ -58,7 +57,7 @@ enum Work {
 }
 
 impl Model {
-    /// Returns a model of a chip. If the chip is busy, its operation isn't known.
+    /// Returns a model of `chip`. If the chip is busy, its operation is `Unknown`.
     pub fn of(alloc: Global, chip: &Chip) -> Result<Model, Fault> {
         Ok(Model {
             chip: chip.copy(alloc)?,
@@ -66,7 +65,7 @@ impl Model {
         })
     }
 
-    /// Carries out a call under a stop. `whole` has the lines of all transactions that the call sends without a stop.
+    /// Carries out a call with a stop. `whole` has the lines of all transactions that the call sends without a stop.
     pub fn call(&mut self, whole: &str, stop: Stop) {
         let first = lines::first(whole, stop.after);
         for line in first.lines() {
@@ -79,7 +78,8 @@ impl Model {
         }
     }
 
-    /// Returns a fault unless the chip on the bus has the bytes and the status of this chip.
+    /// Returns a fault unless the chip on the bus has the bytes, the non-volatile status bits, BUSY and the latch of
+    /// the model.
     pub fn check(&self, bus: &SimBus) -> Result<(), Fault> {
         let now = bus.status();
         let shown = now[0] & 0b0000_0011;
@@ -99,7 +99,8 @@ impl Model {
         ])
     }
 
-    // Stops at a transaction. `sent` has the hexadecimal digits of the bytes that the transaction sends without a stop.
+    // Applies a stop at a transaction. `sent` has the hexadecimal digits of the bytes that the transaction sends
+    // without a stop.
     fn stop(&mut self, sent: &str, stop: Stop) {
         if let Some(count) = stop.cut {
             let digits = (count as usize).saturating_mul(2);
@@ -110,7 +111,8 @@ impl Model {
         }
     }
 
-    // Carries out a transaction that sends these bytes. Transactions that only read, except polls, change nothing.
+    // Carries out a transaction that sends these bytes. Transactions that only read, except polls, don't change the
+    // model.
     fn carry_out(&mut self, sent: &str) {
         let opcode = sent.get(..2).unwrap_or("");
         match (opcode, sent.len() / 2) {

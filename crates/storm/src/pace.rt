@@ -1,14 +1,14 @@
-//! How long a chip is busy, and when its write enable latch is set.
+//! BUSY and the write enable latch of a chip.
 
 use crate::chips::Chip;
 
-/// BUSY and the write enable latch of a chip at a moment.
+/// How long a chip stays busy, and whether its write enable latch is set.
 #[derive(Clone, Copy)]
 pub struct Pace {
-    /// The number of further polls that reply BUSY.
+    /// The number of polls that will still show BUSY.
     pub busy: u16,
     latch: bool,
-    // the number of polls that reply BUSY after each operation
+    // the number of polls that show BUSY after each operation
     each: u16,
 }
 
@@ -44,8 +44,8 @@ impl Pace {
         }
     }
 
-    // Returns the pace after a poll. A poll of a busy chip takes one off the polls that are left, and the last of these
-    // clears the write enable latch.
+    // Returns the pace after a poll. A poll of a busy chip reduces `busy` by one. When `busy` becomes 0, the write
+    // enable latch is cleared.
     fn behind_poll(self) -> Pace {
         let busy = self.busy.saturating_sub(1);
         Pace {
@@ -55,7 +55,7 @@ impl Pace {
         }
     }
 
-    /// Returns the pace after all polls that reply BUSY.
+    /// Returns the pace after all polls that show BUSY.
     pub fn waited(self) -> Pace {
         let mut pace = self;
         for _ in 0..self.busy {

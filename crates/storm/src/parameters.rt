@@ -3,7 +3,7 @@
 use crate::dice::Dice;
 use nor_probe::SfdpFault;
 
-/// The bytes that a chip returns for 5Ah from address 0 on, with FFh after the end of its tables.
+/// The first 256 SFDP bytes of a chip, as 5Ah returns them.
 pub type Shown = [u8; 256];
 
 /// The size of a chip, and whether it has the erase types of 32 KiB and 64 KiB, according to its SFDP bytes.
@@ -14,7 +14,7 @@ pub struct Told {
     pub k64: bool,
 }
 
-/// Draws SFDP bytes that describe a chip of this size with these erase types. Bytes that no check reads are random or
+/// Draws SFDP bytes that describe a chip of this size with these erase types. Bytes that `read` ignores are random or
 /// FFh.
 pub fn show(dice: &mut Dice, told: Told) -> Shown {
     let mut shown = [0xFF; 256];
@@ -57,7 +57,8 @@ pub fn show(dice: &mut Dice, told: Told) -> Shown {
     shown
 }
 
-// Draws the second double word, with the size in bits: the number of bits minus one, or the exponent of the number.
+// Draws the second double word, which has the size in bits: the number of bits minus one, or with bit 31 set its binary
+// logarithm.
 fn density(dice: &mut Dice, size: u32) -> [u8; 4] {
     let bits = size.saturating_mul(8);
     if dice.hits(1, 3) {
@@ -67,7 +68,7 @@ fn density(dice: &mut Dice, size: u32) -> [u8; 4] {
     }
 }
 
-// Puts the four erase types, in a random rotation: those that the chip has, and others that `read` ignores.
+// Writes the four erase types in a random rotation: those that the chip has, and others that `read` ignores.
 fn put_kinds(dice: &mut Dice, shown: &mut Shown, start: usize, told: Told) {
     let blank = dice.pick([0x00, 0x00], &[[0x0C, 0x21], [0x12, 0xDC], [0x00, 0x52]]);
     let half = if told.k32 { [0x0F, 0x52] } else { blank };
@@ -80,8 +81,8 @@ fn put_kinds(dice: &mut Dice, shown: &mut Shown, start: usize, told: Told) {
     }
 }
 
-/// Damages the bytes in one or two ways. Most damage makes `read` return a fault; a changed table address may be the
-/// same address modulo the chip's size.
+/// Damages the bytes once or twice. After most damage `read` returns a fault, but a changed address of the table may be
+/// the same address modulo the chip's size.
 pub fn damage(dice: &mut Dice, shown: &mut Shown) {
     for _ in 0..dice.pick(1, &[1, 2]) {
         damage_once(dice, shown);
@@ -114,7 +115,7 @@ fn damage_once(dice: &mut Dice, shown: &mut Shown) {
     }
 }
 
-// Draws a second double word with a size that no supported chip has.
+// Draws a second double word whose size a probe rejects.
 fn wrong_density(dice: &mut Dice) -> [u8; 4] {
     let wrong = [
         0x0003_FFFF,
@@ -135,7 +136,8 @@ pub fn put(shown: &mut Shown, at: usize, piece: &[u8]) {
     }
 }
 
-/// Returns what the bytes describe on a chip of this size, or the first of the eight faults that applies.
+/// Returns the size and erase types that the bytes describe, or the first of the eight faults. `size` is the chip's
+/// size, by which it reduces the table's address.
 pub fn read(shown: &Shown, size: u32) -> Result<Told, SfdpFault> {
     if shown[..4] != [0x53, 0x46, 0x44, 0x50] {
         return Err(SfdpFault::Signature);
@@ -159,7 +161,7 @@ pub fn read(shown: &Shown, size: u32) -> Result<Told, SfdpFault> {
     read_table(&table)
 }
 
-// Returns what the double words 1 to 9 describe.
+// Returns the size and erase types that double words 1 to 9 describe, or the first fault.
 fn read_table(table: &[u8; 36]) -> Result<Told, SfdpFault> {
     // Bits 17 and 18 of the first double word.
     if table[2] / 2 % 4 >= 2 {

@@ -1,4 +1,4 @@
-//! The calls that only read, compared with the chip's bytes.
+//! Checks the results of the calls that only read.
 
 use crate::cases::Case;
 use crate::dice::Dice;
@@ -41,8 +41,8 @@ struct Ran {
     sent: Vec<u8>,
 }
 
-/// Makes each reading call on a case's chip: without a stop, under a stop, and on a faulty bus. Then checks a readout
-/// into a vault that may refuse one of its calls.
+/// Checks each reading call on a case's chip: without a stop, with a random stop, and on a faulty bus. Also checks a
+/// readout into a vault that refuses one of its calls.
 pub fn check(alloc: Global, dice: &mut Dice, case: &Case) -> Result<(), Fault> {
     for reading in [
         Reading::Probe,
@@ -70,7 +70,7 @@ impl Reading {
         }
     }
 
-    /// Returns the error, if any, that the call must return before it reads more than the probe does.
+    /// Returns the error, if any, that the call must return after the probe, before any other transaction.
     pub fn early_refusal(self, case: &Case) -> Option<Refusal> {
         let found = verdicts::of_probe(&case.chip.config, case.request.named);
         match self {
@@ -113,9 +113,9 @@ impl Reading {
         lies::check_reading(alloc, dice, case, self, enough)
     }
 
-    // Checks the call under a stop. It has its own result if the stop comes after all of these lines; otherwise it
-    // returns `Stopped` and sent the first of them. In both cases the chip's bytes and non-volatile status bits are as
-    // before.
+    // Checks the call with a stop. If the stop is after all of these lines, the call must have its result without a
+    // stop; otherwise it must return `Stopped` after the lines before the stop. In both cases the chip's bytes and
+    // non-volatile status bits must be as before.
     fn check_under(
         self,
         alloc: Global,
@@ -143,7 +143,7 @@ impl Reading {
         if lost { Err(Fault::Memory) } else { Ok(ran) }
     }
 
-    /// Makes the call.
+    /// Makes the call on `bus`, with the name, the included ranges and the image of the case.
     pub fn call<B: Bus>(self, alloc: Global, case: &Case, bus: &mut B) -> Result<Told, Refusal> {
         let named = case.request.named;
         let included = case.request.included.as_ref();
@@ -166,7 +166,8 @@ impl Reading {
     }
 }
 
-// Checks a call under a stop: its error, if any, and the lines that it must send.
+// Checks the result of a call, the lines that it sent, and the chip after it. `refusal` is the expected error, and
+// `first` has the expected lines.
 fn check_ran(
     alloc: Global,
     case: &Case,
@@ -202,7 +203,7 @@ fn first_difference(case: &Case) -> Option<Refusal> {
     None
 }
 
-/// Checks a successful call on a faulty bus against what the reference implementation read of the chip.
+/// Compares the result of a successful call on a faulty bus with the chip as the reference implementation read it.
 pub fn check_known(alloc: Global, known: &Case, told: &Told) -> Result<(), Fault> {
     match told {
         Told::Found | Told::Comparison(_) => Ok(()),
@@ -229,7 +230,7 @@ fn check_copy(alloc: Global, case: &Case, out: &MemVault, what: &'static str) ->
     agree(out.bytes() == copy.as_slice(), what)
 }
 
-// Returns the included bytes, and FFh for the others.
+// Returns the contents that a readout must produce: the included bytes, and FFh for the others.
 fn copy_of(alloc: Global, case: &Case) -> Result<Vec<u8>, Fault> {
     let mut copy = case.chip.bytes.to_vec(alloc)?;
     for (address, byte) in (0_u32..).zip(copy.iter_mut()) {
@@ -240,8 +241,8 @@ fn copy_of(alloc: Global, case: &Case) -> Result<Vec<u8>, Fault> {
     Ok(copy)
 }
 
-// Checks the report on protection. An empty range must be reported as two zeros, and no range if the protection bits
-// are undefined.
+// Checks the report on protection. It must have an empty range as two zeros, and no range if the protection bits are
+// undefined.
 fn check_protection(case: &Case, told: Protection) -> Result<(), Fault> {
     let code = guards::code_of(case.chip.status);
     let size = case.chip.config.size;
@@ -260,8 +261,8 @@ fn check_protection(case: &Case, told: Protection) -> Result<(), Fault> {
     ])
 }
 
-// Checks the report of a reading call. It has no changes, and its transactions are the probe and one read for each
-// sector that holds an included address.
+// Checks the report of a readout or a verification. It must count no changes, and as transactions the probe and one
+// read for each sector that contains an included address.
 fn check_report(case: &Case, report: &Report) -> Result<(), Fault> {
     checks::check_found(&case.chip, &report.found)?;
     let idle = report.touched == 0 && report.erases == 0 && report.programs == 0;
@@ -298,7 +299,7 @@ fn check_refused_copy(alloc: Global, dice: &mut Dice, case: &Case) -> Result<(),
     )
 }
 
-// Reads out into a vault that refuses its `nth` call, and keeps `kept` bytes of it.
+// Reads out into a vault that refuses its call number `nth`, and keeps `kept` bytes of that call's piece.
 fn copy_out(alloc: Global, case: &Case, bus: SimBus, (nth, kept): (u64, usize)) -> Copied {
     let mut sent = Vec::new(alloc);
     let mut bus = TraceBus::new(bus, &mut sent);
@@ -309,8 +310,8 @@ fn copy_out(alloc: Global, case: &Case, bus: SimBus, (nth, kept): (u64, usize)) 
     Copied { answer, out, sent }
 }
 
-// Checks the bytes and the trace of a readout that its vault refused. The vault has the first bytes of the copy.
-// Sectors are read and written 16 at a time, and none is read after the 16 that hold the next byte.
+// Checks the bytes and the trace of a readout whose vault refused a call. The vault must have the first `written` bytes
+// of the contents. Sectors are read and written 16 at a time, and none is read after the 16 that contain the next byte.
 fn check_part(alloc: Global, case: &Case, written: u64, copied: &Copied) -> Result<(), Fault> {
     check_first(alloc, case, written, copied.out.inner().bytes())?;
     let piece = u32::try_from(written / 65_536).unwrap_or(u32::MAX);

@@ -23,7 +23,7 @@ struct Plan {
 }
 
 impl Plan {
-    // Returns a stop of the session or of a restore, after the given number of transactions.
+    // Returns a stop after `after` transactions, with this plan's `cut` and `fill`.
     fn stop(self, after: u64) -> Stop {
         Stop {
             after,
@@ -43,7 +43,7 @@ struct Ran {
     sent: Vec<u8>,
 }
 
-/// Rehearses an accepted session under three stops. The first one is the session's.
+/// Rehearses an accepted session with three stops, one for the session and two for restores, and checks the result.
 pub fn check(alloc: Global, dice: &mut Dice, accepted: Accepted<'_>) -> Result<(), Fault> {
     let plan = plan_for(dice, accepted);
     let ran = run(alloc, accepted.case, plan)?;
@@ -120,7 +120,8 @@ fn check_ran(alloc: Global, accepted: Accepted<'_>, plan: Plan, ran: &Ran) -> Re
     check_restores(alloc, accepted, plan, rehearsal.restores, &ran.sent)
 }
 
-// Checks that the rehearsal made as many restores as calls one by one do, and sent the same transactions.
+// Checks that the rehearsal made the same number of restores, and sent the same transactions, as the session and the
+// restores called one by one.
 fn check_restores(
     alloc: Global,
     accepted: Accepted<'_>,
@@ -134,8 +135,8 @@ fn check_restores(
     traces::check_trace(sent, traces::text(lines.as_slice())?, "a rehearsal")
 }
 
-// Calls the session and the restores one by one. Returns the number of restores, and appends to `sent` what all these
-// calls send.
+// Calls the session and the restores one by one. Returns the number of restores, and appends the traces of all these
+// calls to `sent`.
 fn run_each(
     alloc: Global,
     accepted: Accepted<'_>,

@@ -45,7 +45,7 @@ pub fn run(
     }
 }
 
-// A restore that isn't stopped: its chip and journal, and the results of the reference implementation.
+// A restore: its chip and journal, and the results of the reference implementation if no stop occurs.
 #[derive(Clone, Copy)]
 struct Whole<'a> {
     chip: &'a Chip,
@@ -55,8 +55,8 @@ struct Whole<'a> {
     refusal: Option<Refusal>,
 }
 
-/// Restores from the journal of a session that succeeded, on a chip that may be another one. Returns the error with
-/// which the restore must be refused, if any.
+/// Checks restores from the journal of a session that succeeded, on a random chip. Returns the error with which the
+/// restore is refused, if any.
 pub fn check(
     alloc: Global,
     dice: &mut Dice,
@@ -87,7 +87,7 @@ fn check_whole(alloc: Global, dice: &mut Dice, whole: Whole<'_>) -> Result<Optio
     Ok(whole.refusal)
 }
 
-// Returns the lines of the transactions that the restore sends.
+// Returns the lines of the transactions that the restore must send.
 fn lines_of(alloc: Global, whole: Whole<'_>) -> Result<Lines, Fault> {
     let sectors = whole.saved.sectors;
     match whole.refusal {
@@ -96,8 +96,8 @@ fn lines_of(alloc: Global, whole: Whole<'_>) -> Result<Lines, Fault> {
     }
 }
 
-// Checks that the restore sends these lines, that it sends only the first of them under a stop, and that it agrees with
-// the reference implementation on a faulty bus.
+// Checks that the restore sends these lines, that with a stop it sends only those before the stop, and that it agrees
+// with the reference implementation on a faulty bus.
 fn check_lines(alloc: Global, dice: &mut Dice, whole: Whole<'_>, lines: &str) -> Result<(), Fault> {
     check_unstopped(alloc, whole, lines)?;
     check_stopped(alloc, dice, whole, lines)?;
@@ -136,8 +136,8 @@ fn check_ended(whole: Whole<'_>, ran: &Restored) -> Result<(), Fault> {
     checks::check_wanted(whole.wanted, &ran.bus)
 }
 
-// Checks the restore under a stop. It has its own result only if the stop comes after all of these lines; otherwise it
-// returns `Stopped` and sent the first of them.
+// Checks the restore with a random stop. If the stop is after all of these lines, the restore must have its result
+// without a stop; otherwise it must return `Stopped` after the lines before the stop.
 fn check_stopped(
     alloc: Global,
     dice: &mut Dice,
@@ -159,7 +159,7 @@ fn check_stopped(
     check_left(alloc, whole.chip, lines, stop, &ran)
 }
 
-// Returns a fault unless the stop leaves the chip as the model does.
+// Returns a fault unless the chip equals the model after the stop.
 fn check_left(
     alloc: Global,
     chip: &Chip,
@@ -180,8 +180,8 @@ fn check_stop(wanted: Option<Refusal>, lines: &str, ran: &Restored) -> Result<()
     traces::check_trace(ran.sent.as_slice(), lines, "a restore under a stop")
 }
 
-// Returns the journal's chip with other bytes and, at times, with other status bits or another unique ID; or, one time
-// in twelve, an unrelated small chip.
+// Draws a chip to restore: one time in twelve an unrelated small chip, otherwise the journal's chip with other bytes.
+// Half of these have other status bits or another unique ID, too.
 fn other_chip(alloc: Global, dice: &mut Dice, chip: &Chip) -> Result<Chip, Fault> {
     if dice.hits(1, 12) {
         return chips::small(alloc, dice);
@@ -199,7 +199,8 @@ fn other_chip(alloc: Global, dice: &mut Dice, chip: &Chip) -> Result<Chip, Fault
     Ok(other)
 }
 
-/// Returns the target of a restore on `chip`: the saved sectors as they were, and the saved protection bits.
+/// Returns the target of a restore on `chip`: its bytes with the saved sectors, and its status bits with the saved
+/// protection bits.
 pub fn restored_of(alloc: Global, chip: &Chip, saved: Saved<'_>) -> Result<Wanted, Fault> {
     let mut bytes = chip.bytes.to_vec(alloc)?;
     take_saved(bytes.as_mut_slice(), saved);

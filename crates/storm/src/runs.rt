@@ -1,4 +1,4 @@
-//! Runs the cases of a seed, one after the other.
+//! Runs the cases of a seed in order.
 
 use crate::cases::Case;
 use crate::checks::{self, Ran};
@@ -15,14 +15,14 @@ use crate::{
 use nor_session::Refusal;
 use std::alloc::Global;
 
-/// The case that ended a run, and why.
+/// The number of the case that ended a run, and its fault.
 #[derive(Drop)]
 pub struct Halt {
     pub case: u64,
     pub fault: Fault,
 }
 
-/// Runs the cases of a seed that the job names, up to the first that fails, and counts them.
+/// Runs the job's cases for this seed up to the first failure. Returns the counts of cases, and the failure, if any.
 pub fn run(alloc: Global, job: Job, seed: u64) -> (Tally, Option<Halt>) {
     let mut tally = Tally::NONE;
     for case in job.first..job.first.saturating_add(job.count) {
@@ -34,7 +34,7 @@ pub fn run(alloc: Global, job: Job, seed: u64) -> (Tally, Option<Halt>) {
 }
 
 // Runs a case: its session and, one time in eight, the reading calls on its chip. The reading calls and the session on
-// a faulty bus draw from their own random numbers, so that they don't change the rest of the case.
+// a faulty bus draw from random numbers of their own, so that they don't change the rest of the case.
 fn run_case(alloc: Global, seed: u64, number: u64, tally: &mut Tally) -> Result<(), Fault> {
     let mut dice = Dice::new(seed, number);
     let case = Case::next(alloc, &mut dice)?;
@@ -120,8 +120,8 @@ fn check_accepted(
     go_on(alloc, dice, accepted, ran, tally)
 }
 
-// Checks an accepted session. Its stops and restores are always checked; a rehearsal, a damaged journal and a restore
-// on another chip are checked at times.
+// Checks an accepted session, and the same session with stops and restores. Also checks a rehearsal one time in four,
+// and a damaged journal and a restore on another chip one time in three.
 fn go_on(
     alloc: Global,
     dice: &mut Dice,

@@ -1,4 +1,4 @@
-//! Sessions that are stopped, and the restores that restore the original chip.
+//! Sessions that are stopped, and restores of the original chip.
 
 use crate::cases::Case;
 use crate::checks::{self, Ran};
@@ -16,8 +16,8 @@ use nor_journal::{Journal, MemVault};
 use nor_session::Refusal;
 use std::alloc::Global;
 
-/// Stops an accepted session at a random transaction, and restores, with further stops, until a restore succeeds.
-/// Returns how many of these stops were inside a transaction.
+/// Runs an accepted session with a random stop. If it sealed its vault, restores, with further stops, until a restore
+/// succeeds. Returns the numbers of stops inside a transaction.
 pub fn check(alloc: Global, dice: &mut Dice, accepted: Accepted<'_>) -> Result<Cuts, Fault> {
     let stop = Stop {
         after: stop_for(dice, accepted.case, accepted.wanted),
@@ -57,8 +57,8 @@ fn check_stop(
     }
 }
 
-/// Stops a refused session at a random transaction. It returns its own error only if the stop comes after all its
-/// transactions, and otherwise `Stopped`.
+/// Runs a refused session with a random stop. If the stop is after all its transactions, the session must return the
+/// error `refusal`, otherwise `Stopped`.
 pub fn check_refused(
     alloc: Global,
     dice: &mut Dice,
@@ -101,8 +101,8 @@ fn check_refusal(
     traces::check_lines(ran.lines()?, first, "a refused session that was stopped")
 }
 
-/// Draws the number of transactions after which a session stops: one time in four any number, otherwise one after the
-/// seal.
+/// Draws the number of transactions after which a session stops: one time in four any number, otherwise one that is
+/// enough for the seal.
 pub fn stop_for(dice: &mut Dice, case: &Case, wanted: &Wanted) -> u64 {
     let whole = lengths::session(case, wanted.work(&case.chip));
     if dice.hits(1, 4) {
@@ -123,8 +123,8 @@ pub fn fill_for(dice: &mut Dice, case: &Case) -> Option<u8> {
     }
 }
 
-// Checks that sectors that aren't touched, and status bits that are never changed, are as before. Without block
-// protection, or with a locked status, no non-volatile status bit may change.
+// Checks that the sectors that aren't touched, and the status bits that flashnor never changes, are as before the
+// session. Without block protection, or with a locked status, no non-volatile status bit may differ.
 fn check_within(case: &Case, wanted: &Wanted, bus: &SimBus) -> Result<(), Fault> {
     check_outside(&case.chip, wanted, bus.bytes())?;
     let (before, after) = (guards::kept(case.chip.status), guards::kept(bus.status()));
@@ -147,8 +147,8 @@ fn check_outside(chip: &Chip, wanted: &Wanted, bytes: &[u8]) -> Result<(), Fault
     Ok(())
 }
 
-// Checks, if the chip kept its power, that in sectors that aren't raised bits only fell, and only those that the target
-// has clear.
+// Checks, if the chip kept its power, that in each sector that isn't raised, bits changed only from 1 to 0, and only
+// bits that are 0 in the target.
 fn check_gentle(case: &Case, wanted: &Wanted, bus: &SimBus, fill: Option<u8>) -> Result<(), Fault> {
     if fill.is_some() {
         return Ok(());
@@ -172,8 +172,8 @@ fn is_gentle(old: &[u8], new: &[u8], now: &[u8]) -> bool {
         .all(|((old, new), now)| *new & !*now == 0 && *now & !*old == 0)
 }
 
-// Restores with up to four stops, and then without a stop. At each stop the chip loses its power if it did at the
-// session's stop. Returns the given counts with the stops of these restores added.
+// Restores with up to four stops, and at last without a stop, until a restore succeeds. At each stop the chip loses its
+// power if it did at the session's stop. Returns the counts `cuts` with the stops of these restores added.
 fn give_back(
     alloc: Global,
     dice: &mut Dice,
@@ -207,7 +207,7 @@ fn next_stop(dice: &mut Dice, accepted: Accepted<'_>, first: Stop) -> Stop {
     }
 }
 
-// Restores under a stop, and checks the chip if the restore did not succeed.
+// Restores with a stop, and checks the chip if the restore did not succeed.
 fn give_some(
     alloc: Global,
     accepted: Accepted<'_>,
@@ -223,7 +223,7 @@ fn give_some(
     Ok(left)
 }
 
-/// Draws the number of transactions after which a restore stops: half of the time at most 40.
+/// Draws the number of transactions after which a restore stops: at most `most`, and half of the time at most 40.
 pub fn stop_of_restore(dice: &mut Dice, most: u64) -> u64 {
     let most = if dice.hits(1, 2) { most } else { most.min(40) };
     dice.up_to(most)

@@ -1,25 +1,25 @@
-//! How many cases of each kind were run.
+//! Counts the cases of each kind that were run.
 
 use crate::model::Stop;
 use nor_session::Refusal;
 use std::fmt;
 
-/// Returns how often each kind of case must occur in a run of `cases` cases: five times in 500 or more, and otherwise
+/// Returns the least number of cases of each kind in a run of `cases` cases: five if `cases` is 500 or more, otherwise
 /// 0.
 pub fn least(cases: u64) -> u64 {
     if cases < 500 { 0 } else { 5 }
 }
 
-/// Cases by their result.
+/// The numbers of cases by their result.
 #[derive(Clone, Copy)]
 pub struct Tally {
-    /// Accepted sessions. Each was also stopped and restored.
+    /// Accepted sessions. Each was also run with a random stop, and restored if its vault was sealed.
     pub accepted: u64,
-    /// Refused sessions by the number of their error.
+    /// Refused sessions, by the number of their error.
     pub refused: [u64; 21],
-    /// Accepted restores on other chips.
+    /// Accepted restores on chips that differ from what the session left.
     pub restored: u64,
-    /// Refused restores on other chips by the number of their error.
+    /// Refused restores on chips that differ from what the session left, by the number of their error.
     pub kept_away: [u64; 21],
     /// Accepted sessions that were also rehearsed.
     pub rehearsed: u64,
@@ -51,7 +51,7 @@ impl Cuts {
         losses: 0,
     };
 
-    /// Returns the counts with the stop of a session added, if the session was stopped inside a transaction.
+    /// Returns the counts, with one more for a session if it was stopped inside a transaction.
     pub fn with_session(self, stop: Stop, ended: bool) -> Cuts {
         let more = u64::from(!ended && stop.cut.is_some());
         Cuts {
@@ -60,7 +60,7 @@ impl Cuts {
         }
     }
 
-    /// Returns the counts with the stop of a restore added, if the restore was stopped inside a transaction.
+    /// Returns the counts, with one more for a restore if it was stopped inside a transaction.
     pub fn with_restore(self, stop: Stop, ended: bool) -> Cuts {
         let more = u64::from(!ended && stop.cut.is_some());
         Cuts {
@@ -77,7 +77,7 @@ impl Cuts {
         }
     }
 
-    // True if each kind occurred at least `least` times.
+    // True if each of the three counts is at least `least`.
     fn are_telling(self, least: u64) -> bool {
         self.sessions >= least && self.restores >= least && self.losses >= least
     }
@@ -96,8 +96,9 @@ impl Tally {
         cuts: Cuts::NONE,
     };
 
-    /// True if accepted sessions, accepted restores, reading calls, stops inside a transaction, and each of the errors
-    /// 1 to 10 of a session occurred often enough for this number of cases, and no session returned another error.
+    /// True if the counts are sufficient for this number of cases. Accepted sessions, accepted restores, reading calls,
+    /// the three kinds of stops inside a transaction, and sessions with each of errors 1 to 10 must each reach
+    /// `least(cases)`. No session may have another error.
     pub fn is_telling(&self, cases: u64) -> bool {
         let least = least(cases);
         let mut refused = self.refused.iter().enumerate();
@@ -120,7 +121,8 @@ impl Tally {
         }
     }
 
-    /// Counts a restore on another chip that was accepted, or refused with this error.
+    /// Counts a restore that was accepted, or refused with this error, on a chip that differs from what the session
+    /// left.
     pub fn count_restore(&mut self, refusal: Option<Refusal>) {
         match refusal {
             None => self.restored = self.restored.wrapping_add(1),

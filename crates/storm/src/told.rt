@@ -1,5 +1,5 @@
-//! The reference implementation of sessions, restores and reading calls over a bus that may be faulty. It acts only on
-//! the replies of that bus.
+//! The reference implementation of sessions, restores and reading calls over a bus that may be faulty. It knows the
+//! chip only by the replies of that bus.
 
 use crate::cases::Case;
 use crate::chips::Chip;
@@ -18,28 +18,28 @@ use nor_probe::ChipName;
 use nor_session::{Refusal, Request, What};
 use std::alloc::{AllocError, AllocFailed, Global};
 
-/// A faulty bus to a simulated chip, with a trace of all that is sent over it.
+/// A faulty bus to a simulated chip, with a trace of its transactions.
 pub type Liar<'a> = TraceBus<HighBus<SpoiltBus<SimBus>>, &'a mut Vec<u8>>;
 
 /// The greatest number of polls in a wait.
 const MOST_POLLS: u32 = 65_536;
 
-/// Why a call did not succeed.
+/// The reason why a call did not succeed: the error that it must return, or a fault of the test.
 #[derive(Drop)]
 pub enum Halt {
     Refused(Refusal),
     Failed(Fault),
 }
 
-/// The bytes that a session must have put into its vault, the journal without end mark and digest, and whether the
-/// journal was completed and sealed.
+/// The bytes that a session must have put into its vault, without the end mark and the digest, and whether it must have
+/// sealed the vault.
 #[derive(Drop)]
 pub struct Put {
     pub begun: Vec<u8>,
     pub sealed: bool,
 }
 
-/// The caller of the reference implementation, with its bus.
+/// The reference implementation, with its bus and the expected contents of the vault.
 #[derive(Drop)]
 pub struct Caller<'a> {
     pub bus: Liar<'a>,
@@ -59,7 +59,8 @@ impl<'a> Caller<'a> {
 }
 
 impl Caller<'_> {
-    /// Runs a session. The chip is assumed to be what it replies, and bytes that aren't read are assumed to be FFh.
+    /// Runs the session of a case. It takes the chip's configuration and status from the replies, and bytes that it
+    /// doesn't read as FFh.
     pub fn session(&mut self, case: &Case) -> Result<(), Halt> {
         let (config, status1) = self.find(case.request.named)?;
         let chip = self.identify(config, status1)?;
@@ -67,7 +68,7 @@ impl Caller<'_> {
         self.judge(case, &mut told)
     }
 
-    // Checks the request against the identified chip, scans, checks the request again, and makes the changes.
+    // Checks the request for errors 1 to 8, scans, checks for errors 9 and 10, and makes the changes.
     fn judge(&mut self, case: &Case, told: &mut Case) -> Result<(), Halt> {
         refuse(verdicts::of_opening(told))?;
         if !matches!(told.request.what, What::WpRange { .. }) {
@@ -89,7 +90,7 @@ impl Caller<'_> {
         Ok(())
     }
 
-    /// Runs a reading call. Returns the case with the chip as its replies describe it.
+    /// Runs a reading call. Returns the case with the chip that the replies describe.
     pub fn reading(&mut self, reading: Reading, case: &Case) -> Result<Case, Halt> {
         let (config, status1) = self.find(case.request.named)?;
         let chip = unread(self.alloc, config, [status1, 0])?;
@@ -108,7 +109,7 @@ impl Caller<'_> {
         refuse(reading.refusal(told))
     }
 
-    /// Runs a restore from a journal.
+    /// Runs a restore from a journal with the contents `saved`.
     pub fn restore(&mut self, saved: Saved<'_>) -> Result<(), Halt> {
         let (config, status1) = self.find(None)?;
         refuse(verdicts::of_journal(&config, saved))?;
@@ -117,7 +118,7 @@ impl Caller<'_> {
         self.give_back(saved, &mut chip)
     }
 
-    // Checks that the journal is from this device, and reads the saved sectors in ascending order.
+    // Checks that the journal is for this device and status, and reads the saved sectors in ascending order.
     fn take_saved(&mut self, saved: Saved<'_>, chip: &mut Chip) -> Result<(), Halt> {
         refuse(verdicts::of_unit(chip, saved))?;
         for number in 0..chip.sectors() {
@@ -144,8 +145,8 @@ impl Caller<'_> {
         }
     }
 
-    // Polls until a reply shows BUSY clear, and returns this status 1. Returns `Timeout` with the given address after
-    // `MOST_POLLS` polls.
+    // Polls until a reply shows BUSY clear, and returns this reply, status 1. After `MOST_POLLS` polls returns
+    // `Timeout` with `address`.
     fn wait(&mut self, address: u32) -> Result<u8, Halt> {
         for _ in 0..MOST_POLLS {
             let mut status1 = [0];
@@ -157,8 +158,8 @@ impl Caller<'_> {
         Err(Halt::Refused(Refusal::Timeout { address }))
     }
 
-    // Finds the chip: waits, reads the ID, and reads SFDP if the ID is unknown. Returns the chip's configuration and
-    // its status 1.
+    // Finds the chip: waits, reads the ID, and reads SFDP if the ID isn't in the table. Returns the chip's
+    // configuration and its status 1, or the error of the probe.
     fn find(&mut self, named: Option<ChipName>) -> Result<(Config, u8), Halt> {
         let status1 = self.wait(0)?;
         let mut id = [0; 3];
@@ -175,8 +176,8 @@ impl Caller<'_> {
         Ok((config, status1))
     }
 
-    // Reads the SFDP bytes, and returns the configuration that they describe. The bytes are put together so that the
-    // table follows the headers.
+    // Reads the SFDP bytes, and returns the configuration that they describe. In this configuration the table follows
+    // the headers, wherever the chip has it.
     fn find_parameters(&mut self, id: [u8; 3]) -> Result<Config, Halt> {
         let mut signature = [0; 8];
         self.send(&[0x5A, 0x00, 0x00, 0x00, 0x00], &mut signature)?;
@@ -214,7 +215,7 @@ impl Caller<'_> {
         Ok(status2[0])
     }
 
-    // Reads each sector that holds an included address, in ascending order.
+    // Reads each sector that contains an included address, in ascending order.
     fn scan(&mut self, case: &Case, chip: &mut Chip) -> Result<(), Halt> {
         for number in 0..chip.sectors() {
             if case.includes_in(number) {
@@ -224,7 +225,7 @@ impl Caller<'_> {
         Ok(())
     }
 
-    // Reads a sector into the bytes that are known of the chip.
+    // Reads a sector into the known bytes of `chip`.
     fn take_sector(&mut self, number: u32, chip: &mut Chip) -> Result<(), Halt> {
         let sector = chip
             .bytes
@@ -238,8 +239,8 @@ impl Caller<'_> {
         self.send(&[0x03, high, middle, low], sector)
     }
 
-    // Makes the changes in the order of `transactions`: lifts protection, erases blocks, programs sectors, and sets
-    // protection.
+    // Makes the changes in the order of `transactions.rt`: clears the protection bits, erases, programs sectors, and
+    // sets the protection bits.
     fn change(&mut self, chip: &mut Chip, wanted: &Wanted) -> Result<(), Halt> {
         self.prepare(chip, wanted)?;
         for number in 0..chip.sectors() {
@@ -273,8 +274,8 @@ impl Caller<'_> {
         self.play(lines)
     }
 
-    // Sends the write enables and commands of a list. After each command except a write enable it polls the bus itself,
-    // so the polls and reads in the list are skipped; the reads were made before.
+    // Sends the write enables and commands of the lines, and waits after each command except a write enable. Skips
+    // lines with a reply: this function makes the waits itself, and its caller has made the reads.
     fn play(&mut self, lines: Lines) -> Result<(), Halt> {
         let lines = lines.whole()?;
         self.play_lines(lines.text())
@@ -329,7 +330,7 @@ fn difference(start: u32, shown: &[u8], wanted: &[u8]) -> Option<Refusal> {
     None
 }
 
-// Returns a chip none of whose bytes has been read yet.
+// Returns a chip of which no byte has been read yet: each is FFh.
 fn unread(alloc: Global, config: Config, status: Status) -> Result<Chip, Fault> {
     Ok(Chip {
         config,
@@ -365,7 +366,7 @@ fn refuse(refusal: Option<Refusal>) -> Result<(), Halt> {
     }
 }
 
-// Returns the bytes of a line without a reply.
+// Returns the bytes sent by a line that has no reply.
 fn bytes_of(alloc: Global, line: &str) -> Result<Vec<u8>, Fault> {
     let mut bytes = Vec::new(alloc);
     for pair in line.as_bytes().chunks(2) {

@@ -10,7 +10,8 @@ use nor_session::Refusal;
 /// The opcodes of the modifying commands, as a trace shows them.
 const CHANGING: [&str; 7] = ["06", "01", "02", "20", "52", "d8", "c7"];
 
-/// Checks that a trace has exactly these lines. The fault has the number of the first line that differs.
+/// Checks that the trace `sent` has exactly the lines `wanted`. Returns `Sends` with the number of the first line that
+/// differs, counted from 1.
 pub fn check_lines(sent: &str, wanted: &str, call: &'static str) -> Result<(), Fault> {
     let mut number = 1_u64;
     for (line, other) in sent.lines().zip(wanted.lines()) {

@@ -1,15 +1,15 @@
-//! Which transactions each call sends, in order: a reference implementation with one line for each transaction.
+//! The transactions that each call must send, in order, with one line for each: a part of the reference implementation.
 //!
 //! A wait is a number of polls (05h) until one shows BUSY clear. An operation is a write enable (06h), a command, and a
-//! wait. One 03h reads a sector of 4,096 bytes. A call that is stopped sends the first lines of what it sends without a
-//! stop. A session or restore has these steps:
+//! wait. One 03h reads a sector of 4,096 bytes. A call that is stopped sends a prefix of the lines that it sends
+//! without a stop. A session or restore has these steps:
 //!
-//! 1. Find the chip: a wait, the ID, and three reads of SFDP unless the ID is in the table or means that there is no
-//!    chip.
+//! 1. Find the chip: a wait, the ID, and three reads of SFDP. The SFDP is not read if the ID is in the table, or means
+//!    that there is no chip.
 //! 2. Identify the device: status 2 and the unique ID.
 //! 3. Read the sectors that may change, in ascending order.
 //! 4. Clear the protection bits, if a touched sector is protected.
-//! 5. Erase.
+//! 5. Erase the raised sectors.
 //! 6. Program the touched sectors, in ascending order.
 //! 7. Set the protection bits of the target, if they differ.
 //! 8. Verify: read the touched sectors again, in ascending order.
@@ -39,8 +39,8 @@ pub fn session(alloc: Global, case: &Case, wanted: &Wanted) -> Result<Lines, Fau
 }
 
 // Appends steps 1 to 3 of a session. Step 3 reads the sectors below `below` that hold an included address, and is left
-// out for a protection range. The session writes each touched sector to the vault when it has read it, and seals the
-// vault after the last one.
+// out for a protection range. The session writes each touched sector to the vault as soon as it has read the sector,
+// and seals the vault after the last one.
 fn save(lines: &mut Lines, case: &Case, below: u32) {
     find(lines, &case.chip);
     identify(lines);
@@ -102,16 +102,16 @@ fn scan_saved(lines: &mut Lines, chip: &Chip, saved: &[Sector]) {
     read_touched(lines, saved);
 }
 
-/// Returns the lines of a probe, which are the same for every result.
+/// Returns the lines of a probe. The name that the caller requires of the chip doesn't change them.
 pub fn probe(alloc: Global, chip: &Chip) -> Result<Lines, Fault> {
     let mut lines = Lines::new(alloc, chip);
     find(&mut lines, chip);
     lines.whole()
 }
 
-/// Returns the lines of a readout or a comparison: step 1, and then reads of the sectors below `below` that hold an
-/// included address, in ascending order. An error of the chip, the image's length or a range is returned before the
-/// first of these reads, a difference after the last one.
+/// Returns the lines of a readout or a verification: step 1, and then reads of the sectors below `below` that contain
+/// an included address, in ascending order. The call returns an error of the chip, the image's length or a region
+/// before the first of these reads, and a difference after the last one.
 pub fn reading(alloc: Global, case: &Case, below: u32) -> Result<Lines, Fault> {
     let mut lines = Lines::new(alloc, &case.chip);
     find(&mut lines, &case.chip);
@@ -119,7 +119,7 @@ pub fn reading(alloc: Global, case: &Case, below: u32) -> Result<Lines, Fault> {
     lines.whole()
 }
 
-/// Returns the lines of a report on protection: step 1, and then a read of status 2 if `is_found` is set.
+/// Returns the lines of a report on protection: step 1, and then a read of status 2 if `is_found` is true.
 pub fn protection(alloc: Global, chip: &Chip, is_found: bool) -> Result<Lines, Fault> {
     let mut lines = Lines::new(alloc, chip);
     find(&mut lines, chip);
@@ -195,7 +195,7 @@ pub fn prepare(lines: &mut Lines, chip: &Chip, wanted: &Wanted) {
     }
 }
 
-/// Appends step 7. After step 4 the protection bits are 0.
+/// Appends step 7. If step 4 was sent, the protection bits are 0 before this step.
 pub fn protect(lines: &mut Lines, chip: &Chip, wanted: &Wanted) {
     let code = match wanted.first_guarded(chip) {
         Some(_) => 0,
@@ -207,7 +207,7 @@ pub fn protect(lines: &mut Lines, chip: &Chip, wanted: &Wanted) {
 }
 
 // Appends the erases of step 5 for a chip that isn't erased as a whole. They are in ascending order, each for the
-// largest block that has only raised sectors: 64 KiB, else 32 KiB, else one sector.
+// largest aligned block with only raised sectors for which the chip has an erase: 64 KiB, 32 KiB or one sector.
 fn erase_blocks(lines: &mut Lines, chip: &Chip, wanted: &Wanted) {
     for block in 0..chip.sectors() / 16 {
         let first = block.saturating_mul(16);
@@ -232,8 +232,8 @@ fn erase_half(lines: &mut Lines, chip: &Chip, wanted: &Wanted, first: u32) {
     }
 }
 
-/// Appends step 6 for one sector. A sector that wasn't erased is read first. Each page that differs from the target is
-/// programmed by one operation.
+/// Appends step 6 for one sector. A sector that wasn't erased is read first. One operation programs each page that
+/// differs from the target.
 pub fn program_sector(lines: &mut Lines, chip: &Chip, wanted: &Wanted, number: u32) {
     let is_erased = wanted.raises_all(number, 1);
     if !is_erased {

@@ -1,4 +1,4 @@
-//! The error that a call must return, if any, by rules that are checked in order.
+//! The error that a call must return, if any. The rules are checked in their order.
 
 use crate::cases::Case;
 use crate::chips::Chip;
@@ -13,7 +13,7 @@ pub fn is_in_table(config: &Config) -> bool {
     name_of(config) != ChipName::Sfdp
 }
 
-/// Returns the name under which the chip is found.
+/// Returns the name that a probe must find for the chip.
 pub fn name_of(config: &Config) -> ChipName {
     match config.id {
         [0xEF, 0x40, 0x17] => ChipName::W25Q64FV,
@@ -62,7 +62,7 @@ pub fn of_places(case: &Case) -> Option<Refusal> {
     }
 }
 
-/// Returns the first of the errors 1 to 8 that applies.
+/// Returns the first of errors 1 to 8 that a session must return, if any.
 pub fn of_opening(case: &Case) -> Option<Refusal> {
     let config = &case.chip.config;
     let protection = of_protection(config.scheme, guards::code_of(case.chip.status));
@@ -91,7 +91,7 @@ fn of_range(start: u32, len: u32, size: u32) -> Option<Refusal> {
     }
 }
 
-/// Returns error 9 or 10 if it applies. The caller has checked errors 1 to 8.
+/// Returns error 9 or 10 if a session must return it. The caller must have excluded errors 1 to 8.
 pub fn of_changes(case: &Case, wanted: &Wanted) -> Option<Refusal> {
     let chip = &case.chip;
     let guarded = wanted.first_guarded(chip);
@@ -115,7 +115,7 @@ pub struct Saved<'a> {
     pub sectors: &'a [Sector],
 }
 
-/// Returns the first error of a restore that applies. `wanted` is the target of the restore.
+/// Returns the first error that a restore must return, if any. `wanted` is the target of the restore.
 pub fn of_restore(chip: &Chip, saved: Saved<'_>, wanted: &Wanted) -> Option<Refusal> {
     of_probe(&chip.config, None)
         .or(of_journal(&chip.config, saved))

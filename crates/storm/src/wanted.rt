@@ -1,4 +1,4 @@
-//! The target of a session or restore, and the work that it takes, by simple rules on the chip's bytes.
+//! The target of a session or restore, and the work to reach it, computed by simple rules from the chip's bytes.
 
 use crate::cases::Case;
 use crate::chips::Chip;
@@ -9,10 +9,10 @@ use nor_layout::Span;
 use nor_session::What;
 use std::alloc::Global;
 
-/// How a sector changes.
+/// The change of a sector.
 #[derive(Clone, Copy)]
 pub struct Sector {
-    /// True if some byte changes.
+    /// True if some byte must change.
     pub touched: bool,
     /// True if some bit must rise from 0 to 1.
     pub raised: bool,
@@ -20,7 +20,7 @@ pub struct Sector {
     pub pages: u32,
 }
 
-/// The target: what the chip must become.
+/// The target: the contents that the chip must get.
 #[derive(Drop)]
 pub struct Wanted {
     pub bytes: Vec<u8>,
@@ -91,7 +91,7 @@ impl Wanted {
         from.take(count as usize).all(|sector| sector.raised)
     }
 
-    /// Returns the work for this chip.
+    /// Returns the work that turns `chip` into the target.
     pub fn work(&self, chip: &Chip) -> Work {
         let sectors = self.sectors.as_slice();
         Work {
@@ -103,8 +103,8 @@ impl Wanted {
         }
     }
 
-    // Returns the number of status writes. One clears the protection bits if a touched sector is protected; one sets
-    // the target's protection bits at the end if they differ.
+    // Returns the number of status writes. If a touched sector is protected, one clears the protection bits. If the
+    // protection bits then differ from the target's, one sets them at the end.
     fn status_writes(&self, chip: &Chip) -> u64 {
         let lifted = self.first_guarded(chip).is_some();
         let code = if lifted {
@@ -146,8 +146,8 @@ fn take_span(case: &Case, span: Span, bytes: &mut [u8]) {
     }
 }
 
-// Returns the target's non-volatile status bits. For a protection range they have the least protection bits that
-// protect it.
+// Returns the target's non-volatile status bits. For a request of a protection range they have the least protection
+// bits that protect exactly this range.
 fn wanted_status(case: &Case) -> Status {
     let status = guards::kept(case.chip.status);
     let What::WpRange { start, len } = case.request.what else {
@@ -205,8 +205,9 @@ fn pages_of(old: &[u8], new: &[u8], raised: bool) -> u32 {
     pages
 }
 
-// Returns the fewest erases: one for the whole chip if each sector is raised. Otherwise one for each aligned 64 KiB
-// with only raised sectors, for each such 32 KiB outside these, and for each remaining raised sector.
+// Returns the fewest erases: one if each sector of the chip is raised. Otherwise, if the chip has erases of these
+// sizes, one for each aligned 64 KiB with only raised sectors, and one for each such 32 KiB outside these; and one for
+// each remaining raised sector.
 fn fewest_erases(sectors: &[Sector], chip: &Chip) -> u64 {
     if are_raised(sectors) {
         return 1;

@@ -1,4 +1,4 @@
-//! The command line's arguments.
+//! The arguments of the command line.
 
 /// The cases to run.
 #[derive(Clone, Copy)]
@@ -12,8 +12,9 @@ pub struct Job {
 }
 
 impl Job {
-    /// Parses the arguments. `SEED COUNT` runs `COUNT` cases from case 0 on, `SEED COUNT FIRST` from case `FIRST` on.
-    /// With `SEED-LAST` they are run for each seed from `SEED` to `LAST`. Returns `None` for other arguments.
+    /// Parses the arguments. `SEED COUNT` selects `COUNT` cases from case 0 on, and `SEED COUNT FIRST` from case
+    /// `FIRST` on. `SEED-LAST` in place of `SEED` selects these cases for each seed from `SEED` to `LAST`. Returns
+    /// `None` for other arguments.
     pub fn of(words: &[String]) -> Option<Job> {
         match words {
             [seeds, count] => Job::of_numbers(seeds.as_str(), count.as_str(), "0"),

@@ -1,4 +1,4 @@
-//! Checks of the comparisons themselves: agreement means something only if a wrong byte or line is detected.
+//! Tests of the comparisons: they must detect a wrong byte or line.
 
 use crate::cases::Case;
 use crate::checks::{self, Ran};
@@ -10,7 +10,7 @@ use crate::{lines, traces, transactions, verdicts};
 use nor_session::Refusal;
 use std::alloc::Global;
 
-/// Returns a fault if a comparison doesn't detect an error.
+/// Plants errors, and returns a fault if a comparison doesn't detect one.
 pub fn check(alloc: Global) -> Result<(), Fault> {
     check_places()?;
     check_session(alloc)?;
@@ -18,7 +18,7 @@ pub fn check(alloc: Global) -> Result<(), Fault> {
     check_refusal(alloc)
 }
 
-// Returns a fault unless the comparison returned exactly this difference.
+// Returns `Untold` unless the result `told` of a comparison is exactly the difference `what`.
 fn must_tell(told: Result<(), Fault>, what: &'static str) -> Result<(), Fault> {
     match told {
         Err(Fault::Differs(found)) if found == what => Ok(()),
@@ -26,7 +26,7 @@ fn must_tell(told: Result<(), Fault>, what: &'static str) -> Result<(), Fault> {
     }
 }
 
-// Checks that a wrong, a missing and an additional line are reported with their number.
+// Checks that the comparison of traces reports a wrong, a missing and an additional line with its number.
 fn check_places() -> Result<(), Fault> {
     let rows = [
         ("05 > 00\n9f > fe1010\n", None),
@@ -48,8 +48,8 @@ fn check_places() -> Result<(), Fault> {
     Ok(())
 }
 
-// Checks that these are detected for an accepted session: a wrong byte at the end, a modifying command before the seal,
-// and an erase of too many sectors.
+// Checks that the comparisons for an accepted session detect a wrong byte of the target, a modifying command before the
+// seal, and an erase of too many sectors.
 fn check_session(alloc: Global) -> Result<(), Fault> {
     let case = Case::next(alloc, &mut Dice::new(1, 0))?;
     let ran = checks::run(alloc, &case, Stop::NEVER)?;
@@ -88,7 +88,7 @@ fn check_byte(case: &Case, wanted: &mut Wanted, lines: &str, ran: &Ran) -> Resul
     must_tell(told, "the bytes at the end")
 }
 
-// Checks a stop inside a page program against a model that is sent one byte less.
+// Checks that the comparison after a stop inside a page program detects a model that received one byte less.
 fn check_cut(alloc: Global) -> Result<(), Fault> {
     let case = Case::next(alloc, &mut Dice::new(1, 0))?;
     let wanted = Wanted::of_case(alloc, &case)?;
@@ -99,8 +99,8 @@ fn check_cut(alloc: Global) -> Result<(), Fault> {
     check_cut_after(alloc, &case, whole.text(), lines::count(before))
 }
 
-// Sends five bytes of the program: the opcode, the address, and the first data byte, which differs from the chip's
-// byte. The model for the comparison is sent only four.
+// Stops after five bytes of the program: the opcode, the address, and the first data byte, which differs from the
+// chip's byte. The model with the planted error receives only four bytes.
 fn check_cut_after(alloc: Global, case: &Case, lines: &str, after: u64) -> Result<(), Fault> {
     let stop = Stop {
         cut: Some(5),
@@ -122,7 +122,7 @@ fn model_behind(alloc: Global, case: &Case, lines: &str, stop: Stop) -> Result<M
     Ok(model)
 }
 
-// Checks that an additional line and a modifying command are detected for a refused session.
+// Checks that the comparisons for a refused session detect an additional line and a modifying command.
 fn check_refusal(alloc: Global) -> Result<(), Fault> {
     let case = Case::next(alloc, &mut Dice::new(1, 18))?;
     let Some(refusal) = verdicts::of_opening(&case) else {
