@@ -12,10 +12,12 @@ use std::fs;
 use std::fs::{File, OpenOptions};
 use std::os::unix::fs::FileTypeExt;
 
-/// The bus to a chip at a serial programmer: polls are paced, data is read twice, and a terminal shows the progress.
+/// The bus to a chip at a serial programmer. It pauses between polls, reads data twice, and prints the progress of a
+/// job.
 pub type ChipBus<'a> = Shown<'a, ReadTwice<Paced<SerprogBus<DevicePort>, &'a HostRuntime>>>;
 
-/// Opens and locks the device, identifies the programmer, and selects the chip if `cs=` is given. Sends no transaction.
+/// Opens and locks the device, identifies the programmer, and sets its chip select if `setting` has one. Requests no
+/// transaction with the chip. Returns a `ProgrammerFault` if any of these steps fails.
 pub fn connect<'a>(
     rt: &'a HostRuntime,
     setting: Setting<'_>,
@@ -35,8 +37,8 @@ pub fn connect<'a>(
     Ok(Shown::new(ReadTwice::new(Paced::new(bus, rt)), rt))
 }
 
-// Opens the device and locks it against a second run. A file that isn't a character device is not opened, because the
-// first bytes sent would overwrite it.
+// Opens the device, and locks it against a second run. Returns `NoDevice` and opens nothing if the file is no character
+// device, because the first bytes sent would overwrite a regular file.
 fn open_device(rt: &HostRuntime, name: &str) -> Result<File, ProgrammerFault> {
     match fs::metadata(rt, name) {
         Ok(metadata) if metadata.file_type().is_char_device() => {}
@@ -55,8 +57,8 @@ fn open_device(rt: &HostRuntime, name: &str) -> Result<File, ProgrammerFault> {
 
 const S_SPI_CS: u8 = 0x16;
 
-// Selects the chip select with S_SPI_CS (serprog protocol, flashrom's Documentation/serprog-protocol.txt, 16h). The
-// programmer must be in step: each reply was read.
+// Sets the programmer's chip select with the command S_SPI_CS (16h; flashrom's Documentation/serprog-protocol.txt). The
+// replies to all earlier commands must have been received.
 fn select_chip(port: &mut DevicePort, chip_select: u8) -> Result<(), ProgrammerFault> {
     match exchange_select(port, chip_select) {
         Ok(()) => Ok(()),

@@ -1,15 +1,16 @@
-//! The texts of the help.
+//! The text of the help that `-h` prints.
 
 use nor_words::Help;
 
-/// The name of the program, and the lines of its help around the options.
+/// The parts of the help that differ between the two programs: the program's name, and the text before and after the
+/// list of options.
 pub const HELP: Help = Help {
     program: "flashnor_serprog",
     about: "flashnor_serprog 1.0: programs SPI NOR flash at a serial programmer, and can restore it.",
     notes: NOTES,
 };
 
-// Its lines have at most 80 columns.
+// Each line has at most 80 columns.
 const NOTES: &str = "\
 TEXT of -p is serprog: and then KEY=VALUE, between commas, each key at most once:
   dev=PATH      The serial port of the programmer; this key is required

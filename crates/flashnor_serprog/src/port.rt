@@ -1,4 +1,4 @@
-//! The device of a programmer, as a port.
+//! A port over the device of a programmer.
 ghost use Rattle.std.proofs.lemmas.Bool.{false≢true};
 ghost use Rattle.nor_serprog.specs.Device.{unknown_port};
 
@@ -7,10 +7,10 @@ use std::fs::File;
 use std::io::{ErrorKind, Read, Write};
 use std::{fmt, io};
 
-/// Why a port failed.
+/// The reason why a port failed.
 #[derive(Debug, Drop)]
 pub enum PortFault {
-    /// A read returned no byte, because none arrived in the time that `stty` set.
+    /// A read returned no byte. That occurs if none arrives in the time that `stty` set.
     Silent,
     /// The system returned an error.
     System(io::Error),
@@ -25,14 +25,14 @@ impl fmt::Display for PortFault {
     }
 }
 
-/// The device of a programmer, about which nothing is assumed.
+/// A port over the device of a programmer. No contract assumes anything about the device.
 #[derive(Drop)]
 pub struct DevicePort {
     file: File,
 }
 
 impl DevicePort {
-    /// Returns a port over this device, which is open for reading and writing.
+    /// Returns a port over `file`, which must be open for reading and writing.
     pub fn new(file: File) -> DevicePort {
         DevicePort { file }
     }

@@ -1,11 +1,12 @@
-//! A bus that prints on a terminal how far a job is.
+//! A bus that prints the progress of a job to standard error.
 ghost use Rattle.std.specs.Prelude.{◌≡◌};
 
 use nor_chip::{Bus, Stopped, is_changing};
 use std::fs;
 use std::os::unix::fs::FileTypeExt;
 
-// What a transaction is for. A job begins these steps in this order, and leaves some out.
+// The steps of a job. A job may omit a step, and the order varies: `--unlock` sends a status write before the erases,
+// and some sectors are read again before they are programmed, which counts as `ReadBack`.
 #[derive(Clone, Copy)]
 enum Step {
     Identify,
@@ -16,7 +17,7 @@ enum Step {
     ReadBack,
 }
 
-// The number of transactions of each step so far.
+// The number of transactions sent so far for each step.
 #[derive(Clone, Copy, Default)]
 struct Counts {
     identify: u64,
@@ -28,7 +29,7 @@ struct Counts {
 }
 
 impl Counts {
-    // Counts one more transaction of this step, and returns their number.
+    // Counts one more transaction of this step, and returns the step's new count.
     fn count(&mut self, step: Step) -> u64 {
         let count = match step {
             Step::Identify => &mut self.identify,
@@ -56,14 +57,15 @@ impl Step {
     }
 }
 
-// The number of transactions of one step after which a line is printed.
+// The number of transactions of a step from one printed line to the next.
 const LINE_EACH: u64 = 256;
 
-/// A bus that prints a line to standard error when a step of a job begins, and after each 256 transactions of a step.
-/// It prints nothing if standard error is not a character device.
+/// A bus that prints a line to standard error before the first transaction of each step, and before every 256th one
+/// after that. It prints nothing if standard error is not a character device.
 ///
-/// A step is recognized by the opcode of a transaction. Before the first modifying command the line `SEALED` is printed:
-/// a session sends none before its journal is sealed. The bus has the state of the bus inside.
+/// The opcode of a transaction determines its step. Before the first modifying command the bus prints the line
+/// `SEALED`, since a session sends no modifying command before its journal is sealed. Contracts see this bus in the
+/// state of the bus inside.
 #[derive(Drop)]
 pub struct Shown<'a, B> {
     bus: B,
@@ -74,7 +76,7 @@ pub struct Shown<'a, B> {
 }
 
 impl<'a, B: Bus + Drop> Shown<'a, B> {
-    /// Returns a bus that shows the progress of `bus`.
+    /// Returns a bus that prints the progress of the job on `bus`.
     pub fn new(bus: B, rt: &'a HostRuntime) -> Shown<'a, B> {
         Shown {
             bus,
@@ -100,7 +102,7 @@ fn is_terminal(rt: &HostRuntime) -> bool {
 }
 
 impl<B> Shown<'_, B> {
-    // Prints a line if this transaction begins a step or ends a row of 256.
+    // Prints a line if this transaction is number 1, 257, 513, .. of its step.
     fn show(&mut self, out: &[u8])
         ensures { self.new.bus ≡ self.old.bus }
     {
@@ -122,7 +124,8 @@ impl<B> Shown<'_, B> {
     }
 }
 
-// Returns the step that a transaction belongs to. A poll and a write enable belong to any.
+// Returns the step that a transaction belongs to, or `None` for an opcode that no step counts: a poll, a write enable,
+// or a read of the SFDP, status 2 or the unique ID.
 fn step_of(out: &[u8], changing: bool) -> Option<Step> {
     match out {
         [0x9F, ..] => Some(Step::Identify),

@@ -2,22 +2,22 @@
 
 use nor_words::read_number;
 
-/// The programmer that the value of `-p` describes: `serprog:` and then settings `key=value`, separated by commas, in
-/// any order, each key at most once. `dev=` is required.
+/// The programmer that the value of `-p` describes. The value is `serprog:`, followed by `KEY=VALUE` pairs that are
+/// separated by commas, in any order, each key at most once. `dev=` is required.
 #[derive(Clone, Copy)]
 pub struct Setting<'a> {
     /// `dev=PATH`: the device of the programmer.
     pub device: &'a str,
-    /// `spispeed=HZ`: the clock in hertz, from 1 to 4,294,967,295.
+    /// `spispeed=HZ`: the requested clock in hertz, from 1 to 4,294,967,295. With `None` the programmer keeps its own.
     pub hertz: Option<u32>,
-    /// `cs=N`: the chip select of the programmer.
+    /// `cs=N`: the chip select that the programmer uses, from 0 to 255. With `None` it is not set.
     pub chip_select: Option<u8>,
 }
 
-/// Why the value of `-p` describes no programmer.
+/// The reason why the value of `-p` describes no programmer.
 #[derive(Clone, Copy)]
 pub enum WrongSetting<'a> {
-    /// It has the key `ip=`, and this program opens devices only.
+    /// The key `ip=` names a programmer in the network, which this program does not support.
     Network,
     /// The device is followed by a colon and a baud rate, which `stty` sets.
     BaudRate { device: &'a str, rate: &'a str },
@@ -25,7 +25,7 @@ pub enum WrongSetting<'a> {
     Other,
 }
 
-// The settings that were taken in so far, by their keys.
+// The values parsed so far, by their keys.
 #[derive(Clone, Copy, Default)]
 struct Settings<'a> {
     device: Option<&'a str>,
@@ -34,7 +34,7 @@ struct Settings<'a> {
 }
 
 impl<'a> Setting<'a> {
-    /// Parses the value of `-p`. A setting ends at the next comma, and its key at the first `=`.
+    /// Parses the value of `-p`. A `KEY=VALUE` pair ends at the next comma, and its key at the first `=`.
     pub fn read(text: &'a str) -> Result<Setting<'a>, WrongSetting<'a>> {
         let Some(list) = text.strip_prefix("serprog:") else {
             return Err(WrongSetting::Other);
@@ -56,7 +56,8 @@ impl<'a> Setting<'a> {
 }
 
 impl<'a> Settings<'a> {
-    // Takes in one more setting.
+    // Parses and stores one `KEY=VALUE` pair. Returns an error if the key is unknown or already stored, or the value is
+    // invalid.
     fn take_in(&mut self, setting: &'a str) -> Result<(), WrongSetting<'a>> {
         let taken = match setting.split_once('=') {
             Some(("dev", value)) => set(&mut self.device, filled(value)),
@@ -72,7 +73,7 @@ impl<'a> Settings<'a> {
     }
 }
 
-// Returns a clock in hertz, or `None` if the value isn't one. 0 isn't one: serprog has no such clock.
+// Parses a clock in hertz. Returns `None` unless the value is a number from 1 to 4,294,967,295: serprog reserves 0.
 fn read_hertz(value: &str) -> Option<u32> {
     let hertz = u32::try_from(read_number(value)?).ok()?;
     if hertz == 0 { None } else { Some(hertz) }
@@ -82,12 +83,13 @@ fn read_select(value: &str) -> Option<u8> {
     u8::try_from(read_number(value)?).ok()
 }
 
-// Returns the name of a file, or `None` if it is empty.
+// Returns the name, or `None` if it is empty.
 fn filled(name: &str) -> Option<&str> {
     if name.is_empty() { None } else { Some(name) }
 }
 
-// Stores the value that was read. Returns `None`, and changes nothing, if a value is stored already or none was read.
+// Stores the parsed value `read` in `place`. Returns `None`, and stores nothing, if `place` has a value already or
+// `read` is `None`.
 fn set<T: Copy>(place: &mut Option<T>, read: Option<T>) -> Option<()> {
     if place.is_some() {
         return None;
@@ -96,7 +98,7 @@ fn set<T: Copy>(place: &mut Option<T>, read: Option<T>) -> Option<()> {
     Some(())
 }
 
-// Refuses a device that ends with a colon and a number, which is flashrom's form of a baud rate.
+// Returns `BaudRate` if the device ends with a colon and a number: flashrom's syntax is `dev=DEVICE:BAUD`.
 fn refuse_rate(device: &str) -> Result<(), WrongSetting<'_>> {
     match device.rsplit_once(':') {
         Some((device, rate)) if read_number(rate).is_some() => {

@@ -1,4 +1,4 @@
-//! The files that a job needs, which are read before the programmer is used.
+//! Reads the files that a job needs, before the programmer is used.
 
 use crate::roles::journal_of;
 use nor_files::Store;
@@ -17,10 +17,10 @@ pub struct Sources {
     pub bytes: Vec<u8>,
 }
 
-/// Reads the files that a task needs: the layout, then the image or the journal.
+/// Reads the files that a task needs: a layout, then an image, or a journal.
 ///
-/// Returns the faults of `read_included`, `read_file` and `read_journal`, error 15 for an invalid journal, or file fault
-/// 4 if the journal of a change exists.
+/// Returns the faults of `read_included`, `read_file` and `read_journal`, error 15 if the journal to restore from is
+/// invalid, or file fault 4 if the file for the journal of a change exists already.
 pub fn read_sources<'a, R: Store>(rt: &mut R, task: &Task<'a>) -> Result<Sources, Fault<'a>> {
     match task {
         Task::Read { regions, .. } => {
@@ -43,7 +43,7 @@ fn without_bytes<'a, R: Store>(rt: &R, included: Option<Ranges>) -> Result<Sourc
     Ok(Sources { included, bytes })
 }
 
-// Reads the layout and the image of a change. The journal must not exist yet.
+// Reads the layout and the image of a change. Returns file fault 4 if the file for its journal exists already.
 fn read_for_change<'a, R: Store>(rt: &R, change: &Change<'a>) -> Result<Sources, Fault<'a>> {
     let included = read_included(rt, change.regions)?;
     let bytes = match change.wanted {

@@ -1,4 +1,4 @@
-//! What ends a run with status 1, and the lines for it.
+//! The reasons why a run ends early, the advice for each programmer fault, and the lines that are printed for them.
 
 use crate::port::PortFault;
 use crate::setting::WrongSetting;
@@ -7,10 +7,10 @@ use nor_serprog::{Failure, HandshakeFault};
 use nor_words::UsageFault;
 use std::fmt;
 
-/// What ends a run before the first transaction.
+/// The reason why a run ends before the first transaction.
 #[derive(Drop)]
 pub enum Trouble<'a> {
-    /// A fault that flashnor has too, with flashnor's line.
+    /// A fault that `flashnor` reports too, with the same line; or that the arguments ask for help.
     Fault(Fault<'a>),
     /// The value of `-p` describes no programmer.
     Setting(WrongSetting<'a>),
@@ -62,7 +62,7 @@ impl fmt::Display for Trouble<'_> {
     }
 }
 
-// The line that helps, before the line of usage fault 3.
+// Prints the advice that precedes the line of usage fault 3. `Other` has none.
 impl fmt::Display for WrongSetting<'_> {
     fn fmt<W: fmt::Write>(&self, f: &mut fmt::Formatter<W>) -> fmt::Result {
         match self {
@@ -79,33 +79,33 @@ impl fmt::Display for WrongSetting<'_> {
     }
 }
 
-// The modes of a terminal device that make it a port, for `stty`.
+// The arguments with which `stty` sets up a serial port for this program.
 const MODES: &str = "raw -echo clocal -hupcl min 0 time 50";
 
-/// Why the programmer can't be used. Nothing was sent to the chip.
+/// The reason why the programmer can't be used. It occurs before the first transaction.
 #[derive(Drop)]
 pub enum ProgrammerFault {
-    /// 1: the device is missing, or can't be opened or locked.
+    /// 1: the device is missing, or the system can't open, lock or duplicate it.
     NotOpened,
-    /// 2: the name is not that of a character device.
+    /// 2: the file of this name is no character device.
     NoDevice,
     /// 3: another process has locked the device.
     InUse,
-    /// 4 to 11: the programmer can't be identified, or lacks what is needed.
+    /// 4 to 11: the programmer can't be identified, or lacks a command, a bus type or a length that is needed.
     Handshake(HandshakeFault<PortFault>),
 }
 
-/// What to do after a programmer fault.
+/// The advice that is printed for a programmer fault.
 #[derive(Clone, Copy)]
 enum Remedy {
-    /// Only this.
+    /// This text.
     Do(&'static str),
-    /// This, and set up the port with `stty`.
+    /// This text, and then the `stty` command that sets up the port.
     DoAndSetUp(&'static str),
 }
 
 impl ProgrammerFault {
-    /// Returns the number that the fault's line contains: 1 to 11.
+    /// Returns the number of the fault, as printed: 1 to 11.
     pub fn number(&self) -> u8 {
         match self {
             ProgrammerFault::NotOpened => 1,
@@ -115,7 +115,8 @@ impl ProgrammerFault {
         }
     }
 
-    // Returns what is wrong with the device, after its name. The faults of a handshake have their own texts.
+    // Returns the text that follows the device's name in the line of the fault. The text for `Handshake` is never
+    // printed, since these faults have texts of their own.
     fn reason(&self) -> &'static str {
         match self {
             ProgrammerFault::NotOpened => "cannot be opened",
@@ -170,7 +171,7 @@ fn help_for(fault: &HandshakeFault<PortFault>) -> Remedy {
     }
 }
 
-// A remedy for the programmer at this device.
+// The advice for a fault of the programmer at this device, as printed.
 #[derive(Drop)]
 struct Advice<'a> {
     help: Remedy,
@@ -188,7 +189,7 @@ impl fmt::Display for Advice<'_> {
     }
 }
 
-// The text of a failure of an exchange. Silence has a text of its own.
+// The printed text of a failed exchange. For a silent programmer it replaces the text of nor_serprog.
 #[derive(Drop)]
 struct FailureText<'a>(&'a Failure<PortFault>);
 
@@ -201,14 +202,14 @@ impl fmt::Display for FailureText<'_> {
     }
 }
 
-/// The line after that of error 12: why the bus stopped, and what to do.
+/// The line that follows the line of error 12. It has the reason why the bus stopped, and advice.
 #[derive(Drop)]
 pub struct StopLine<'a> {
     /// True if two reads of the same bytes differed.
     pub differed: bool,
-    /// Why a transaction failed, if one did.
+    /// The reason why a transaction failed, if one did.
     pub failure: Option<&'a Failure<PortFault>>,
-    /// True if the job may have changed the chip.
+    /// True if the job is a change or a restore, so that the chip may be changed.
     pub changes: bool,
 }
 
