@@ -1,4 +1,4 @@
-# `make help` lists what there is to make; README.md and docs/TESTING.md say how long it takes.
+# `make help` lists the targets; README.md and docs/TESTING.md say how long they take.
 
 PROGRAM := crates/flashnor/out/flashnor
 HARDWARE := crates/flashnor_serprog/out/flashnor_serprog
@@ -6,16 +6,17 @@ BENCH := crates/bench/out/bench
 SCRATCH := $(CURDIR)/out/demo
 WORDS := -p dummy:emulate=TINY64,image=chip.bin -w new.bin --rehearse 25
 
-# What a program is built from. A folder is newer than its program where a file was taken from it.
+# The sources of a program. The directories are included because a directory is newer than the program if a file was
+# removed from it.
 SOURCES := crates.txt HANDLES \
   $(shell find $(wildcard crates/*/src crates/*/specs crates/*/proofs) -type d -o -name '*.rt' -o -name '*.antt')
 
-# The program's name as a target, where a blank would part it.
+# The program's name as a target, with its spaces escaped.
 blank := $(subst ,, )
 BUILT := $(subst $(blank),\ ,$(PROGRAM))
 
-# Where `make install` puts things, below DESTDIR if that is given. The program goes to bin, since it works on files
-# alone and needs no rights; flashrom, which drives hardware, is in sbin.
+# The directories of `make install`, below DESTDIR if that is given. The program goes to bin, since it works only on
+# files and needs no permissions; flashrom, which drives hardware, is in sbin.
 PREFIX ?= /usr/local
 INTO = $(DESTDIR)$(PREFIX)
 IN_BIN = $(INTO)/bin/flashnor
@@ -23,7 +24,7 @@ IN_MAN = $(INTO)/share/man/man8/flashnor.8
 IN_MAN5 = $(INTO)/share/man/man5/flashnor-journal.5
 IN_COMPLETIONS = $(INTO)/share/bash-completion/completions/flashnor
 
-# What `make dist` packs.
+# The contents of the archive of `make dist`.
 VERSION := 1.0
 DIST := out/flashnor-$(VERSION)
 MANUALS := man/flashnor.8 man/flashnor-journal.5
@@ -31,32 +32,32 @@ COMPLETION := completion/flashnor.bash
 # README, the licence if there is one, and each page that README or a manual page names.
 PAGES = README.md $(wildcard LICEN[CS]E*) $(sort $(shell grep -ohE '[A-Za-z_]+(/[A-Za-z_]+)*\.md' README.md $(MANUALS)))
 
-# The cases that `make storm` runs: their seed, or the first and the last one (1-6), and how many of each.
+# The cases that `make storm` runs: the seed, or the first and the last one (1-6), and the number of cases of each seed.
 SEED := 1
 COUNT := 1000
 
 .PHONY: all help build toolchain demo try files bench compare storm sweep kill runs serprog install uninstall dist \
   agree statement lint quick check price clean
 
-all: build ## proves the program and all below it, and builds it
+all: build ## proves and builds the program and the crates below it
 
-help: ## lists what there is to make
+help: ## lists the targets
 	@sed -n 's/^\([a-z]*\):.*## \(.*\)/\1	\2/p' Makefile | expand -t 12
 
-# The program is run once too.
+# This also runs the program once.
 build: toolchain files
 	@echo "This proves all that the program stands on: twenty minutes on four cores, and up to 3 GB a prover."
 	@echo "('make demo' shows without a proof what it does.)"
 	@scripts/proved.sh crates/flashnor/out/flashnor env -C crates/flashnor \
 	  rt run -- -p 'dummy:emulate=TINY64,image=$(SCRATCH)/chip.bin' -w '$(SCRATCH)/new.bin' --rehearse 25
 
-# (a source that was edited meanwhile is newer still)
+# (a source that was edited during the build is newer than the program)
 $(BUILT): $(SOURCES)
 	@$(MAKE) --no-print-directory build
 	@newer=$$(find $(SOURCES) -maxdepth 0 -newer '$(PROGRAM)' -print -quit) && \
 	if [ -n "$$newer" ]; then echo "$(PROGRAM) is older than $$newer" >&2; exit 1; fi
 
-# All that proves and compiles is the kit's.
+# The prover and the compiler are in Rattle's kit.
 toolchain:
 	@command -v rt > /dev/null || \
 	  { echo "There is no 'rt': it comes with Rattle's kit, whose folder bin has to be in PATH." >&2; exit 1; }
@@ -68,8 +69,9 @@ files:
 	@{ printf '\000'; cat '$(SCRATCH)/rest'; } > '$(SCRATCH)/chip.bin'
 	@{ printf '\001'; cat '$(SCRATCH)/rest'; } > '$(SCRATCH)/new.bin'
 
-# The first example of README, on these files: a session that is stopped after 25 transactions, and its restore. The
-# exit status is the run's own. What is printed first is the command, and last how to go on with README's session.
+# The first example of README, on the files of `make files`: a session that is stopped after 25 transactions, and its
+# restore. The exit status is that of the program. The first line printed is the command; the last one says how to
+# continue with README's session.
 demo: files ## rehearses a write that is stopped half-way, and its restore
 	@if [ -x '$(PROGRAM)' ] && $(MAKE) --no-print-directory -q '$(PROGRAM)'; then \
 	  program=$$(realpath '$(PROGRAM)'); \
@@ -80,7 +82,7 @@ demo: files ## rehearses a write that is stopped half-way, and its restore
 	  $(MAKE) --no-print-directory try; \
 	fi
 
-# The same run if the program isn't built yet. If the run fails, the messages of `rt` are shown.
+# The run of `make demo` if the program isn't built yet. If the run fails, the messages of `rt` are shown.
 try: toolchain files
 	@echo "(no proved program of these sources is built: this run compiles one without its proof, and keeps none)"
 	@echo '$$ flashnor $(WORDS)'
@@ -91,7 +93,7 @@ try: toolchain files
 	if [ $$status -ne 0 ]; then cat '$(SCRATCH)/said' >&2; fi; \
 	echo "('make' proves and builds it, and then 'make demo' runs it)"; exit $$status
 
-bench: toolchain ## measures the parts, each beside plain work of the same size; one that is too slow is marked
+bench: toolchain ## measures the parts, each as a ratio to simple work of the same size; marks those that are too slow
 	@cd crates/bench && rt run > /dev/null
 	@$(BENCH) chip
 	@$(BENCH) plan
@@ -99,13 +101,13 @@ bench: toolchain ## measures the parts, each beside plain work of the same size;
 	@$(BENCH) session
 	@$(BENCH) read
 
-compare: $(BUILT) ## runs the programs beside flashrom and beside a chip of QEMU, where these are installed
+compare: $(BUILT) ## compares the programs with flashrom and with a chip of QEMU, if these are installed
 	@scripts/compare.sh '$(PROGRAM)'
 	@scripts/compare/rows.sh '$(PROGRAM)'
 	@scripts/compare/qemu.py '$(PROGRAM)'
 	@[ ! -x '$(HARDWARE)' ] || tests/serprog/compare.py '$(HARDWARE)'
 
-install: $(BUILT) ## puts program, manual pages and completion below PREFIX and DESTDIR
+install: $(BUILT) ## installs program, manual pages and completion below PREFIX and DESTDIR
 	install -D -m 755 '$(PROGRAM)' '$(IN_BIN)'
 	install -D -m 644 man/flashnor.8 '$(IN_MAN)'
 	install -D -m 644 man/flashnor-journal.5 '$(IN_MAN5)'
@@ -114,8 +116,8 @@ install: $(BUILT) ## puts program, manual pages and completion below PREFIX and 
 uninstall: ## removes these files again
 	rm -f '$(IN_BIN)' '$(IN_MAN)' '$(IN_MAN5)' '$(IN_COMPLETIONS)'
 
-# The first case proves and builds.
-storm: toolchain ## random sessions beside plain code: make storm SEED=7 COUNT=5000
+# Before the first case this proves and builds storm.
+storm: toolchain ## compares random sessions with the reference implementation: make storm SEED=7 COUNT=5000
 	@cd crates/storm && rt run -- $(SEED) 1 > /dev/null
 	@crates/storm/out/storm $(SEED) $(COUNT)
 
@@ -125,9 +127,9 @@ sweep: $(BUILT) ## runs the program with each of its allocations refused in turn
 kill: $(BUILT) ## kills the program at each of its calls on files, and makes each fail (with a C compiler)
 	@tests/kill/run.sh '$(PROGRAM)'
 
-# For users without a prover: the proved program, PROVED-WITH, the pages in their directories, and the sum of each file.
-# A program that was built in another way has no PROVED-WITH, or that of another program.
-dist: $(BUILT) ## packs an archive with the program, its pages, and what it was proved with
+# An archive for users without a prover: the proved program, PROVED-WITH, the pages in their directories, and the
+# checksum of each file. If PROVED-WITH is missing or belongs to another program, the program is proved and built first.
+dist: $(BUILT) ## packs an archive with the program, its pages and PROVED-WITH
 	@cd '$(dir $(PROGRAM))' && tail -n 1 PROVED-WITH 2> /dev/null | sha256sum --check --status 2> /dev/null || \
 	  $(MAKE) --no-print-directory -C '$(CURDIR)' build
 	@rm -rf $(DIST) && mkdir -p $(DIST)
@@ -140,12 +142,12 @@ dist: $(BUILT) ## packs an archive with the program, its pages, and what it was 
 runs: $(BUILT) ## runs the program on each case of tests/cases and on the examples of the pages
 	@tests/run.py '$(PROGRAM)'
 
-# The help proves and builds the program first.
+# `rt run` for the help proves and builds the program first.
 serprog: toolchain ## runs the program for serial programmers on the cases of tests/serprog
 	@cd crates/flashnor_serprog && rt run -- -h > /dev/null
 	@tests/serprog/run.py '$(HARDWARE)'
 
-agree: ## compares help, pages and completion with what the sources say
+agree: ## compares help, pages and completion with the sources
 	@bash scripts/agree.sh
 
 statement: ## makes docs/STATEMENT.md from the sources
@@ -153,17 +155,17 @@ statement: ## makes docs/STATEMENT.md from the sources
 	@python3 scripts/statement.py > out/STATEMENT.md
 	@mv out/STATEMENT.md docs/STATEMENT.md
 
-lint: ## looks through each script (with shellcheck, a C compiler, pyflakes)
+lint: ## checks each script with its linter (shellcheck, a C compiler, pyflakes)
 	@scripts/lint.sh
 
-quick: toolchain ## looks at all that needs no proof, in a few minutes
+quick: toolchain ## makes all checks that need no proof, in a few minutes
 	@scripts/quick.sh '$(PROGRAM)'
 
 check: toolchain ## the merge gate: proves everything from nothing and passes all tests
 	@bash .ci/run
 
-price: toolchain ## tells the processor minutes of the gate, or of COMMAND='rt must-fail nor_driver'
+price: toolchain ## prints the processor minutes of the gate, or of COMMAND='rt must-fail nor_driver'
 	@scripts/price.py $(COMMAND)
 
-clean: ## takes away all that was built
+clean: ## removes all built files
 	rm -rf out crates/*/out

@@ -1,11 +1,11 @@
 # shellcheck shell=bash
 # Completion of flashnor's command line for bash, from 3.2 on. Source this file, or install it (make install).
 #
-# To try it without a keyboard set COMP_LINE, COMP_POINT, COMP_WORDS and COMP_CWORD as bash does, with ':' and '=' as
-# words of their own, call _flashnor, and look at COMPREPLY.
+# To test it without a keyboard, set COMP_LINE, COMP_POINT, COMP_WORDS and COMP_CWORD as bash does, with ':' and '=' as
+# words of their own, call _flashnor, and read COMPREPLY.
 
-# The words of the line up to the cursor, as the shell separates them by spaces alone: bash hands them over cut at ':'
-# and '=' too. They go into the array `words`, the one that is being typed last.
+# Stores the words of the line up to the cursor in the array `words`, the one that is being typed last. Words are
+# separated only by spaces, as the shell separates them. Bash also splits the words that it passes at ':' and '='.
 _flashnor_words() {
     local typed=${COMP_LINE:0:COMP_POINT} piece
     words=()
@@ -20,8 +20,8 @@ _flashnor_words() {
     done
 }
 
-# Answers with those of the candidates that begin as the word does. What stands before the last ':' or '=' at which bash
-# cuts the word is taken off, since it stays on the line.
+# Offers the candidates that begin as the word does. Bash splits the word at ':' and '=', and keeps the part before the
+# last of these on the line, so that part is removed from the candidates.
 _flashnor_answer() {
     local word=$1 mark kept=''
     for mark in : =; do
@@ -36,8 +36,8 @@ _flashnor_answer() {
     done
 }
 
-# Answers with files whose names begin as the text behind `front` does, `front` being the word's part before the name, or
-# with folders alone (-d) where a new file is wanted. A backslash before a space in it is the shell's.
+# Offers files whose names begin as the part of the word after `front` does, or with -d, for a new file, only
+# directories. `front` is the part of the word before the name. A backslash before a space in the word is the shell's.
 _flashnor_files() {
     local word=${1//\\/} front=$2 kind=$3 name names=()
     while IFS= read -r name; do
@@ -47,8 +47,8 @@ _flashnor_files() {
     _flashnor_answer "$word" "${names[@]}"
 }
 
-# The text of -p: the programmer, its keys (each once), the emulated chips, and files for the keys that name one. That of
-# a trace is made, and what was in it before is lost; so it is with -r.
+# Offers values of -p: the programmer, its keys (each once), the emulated chips, and files for the keys that name one.
+# The file of a trace is truncated, so only directories are offered for it, as for -r.
 _flashnor_programmer() {
     local word=$1 key keys=()
     compopt -o nospace 2> /dev/null
@@ -73,7 +73,8 @@ _flashnor_programmer() {
     esac
 }
 
-# The regions of the layout file that -l names on this line, but for those that -i has already, and behind them.
+# Offers the regions of the layout file that -l names on this line, except those that -i has already. Offers begin with
+# the part of the word up to its last comma.
 _flashnor_regions() {
     local word=$1 place file='' region regions=()
     for ((place = 0; place + 1 < ${#words[@]}; place++)); do
@@ -87,7 +88,7 @@ _flashnor_regions() {
     _flashnor_answer "$word" "${regions[@]}"
 }
 
-# Whether this word is an operation, of which a line has one.
+# Succeeds if this word is an operation. A line has only one operation.
 _flashnor_is_operation() {
     case ${1%%=*} in
         -r | -w | -v | -E | -L | --flash-size | --wp-status | --wp-list | --wp-range | --restore) ;;
@@ -95,7 +96,7 @@ _flashnor_is_operation() {
     esac
 }
 
-# The options that the line doesn't have yet, and no second operation.
+# Offers the options that the line doesn't have yet, without a second operation.
 _flashnor_options() {
     local option given operation='' rest=()
     for given in "${words[@]:0:${#words[@]}-1}"; do

@@ -1,12 +1,12 @@
 #!/usr/bin/env bash
-# scripts/compare.sh [PROGRAM]: flashrom and flashnor on the same emulated W25Q128FV.
+# scripts/compare.sh [PROGRAM]: compares flashrom and flashnor on the same emulated W25Q128FV.
 #
-# Both find the chip, read it and write a random image onto one full of FFh; flashrom verifies what it wrote, and
-# flashnor does so too and keeps a journal. Then they write and erase two regions, list the protection ranges, and tell
-# the range of each status. Bytes and ranges must be the same, and some of them compared, else the status is 1. Times
-# are printed as ratios, flashnor's to flashrom's, and for a reading to that of `cp` too, each the best of three rounds
-# (or of ROUNDS). One that is longer than wanted is printed, and no failure. This is no part of the gate, since it needs
-# flashrom.
+# Both programs find the chip, read it, and write a random image onto a chip full of FFh. flashrom verifies what it
+# wrote; flashnor verifies, too, and writes a journal. Then both write and erase two regions, list the protection
+# ranges, and print the protected range of each status. Their bytes and ranges must be the same, and some must have been
+# compared; otherwise the exit status is 1. Times are printed as ratios of flashnor's to flashrom's, and for a reading
+# also to that of `cp`. Each time is the best of three rounds (or of ROUNDS). A ratio above its goal is printed, but is
+# no failure. This is no part of the gate, since it needs flashrom.
 set -euo pipefail
 
 top=$(cd "$(dirname "$0")/.." && pwd)
@@ -35,7 +35,7 @@ fail() {
     exit 1
 }
 
-# Runs the words with their output in the file `said`, and sets `took` to the microseconds that this took.
+# Runs a command with its output in the file `said`, and sets `took` to the microseconds that it took.
 timed() {
     local start=${EPOCHREALTIME/[.,]/}
     "$@" > said 2>&1 || { cat said >&2; fail "'$*' ended with a fault"; }
@@ -45,14 +45,15 @@ timed() {
 rom() { timed flashrom -p dummy:emulate=W25Q128FV,image=rom.bin "$@"; }
 nor() { timed "$program" -p dummy:emulate=W25Q128FV,image=nor.bin "$@"; }
 
-# The images: a chip full of FFh, and the keystream of AES-256 in counter mode under the key 1, as openssl makes it.
+# Makes the images: a chip full of FFh, and the keystream of AES-256 in counter mode with the key 1, computed by
+# openssl.
 make_images() {
     head -c $size /dev/zero | tr '\000' '\377' > blank
     head -c $size /dev/zero | openssl enc -aes-256-ctr -K "$(printf '%064x' 1)" -iv "$(printf '%032x' 0)" > random
     [[ $(stat -c %s random) == "$size" ]] || fail "openssl made no image of $size bytes"
 }
 
-# Both programs' chips hold a copy of this image, and no file is left from the round before.
+# Copies this image to the chips of both programs, and removes the files of the round before.
 both_hold() {
     cp "$1" rom.bin
     cp "$1" nor.bin
@@ -83,7 +84,7 @@ read_all() {
     same nor.out random
 }
 
-# A reading beside a plain copy of the chip's file.
+# Times a reading, and a copy of the chip's file.
 read_and_copy() {
     both_hold random
     timed cp nor.bin rom.out
@@ -102,7 +103,7 @@ write_all() {
     same nor.bin rom.bin
 }
 
-# Runs a job some times, and prints the ratio of the best times, and the one that is wanted.
+# measure NAME GOAL COMMAND..: runs the command several times, and prints the ratio of the best times, and the goal.
 measure() {
     local name=$1 wanted=$2 best_rom='' best_nor='' round
     for ((round = 0; round < rounds; round++)); do
@@ -116,14 +117,15 @@ measure() {
     }'
 }
 
-# The journal of the last write gives the chip back.
+# Restores the chip from the journal of the last write.
 restore() {
     nor --restore journal
     same nor.bin blank
     echo "restored from the journal of $(stat -c %s journal) bytes: the same bytes as before"
 }
 
-# Two regions of a random chip, one smaller than a sector, are written from the blank image, and erased. All else stays.
+# Writes two regions of a random chip, one smaller than a sector, from the blank image, and erases them. All other bytes
+# must stay.
 regions() {
     printf '00000800:000008ff small\n00123000:00124567 large\n' > layout
     both_hold random
@@ -139,7 +141,8 @@ regions() {
     echo "regions written and erased: the same bytes"
 }
 
-# flashrom prints a range as "start=0x00fc0000 length=0x00040000 (upper 1/64)", flashnor as "0xfc0000,0x040000".
+# Compares the lists of ranges. flashrom prints a range as "start=0x00fc0000 length=0x00040000 (upper 1/64)", flashnor
+# as "0xfc0000,0x040000".
 ranges() {
     both_hold blank
     flashrom -p dummy:emulate=W25Q128FV,image=rom.bin --wp-list > said 2>&1 || true
@@ -158,9 +161,9 @@ ranges() {
     codes
 }
 
-# The range that is protected under each of the 64 protection codes. flashrom is told the status bytes by spi_status,
-# the second one first. Four codes (SEC with BP 110) aren't defined by the datasheets: flashnor says so, and flashrom
-# doesn't, so these aren't compared.
+# Compares the protected range for each of the 64 values of the protection bits. flashrom gets the status bytes by
+# spi_status, the second one first. Four values (SEC with BP 110) aren't defined by the datasheets: flashnor prints
+# that, and flashrom prints a range, so these aren't compared.
 codes() {
     local code one two same=0
     for ((code = 0; code < 64; code++)); do
@@ -180,7 +183,7 @@ codes() {
     echo "range under each protection code: the same for $same, undefined for $((64 - same))"
 }
 
-# Pairs of hexadecimal numbers, with eight digits and sorted.
+# Prints pairs of hexadecimal numbers with eight digits, sorted.
 sorted() {
     local start length
     while read -r start length; do

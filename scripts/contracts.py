@@ -1,7 +1,8 @@
-"""The contracts of the sources, for scripts/promises.py: each function with its clauses, and what a clause says.
+"""Reads the contracts of the sources, for scripts/promises.py: each function with its clauses, and the definitions that
+a clause names.
 
-What a clause says are the words that stand in it, but for its premises; what these stand for, where they are no
-records; and of a record, what its fields say.
+A clause names the definitions that occur in its term, except in its premises; the definitions that those name in turn,
+if they are no records; and those in the fields of a record.
 """
 import functools
 import re
@@ -10,12 +11,12 @@ import rust
 from sources import CRATES, Word, clauses_of, find, source, tokens_of
 
 OPENING, CLOSING = "([{", ")]}"
-# What ends a premise's reach to the left: `λ x. a → b` is about `b` alone, whatever stands before the dot.
+# Tokens that end a premise to the left: the premise of `λ x. a → b` is only `a`, without the tokens before the dot.
 FENCES = set("| ↦ ; = . ,".split())
 
 
 class Call:
-    """A function: its name, with its type's before it, the trait of which it is, where it stands, and its clauses."""
+    """A function: its name after its type's, the trait that has it, its source and item, and its clauses."""
 
     def __init__(self, code, item):
         self.code, self.item = code, item
@@ -26,17 +27,19 @@ class Call:
 
     @functools.cached_property
     def clauses(self):
-        """Its own clauses."""
+        """Returns the clauses that the function itself has."""
         return clauses_of(self.code.text_of(self.item))[0]
 
     def is_law(self):
-        """Whether it takes nothing and answers nothing: it is there for its clauses."""
+        """Returns whether the function is a law: it takes no argument and returns nothing, so it exists for its
+        clauses."""
         words = [token.text for token in self.item.tokens]
         at = words.index("(")
         return words[at + 1] == ")" and words[at + 2] in rust.CLAUSES
 
     def promises(self):
-        """Returns each clause that holds of it: its own, and those of its trait, each with the file where it stands."""
+        """Returns each clause of the function: its own ones, and those of its trait, each with the source that has
+        it."""
         found = [(self.code, clause) for clause in self.clauses]
         if self.trait and self.trait != self.name:
             found += [known for above in calls().get(self.trait, ()) for known in above.promises()]
@@ -45,14 +48,14 @@ class Call:
 
 @functools.cache
 def files(folder):
-    """Returns the paths below crates/ of all files in such a folder of each crate, without what was built."""
+    """Returns the paths below crates/ of the sources in the directory `folder` of each crate."""
     paths = sorted(CRATES.glob(f"*/{folder}/**/*"))
     return [path.relative_to(CRATES).as_posix() for path in paths if path.suffix in (".rt", ".antt")]
 
 
 @functools.cache
 def calls():
-    """Returns all functions by their names, and those of types by their names alone, too."""
+    """Returns all functions by their names. A function of a type is listed with the type's name and without it."""
     found = {}
     for path in files("src"):
         code = source(path)
@@ -75,7 +78,7 @@ def words():
 
 @functools.cache
 def names():
-    """Returns all names of the sources: functions, definitions and types, clauses and fields, and edits."""
+    """Returns all names of the sources: functions, definitions, types, clauses, fields and must-fail edits."""
     found = {path.stem for path in CRATES.glob("*/must-fail/*.edit")} | set(calls()) | set(words())
     for path in files("src") + files("specs"):
         text = source(path).text
@@ -83,11 +86,12 @@ def names():
     return found
 
 
-# ---- what a clause says
+# ---- the definitions that a clause names
 
 
 def conclusion(term):
-    """Returns the tokens of a term that stand in no premise: those before a `→` are left out, within their brackets."""
+    """Returns the tokens of a term, without premises: within each pair of brackets, the tokens before a `→` are left
+    out."""
     levels = [[]]
     for token, is_field in tokens_of(term):
         if token in OPENING:
@@ -107,7 +111,7 @@ def conclusion(term):
 
 @functools.cache
 def named_in(place, term):
-    """Returns the definitions that a term of this file names outside its premises."""
+    """Returns the definitions that a term in the source `place` names outside its premises."""
     found = set()
     for token in sorted(conclusion(term)):
         name = place.parts.get(token, token)
@@ -119,8 +123,8 @@ def named_in(place, term):
 
 @functools.cache
 def fields(word):
-    """Returns the fields of a record that says something of values, each with its type. A record without arguments is
-    itself a value, and its fields are no statements."""
+    """Returns the fields of a record with arguments, each with its type. A record without arguments is a value, and its
+    fields are no statements."""
     if word.kind != "record" or not re.search(rf" {re.escape(word.name)} [({{]", word.code[0]):
         return {}
     parts = re.split(r"\n(?=  pub )", "\n".join(word.code))[1:]
@@ -129,7 +133,7 @@ def fields(word):
 
 @functools.cache
 def says(word):
-    """Returns the definitions that one names: on the right of its equations, or in its fields."""
+    """Returns the definitions that the definition `word` names on the right of its equations, or in its fields."""
     if word.kind == "record":
         terms = list(fields(word).values())
     else:
@@ -140,7 +144,8 @@ def says(word):
 
 
 def reached(start, through_records):
-    """Returns the definitions that some stand for, and where it is said what the fields of records say too."""
+    """Returns the definitions `start` and all that they name in turn. Fields of records are followed only if
+    `through_records` is true."""
     found, todo = set(), list(start)
     while todo:
         word = todo.pop()

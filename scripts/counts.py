@@ -1,16 +1,16 @@
 #!/usr/bin/env python3
-"""scripts/counts.py [LOG]: whether the table of counts in docs/TESTING.md is right.
+"""scripts/counts.py [LOG]: checks the table of counts in docs/TESTING.md.
 
 The script counts the cases of tests/cases and of crates/transcripts. It reads the numbers of Storm, Sweep and Kill from
-LOG, the output of the gate. Without LOG, or if a part was skipped, these aren't compared. A number after `about` may be
-wrong by a tenth; all others must be exact. The rounded numbers of Rows aren't compared, since its tests assert the
-exact ones. Each difference is printed, and then the status is 1.
+LOG, the output of the gate. Without LOG, or if a part was skipped, it does not compare these numbers. A number after
+`about` may be wrong by a tenth; all others must be exact. The script does not compare the rounded numbers of Rows,
+since the tests of `rows` assert the exact ones. It prints each difference, and then its exit status is 1.
 """
 import pathlib
 import re
 import sys
 
-sys.dont_write_bytecode = True  # nothing else is to be left in scripts/
+sys.dont_write_bytecode = True  # so that no other file is created in scripts/
 import texts
 from sources import TOP
 

@@ -1,10 +1,10 @@
 #!/usr/bin/env bash
-# scripts/lint.sh: whether each script and C file passes its linter.
+# scripts/lint.sh: checks each script and C file with its linter.
 #
-# Shell is read by shellcheck, C by the compiler with its warnings, Python by itself and by pyflakes. A script is
-# executable where its first line names what runs it, and only there; the completion does without what bash 3.2 lacks. A
-# linter that isn't installed is told in a line `skipped: ..`. The last line is `N passed, M failed`, a file and what
-# looked at it being one, and the status is 1 where one failed.
+# Shell scripts are checked by shellcheck, C by the compiler with its warnings, Python by Python and by pyflakes. A
+# script must be executable if and only if its first line names an interpreter, and the completion must not use what
+# bash 3.2 lacks. For a linter that isn't installed a line `skipped: ..` is printed. The last line is `N passed, M
+# failed`, where each file counts once for each linter, and the exit status is 1 if a check failed.
 set -uo pipefail
 
 cd "$(dirname "$0")/.." || exit
@@ -28,7 +28,7 @@ for file in "${files[@]}"; do
     esac
 done
 
-# each NAME FILES WORDS..: runs the words on each of so many files.
+# each NAME COUNT FILE.. COMMAND..: runs the command on each of the files, of which there are COUNT.
 each() {
     local name=$1 count=$2 file
     local -a looked=("${@:3:count}")
@@ -43,7 +43,7 @@ each() {
     done
 }
 
-# Whether the file may be run just where it can be.
+# Succeeds if the file is executable and its first line names an interpreter, or neither.
 is_runnable() {
     local first
     IFS= read -r first < "$1" || true
@@ -52,7 +52,8 @@ is_runnable() {
 
 is_python() { python3 -c 'import ast, sys; ast.parse(open(sys.argv[1], encoding="utf-8").read(), sys.argv[1])' "$1"; }
 
-# Arrays from behind, arrays by name, lines into arrays, other cases of letters, and pipes with faults are bash 4's.
+# Succeeds if the file uses no feature of bash 4: negative indices, arrays by reference, reading lines into arrays,
+# changes of case, `|&`, `&>>`, `;&` and `;;&`.
 is_old_bash() { ! grep -nE '\[-[0-9]+\]|(declare|local|typeset) -[a-z]*[An]|mapfile|readarray|\$\{[a-z_]+[,^]|\|&|&>>|;;?&' "$1"; }
 
 is_c() { cc -std=c11 -Wall -Wextra -Werror -fsyntax-only "$1"; }

@@ -1,11 +1,12 @@
 #!/usr/bin/env python3
-"""scripts/paths.py: whether the files and names that the pages name are there.
+"""scripts/paths.py: checks that the files and names that the pages name exist.
 
 The pages are README.md, CONTRIBUTING.md, CHANGELOG.md, docs/, the README files of tests/, the manual pages, and the
-head (`//!`) of each file of crates/*/src. A word is looked for if it ends as a file's name does, or begins with a
-folder's name; a part `*` or `NAME` stands for anything. `specs/Chip` and the like are files of a crate that the line or
-its title names, in a head of that crate. In heads and on the pages of NAMING each name between backticks must be the
-name of something, too. Each missing file or name is printed with its line, and then the status is 1.
+header comment (`//!`) of each file of crates/*/src. A word is taken as a path if it has the ending of a file's name, or
+begins with the name of a directory; `*` or `NAME` as a part of it matches anything. `specs/Chip` and the like are files
+of a crate that the line or its title names; in a header comment, of that crate. In header comments and on the pages of
+NAMING, each name between backticks must also be the name of something. Each missing file or name is printed with its
+line, and then the exit status is 1.
 """
 import fnmatch
 import functools
@@ -14,7 +15,7 @@ import pathlib
 import re
 import sys
 
-sys.dont_write_bytecode = True  # nothing else is to be left in scripts/
+sys.dont_write_bytecode = True  # so that no other file is created in scripts/
 import contracts
 import texts
 from sources import CRATES, TOP
@@ -26,7 +27,7 @@ WORD = re.compile(r"[\w*./-]*[\w*/]")
 
 
 def pages():
-    """Returns the paths of the pages, from the top."""
+    """Returns the paths of the pages."""
     found = [TOP / name for name in ("README.md", "CONTRIBUTING.md", "CHANGELOG.md")]
     for pattern in ("man/*", "docs/*.md", "tests/**/*.md", "crates/*/src/**/*.rt"):
         found += sorted(TOP.glob(pattern))
@@ -34,7 +35,8 @@ def pages():
 
 
 def lines_of(page):
-    """Returns the lines of a page with their numbers; of a source those of its head, without its examples."""
+    """Returns the lines of a page with their numbers. For a source these are the lines of its header comment, without
+    examples."""
     lines = list(enumerate(page.read_text(encoding="utf-8").splitlines(), 1))
     if page.suffix != ".rt":
         return lines
@@ -56,7 +58,7 @@ def names_of_crates():
 
 
 def is_path(word):
-    """Whether a word is to be a file's or a folder's."""
+    """Returns whether a word is taken as the path of a file or a directory."""
     first, _, rest = word.partition("/")
     if rest and first in names_of_crates():
         return True
@@ -65,7 +67,7 @@ def is_path(word):
 
 @functools.cache
 def there():
-    """Returns the paths of all files and folders, from the top, but for what was built."""
+    """Returns the paths of all files and directories, relative to the top, except built files."""
     found = set()
     for folder, folders, files in os.walk(TOP):
         folders[:] = [name for name in folders if name not in ("out", ".git", "__pycache__")]
@@ -74,7 +76,8 @@ def there():
 
 
 def is_there(word, folders):
-    """Whether a word is a file or a folder in one of these folders; a name alone may be anywhere below them."""
+    """Returns whether a word is the path of a file or a directory in one of `folders`. A name without `/` may be
+    anywhere below them."""
     name = word.rstrip("/")
     for ending in ("", ".antt", ".rt") if "." not in name else ("",):
         wanted = [os.path.normpath(os.path.join(folder, name + ending)) for folder in folders]
@@ -87,8 +90,9 @@ def is_there(word, folders):
 
 
 def folders_for(page, crates, before):
-    """Returns the folders in which a word of a page may be: in a head those of its crate and the top; else the page's,
-    those below the top, that of the path before it, and those of the crates that were named, or of each."""
+    """Returns the directories in which a word of a page may be. For a header comment these are its crate and the top.
+    For a page they are its own directory, the top and directories below it, the directory of the path before the word,
+    and the crates that were named, or all crates."""
     own = page.parent.relative_to(TOP).as_posix()
     if page.suffix == ".rt":
         return [f"crates/{crates[0]}", f"crates/{crates[0]}/specs", own, ""]
@@ -96,7 +100,7 @@ def folders_for(page, crates, before):
 
 
 def check(page):
-    """Yields the line and the word of each path of a page that isn't there, and None for each that is."""
+    """Yields the line and the word of each path of a page that doesn't exist, and None for each path that exists."""
     is_head, titled, before = page.suffix == ".rt", [], ""
     for number, line in lines_of(page):
         is_title = line.startswith("#")
@@ -116,20 +120,21 @@ def check(page):
 
 @functools.cache
 def names():
-    """Returns what a name between backticks may be: a name of the sources, a file or a folder, or a library."""
+    """Returns the valid names between backticks: names in the sources, of files and directories, and of libraries."""
     libraries = texts.read("crates.txt").replace(":", " ").split()
     return contracts.names() | {pathlib.PurePath(path).stem for path in there()} | set(libraries)
 
 
 def check_names(page):
-    """Yields the line and the name of each name between backticks that stands for nothing, and None for the others."""
+    """Yields the line and the name of each invalid name between backticks, and None for each valid one."""
     for number, line in lines_of(page):
         for name in re.findall(r"`([A-Za-z_]\w*(?:::\w+)?)`", line):
             yield None if name in names() else (number, name)
 
 
 def gaps():
-    """Yields each crate that ARCHITECTURE.md doesn't name, and each file of crates/*/src without a head."""
+    """Yields a message for each crate that ARCHITECTURE.md doesn't name, and for each file of crates/*/src without a
+    header comment."""
     text = texts.read("docs/ARCHITECTURE.md")
     for crate in sorted(names_of_crates()):
         if f"`{crate}`" not in text:
@@ -140,7 +145,7 @@ def gaps():
 
 
 def main():
-    """Tells what the pages name that isn't there, and how much they name."""
+    """Prints each missing path and name, and how many were checked."""
     told = {page: list(check(page)) for page in pages()}
     named = {page: list(check_names(page)) for page in told if page.suffix == ".rt" or page.name in NAMING}
     for page in told:

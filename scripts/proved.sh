@@ -1,9 +1,10 @@
 #!/usr/bin/env bash
-# scripts/proved.sh PROGRAM COMMAND..: runs the command, which proves and builds this program, and writes into PROVED-WITH
-# beside it the toolchain, the commit (with `-dirty` where sources weren't committed) and the program's sum.
+# scripts/proved.sh PROGRAM COMMAND..: runs the command, which proves and builds this program, and writes the toolchain,
+# the commit (with `-dirty` if sources weren't committed) and the program's checksum to PROVED-WITH in the program's
+# directory.
 #
-# The program gets the time at which the command began, so that a source that was edited meanwhile is newer. Where the
-# command fails there is no such file, and the status is the command's.
+# The program gets the time at which the command began, so that a source that was edited during the build is newer. If
+# the command fails, the script leaves no PROVED-WITH, and ends with the command's status.
 set -euo pipefail
 
 program=$1

@@ -1,10 +1,10 @@
 #!/usr/bin/env bash
-# scripts/quick.sh [PROGRAM]: what can be known in a few minutes without a proof.
+# scripts/quick.sh [PROGRAM]: makes all checks that need no proof, in a few minutes.
 #
-# Whether the sources are laid out, the pages agree, each crate compiles and its tests pass, and, where a program is
-# built, whether it does what the cases of tests/ say. It says nothing of contracts: only the gate proves. What failed is
-# shown, the last line counts, and the status is 1 where anything failed. Tests that run out of time in such a build are
-# named: the gate runs them.
+# It checks that the sources are formatted, that the pages agree, that each crate compiles and its tests pass, and, if a
+# program is built, that it passes the cases of tests/. It checks no contract: only the gate proves. The output of what
+# failed is shown, the last line has the counts, and the exit status is 1 if anything failed. Tests that run out of time
+# in such a build are named; the gate runs them.
 set -euo pipefail
 
 top=$(cd "$(dirname "$0")/.." && pwd)
@@ -13,9 +13,9 @@ work=$(mktemp -d)
 trap 'rm -rf "$work"' EXIT
 passed=0
 failed=0
-# The tests of the one and the text of the other run for minutes, so these are compiled alone.
+# The tests of `rows` and the cases of `transcripts` run for minutes, so these crates are only compiled.
 slow=" rows transcripts "
-# How many seconds a crate has to be compiled and run.
+# The seconds in which a crate must be compiled and run.
 most=280
 
 if ! command -v rt > /dev/null; then
@@ -24,7 +24,7 @@ if ! command -v rt > /dev/null; then
 fi
 cd "$top"
 
-# count NAME STATUS LOG: tells how a step ended, and what it said where it failed.
+# count NAME STATUS LOG: prints how a step ended, and its output if it failed.
 count() {
     if [[ $2 == 0 ]]; then
         echo "$1: passed"
@@ -36,7 +36,7 @@ count() {
     fi
 }
 
-# Runs the words as a step of this name.
+# Runs a command as a step of this name.
 step() {
     local name=$1 status=0
     shift
@@ -44,7 +44,7 @@ step() {
     count "$name" "$status" "$work/said"
 }
 
-# The sources, laid out once more in a copy, are as they were.
+# Succeeds if formatting a copy of the sources changes nothing.
 is_laid_out() {
     local crate
     mkdir "$work/tree"
@@ -58,14 +58,15 @@ is_laid_out() {
     return $changed
 }
 
-# The datasheet's examples, as the built program plays them.
+# Checks the datasheets' examples with the built program of transcripts.
 play_transcripts() {
     "$top/crates/transcripts/out/transcripts" < "$top/crates/transcripts/stdin"
 }
 
 has_tests() { grep -rqF '#[test]' "$top/crates/$1/src"; }
 
-# A crate's tests, or a program that has none, with no proof. A library that has none is compiled with those above it.
+# Runs a crate's tests, or a program without tests, without a proof. A library without tests is compiled with the crates
+# that depend on it.
 try_crate() {
     local seconds=200 words=(--test) input=/dev/null
     cd "$top/crates/$1"
@@ -85,8 +86,8 @@ try_crate() {
 export -f has_tests try_crate
 export top slow most
 
-# Tells how the tests of a crate ended, or a program without tests: 6 is that of a try that ran out of its time. One that
-# was ended while it still compiled, which is 124, failed.
+# Prints how the tests of a crate, or a program without tests, ended. Status 6 is that of a try that ran out of time.
+# Status 124, of one that was ended while it was compiled, is a failure.
 count_try() {
     local status what="tests of $1"
     if ! has_tests "$1"; then
@@ -102,8 +103,8 @@ count_try() {
     fi
 }
 
-# on_built NAME FILE WORDS..: runs the words as a step, which are for a program in this file, if that is built of today's
-# sources. A folder is newer than it where a source was taken away.
+# on_built NAME FILE COMMAND..: runs a command for the program in this file as a step, if the program is newer than its
+# sources. A directory is newer than the program if a source was removed from it.
 on_built() {
     local name=$1 file=$2 newer=
     shift 2
@@ -119,7 +120,7 @@ on_built() {
 
 step "layout of the sources" is_laid_out
 step "the pages agree" bash scripts/agree.sh
-# The largest first, so that none is left alone at the end.
+# The largest crates first, so that none of them runs alone at the end.
 du -s crates/*/src | sort -rn | sed 's|.*crates/\(.*\)/src|\1|' |
     xargs -P "$(nproc)" -I{} bash -c "try_crate {} '$work' || true"
 for crate in crates/*; do count_try "${crate#crates/}"; done

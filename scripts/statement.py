@@ -1,12 +1,14 @@
 #!/usr/bin/env python3
-"""scripts/statement.py [--check]: the page docs/STATEMENT.md, made from the sources.
+"""scripts/statement.py [--check]: makes the page docs/STATEMENT.md from the sources.
 
-It prints all that three calls promise, the laws that join them, and what a run leaves of files, in parts: each
-definition of specs/ and each type of src/ that the contracts of a part need and no part before it has, in an order in
-which each word is explained before it is used, and then these contracts. A definition by one equation has its signature
-in it. With --check it compares the page with what it would print, tells each difference, and ends with status 1 where
-there is one. It fails where a name is found nowhere, where SUBJECTS hasn't the file of a word, where LEGEND doesn't
-explain a word of a library, and where a part is too long.
+The page has the contracts of the main calls, the laws about calls that follow each other, and the contract for the
+files of a run, in parts. A part has each definition of specs/ and each type of src/ that its contracts use and no part
+before it has, each after those that it uses, and then these contracts. A definition with one equation is printed with
+its signature in that equation.
+
+With --check the script compares the page with the text that it would print, prints each difference, and then ends with
+status 1. It fails if a name isn't found, if SUBJECTS lacks the file of a word, if LEGEND doesn't explain a name of a
+library, or if a part is too long.
 """
 import copy
 import difflib
@@ -15,7 +17,7 @@ import itertools
 import re
 import sys
 
-sys.dont_write_bytecode = True  # nothing else is to be left in docs/
+sys.dont_write_bytecode = True  # so that no other file is created in docs/
 from sources import TOP, Word, fail, source
 from statement_parts import ELSEWHERE, HEAD, LEGEND, PARTS, SUBJECTS
 
@@ -23,8 +25,8 @@ PAGE = "docs/STATEMENT.md"
 
 
 def with_clauses(word, kept):
-    """Returns a function with those of its clauses alone whose names pass this test, and with all that its caller owes;
-    and its clauses' names."""
+    """Returns a function with only those clauses whose names `kept` accepts, and with all its premises; and the names
+    of these clauses."""
     lines, names, taken, free = [], [], True, []
     for line in word.code:
         if line.startswith("    //"):
@@ -41,8 +43,8 @@ def with_clauses(word, kept):
 
 
 def needed():
-    """Returns for each part of the page its contracts, each word that they need and no part before it has, with those
-    that it uses; and the names of libraries."""
+    """Returns for each part of the page its contracts, and each word that these need and no part before it has, with
+    the words that it uses; and the names of libraries."""
     parts, told, names, done = [], {}, set(), set()
     for calls, _, _ in PARTS.values():
         contracts, uses = [], {}
@@ -70,7 +72,7 @@ def needed():
 
 @functools.cache
 def ranks():
-    """Returns the place of each file of SUBJECTS: the number of its subject, and where it stands there."""
+    """Returns the rank of each file of SUBJECTS: the number of its subject, and its position in that subject."""
     found = {}
     crate = ""
     for number, files in enumerate(SUBJECTS.values()):
@@ -81,8 +83,8 @@ def ranks():
 
 
 def ready(words, uses, done):
-    """Returns as many of a subject's words as can follow those that are done, each behind those that it uses. A file's
-    words stand together, in its order."""
+    """Returns the words of a subject that can be printed now, each after those that it uses, if the words `done` were
+    printed. The words of a file stay together, in the order of the file."""
     taken = []
     while can := [word for word in words if word not in taken and uses[word] <= done | set(taken)]:
         same = [word for word in can if taken and word.source is taken[-1].source]
@@ -91,9 +93,9 @@ def ready(words, uses, done):
 
 
 def sections(uses, done):
-    """Returns the words in groups, each the name of a subject and its words, so that each stands behind those that it
-    uses, where some are done already. The next group is the first subject that can follow whole, or the first of which
-    some words can."""
+    """Returns the words in groups, each with the name of a subject, so that each word is after those that it uses. The
+    words `done` were printed before. The next group is the first subject of which all words can follow, or else the
+    first of which some can."""
     for word in uses:
         if word.source.path not in ranks():
             fail(f"SUBJECTS of scripts/statement_parts.py hasn't {word.source.path}: add it to the subject of its "
@@ -115,8 +117,8 @@ def sections(uses, done):
 
 
 def split_type(text):
-    """Returns the parts of a signature that are arguments, a pair for each: the part, with the names that it may give,
-    and the argument's kind. And the kind of the answer."""
+    """Returns the arguments of a signature as pairs of the argument, with its names if it has any, and its type; and
+    the type of the result."""
     parts, depth, done = [], 0, 0
     for match in re.finditer(r"[({\[]|[)}\]]|\s→\s", text):
         depth += {"(": 1, "{": 1, "[": 1, ")": -1, "}": -1, "]": -1}.get(match.group(), 0)
@@ -131,13 +133,14 @@ def split_type(text):
 
 
 def filled(lines, end=""):
-    """Returns some lines that belong together, and what stands behind the last, as one line where they fit into it."""
+    """Returns these lines and `end` as one line if that has at most 120 columns, otherwise the lines with `end` after
+    the last one."""
     whole = " ".join([lines[0], *(line.strip() for line in lines[1:])]) + end
     return [whole] if len(whole) <= 120 else [*lines[:-1], lines[-1] + end]
 
 
 def packed(word):
-    """Returns the lines of a type of src as the page has them: fields that no comment parts stand side by side."""
+    """Returns the lines of a type of src/ as on the page: fields without a comment between them share a line."""
     lines, free = [], False
     for line in word.code:
         field = re.fullmatch(r"    (?![ }]|//).*,", line)
@@ -152,14 +155,14 @@ def packed(word):
 
 
 def joined(word):
-    """Returns the lines of a definition as the page has them: without the marks of the language; a record without its
-    kind; and where there is one equation, whose arguments are all names, with their kinds beside them."""
+    """Returns the lines of a definition as on the page: without keywords, a record without its type, and a single
+    equation with the types of its arguments, if these are all names."""
     code = [re.sub(r"^((abbrev|unfoldable|pub) )+|^(  )pub ", r"\3", line) for line in word.code]
     if word.kind == "record":
         head, where, fields = "\n".join(code).partition(" : Type 0 where")
         return [*filled(head.split("\n"), " where"), *fields.splitlines()[1:]] if where else code
     equation = next((at for at, line in enumerate(code) if line.startswith(f"{word.name} ") and at), None)
-    if any(line.startswith("--") for line in code):  # a comment of its own stands above the equation
+    if any(line.startswith("--") for line in code):  # a comment above the equation
         return code
     if word.kind or equation is None or sum(line.startswith(f"{word.name} ") for line in code) != 2:
         return code
@@ -182,19 +185,19 @@ def joined(word):
 
 
 def lines_of(word):
-    """Returns the lines of a word as the page has them."""
+    """Returns the lines of a word as on the page."""
     if word.source.path.endswith(".antt"):
         return joined(word)
     return packed(word) if word.kind in ("struct", "enum") else word.code
 
 
 def count(words):
-    """Returns how many lines some words have without comments and blanks."""
+    """Returns the number of lines of these words, without comments and blank lines."""
     return sum(line.strip()[:2] not in ("", "--", "//") for word in words for line in lines_of(word))
 
 
 def show(words):
-    """Returns some words as lines of the page, by the files in which they stand."""
+    """Returns these words as lines of the page, grouped by their files."""
     lines = []
     for path, group in itertools.groupby(words, key=lambda word: word.source.path):
         group, part = list(group), ""
@@ -214,13 +217,13 @@ def listed(number, subject, words):
 
 
 def told_of(words):
-    """Returns how many words there are, and how many lines without comments and blanks."""
+    """Returns a text with the number of words, and of their lines without comments and blank lines."""
     numbers = (len(words), "word"), (count(words), "line")
     return ", ".join(f"{number:,} {what}{'s' * (number != 1)}" for number, what in numbers)
 
 
 def page():
-    """Returns the lines of the page, and how much it has."""
+    """Returns the lines of the page, and a text with its size."""
     parts, names = needed()
     explained = {name for line in LEGEND for name in line.split()}
     if missing := sorted(names - explained):
@@ -248,7 +251,8 @@ def page():
 
 
 def check(lines, told):
-    """Tells what the page has otherwise than the sources, and how much it has. Returns how many lines differ."""
+    """Prints the differences between the page and `lines`, and the page's size. Returns the number of lines that
+    differ."""
     old = (TOP / PAGE).read_text(encoding="utf-8").splitlines() if (TOP / PAGE).exists() else []
     told_apart = list(difflib.unified_diff(old, lines, lineterm="", n=0))[2:]
     others = [line for line in told_apart if line[0] in "-+" and line[1:]]
@@ -261,7 +265,7 @@ def check(lines, told):
 
 
 def main():
-    """Prints the page, or compares it with the one that stands there."""
+    """Prints the page, or with --check compares it with docs/STATEMENT.md."""
     sys.stdout.reconfigure(encoding="utf-8")
     lines, told = page()
     if sys.argv[1:] == ["--check"]:

@@ -1,6 +1,7 @@
-"""What the page docs/STATEMENT.md has: its parts and subjects, and what is said on it beside the sources."""
-# The parts of the page, each a title, the contracts that it has, what these come to, and how many lines it has at most.
-# Of a contract it has the clauses that are named, or all that no part before it has; what a caller owes stands in each.
+"""The parts, subjects and texts of the page docs/STATEMENT.md, for scripts/statement.py."""
+# The parts of the page. Each has a title, its contracts, a text that explains them, and the most lines that it may
+# have. Of a contract the page has the clauses that are named here, or else all that no part before has; premises are
+# printed in each part.
 PARTS = {
     "what is given back": (
         {
@@ -50,12 +51,12 @@ this of each job on a chip.""",
         375,
     ),
 }
-# What the page leaves out: the trait of files with the law that each of its calls keeps, what a run answers, and the
-# text of a layout.
+# Words that the page leaves out: the trait of files with the contract of its calls, the result of a run, and the text
+# of a layout.
 ELSEWHERE = {"Store", "Work", "Fault", "Answer", "AreIncluded"}
 
-# The subjects of the page in their order, and the files whose words each of them has. Where a word needs one of a later
-# subject the order gives way.
+# The subjects of the page in their order, and the files whose words each subject has. If a word needs one of a later
+# subject, the order changes.
 SUBJECTS = {
     "The chip": "nor_count: specs/Size nor_chip: src/config specs/Makers src/running specs/Sfdp specs/Chip",
     "Guarded places": "nor_chip: specs/Guard specs/Offer",
@@ -104,8 +105,8 @@ compares it with them, and it has {told} without comments and blanks.
 
 """
 
-# How the page is read: what to say of these names of the language and of libraries, all of which the page has. An
-# operator's name has a place for each argument.
+# How to read the page: an explanation of these names of the language and of libraries, all of which the page uses. An
+# operator's name has a `◌` for each argument.
 LEGEND = {
     "ℕ Bool true false List":
         "A word with a capital is a statement, a kind of values (`ℕ`: the numbers from 0 on; `Bool`: `true` and "

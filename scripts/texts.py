@@ -1,4 +1,4 @@
-"""Reads the pages and the printed lines of the program, and compares them. The other scripts import it."""
+"""Reads the pages and the printed lines of the program, and compares them. Other scripts import this file."""
 import collections
 import re
 import subprocess
@@ -15,7 +15,7 @@ differing = []
 
 
 def differs(message):
-    """Prints a difference, and notes it."""
+    """Prints a difference, and remembers that there is one."""
     print(f"DIFFERS: {message}")
     differing.append(message)
 

@@ -1,4 +1,4 @@
-"""scripts/agree/faults.py: whether the pages have the lines that the program prints for results and faults, and the
+"""scripts/agree/faults.py: checks that the pages have the lines that the program prints for results and faults, and the
 numbers of the faults. Results and errors are read from the sources, since no case prints errors 1, 2 and 13. All other
 lines are read from the cases."""
 import re
@@ -10,7 +10,7 @@ OPTION = r"(?<![^\s])(?:--?[a-zA-Z][-a-z]*|[a-z]+=)"
 
 
 def blank(text):
-    """Returns a text with `_` for each number, name and placeholder in it."""
+    """Returns a text in which `_` replaces each number, name and placeholder."""
     return re.sub(r"(0x)?\{[^}]*\}|\b0x\w+\b|\b[0-9a-f]{6}\b|\b\d+\b|\b[A-Z][A-Z0-9]*\b(?! fault)", "_", text)
 
 
@@ -20,7 +20,7 @@ def line_of(number, reason):
 
 
 def refusals():
-    """Returns the lines of the errors of the library."""
+    """Returns the lines of the errors in nor_call."""
     numbers, reasons = {}, {}
     for name, word in rust.arms(tokens("nor_call/src/refusal.rt"), "Refusal"):
         (reasons if word[0] == '"' else numbers)[name] = word.strip('"')

@@ -1,7 +1,7 @@
-"""scripts/agree/limits.py: whether the numbers on the pages are those of the sources.
+"""scripts/agree/limits.py: checks that the numbers on the pages are those of the sources.
 
-The list in `limits` has the value of each number, and the words around the number on the pages, with `#` in its place.
-At least one page must have these words, and every page that has them must have the value there.
+The list in `limits` has the value of each number, and the words around the number on the pages, with `#` in place of
+the number. At least one page must have these words, and every page that has them must have the value there.
 """
 import re
 
@@ -16,7 +16,7 @@ PAGES = {
 
 
 def fail(path, what):
-    """Ends the script: a number isn't found in the sources."""
+    """Ends the script, since a number isn't found in the sources."""
     raise SystemExit(f"DIFFERS: limits: crates/{path} has no {what}")
 
 

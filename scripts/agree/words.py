@@ -1,6 +1,6 @@
-"""scripts/agree/words.py [PROGRAM]: whether the pages and the completion have the options, keys, chips and version that
-the program has. The completion is run. The examples of README and of the manual pages aren't read: `make runs` runs
-them."""
+"""scripts/agree/words.py [PROGRAM]: checks that the pages and the completion have the options, keys, chips and version
+of the program. The script runs the completion. It does not read the examples of README and of the manual pages, which
+`make runs` runs."""
 import pathlib
 import re
 import sys

@@ -1,7 +1,7 @@
-"""QEMU's w25q64, behind the flash controller of its board ast2500-evb, driven over the protocol qtest.
+"""QEMU's chip w25q64 at the flash controller of its board ast2500-evb, driven by QEMU's protocol qtest.
 
-The processor of the board never runs. The controller is in its user mode: while the select is low each byte that is
-written into the window goes to the chip, and each one read there comes from it.
+The processor of the board never runs. The controller is in its user mode: while chip select is low, each byte that is
+written to the controller's window goes to the chip, and each byte that is read there comes from the chip.
 """
 import base64
 import subprocess
@@ -10,13 +10,14 @@ import traces
 
 QEMU = "qemu-system-arm"
 CONFIGURATION, CONTROL, WINDOW = 0x1E620000, 0x1E620010, 0x20000000
-# Chip 0 is SPI flash and may be written; user mode, with the select low and high.
+# Values of the controller's registers: chip 0 is SPI flash and may be written; user mode with chip select low, and
+# high.
 WRITABLE, LOW, HIGH = 0x00010002, 0x3, 0x7
 CLEAR_LATCH = b"\x04"
 
 
 class Emulator:
-    """A running QEMU whose chip has the bytes of this file."""
+    """A running QEMU whose chip has the bytes of the file `image`."""
     # The bits of status 1 that this chip has: it lacks TB and SEC.
     kept = 0x9F
 
@@ -31,13 +32,14 @@ class Emulator:
         return self
 
     def __exit__(self, *_):
-        """Ends QEMU, which then has written its chip's file. Its pipes are closed behind it, or it would complain."""
+        """Ends QEMU, which writes its chip's file. Closes the pipes to it only afterwards, since QEMU prints an error
+        otherwise."""
         self.process.terminate()
         self.process.wait()
         self.process.communicate()
 
     def ask(self, *commands):
-        """Sends these commands of qtest at once, and returns their answers."""
+        """Sends these qtest commands at once, and returns the replies."""
         self.process.stdin.write("".join(f"{it}\n" for it in commands))
         self.process.stdin.flush()
         answers = [self.process.stdout.readline() for _ in commands]
@@ -47,9 +49,10 @@ class Emulator:
         return answers
 
     def exchange(self, sent, count):
-        """Does a transaction: sends these bytes, and returns as many as are to come in.
+        """Carries out a transaction: sends the bytes `sent`, and returns `count` bytes received.
 
-        A program or an erase clears the latch of a chip, and not of this one, so that is done behind it.
+        A program or an erase clears the write enable latch of a real chip, but not that of QEMU's chip, so this
+        function clears it afterwards.
         """
         commands = [f"writel {CONTROL} {LOW}", f"write {WINDOW} {len(sent)} 0x{sent.hex()}"]
         if count:

@@ -1,13 +1,15 @@
 #!/usr/bin/env python3
-"""scripts/compare/qemu.py [PROGRAM [COUNT]]: what flashnor sends, sent to a chip that others emulate.
+"""scripts/compare/qemu.py [PROGRAM [COUNT]]: sends what flashnor sends to a chip that QEMU emulates, and compares.
 
-Random sessions of flashnor on its W25Q64FV, most of them stopped, and restores from their journals, some stopped in
-turn, are traced; each trace is sent to QEMU's `w25q64`, which had the same first bytes. After each session and restore
-both chips must hold the same bytes, and when the last restore has ended the first ones; what QEMU's chip replied to
-9Fh, 05h and 03h must be what flashnor was told, as far as its trace, or the bytes before and after, say it. Before that
-it is tried whether traces with a fault in them are told to be different. What QEMU's chip hasn't, and so isn't
-compared, is told at the end. All is made of the sessions' numbers, so each run does the same. This is no part of the
-gate, since it needs QEMU.
+The script traces random sessions of flashnor on its W25Q64FV, most of them stopped, and restores from their journals,
+some of them stopped too. It sends each trace to QEMU's `w25q64`, which begins with the same bytes. After each session
+and restore both chips must hold the same bytes, and after the last restore the original ones. The replies of QEMU's
+chip to 9Fh, 05h and 03h must be those that flashnor received, as far as the trace, or the bytes before and after it,
+show them.
+
+Before that the script checks that it detects traces with a fault. At the end it prints what it does not compare, since
+QEMU's chip lacks it. Everything is drawn from the numbers of the sessions, so each run does the same. This is no part
+of the gate, since it needs QEMU.
 """
 import collections
 import os
@@ -18,14 +20,14 @@ import sys
 import tempfile
 from pathlib import Path
 
-sys.dont_write_bytecode = True  # nothing else is to be left in scripts/
+sys.dont_write_bytecode = True  # so that no other file is created in scripts/
 import emulator
 import traces
 
 TOP = Path(__file__).resolve().parents[2]
 SIZE, SECTOR = 1 << 23, 4096
 KINDS = "bytes", "bits", "blocks", "part", "erase", "whole", "unlock", "range"
-# What must have been sent.
+# Opcodes that must have been sent.
 OPCODES = "01 02 03 05 06 20 35 4b 52 9f c7 d8".split()
 LEFT_OUT = """\
 left out: the replies to 35h and 4Bh, and SEC and TB in those to 05h: that chip has no second status byte, no number of
@@ -35,7 +37,7 @@ power, and has no SFDP; a program that would wrap in its page is none that flash
 
 
 class Case:
-    """A chip's first bytes and status, and a session on it, as its number says."""
+    """A chip's original bytes and status, and a session on it, drawn from its number."""
 
     def __init__(self, number):
         self.random = random.Random(number)
@@ -49,7 +51,7 @@ class Case:
         getattr(self, f"make_{self.kind}")()
 
     def first_bytes(self):
-        """Returns random bytes, or for the whole chip to be erased a byte in each sector that isn't FFh."""
+        """Returns random bytes. For an erase of the whole chip, returns FFh except for one byte in each sector."""
         if self.kind != "whole":
             return self.random.randbytes(SIZE)
         found = bytearray(b"\xff" * SIZE)
@@ -58,7 +60,7 @@ class Case:
         return bytes(found)
 
     def change(self, start, length):
-        """Puts random bytes into the image, as far as that has any there."""
+        """Writes random bytes into the image, up to its end."""
         length = max(0, min(length, SIZE - start))
         self.image[start : start + length] = self.random.randbytes(length)
 
@@ -67,17 +69,17 @@ class Case:
             self.change(self.random.randrange(SIZE), self.random.choice([1, 7, 300, 5000]))
 
     def make_bits(self):
-        """Bits are cleared, so that nothing is erased."""
+        """Clears bits of the image, so that the session erases nothing."""
         start, length = self.random.randrange(SIZE), self.random.randint(1, 9000)
         for place in range(start, min(SIZE, start + length)):
             self.image[place] &= self.random.randrange(256)
 
     def make_blocks(self):
-        """A change of so many bytes holds a block of 64 KiB, or one of 32 KiB."""
+        """Changes enough successive bytes to contain a block of 64 KiB, or one of 32 KiB."""
         self.change(self.random.randrange(SIZE - 150_000), self.random.choice([70_000, 140_000]))
 
     def make_part(self):
-        """Regions of a layout, some included, and changes in and around them."""
+        """Makes a layout with four regions, includes two, and changes bytes in and around them."""
         starts = [self.random.randrange(SIZE - 60_000) for _ in range(4)]
         ends = [start + self.random.randrange(60_000) for start in starts]
         regions = enumerate(zip(starts, ends))
@@ -101,14 +103,14 @@ class Case:
         self.words.append("--unlock")
 
     def make_range(self):
-        """The last 128 KiB or a double of them, of a chip that has all or nothing protected."""
+        """Protects the last 128 KiB times a power of two, on a chip that has all or nothing protected."""
         length = 1 << self.random.randint(17, 22)
         self.status = bytes([self.random.choice([0, 0x1C]), 0])
         self.words = ["--wp-range", f"{SIZE - length},{length}"]
 
 
 class Bench:
-    """A folder with flashnor's chip, and what was compared."""
+    """A directory with flashnor's chip, and the counts of what was compared."""
 
     def __init__(self, program, folder):
         self.program = program
@@ -120,7 +122,7 @@ class Bench:
         return self.folder / name
 
     def lay(self, case):
-        """Makes the files of a case, QEMU's chip among them."""
+        """Creates the files of a case, including that of QEMU's chip."""
         for name in os.listdir(self.folder):
             self.path(name).unlink()
         files = {"nor": case.first, "qemu": case.first, "image": case.image, "status": case.status}
@@ -129,7 +131,7 @@ class Bench:
         self.path("layout").write_text(case.layout, encoding="ascii")
 
     def run(self, words, stop=None):
-        """Runs flashnor on its chip. Returns the trace, and whether the run came to its end."""
+        """Runs flashnor on its chip. Returns the trace, and whether the run ended without a stop."""
         keys = "dummy:emulate=W25Q64FV,image=nor,status=status,trace=trace" + (f",stop={stop}" if stop else "")
         ran = subprocess.run([self.program, "-p", keys, *words], cwd=self.folder, capture_output=True, text=True,
                              check=False)
@@ -139,7 +141,8 @@ class Bench:
         return traces.read_trace(self.path("trace").read_text(encoding="ascii")), ended
 
     def replay(self, chip, before, transactions):
-        """Sends a run's transactions to QEMU's chip. Returns what is different then, and behind it."""
+        """Sends the transactions of a run to QEMU's chip. Returns the differences of the replies, and of the bytes
+        afterwards."""
         after = self.path("nor").read_bytes()
         compared, found = traces.play(chip, transactions, before, after)
         self.counts["transactions"] += len(transactions)
@@ -155,14 +158,14 @@ class Bench:
         return found
 
     def start(self, case):
-        """Starts QEMU with a case's chip."""
+        """Starts QEMU with the chip of a case."""
         chip = emulator.Emulator(self.path("qemu"))
         for sent in (b"\x06", b"\x01" + case.status):
             chip.exchange(sent, 0)
         return chip
 
     def session(self, case):
-        """Does a session and its restores on both chips, and returns what is different."""
+        """Runs a session and its restores on both chips, and returns the differences."""
         self.lay(case)
         whole, _ = self.run([*case.words, "--journal", "journal"])
         changing = [number for number, it in enumerate(whole) if it.sent[0] == traces.SET_LATCH]
@@ -189,7 +192,7 @@ class Bench:
 
 
 def faulty(transactions):
-    """Returns what a trace is with a fault in it: the fault's name, and the transactions."""
+    """Returns variants of a trace with one fault each: the name of the fault, and the transactions."""
     def first(is_it):
         return next(number for number, it in enumerate(transactions) if is_it(it))
 
@@ -213,7 +216,8 @@ def faulty(transactions):
 
 
 def try_faults(bench):
-    """Whether a trace is told to be the same, and to be different with a fault in it. Returns what isn't so."""
+    """Checks that a trace without a fault is reported as the same, and each trace with a fault as different. Returns
+    the failures."""
     case = Case(KINDS.index("part"))
     bench.lay(case)
     transactions, _ = bench.run([*case.words, "--journal", "journal"])
@@ -228,7 +232,7 @@ def try_faults(bench):
 
 
 def main():
-    """Compares, tells the counts, and returns the status."""
+    """Compares the chips, prints the counts, and returns the exit status."""
     program = Path(sys.argv[1] if len(sys.argv) > 1 else TOP / "crates/flashnor/out/flashnor")
     count = int(sys.argv[2]) if len(sys.argv) > 2 else 3 * len(KINDS)
     if not shutil.which(emulator.QEMU):

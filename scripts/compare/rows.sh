@@ -1,9 +1,9 @@
 #!/usr/bin/env bash
 # scripts/compare/rows.sh [PROGRAM]: runs flashrom and flashnor for each row of docs/FLASHROM.md.
 #
-# Each row has arguments that flashrom takes or refuses, and arguments that flashnor takes or refuses; a refusal is
-# recognized by its printed line. Each option that docs/FLASHROM.md names must have been tried by some row. The status
-# is 1 if anything is otherwise. This is no part of the gate, since it needs flashrom.
+# Each row has arguments that flashrom accepts or refuses, and arguments that flashnor accepts or refuses; a refusal is
+# recognized by its printed line. Each option that docs/FLASHROM.md names must be tried by some row. The exit status is
+# 1 if anything differs from the page. This is no part of the gate, since it needs flashrom.
 set -euo pipefail
 
 top=$(cd "$(dirname "$0")/../.." && pwd)
@@ -34,8 +34,8 @@ wrong() {
     failed=$((failed + 1))
 }
 
-# Puts the files to what they are before each row: chips full of FFh, an image of these and its first 4 KiB, another
-# image whose first 8 KiB differ, and a layout of these.
+# Creates the files that each row begins with: chips full of FFh, an image of these and its first 4 KiB, another image
+# whose first 8 KiB differ, and a layout of these.
 lay() {
     rm -rf -- *
     head -c $size /dev/zero | tr '\000' '\377' > image
@@ -47,7 +47,7 @@ lay() {
     printf '000000:000fff a\n001000:001fff b\n' > layout
 }
 
-# run PROGRAM WORDS..: runs it, and keeps what it says in the file `said`; its standard input is the image.
+# run PROGRAM ARGUMENTS..: runs the program with its output in the file `said`. Its standard input is the image.
 run() {
     local word
     runs=$((runs + 1))
@@ -55,8 +55,8 @@ run() {
     "$@" < image > said 2>&1
 }
 
-# The chip is the same to both, but where `chip` is set. flashrom is told its own name, so that it is quick, but where
-# `any` is set.
+# Runs flashrom. Its chip is that of flashnor, unless `chip` is set. flashrom gets the name of its chip, which makes it
+# faster, unless `any` is set.
 rom() {
     local named=(--chip W25Q128.V)
     [[ -z ${any+set} ]] || named=()
@@ -64,12 +64,13 @@ rom() {
 }
 nor() { run "$program" -p "dummy:emulate=${chip:-W25Q128FV,image=nor.bin}" "$@"; }
 
-# takes WHO WORDS..: it does so, and ends with status 0.
+# takes WHO ARGUMENTS..: the program accepts these arguments, and ends with status 0.
 takes() {
     "$@" || wrong "${*@Q} isn't taken: $(tail -n 1 said)"
 }
 
-# refuses TEXT WHO WORDS..: it says that, and ends with another status. Of flashnor it is the last line.
+# refuses TEXT WHO ARGUMENTS..: the program prints the text, and ends with another status than 0. For flashnor the text
+# is the last line.
 refuses() {
     local text=$1
     shift
@@ -82,25 +83,25 @@ refuses() {
     fi
 }
 
-# both WORDS..: both take them.
+# both ARGUMENTS..: both programs accept these arguments.
 both() {
     takes rom "$@"
     takes nor "$@"
 }
 
-# Whether the last run said this.
+# Checks that the last run printed this text.
 says() { grep -qF -e "$1" said || wrong "$1 isn't said, but: $(tail -n 1 said)"; }
 
 is_same() { cmp -s -- "$1" "$2" || wrong "$1 and $2 differ"; }
 
-# Begins a row.
+# Begins a new row.
 row() {
     row=$1
     rows=$((rows + 1))
     lay
 }
 
-# What flashnor says to a word that it doesn't have.
+# The line that flashnor prints for an argument that it doesn't have.
 unknown='Usage fault 1.'
 
 same_options() {
@@ -169,7 +170,7 @@ changes() {
     refuses 'unrecognized option' rom -E --unlock
 }
 
-# The last 256 KiB are protected; flashrom lifts that by itself.
+# Tests a chip whose last 256 KiB are protected. flashrom lifts the protection without an option.
 protection() {
     row 'protection in the way'
     { head -c $((size - 1)) image; printf '\0'; } > other
@@ -199,7 +200,7 @@ ranges() {
     refuses 'Usage fault 5.' nor '--wp-range=0 0' --journal other
 }
 
-# What is read of regions alone: behind them flashrom has 00h, and flashnor FFh.
+# Tests regions that are read: in all other bytes of the file flashrom has 00h, and flashnor FFh.
 regions() {
     row 'how regions are named and read'
     cp other rom.bin
@@ -303,7 +304,8 @@ spellings() {
     refuses "$unknown" nor --chip W25Q128FV
 }
 
-# What flashnor doesn't have. Those that want what this chip hasn't are known by what flashrom misses in it.
+# Tests options that flashnor doesn't have. flashrom's options for a feature that this chip lacks are recognized by
+# flashrom's message that it is missing.
 left_out() {
     row 'what there is none of'
     local words

@@ -1,7 +1,7 @@
-"""The traces of flashnor, and what another chip does with them.
+"""Reads traces of flashnor, and plays them on another chip.
 
-A line of a trace is one transaction: the bytes sent, and where bytes came in ` > ` and their digits, or for more than
-three their number and ` bytes`.
+A line of a trace is one transaction: the bytes sent, and if bytes were received ` > ` and their digits, or for more
+than three bytes their number and ` bytes`.
 """
 import re
 from typing import NamedTuple, Optional
@@ -12,7 +12,7 @@ LINE = re.compile(r"((?:[0-9a-f]{2})+)(?: > (?:((?:[0-9a-f]{2}){1,3})|([4-9]|[1-
 
 
 class Transaction(NamedTuple):
-    """The bytes sent, how many came in, and which, where the line says it."""
+    """The bytes sent, the number of bytes received, and these bytes, if the line has them."""
     sent: bytes
     count: int = 0
     reply: Optional[bytes] = None
@@ -43,7 +43,8 @@ def read_trace(text):
 
 
 def wanted_of(transaction, image):
-    """Returns what has to come in, or nothing where neither the trace nor these bytes of the chip say it."""
+    """Returns the bytes that must be received, or nothing if neither the trace nor the chip's bytes `image` show
+    them."""
     if transaction.sent[0] == READ and image is not None:
         start = int.from_bytes(transaction.sent[1:4], "big")
         return image[start : start + transaction.count]
@@ -51,11 +52,12 @@ def wanted_of(transaction, image):
 
 
 def play(chip, transactions, before, after):
-    """Sends these to a chip. Returns how many replies were compared, and a text for each that is another.
+    """Sends the transactions to a chip. Returns the number of replies that were compared, and a text for each reply
+    that differs.
 
-    `before` and `after` are the bytes that the chip has to have before the first change of them and after the last one;
-    what is read in between isn't known. `chip` has `exchange`, which takes the bytes to send and how many come in, and
-    `kept`, the bits of status 1 that it has.
+    `before` and `after` are the bytes that the chip must have before the first change of its bytes and after the last
+    one; the bytes between two changes are unknown. `chip` has `exchange`, which takes the bytes to send and the number
+    of bytes to receive, and `kept`, the bits of status 1 that the chip has.
     """
     changing = [number for number, it in enumerate(transactions) if it.changes_bytes()]
     first, last = (changing[0], changing[-1]) if changing else (len(transactions), -1)
