@@ -1,4 +1,4 @@
-"""What is in a file, from how a case says it (cases/README.md)."""
+"""Makes the bytes of a file from the notation of a case (cases/README.md)."""
 import hashlib
 import re
 
@@ -6,19 +6,20 @@ SECTOR = 4096
 
 
 def hexadecimal(digits):
-    """Returns the bytes of these digits, of which two are a byte."""
+    """Returns the bytes of these hexadecimal digits."""
     return bytes.fromhex(digits)
 
 
 def records(first, last, saved):
-    """Returns the records that a journal has for these sectors of a chip with the bytes `saved`."""
+    """Returns the journal's records of these sectors of a chip with the bytes `saved`."""
     if not first <= last < len(saved) // SECTOR:
         raise ValueError(f"sectors {first} to {last} aren't within {len(saved)} bytes")
     return b"".join(k.to_bytes(4, "little") + saved[SECTOR * k:SECTOR * (k + 1)] for k in range(first, last + 1))
 
 
 def part(text, before, read):
-    """Returns the bytes of one part without what stands in their place, `before` being those of all parts before it."""
+    """Returns the bytes of one part, before other bytes are put into it. `before` has the bytes of all parts before
+    this one."""
     if found := re.fullmatch(r"(\d+) times (.+)", text):
         return part(found[2], before, read) * int(found[1])
     if found := re.fullmatch(r"(\d+) of each byte", text):
@@ -43,7 +44,7 @@ def part(text, before, read):
 
 
 def put(text, into):
-    """Puts other bytes into a part."""
+    """Puts other bytes into the part `into`, as `text` says."""
     found = re.fullmatch(r"([0-9a-f ]+) at (0x[0-9a-f]+)(?: to (0x[0-9a-f]+))?", text)
     if not found:
         raise ValueError(f"'{text}' puts no bytes")
@@ -58,8 +59,8 @@ def put(text, into):
 
 
 def make(content, read):
-    """Returns the bytes that a content says; `read` tells those of another file by its name. What can't be made is a
-    ValueError, or the OSError of that file."""
+    """Returns the bytes of a content. `read` returns those of another file by its name. Raises ValueError if the
+    content can't be made, or the OSError of that file."""
     made = bytearray()
     for text in content.split(" + "):
         text, *puts = text.split(", ")

@@ -1,10 +1,10 @@
 #!/usr/bin/env python3
-"""tests/examples.py: the example on each library's first page, compiled and run.
+"""tests/examples.py: compiles and runs the example on each library's first page.
 
-The first page of a library is the text at the head of its src/lib.rt. Each example there is made a test of one scratch
-crate, which `rt try --test` runs: what holds is that the example compiles as it stands and that its assertions do; it is
-not proved. The names of the items that the example declares, and its imports, stand before the test. The last line is
-`N passed, M failed`.
+The first page of a library is the comment at the head of its src/lib.rt. Each example there becomes a test of one
+scratch crate, which `rt try --test` runs: the example must compile as it is, and its assertions must hold. It is not
+proved. Names of items that the example declares, and its imports, precede the test. The last line is `N passed, M
+failed`.
 """
 import os
 import re
@@ -16,7 +16,7 @@ from pathlib import Path
 
 TOP = Path(__file__).resolve().parent.parent
 NAME = "first_pages"
-# Each example ends with its first fault, whatever that is.
+# Each example returns its first error, of any type.
 TEST = """#![tactic(auto)]
 //! The example of {crate}.
 {items}
@@ -29,7 +29,7 @@ fn of_{crate}(rt: HostRuntime) -> Result<(), anyhow::Error> {{
 
 
 def example(text):
-    """The lines of the one example at the head of a source, none where it has none."""
+    """Returns the lines of the only example at the head of a source, none if it has none."""
     page = [line[3:].removeprefix(" ") for line in text.splitlines() if line.startswith("//!")]
     found = re.findall(r"^```rust\n(.*?)^```$", "\n".join(page) + "\n", re.MULTILINE | re.DOTALL)
     if len(found) > 1:
@@ -38,21 +38,22 @@ def example(text):
 
 
 def test_of(crate, lines):
-    """A module with the example as a test. Its statements begin with the first line that is one."""
+    """Returns a module with the example as a test. The body of the test begins with the first line that is a
+    statement."""
     first = next(n for n, line in enumerate(lines) if re.match(r"(let|assert\w*)\b", line))
     body = "\n".join(f"    {line}" for line in lines[first:])
     return TEST.format(crate=crate, items="\n".join(lines[:first]), body=body).replace("#![tactic(auto)]\n", "", 1)
 
 
 def libraries():
-    """The libraries of the repository, in the order of crates.txt."""
+    """Returns the libraries of the repository, in the order of crates.txt."""
     rows = [line for line in (TOP / "crates.txt").read_text(encoding="utf-8").splitlines() if line[:1] not in ("", "#")]
     names = [row.split(":")[0].split()[0] for row in rows]
     return [name for name in names if (TOP / "crates" / name / "src/lib.rt").exists()]
 
 
 def lay_out(work):
-    """Copies the sources, and writes the scratch crate beside them. Answers of which crates it has the example."""
+    """Copies the sources, and writes the scratch crate next to them. Returns the crates whose examples it has."""
     for name in os.listdir(TOP / "crates"):
         shutil.copytree(TOP / "crates" / name, work / "crates" / name, ignore=shutil.ignore_patterns("out", "must-fail"))
     shutil.copy(TOP / "HANDLES", work)

@@ -1,22 +1,22 @@
-"""Reads cases, as cases/README.md says that they are written. A line that belongs to nothing is a case's fault."""
+"""Reads cases, whose form cases/README.md describes. A line that belongs to nothing is a fault of its case."""
 import dataclasses
 import re
 
 
 class Wrong(Exception):
-    """Why a line of a case says nothing."""
+    """The reason why a line of a case can't be read."""
 
 
 @dataclasses.dataclass
 class File:
-    """A file that is named, before a step or behind it."""
+    """A file that a case names before or after a step."""
     name: str
     content: str
     text: list = dataclasses.field(default_factory=list)
     numbered: dict = dataclasses.field(default_factory=dict)
 
     def count(self):
-        """Returns how many lines it has, where that is what is said of it."""
+        """Returns the file's number of lines, if the case gives one."""
         found = re.fullmatch(r"(\d+) lines?", self.content)
         return int(found[1]) if found else None
 
@@ -26,7 +26,7 @@ class File:
         self.text.append(line)
 
     def take_numbered(self, line):
-        """Takes a line by its number, or the reads of a sector each from one number to another."""
+        """Reads a line with its number, or reads of one sector each, from one line number to another."""
         found = re.fullmatch(r"  (\d+)(?: to (\d+): reads from 0x([0-9a-f]+)|: (.*))", line)
         if not found or self.count() is None:
             raise Wrong("it belongs to no 'N lines'")
@@ -43,7 +43,7 @@ class File:
 
 @dataclasses.dataclass
 class Step:
-    """A command line, and what is wanted of it."""
+    """A command line, and its expected results."""
     command: str
     output: list = dataclasses.field(default_factory=list)
     errors: list = dataclasses.field(default_factory=list)
@@ -56,7 +56,7 @@ class Step:
 
 @dataclasses.dataclass
 class Case:
-    """A sentence, the files and steps in their order, and the first thing that is wrong in how it is written."""
+    """A case: its sentence, its files and steps in their order, and the first fault in its form."""
     file: str
     sentence: str
     parts: list = dataclasses.field(default_factory=list)
@@ -67,13 +67,13 @@ class Case:
         return [it for it in self.parts if isinstance(it, Step)]
 
     def step(self):
-        """Returns the step that a line behind it belongs to."""
+        """Returns the last step, to which a line after it belongs."""
         if not self.parts or isinstance(self.parts[-1], File):
             raise Wrong("it belongs to no step")
         return self.parts[-1]
 
     def named(self):
-        """Returns the file that was named last."""
+        """Returns the file that the case named last."""
         last = self.parts[-1] if self.parts else None
         if isinstance(last, Step):
             last = last.after[-1] if last.after else None
@@ -90,7 +90,7 @@ class Case:
         step.after.append(file)
 
     def take(self, line):
-        """Takes one line of the case."""
+        """Reads one line of the case."""
         named = re.fullmatch(r"(file|after) ([^:]+):(?: (.*))?", line)
         status = re.fullmatch(r"status (\d+)", line)
         if line.startswith("$ "):
@@ -113,7 +113,7 @@ class Case:
             self.step().output.append(line)
 
     def finish(self):
-        """Looks at what only the whole case can tell."""
+        """Checks the form of the whole case."""
         if not self.steps():
             self.fault = self.fault or "it has no step"
         if self.free and any(it.after for it in self.steps()):
@@ -121,7 +121,7 @@ class Case:
 
 
 def read_cases(file, text):
-    """Returns the cases of a file. Each begins with a comment, which is its sentence."""
+    """Returns the cases of a file. Each begins with a comment, which is the case's sentence."""
     cases = []
     before = ""
     for number, line in enumerate(text.split("\n"), 1):

@@ -1,11 +1,11 @@
 #!/usr/bin/env python3
-"""tests/make.py: whether the Makefile does what it must.
+"""tests/make.py: checks the Makefile.
 
-It works on no program that is older than its sources, an archive has all pages that its pages link to and says what
-its program was proved with, `make quick` takes no crate for compiled that was not, and `make demo` runs the first
-example of README. All of it is tried on a copy
-of the repository in a folder with a blank in its name, with an `rt` that proves nothing and builds a program that says
-how many were built. The last line is `N passed, M failed`.
+It must use no program that is older than its sources. An archive must have all pages to which its pages link, and name
+the toolchain and commit of its program. `make quick` must not report a crate as compiled that was not, and `make demo`
+must run the first example of README. The test uses a copy of the repository in a directory with a space in its name,
+with an `rt` that proves nothing and builds a program that prints how many programs were built. The last line is `N
+passed, M failed`.
 """
 import os
 import re
@@ -40,7 +40,7 @@ esac
 
 
 class Tree:
-    """A copy of the repository, with that `rt`."""
+    """A copy of the repository, with the `rt` that proves nothing."""
 
     def __init__(self, work):
         self.work = work
@@ -61,7 +61,7 @@ class Tree:
         self.commit()
 
     def run(self, *words):
-        """Runs a command there, and returns its status and what it said."""
+        """Runs a command there, and returns its status and its output."""
         ran = subprocess.run(words, cwd=self.top, env=self.env, stdin=subprocess.DEVNULL, stdout=subprocess.PIPE,
                              stderr=subprocess.STDOUT, text=True, check=False)
         return ran.returncode, ran.stdout
@@ -70,7 +70,7 @@ class Tree:
         return self.run("make", *words)
 
     def commit(self):
-        """Commits all, and returns the commit."""
+        """Commits all files, and returns the hash of the commit."""
         self.run("git", "add", "-A")
         self.run("git", "-c", "user.name=a", "-c", "user.email=a@example.org", "-c", "commit.gpgsign=false",
                  "commit", "-q", "--allow-empty", "-m", "All")
@@ -95,7 +95,7 @@ class Tree:
         return next(self.work.glob("flashnor-*"))
 
     def packed(self):
-        """Makes an archive, and returns what it says of the proof, and what its program prints."""
+        """Makes an archive, and returns the lines of its PROVED-WITH, and the output of its program."""
         folder = self.archive()
         sums = self.run("sh", "-c", f"cd '{folder}' && sha256sum --check --quiet SHA256SUMS && tail -n 1 PROVED-WITH | "
                                     "sha256sum --check --quiet")
@@ -109,7 +109,7 @@ TARGETS = ["install", "dist", "runs", "sweep", "kill", "compare"]
 
 
 def stale(tree, expect):
-    """No target works on an old program."""
+    """No target uses a program that is older than its sources."""
     expect("no program", tree.would_build(*TARGETS), TARGETS)
     tree.make("build")
     expect("a new program", tree.would_build(*TARGETS), [])
@@ -135,7 +135,7 @@ def stale(tree, expect):
 
 
 def installed(tree, expect):
-    """What is installed is the program of today's sources, or nothing is."""
+    """`make install` installs the program of the present sources, or nothing."""
     root = tree.work / "a root"
     program = root / "usr/local/bin/flashnor"
     install = ("install", f"DESTDIR={root}")
@@ -152,7 +152,7 @@ def installed(tree, expect):
 
 
 def packed(tree, expect):
-    """An archive tells the commit that its program was proved with, and not a later one."""
+    """An archive names the commit with which its program was proved, and not a later one."""
     first = tree.commit()
     tree.edit()
     expect("sources that aren't committed", tree.packed(), ["a kit", f"commit {first}-dirty", str(tree.builds())])
@@ -172,7 +172,7 @@ def packed(tree, expect):
 
 
 def lacking(folder):
-    """Returns what the files of an archive need and the archive lacks: pages that they link to, and sums."""
+    """Returns the files that an archive needs and lacks: pages to which its pages link, and checksums."""
     needed = {"flashnor", "PROVED-WITH", "README.md", "completion/flashnor.bash", *MANUALS}
     for page in ("README.md", *MANUALS):
         text = (folder / page).read_text(encoding="utf-8") if (folder / page).exists() else ""
@@ -183,7 +183,7 @@ def lacking(folder):
 
 
 def complete(tree, expect):
-    """An archive has each page that its pages link to, and the licence if there is one."""
+    """An archive has each page to which its pages link, and the licence if there is one."""
     folder = tree.archive()
     expect("what an archive lacks", lacking(folder), [])
     expect("a licence that isn't there", sorted(it.name for it in folder.glob("LICEN*")), [])
@@ -213,7 +213,7 @@ def shown(tree, expect):
 
 
 def wrong(tree, expect):
-    """The trials detect a Makefile whose program needs no sources, and one that packs too few pages."""
+    """These tests detect a Makefile whose program does not depend on the sources, and one that packs too few pages."""
     path = tree.top / "Makefile"
     text = path.read_text(encoding="utf-8")
     path.write_text(text.replace("$(BUILT): $(SOURCES)", "$(BUILT):"), encoding="utf-8")

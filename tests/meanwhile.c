@@ -1,16 +1,16 @@
 /* Acts at one call that a program makes on a file. It is loaded before the program (LD_PRELOAD) by tests/steps.sh.
 
-   MOMENT names the call: its kind, the file's name as the program writes it, and a number N if the Nth such call is
-   meant and not the first one: `write chip.bin`, `fsync j 2`. The kinds are:
+   MOMENT names the call: its kind, the file's name as the program writes it, and a number N for the Nth such call
+   instead of the first: `write chip.bin`, `fsync j 2`. The kinds are:
      open, make       the file is opened; `make` if this call may create it
      read, write, fsync, ftruncate, flock, close
-     look             the program asks what is under this name
+     look             the program looks at this name (stat)
    Just before this call, bash runs COMMAND, if that is given, and the program waits until it ends. If ERROR names an
    error (`EIO`), this call and all later calls of its kind on this file fail with it. The file that CAME names is
-   created at that moment, so that the caller knows that the moment came.
+   created at that moment, so that the caller knows that the call was made.
 
-   ALIKE is a list of names, with a blank after each. These files have the same inode number; their devices are not
-   changed. */
+   ALIKE is a list of names, with a space after each. The program sees the same inode number for these files; their
+   devices are not changed. */
 #define _GNU_SOURCE
 #include <errno.h>
 #include <fcntl.h>
@@ -26,7 +26,7 @@
 
 enum { FILES = 64, LENGTH = 4096 };
 
-/* The moment, and how many such calls there were. */
+/* The call that MOMENT names, and the number of such calls so far. */
 static char kind[16], file_name[LENGTH];
 static unsigned long number = 1, called;
 static const char *command, *came, *alike;
@@ -158,7 +158,7 @@ int close(int file) {
     return is_failing ? -1 : answer;
 }
 
-/* The same file under another number. */
+/* Duplicates a descriptor: the copy has the same file. */
 int fcntl(int file, int command, ...) {
     va_list rest;
     va_start(rest, command);

@@ -1,8 +1,8 @@
-"""The examples of README.md, of the FAQ and of the manual pages as cases.
+"""Makes the examples of README.md, of the FAQ and of the manual pages into cases.
 
-The lines behind `$` are the steps, in the order in which they stand, and what stands behind them is what both streams
-print. chip.bin and new.bin are those of `make files`, as the pages say, and a file that a page shows by `cat` is the
-one that it shows.
+A line that begins with `$` is a step, in the order of the page. The lines after it are what both streams print.
+chip.bin and new.bin are those of `make files`, as the pages say. A file that a page shows by `cat` has the content that
+the page shows.
 """
 import re
 
@@ -18,7 +18,7 @@ def of_markdown(text):
 
 
 def of_manual(text):
-    """Returns those of a manual page, without what only their form needs."""
+    """Returns the lines within the examples of a manual page, without its formatting."""
     lines = "\n".join(re.findall(r"^\.EX\n(.*?)^\.EE$", text, re.M | re.S))
     for form, plain in ((r"\\f[BIR]", ""), (r"\\-", "-"), (r"\\\(dq", '"'), (r"\\\(ha", "^"), (r"\\&", "")):
         lines = re.sub(form, plain, lines)
@@ -26,7 +26,7 @@ def of_manual(text):
 
 
 def case_of(name, lines):
-    """Returns the case of a page. A fault's line may be behind any step, and then the status is 1."""
+    """Returns the case of a page. If the line of a fault follows a step, the step's status must be 1."""
     case = Case(name, f"The examples of {name}, in their order.", free=True)
     case.parts.append(Step('make files SCRATCH="$PWD"'))
     for line in lines:

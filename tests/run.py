@@ -1,14 +1,15 @@
 #!/usr/bin/env python3
-"""tests/run.py [PROGRAM [FOLDER]] or tests/run.py PROGRAM README MANUAL..: the built program on each case of a folder,
-each case in a folder of its own, or on the examples of these pages.
+"""tests/run.py [PROGRAM [FOLDER]] or tests/run.py PROGRAM README MANUAL..: runs the built program on each case of a
+directory, each case in a directory of its own, or on the examples of these pages.
 
-Without a folder these are tests/cases and the examples of README.md and the manual pages (pages.py), and it is tried
-that programs that do something else, cases that say what isn't so and an empty folder don't pass (self.py), and whether
-the pages say what the program prints as help and as list of chips (scripts/agree.sh). The program is also run by a
-parent that closes streams, sets limits and has terminals, as no shell does (streams.py). How a case is read stands in
-cases/README.md. A case that fails is told, with what was wanted and what was got. What can't be tried here is told in a
-line that begins with `left out:`. The last line is `N passed, M failed`, and the status is 1 where one failed or none
-was run.
+Without FOLDER it runs the cases of tests/cases, and the examples of README.md and the manual pages (pages.py). Then it
+also checks that wrong programs, wrong cases and an empty directory don't pass (self.py), that the pages show the
+program's help and list of chips (scripts/agree.sh), and that the program works for a parent process that closes
+streams, sets limits and has terminals, as no shell does (streams.py). cases/README.md describes the form of a case.
+
+A case that fails is printed, with the expected and the actual results. A case that can't be run here is printed in a
+line that begins with `left out:`. The last line is `N passed, M failed`, and the exit status is 1 if a case failed or
+none was run.
 """
 import os
 import re
@@ -24,26 +25,26 @@ import pages
 from trial import Differs, Trial, shown
 
 TOP = Path(__file__).resolve().parent.parent
-# Where a case gets a directory of another file system than its own one.
+# The file system on which a case gets a directory other than its own.
 SECOND_DISK = "/dev/shm"
 
 
 class Tally:
-    """How many passed and failed."""
+    """The numbers of passed and of failed cases."""
 
     def __init__(self):
         self.passed = 0
         self.failed = 0
 
     def count(self, has_passed, *lines):
-        """Counts one, and tells the lines."""
+        """Counts one result, and prints the lines."""
         self.passed += has_passed
         self.failed += not has_passed
         for line in lines:
             print(shown(line))
 
     def add(self, what, words):
-        """Counts what another program tells in its last line."""
+        """Adds the counts that another program prints in its last line."""
         said = subprocess.run(words, stdout=subprocess.PIPE, stderr=subprocess.STDOUT, check=False)
         *lines, last = [""] + os.fsdecode(said.stdout).splitlines()
         found = re.fullmatch(r"(\d+) passed, (\d+) failed", last)
@@ -57,21 +58,21 @@ class Tally:
 
 
 def needs(case, need):
-    """Whether a step of the case has what this pattern matches."""
+    """Returns whether a step of the case matches this pattern."""
     return any(re.search(need, it.command) for it in case.steps())
 
 
 class Machine:
-    """The program that is tried, and what this machine can do."""
+    """The program that is tested, and the abilities of this machine."""
 
     def __init__(self, work, program):
         self.work = work
-        # (it is copied, so that a user without rights can run it too)
+        # (it is copied, so that a user who is not root can run it too)
         self.program = work / "flashnor"
         shutil.copy(program, self.program)
         self.program.chmod(0o755)
         self.library = work / "meanwhile.so"
-        # What a step may need, and what finds out why that can't be had here.
+        # A pattern for what a step may need, and the function that finds out whether this machine lacks it.
         self.needs = {r"\bnobody ": self.no_nobody, r"\bwrites ": self.no_counts, "/dev/full": self.no_full,
                       r"\b(meanwhile|failing|alike) ": self.no_library, r"\$disk\b": self.no_second_disk}
         self.missing = {}
@@ -85,7 +86,7 @@ class Machine:
         return None if Path("/dev/full").is_char_device() else "there is no /dev/full"
 
     def no_nobody(self):
-        """Returns why the program can't be run here by a user whom rights on files bind."""
+        """Returns the reason why the program can't be run here by a user who is not root, or None."""
         if os.geteuid() != 0:
             return None
         if not shutil.which("setpriv"):
@@ -96,7 +97,8 @@ class Machine:
         return f"another user than root can't be, or has no way to {self.work.parent}: set TMPDIR"
 
     def no_library(self):
-        """Builds the library that acts at a call of the program (meanwhile.c), or returns why it can't be built."""
+        """Builds the library that acts at a call of the program (meanwhile.c), or returns the reason why it can't be
+        built."""
         if not shutil.which("cc"):
             return "there is no C compiler (cc)"
         words = ["cc", "-std=c11", "-O1", "-shared", "-fPIC", "-o", self.library, TOP / "tests/meanwhile.c"]
@@ -106,7 +108,7 @@ class Machine:
         return "tests/meanwhile.c doesn't compile: " + os.fsdecode(built.stderr).partition("\n")[0]
 
     def no_second_disk(self):
-        """Returns why a case can't have files on two file systems."""
+        """Returns the reason why a case can't have files on two file systems, or None."""
         if not os.access(SECOND_DISK, os.W_OK):
             return f"there is no {SECOND_DISK}"
         if os.stat(SECOND_DISK).st_dev == self.work.stat().st_dev:
@@ -114,7 +116,7 @@ class Machine:
         return None
 
     def do(self, case):
-        """Does a case, and returns whether it passed, or None where it was left out, with the lines that tell it."""
+        """Runs a case, and returns whether it passed, or None if it was left out, and the lines to print."""
         for need, why in self.missing.items():
             if why and needs(case, need):
                 return None, f"left out: {case.file}: {case.sentence} ({why})"
@@ -136,7 +138,7 @@ class Machine:
                 shutil.rmtree(it, ignore_errors=True)
 
     def do_all(self, cases, tally):
-        """Does all cases, as many at once as there are cores, and tells them in their order."""
+        """Runs all cases, one per core at a time, and prints the results in the order of the cases."""
         for need, find in self.needs.items():
             if any(needs(case, need) for case in cases):
                 self.missing[need] = find()
@@ -149,7 +151,7 @@ class Machine:
 
 
 def agree(program, tally):
-    """Tells what the pages say otherwise than the program prints."""
+    """Prints the differences between the pages and the output of the program."""
     said = subprocess.run(["bash", TOP / "scripts/agree.sh", program], stdout=subprocess.PIPE,
                           stderr=subprocess.STDOUT, check=False)
     if said.returncode == 0:
@@ -160,7 +162,7 @@ def agree(program, tally):
 
 
 def cases_of(folder):
-    """Returns the cases of all files of a folder."""
+    """Returns the cases of all files of a directory."""
     files = sorted(Path(folder).glob("*.case"))
     return [case for it in files for case in grammar.read_cases(it.name, os.fsdecode(it.read_bytes()))]
 

@@ -1,9 +1,9 @@
 #!/usr/bin/env python3
-"""tests/self.py PROGRAM: whether run.py fails where it must, and says why.
+"""tests/self.py PROGRAM: checks that run.py fails when it must, and prints the reason.
 
-It must for programs that do something else, for cases that say what isn't so or that say nothing, for a folder without
-cases, and for pages of which a number was changed. It must also for the program that is tried if one thing is made wrong
-in it (wrong.c), on the cases that are there for this. The last line is `N passed, M failed`.
+It must fail for programs that do something else, for wrong or empty cases, for a directory without cases, and for pages
+on which a number was changed. It must also fail for PROGRAM with one thing made wrong in it (wrong.c), on the cases
+that must detect this. The last line is `N passed, M failed`.
 """
 import os
 import re
@@ -29,7 +29,7 @@ CLOSED = "# Streams are closed.\n$ closed flashnor\n" + BEHIND
 MOMENT = "# It is read.\nfile given: hex 30300a\n$ meanwhile 'MOMENT' 'echo 11 > given' flashnor\n11\n" + BEHIND
 MOMENT += "after given: hex 31310a\n"
 
-# What is tried, the program as lines of shell, the case, and what is told where it doesn't pass.
+# Each trial has a name, the program as lines of shell, the case, and the text that must be printed if it doesn't pass.
 TRIALS = [
     ("what is as the case says", RIGHT, CASE, None),
     ("lines of a trace", RIGHT, TRACE + "  1: 05\n  2: 06\n", None),
@@ -107,7 +107,8 @@ TRIALS = [
     ("a byte behind its part", RIGHT, CASE.replace("hex 3030", "2 of 30, 31 at 0x2"), "isn't within its part"),
 ]
 
-# A page, what is changed on it, and what is told: the step, with what it prints and what the page shows.
+# Each row has a name, a page, the change of it, and the text that must be printed: the step, its output, and what the
+# page shows.
 PAGES = [
     ("transactions in README", "README.md", r"(programs 1, transactions )13\.", r"\g<1>14.",
      ["transactions 13.", "transactions 14."]),
@@ -121,7 +122,8 @@ PAGES = [
     ("README without its examples", "README.md", r"^\$ flashnor", "$ echo", ["no example was found"]),
 ]
 
-# What is made wrong in the program, the file of cases that must detect it, and how the sentence of one of them begins.
+# Each row has the mistake of the program, the file of cases that must detect it, and the beginning of the sentence of
+# one of these cases.
 WRONG = [
     ("nothing", "disks.case", None),
     ("nothing", "locks.case", None),
@@ -145,8 +147,8 @@ class Tally:
         self.failed = 0
 
     def run(self, what, wanted, told, *words):
-        """Runs run.py on the words: its status and, if they are given, its last lines are these, and it tells all that
-        must be told."""
+        """Runs run.py with the arguments `words`. Its status and last line must be `wanted`, and its output must
+        contain each text of `told`."""
         ran = subprocess.run([sys.executable, TOP / "tests/run.py", *words], stdout=subprocess.PIPE,
                              stderr=subprocess.STDOUT, check=False)
         said = os.fsdecode(ran.stdout)
@@ -182,7 +184,7 @@ def try_page(work, tally, program, trial):
 
 
 def try_wrong(work, tally, program):
-    """Tries the program with one thing made wrong, once for each file of cases."""
+    """Tests the program with one thing made wrong, once for each file of cases."""
     library = work / "wrong.so"
     if not shutil.which("cc"):
         print("left out: programs in which one thing is made wrong (there is no C compiler (cc))")
@@ -209,7 +211,7 @@ def main(program):
     tally = Tally()
     with tempfile.TemporaryDirectory() as name:
         work = Path(name)
-        # (another user runs the programs too)
+        # (another user must be able to run the programs, too)
         work.chmod(0o755)
         for number, trial in enumerate(TRIALS):
             try_case(work, tally, number, trial)

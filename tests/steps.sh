@@ -1,10 +1,10 @@
 # shellcheck shell=bash
-# What a step of a case may call beside the system's commands; for trial.py, which gives it these three.
+# The commands that a step of a case may call in addition to those of the system. trial.py sets these three variables.
 : "${top:?}" "${program:?}" "${library?}"
 
 flashnor() { timeout 60 "$program" "$@"; }
 
-# `nobody flashnor ..`: the program run by a user who isn't root, whom rights on files bind.
+# `nobody flashnor ..`: runs the program as a user who isn't root, so that permissions apply.
 nobody() {
     shift
     if ((EUID == 0)); then
@@ -85,8 +85,8 @@ at_moment() {
     return "$status"
 }
 
-# `writes flashnor ..`: how many calls of write the program makes, as the system counts those of a process and of its
-# children that have ended.
+# `writes flashnor ..`: prints how many calls of write the program makes, as the system counts those of a process and of
+# its children that have ended.
 writes() {
     local before
     count_writes
@@ -106,10 +106,10 @@ count_writes() {
 # `starts`: makes an image and a journal for each of its patterns of bytes, and prints the patterns (starts.py).
 starts() { python3 "$top/tests/starts.py"; }
 
-# `make ..`: a rule of the repository's Makefile, with the program that is tried, whatever the sources are.
+# `make ..`: runs a target of the repository's Makefile with the program that is tested, even if the sources are newer.
 make() { command make --no-print-directory -s -C "$top" PROGRAM="$program" SOURCES= "$@"; }
 
-# `completion LINE`: what bash offers where the line that is typed ends here, an offer a line.
+# `completion LINE`: prints what bash offers at the end of this line, one offer per line.
 completion() {
     local COMP_LINE=$1 COMP_POINT=${#1} COMP_WORDBREAKS=$' \t\n"\'><=;|&(:' COMP_WORDS=() COMP_CWORD COMPREPLY=()
     local rest=$1 word

@@ -41,7 +41,7 @@ LARGE_JOURNAL = sealed(b"NORUNDO2\xef\x40\x17" + bytes(8) + CLEAR + b"\0\0\x80\0
 SAVED = sealed(HEADER + b"\x0a\0\0\0" + ERASED[:4096])
 FILES = {"chip.bin": OLD, "s": CLEAR, "new.bin": NEW, "short": ERASED[:100], "saved": SAVED}
 
-# What is tried: its arguments, the files that it changes or makes, what it prints on both streams, and its status.
+# Each job has its arguments, the files that it changes or creates, its output on both streams, and its status.
 JOBS = {
     "a write": ([*TINY, "-w", "new.bin", "--journal", "j"], {"chip.bin": NEW, "j": JOURNAL},
                 FOUND + done(1, 1, 1, 30), "", 0),
@@ -62,8 +62,8 @@ JOBS = {
     "a missing journal": ([*TINY, "--restore", "none"], {}, "", "File fault 1: none.\n", 1),
 }
 
-# How many files the program may have open, which streams are closed, and what becomes of a run that prints a size: it
-# needs three files before all others.
+# Each row has the number of files that the program may have open, the closed streams, and the result of a run that
+# prints a size. The program needs three files before all others.
 SIZE = ["-p", "dummy:emulate=TINY64", "--flash-size"]
 NO_ROOT = "File fault 1: /.\n"
 LIMITS = [
@@ -82,7 +82,7 @@ LIMITS = [
     (JOBS["a write"][0], 3, "2", "", "", 1),
 ]
 
-# What is tried with a terminal, whose name stands for TTY, and what is printed on standard error.
+# Each row has arguments in which TTY is replaced by the name of a terminal, and the expected standard error.
 TERMINALS = [
     (["-p", "dummy:emulate=TINY64,image=TTY"], "File fault 1: TTY.\n"),
     (["-p", "dummy:emulate=TINY64,status=TTY", "--flash-size"], "File fault 1: TTY.\n"),
@@ -98,7 +98,7 @@ TERMINALS = [
 
 
 class Failed(Exception):
-    """What was wanted, and what was got."""
+    """A test that failed: the expected and the actual result."""
 
 
 def same(what, wanted, got):
@@ -113,8 +113,8 @@ class Runs:
         self.failed = 0
 
     def try_one(self, what, wanted, words, **how):
-        """Runs the program in a directory of its own, and compares all that it left, printed and ended with. `wanted`
-        may also be a function that returns what is wanted of what was printed."""
+        """Runs the program in a directory of its own, and compares the files that it left, its output and its status.
+        `wanted` may also be a function that returns the expected result for what was printed."""
         with tempfile.TemporaryDirectory() as name:
             place = Path(name)
             for file, content in FILES.items():
@@ -155,7 +155,8 @@ class Runs:
                          words, closed=[int(it) for it in closed], limit=limit)
 
     def starve_session(self):
-        """A session that may open too few files ends with a file fault, and nothing is sent; else it ends as ever."""
+        """A session that may open too few files ends with a file fault, and sends nothing. With enough files it ends as
+        it does without a limit."""
         words, changed, printed, _, _ = JOBS["a write"]
         ends = set()
 
@@ -178,7 +179,7 @@ class Runs:
         for words, faults in TERMINALS:
             words = [it.replace("TTY", name) for it in words]
             self.try_one(f"{words} with a terminal", ({}, "", faults.replace("TTY", name), 1), words)
-        # A terminal as standard output or standard error is no file that a run could write.
+        # A terminal as standard output or standard error is not a file that a run could write.
         size = "05 > 00|9f > fe1010|5a00000000 > 8 bytes|5a00000800 > 8 bytes|5a00001000 > 36 bytes|65536|"
         for stream in ("stdout", "stderr"):
             words = ["-p", f"dummy:emulate=TINY64,trace=/dev/{stream}", "--flash-size"]

@@ -1,4 +1,4 @@
-"""Does the steps of a case in a folder of its own, and compares."""
+"""Runs the steps of a case in a directory of its own, and compares the results."""
 import os
 import re
 import shlex
@@ -9,14 +9,14 @@ from pathlib import Path
 import contents
 from grammar import Step
 
-# A larger file isn't read: its length and its time are compared.
+# A larger file isn't read: only its length and its time are compared.
 MOST_COMPARED = 32 << 20
-# What a case says of a name that is no file with bytes, as `look` returns it.
+# The notation of a case for a name that is no file with bytes, as `look` returns it.
 OTHERS = r"no file|a directory|a FIFO|a link to .+"
 
 
 class Differs(Exception):
-    """What was wanted, and what was got."""
+    """A comparison that failed: the expected and the actual result."""
 
 
 def shown(text):
@@ -25,7 +25,7 @@ def shown(text):
 
 
 def read(path):
-    """Returns the bytes of a file, whatever its rights are."""
+    """Returns the bytes of a file, even if its permissions forbid reading."""
     try:
         return path.read_bytes()
     except PermissionError:
@@ -38,7 +38,8 @@ def read(path):
 
 
 def look(path):
-    """Returns what there is under this name: of a file its bytes, else a text that tells it; and its rights."""
+    """Returns the bytes of a file and its permissions. For anything else returns a text that describes it in place of
+    the bytes."""
     found = path.lstat()
     rights = stat.S_IMODE(found.st_mode)
     if stat.S_ISLNK(found.st_mode):
@@ -53,7 +54,7 @@ def look(path):
 
 
 def all_files(folder):
-    """Returns what there is of each file and folder below this one, by its name."""
+    """Returns what `look` returns for each file and directory below `folder`, by its name."""
     found = {}
     for place, folders, files in os.walk(folder):
         for name in folders + files:
@@ -63,18 +64,19 @@ def all_files(folder):
 
 
 def told(what):
-    """Returns what there is under a name, for a person."""
+    """Returns a text for what `look` returned, for messages."""
     return f"{len(what)} bytes" if isinstance(what, bytes) else what
 
 
 def differing(wanted, got):
-    """Tells the first bytes that differ."""
+    """Returns a text with the first bytes that differ."""
     places = [k for k in range(min(len(wanted), len(got))) if wanted[k] != got[k]][:4]
     return "".join(f", {got[k]:02x} at 0x{k:x}, not {wanted[k]:02x}" for k in places)
 
 
 def same_lines(file, got):
-    """Compares a file with how many lines it has, and with those that are given by their numbers."""
+    """Compares a file with the number of lines that it must have, and with the lines that are given by their
+    numbers."""
     lines = os.fsdecode(got).split("\n")
     if len(lines) != file.count() + 1 or lines.pop() != "":
         raise Differs(f"wanted of {file.name}: {file.content}", f"got: {len(lines)} lines, or one without an end")
@@ -84,7 +86,8 @@ def same_lines(file, got):
 
 
 def text_differs(name, wanted, got):
-    """Tells how what was printed differs; a line `..` stands for any lines."""
+    """Returns the lines that describe how the printed text differs, if it does. A line `..` of the expected text
+    matches any lines."""
     pattern = "".join(r"(?:[^\n]*\n)*" if it == ".." else re.escape(it + "\n") for it in wanted)
     got = os.fsdecode(got)
     if re.fullmatch(pattern, got):
@@ -94,7 +97,8 @@ def text_differs(name, wanted, got):
 
 
 class Trial:
-    """A case that is done in a folder. The words are variables of its steps, with the program and the repository."""
+    """A case that is run in the directory `folder`. `words` are variables of its steps, with the program and the
+    repository."""
 
     def __init__(self, case, folder, words):
         self.case = case
@@ -104,7 +108,7 @@ class Trial:
         self.command = ""
 
     def content(self, file):
-        """Returns the bytes that a file is said to have."""
+        """Returns the bytes that the case gives for a file."""
         if not file.content:
             return b"".join(os.fsencode(f"{it}\n") for it in file.text)
         try:
@@ -113,7 +117,7 @@ class Trial:
             raise Differs(f"'{file.content}' of {file.name} can't be made: {why}") from why
 
     def do(self):
-        """Does all of it, or tells how it differs."""
+        """Runs all steps. Raises `Differs` at the first difference."""
         if self.case.fault:
             raise Differs(self.case.fault)
         for it in self.case.parts:
@@ -140,14 +144,15 @@ class Trial:
             self.compare(before, wanted, all_files(self.folder))
 
     def wanted(self, file):
-        """Returns what a file must be: its bytes, a text if it is no file with bytes, or the file itself if the case
-        says only its length or its number of lines."""
+        """Returns the expected content of a file: its bytes, a text if it is no file with bytes, or the file itself if
+        the case gives only its length or its number of lines."""
         if re.fullmatch(OTHERS, file.content):
             return file.content
         return file if re.fullmatch(r"\d+ (bytes|lines?)", file.content) else self.content(file)
 
     def compare(self, before, wanted, after):
-        """Each file is what it must be, with the rights that it had, and no other is there."""
+        """Checks that each file has its expected content and the permissions from before, and that there is no other
+        file."""
         for name in sorted({*before, *wanted, *after}):
             want = wanted.get(name, before.get(name, ("no file",))[0])
             got, rights = after.get(name, ("no file", 0))

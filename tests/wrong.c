@@ -1,12 +1,12 @@
-/* Makes a program that works rightly do one thing wrong. It is loaded before the program (LD_PRELOAD) by tests/self.py,
-   which tries whether the cases detect it. WRONG says what:
-     first    the locks that are held are given up before the next lock is taken
-     write    they are given up before an image is written, which is the only write of 60,000 bytes or more
-     seal     they are given up once a journal is synced
+/* Makes a mutant of a right program. tests/self.py loads this library before the program (LD_PRELOAD), and checks that
+   the cases detect the mutant. WRONG names it:
+     first    all locks are released before the next lock is taken
+     write    all locks are released before an image is written: only such a write has 60,000 bytes or more
+     seal     all locks are released when a journal is synced
      shared   each lock is shared with other runs
      unlocked no file is locked
-     inode    files are compared by their inode number only
-   Anything else does nothing wrong. */
+     inode    files are compared only by their inode numbers
+   With any other name the program is right. */
 #define _GNU_SOURCE
 #include <dlfcn.h>
 #include <stdio.h>
@@ -25,7 +25,7 @@ static int is(const char *what) {
     return wrong && strcmp(wrong, what) == 0;
 }
 
-/* The next function of this name, which may be that of meanwhile.c. */
+/* Returns the next function of this name, which may be that of meanwhile.c. */
 static void *next(const char *name) {
     void *found = dlsym(RTLD_NEXT, name);
     if (!found) abort();
@@ -37,7 +37,7 @@ static void give_up(void) {
     while (count > 0) lock(locked[--count], LOCK_UN);
 }
 
-/* Whether the open file is a journal: its name ends with a part that begins with j. */
+/* Returns whether the open file is a journal: the last part of its path begins with j. */
 static int is_journal(int file) {
     char link[64], path[4096];
     snprintf(link, sizeof link, "/proc/self/fd/%d", file);

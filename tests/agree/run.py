@@ -1,8 +1,8 @@
 #!/usr/bin/env python3
-"""tests/agree/run.py: whether agree reads the sources as they are, and refuses what it must.
+"""tests/agree/run.py: checks that the scripts of agree read the sources correctly, and reject what they must.
 
-It runs all tests of this folder. The last line is `N passed, M failed`, and the status is 1 where one failed or none
-was run.
+It runs all tests of this directory. The last line is `N passed, M failed`, and the exit status is 1 if a test failed or
+none was run.
 """
 import pathlib
 import sys

@@ -1,4 +1,4 @@
-"""The counts of runs, with a log and a page of a few lines."""
+"""Tests of scripts/counts.py, with a log and a page of a few lines."""
 import contextlib
 import io
 import pathlib
@@ -10,7 +10,7 @@ from unittest import mock
 import counts
 import texts
 
-# What the gate prints, as its parts put it.
+# The output of the gate, with the lines of its parts.
 LOG = """agree: fine
 storm: a line before
 sessions on a bus that lies: 130
@@ -51,7 +51,7 @@ class Counts(unittest.TestCase):
         self.page = PAGE.format(cases=self.cases, played=played)
 
     def told(self, page, log=LOG):
-        """Returns what is printed for a page and a log."""
+        """Returns the output of scripts/counts.py for a page and a log."""
         printed = io.StringIO()
         with tempfile.TemporaryDirectory() as folder:
             file = pathlib.Path(folder) / "log"

@@ -1,5 +1,5 @@
-"""The changes of pages that tests/self.py tries on the built program: each changes its page, whose text is known before
-there is a program."""
+"""Checks that each change of a page that tests/self.py tests on the built program does change its page. This needs no
+program."""
 import importlib
 import pathlib
 import re

@@ -1,4 +1,4 @@
-"""Copies of the tree with one fault each, which agree must refuse, and say what is wrong."""
+"""Copies of the repository with one fault each, which agree must reject, with a message that names the fault."""
 import concurrent.futures
 import os
 import pathlib
@@ -20,8 +20,8 @@ PATHS = ["python3", "scripts/paths.py"]
 COUNTS = ["python3", "scripts/counts.py"]
 STATEMENT = ["python3", "scripts/statement.py", "--check"]
 
-# Each plant: what has to refuse it, the file, the pattern whose first place gets the text, and what must be told. Of
-# each kind one is refused by agree as a whole, the others by the part of it.
+# Each plant has the part that must reject it, the file, a pattern whose first match is replaced, the new text, and the
+# expected message. One plant of each kind must be rejected by agree as a whole, the others by its part.
 PLANTS = {
     "a clause of another call": (
         AGREE, "README.md", r"`session`: `still`, `same`, `leads_back`", "`probe`: `still`, `same`, `leads_back`",
@@ -221,7 +221,7 @@ if shutil.which("rt"):
     PLANTS["another kit"] = (
         WORDS, "README.md", r"rattle-kit-\w+", "rattle-kit-none", "kit: README has 'rattle-kit-none .*', rt hasn't")
 
-# Changes of the sources' layout that change nothing that they say: the file, the pattern, and the text in its place.
+# Changes of the sources' layout that change no meaning: the file, the pattern, and the text that replaces the match.
 HARMLESS = {
     "a requires with a name": ("crates/nor_journal/src/records.rt", r"requires \{ 4100", "requires there { 4100"),
     "a signature on three lines": (
@@ -237,7 +237,7 @@ HARMLESS = {
 
 
 class Trees:
-    """Copies of what agree reads, one for each processor; each is used by one run at a time."""
+    """Copies of the files that agree reads, one for each processor; each is used by one run at a time."""
 
     def __init__(self, folder, count):
         self.free = queue.Queue()
@@ -251,8 +251,8 @@ class Trees:
             self.free.put(tree)
 
     def run(self, words, file=None, pattern="", text=""):
-        """Runs the words in a copy where the first place of the pattern in a file has become the text, and puts that
-        back. Returns the status, none where there is no such place, and the lines that tell what differs."""
+        """Runs a command in a copy of the repository, with the first match of the pattern in `file` replaced by `text`,
+        and undoes that. Returns the status, or None if nothing matches, and the lines that report differences."""
         tree = self.free.get()
         try:
             old = (tree / file).read_text(encoding="utf-8") if file else ""
@@ -271,7 +271,7 @@ class Trees:
 
 
 class Plants(unittest.TestCase):
-    """What agree tells of each."""
+    """Checks the output of agree for each plant."""
 
     def test_each_plant_is_refused(self):
         count = os.cpu_count() or 1

@@ -1,4 +1,4 @@
-"""The reader of sources, on small ones."""
+"""Tests of the readers of sources, on small sources."""
 import pathlib
 import tempfile
 import unittest
@@ -15,7 +15,7 @@ use Rattle.std.specs.Prelude.{ℕ, Bool, true}
 
 
 class Small(unittest.TestCase):
-    """A folder of crates that a test fills."""
+    """A directory of crates that a test fills."""
 
     def setUp(self):
         folder = tempfile.TemporaryDirectory()
@@ -28,14 +28,14 @@ class Small(unittest.TestCase):
         sources.source.cache_clear()
 
     def put(self, path, text):
-        """Writes a file below crates/, and returns it as it is read."""
+        """Writes a file below crates/, and returns what `sources` reads from it."""
         file = self.crates / path
         file.parent.mkdir(parents=True, exist_ok=True)
         file.write_text(text, encoding="utf-8")
         return sources.source(path)
 
     def refuses(self, path, text, told):
-        """Reading this text ends with these words."""
+        """Checks that reading this text ends the script with a message that contains `told`."""
         with self.assertRaises(SystemExit) as ended:
             self.put(path, text)
         self.assertIn(told, str(ended.exception))
@@ -45,11 +45,11 @@ class Definitions(Small):
     """Files of specs/."""
 
     def spec(self, text):
-        """Returns a file of definitions as it is read."""
+        """Writes a file of definitions, and returns what `sources` reads from it."""
         return self.put("one/specs/Some.antt", HEAD + text)
 
     def refuses_spec(self, text, told):
-        """Reading these definitions ends with these words."""
+        """Checks that reading these definitions ends the script with a message that contains `told`."""
         self.refuses("one/specs/Some.antt", HEAD + text, told)
 
     def test_a_comment_between_equations_belongs_to_the_next_one(self):
@@ -160,7 +160,7 @@ impl<T: Law> Law for One<T> {
     fn each_is_even() {}
 }
 """
-# Changes of the layout that change nothing that is said: the text, and what stands in its place.
+# Changes of the layout that change no meaning: the text, and its replacement.
 HARMLESS = {
     "a name for a requires": ("requires {", "requires small {"),
     "a clause's brace on a line of its own": ("ensures low {", "ensures low\n    {"),
@@ -174,10 +174,10 @@ HARMLESS = {
 
 
 class Layout(Small):
-    """Changes of a source's layout that change nothing that it says."""
+    """Tests that a change of a source's layout changes nothing that is read from it."""
 
     def said(self, text):
-        """Returns what is read of the functions of a text."""
+        """Returns what is read from the functions of a text."""
         self.put("one/src/a.rt", text)
         sources.source.cache_clear()
         code = sources.source("one/src/a.rt")

@@ -1,10 +1,10 @@
-"""The traces of flashnor, as the comparison with another chip reads and plays them."""
+"""Tests of how the comparison with another chip reads and plays traces of flashnor."""
 import pathlib
 import sys
 import unittest
 
 sys.path.insert(0, str(pathlib.Path(__file__).resolve().parents[2] / "scripts/compare"))
-import traces  # noqa: E402  (it isn't beside the other scripts)
+import traces  # noqa: E402  (it is in another directory than the other scripts)
 from traces import Transaction
 
 WRITE = """05 > 00
@@ -18,7 +18,7 @@ WRITE = """05 > 00
 
 
 class Chip:
-    """A chip that replies what it is told to, with a status that has its low bits alone."""
+    """A chip with given replies, whose status has only the four lowest bits."""
     kept = 0x0F
 
     def __init__(self, *replies):
@@ -59,7 +59,8 @@ class Lines(unittest.TestCase):
 
 class Played(unittest.TestCase):
     def play(self, *replies, trace=WRITE):
-        """Plays a trace on a chip that replies this. Returns how many were compared, and the lines that differ."""
+        """Plays a trace on a chip with these replies. Returns the number of replies that were compared, and the lines
+        that differ."""
         self.chip = Chip(*replies)
         compared, found = traces.play(self.chip, traces.read_trace(trace), b"\xff\xff\xff\xff", b"\x12\xff\xff\xff")
         return compared, [it.split(" (")[0] for it in found]
@@ -78,7 +79,7 @@ class Played(unittest.TestCase):
     def test_what_is_left_out(self):
         trace = "05 > 00\n05 > 10\n35 > 00\n4b00000000 > 8 bytes\n"
         self.assertEqual(self.play("f0", "00", "11", "0102030405060708", trace=trace), (2, []))
-        # What is read between two changes isn't known.
+        # The bytes between two changes are unknown, so a read there isn't compared.
         self.assertEqual(self.play("00", trace="0200000012\n03000000 > ff\n0200000100\n"), (0, []))
 
 

@@ -1,8 +1,9 @@
-"""What a disk may hold of files when its machine is lost.
+"""The contents that a disk may have after a host crash.
 
-Nothing is assumed of the order in which changes reach a disk. Until a file is synced each of its blocks may be as it
-was at the last sync or after any later write, its length too, and where a length came and no block there are zeros.
-Until a folder is synced a name in it may be that of what it was then, or of anything later: of no file, too.
+Nothing is assumed about the order in which changes reach a disk. Until a file is synced, each of its blocks may be as
+it was at the last sync or after any later write, and so may its length. Where the length grew but no block was written,
+the disk has zeros. Until a directory is synced, a name in it may refer to the file that it referred to at the last
+sync, to any later one, or to none.
 """
 import os
 
@@ -10,12 +11,12 @@ BLOCK = 512
 
 
 def block_of(content, number):
-    """Returns a block of these bytes, with zeros behind their end."""
+    """Returns a block of these bytes, with zeros after their end."""
     return bytes(content[number * BLOCK : (number + 1) * BLOCK]).ljust(BLOCK, b"\0")
 
 
 class File:
-    """A file: what is seen of it, and what the disk may have instead."""
+    """A file: the bytes that programs see, and those that the disk may have instead."""
 
     def __init__(self, content=b""):
         self.seen = bytearray(content)
@@ -27,7 +28,8 @@ class File:
         self.blocks = {}
 
     def changed(self, begin, end):
-        """Adds what the blocks between these bytes have now to what each may be, and the length to the lengths."""
+        """Adds the present contents of the blocks between these positions to what each block may be, and the present
+        length to the possible lengths."""
         if len(self.seen) != self.lengths[-1]:
             self.lengths.append(len(self.seen))
         for number in range(begin // BLOCK, -(-end // BLOCK)):
@@ -47,7 +49,7 @@ class File:
         self.changed(begin, end)
 
     def left(self, pick):
-        """Returns what a lost machine leaves, where this picks one of the things that each part may be."""
+        """Returns what a host crash leaves of the file. `pick` selects one of the possible contents of each part."""
         length = pick(self.lengths)
         content = bytearray(self.synced[:length].ljust(length, b"\0"))
         for number, found in self.blocks.items():
@@ -56,13 +58,14 @@ class File:
 
 
 class Disk:
-    """Files by their names. Each name has what it may be that of on the disk: files, or None. The last is seen."""
+    """Files by their names. Each name has the list of files to which it may refer on the disk, or None for no file.
+    Programs see the last one."""
 
     def __init__(self):
         self.names = {}
 
     def put(self, name, content):
-        """A file that is there for good."""
+        """Adds a durable file."""
         self.names[name] = [File(content)]
 
     def make(self, name):
@@ -75,7 +78,7 @@ class Disk:
         return self.names.get(name, [None])[-1]
 
     def sync(self, name):
-        """Syncs the file of this name, or else the folder."""
+        """Syncs the file of this name, or the directory if there is no such file."""
         if self.file(name):
             self.file(name).sync()
             return
@@ -98,11 +101,11 @@ class Disk:
             raise ValueError(f"no change that is known: {what} {name}")
 
     def seen(self):
-        """Returns what is seen of the files that are there."""
+        """Returns the bytes that programs see of the existing files."""
         return {name: bytes(files[-1].seen) for name, files in self.names.items() if files[-1]}
 
     def left(self, picks):
-        """Returns the files that a lost machine leaves: for each name this makes a new way to pick."""
+        """Returns the files that a host crash leaves. `picks` makes a new `pick` for each name."""
         left = {}
         for name, files in sorted(self.names.items()):
             pick = picks()
@@ -113,7 +116,7 @@ class Disk:
 
 
 def read_record(path):
-    """Returns the records of cut.c: what happened, to which file, where, and with which bytes."""
+    """Returns the records of cut.c: each has what happened, the file, the position, and the bytes."""
     with open(path, "rb") as it:
         text = it.read()
     records, at = [], 0
@@ -134,8 +137,8 @@ def last(options):
 
 
 def picks_of(number, chance):
-    """Returns the picks of a lost machine of this number: nothing that wasn't synced is on the disk, all is, or what
-    chance says, of which some files have little and others nearly all."""
+    """Returns the function that makes the picks of a host crash. Number 0 leaves nothing that wasn't synced, and number
+    1 everything. Other numbers pick by chance: little of some files, and nearly everything of others."""
     if number < 2:
         return lambda: (first, last)[number]
 

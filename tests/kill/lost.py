@@ -1,20 +1,24 @@
 #!/usr/bin/env python3
-"""tests/kill/lost.py PROGRAM LIBRARY [RUN [EVENT CHOICE]]: the machines that are lost while flashnor works.
+"""tests/kill/lost.py PROGRAM LIBRARY [RUN [EVENT CHOICE]]: host crashes while flashnor works.
 
-Each story of stories.py is a chip in files, and runs of PROGRAM on it, one after another. LIBRARY, which is cut.c,
-writes down what a run does to files. Behind each of these events the machine is lost, and disk.py says what its disk
-may hold: nothing that wasn't synced, all of that, and as many choices of it as CHOICES says, by SEED and the place's
-name, so that they are the same each time. What an earlier run left unsynced counts. Each machine that is unlike those
-before it in its run is rescued as the manual page says:
+Each story of stories.py is a chip in files, and successive runs of PROGRAM on it. LIBRARY, which is cut.c, records what
+a run does to files. After each of these events the host crashes, and disk.py computes what the disk may hold: nothing
+that wasn't synced, all of that, and CHOICES random choices, which depend only on SEED and the name of the crash. Writes
+that an earlier run left unsynced are included. For each crash that differs from those before it in its run, the test
+follows the manual page's RECOVERY:
 
-  - Its journal is whole, by its digest: `--restore` ends with 0, and image and status are as before the session. A file
-    that wasn't there then may be told to have a wrong length; it is moved away, and the restore is run again.
-  - It isn't, or isn't there: `--restore` tells so, and image and status are as before the session.
-  - Once `Done` was printed they are what the run was to make, however the disk is; and the journal gives back all.
+  - If the journal is complete, by its digest, `--restore` must end with 0, and image and status must be as before the
+    session. For a file that didn't exist then, `--restore` may report a wrong length; the file is moved away, and the
+    restore is run again.
+  - If the journal is incomplete or missing, `--restore` must report that, and image and status must be as before the
+    session.
+  - If `Done` was printed, image and status must be what the run had to make, whatever the disk holds, and the journal
+    must restore the original chip.
 
-Of some that the journal gives back so the restore is lost in its turn, behind each of its events; and so is that of
-some runs that were killed. WRONG, which cut.c knows, makes the program a wrong one: then the first run that loses a
-chip is enough. The last line counts. The status is 1 where a chip was lost, or where there were too few machines.
+Some of the crashes from which the journal restores the chip are followed by a second crash, after each event of the
+restore, and so are some runs that were killed. WRONG, which cut.c knows, makes PROGRAM a mutant: then the test ends
+with the first run that loses a chip. The last line has the counts. The exit status is 1 if a chip was lost, or if there
+were too few crashes.
 """
 import collections
 import concurrent.futures
@@ -35,20 +39,20 @@ from stories import DONE, Step, images, stories
 SEED = int(os.environ.get("SEED", "1"))
 CHOICES = int(os.environ.get("CHOICES", "16"))
 WRONG = os.environ.get("WRONG", "")
-# So many machines of a run are lost once more while they are restored, and so many are killed before that.
+# The number of crashes of a run whose restore crashes, too, and the number of killed runs whose restore does.
 AGAIN = 3
-# In which state machines are lost: all of these, and at least so many machines.
+# The states at a crash. Each must occur, and at least this number of crashes in all.
 KINDS = ("without a whole journal", "with one", "done")
 LEAST = 3000
 REFUSAL = re.compile(rb"Error 15: journal fault [1-7]\.\n")
 
 
 class Lost(Exception):
-    """What is wrong with a run, or with the machine that it left."""
+    """The fault of a run, or of the files that a crash left."""
 
 
 def is_whole(journal):
-    """Whether the journal ends with the SHA-256 of all before."""
+    """Returns whether the journal ends with the SHA-256 of all bytes before."""
     return journal is not None and len(journal) > 60 and hashlib.sha256(journal[:-32]).digest() == journal[-32:]
 
 
@@ -59,7 +63,7 @@ def put_files(folder, files):
 
 
 def files_of(folder):
-    """Returns all files of a folder and of those below it."""
+    """Returns all files in a directory and below it."""
     found = {}
     for below, _, names in os.walk(folder):
         for name in names:
@@ -74,7 +78,7 @@ def text_of(ended):
 
 
 class Bench:
-    """A folder for the runs of a program, with the images that they write."""
+    """A directory for the runs of a program, with the images that these write."""
 
     def __init__(self, program, library, folder):
         self.program, self.library, self.folder = os.path.abspath(program), os.path.abspath(library), folder
@@ -82,7 +86,7 @@ class Bench:
 
     @contextlib.contextmanager
     def folder_with(self, files):
-        """A folder with these files, for as long as it is needed."""
+        """Makes a directory with these files, and removes it afterwards."""
         folder = tempfile.mkdtemp(dir=self.folder)
         for name in "chip", "kept":
             os.mkdir(os.path.join(folder, name))
@@ -98,15 +102,15 @@ class Bench:
             raise Lost(f"{' '.join(words)} doesn't come to an end") from it
 
     def record(self, folder, words):
-        """Runs the program and returns how it ended, and what it did to files."""
+        """Runs the program, and returns its result and the records of what it did to files."""
         path = tempfile.mktemp(dir=self.folder)
         ended = self.run(folder, words, LD_PRELOAD=self.library, RECORD=path, WRONG=WRONG, CALL="0")
         return ended, read_record(path) if os.path.exists(path) else []
 
 
 class Machine:
-    """A machine that was lost: the files that it left, whether `Done` was printed, and whether somebody else may be to
-    blame for the chip that it has."""
+    """A host crash: the files that it left, whether `Done` was printed, and whether another program may be responsible
+    for the state of the chip."""
 
     def __init__(self, place, files, is_done, is_excused):
         self.place, self.files, self.is_done, self.is_excused = place, files, is_done, is_excused
@@ -119,7 +123,7 @@ class Machine:
 
 
 class Run:
-    """A run of a story, and the machines that are lost in it."""
+    """A run of a story, and the host crashes in it."""
 
     def __init__(self, bench, name, story, step, disk):
         self.bench, self.name, self.step, self.disk = bench, name, step, disk
@@ -130,8 +134,8 @@ class Run:
         self.killed = []
 
     def machines(self):
-        """Returns the machines that are lost behind each event, each once. The disks of runs that are killed while they
-        write the chip's files are kept."""
+        """Returns the host crashes after each event, each different one once. Keeps the disks of runs that are killed
+        while they write the chip's files."""
         found = {}
         for _ in self.work():
             if self.has_written and not self.is_done:
@@ -141,7 +145,7 @@ class Run:
         return list(found.values())
 
     def work(self):
-        """Does the run, and makes its changes of the disk one after another."""
+        """Runs the step, and makes its changes of the disk one after another."""
         with self.bench.folder_with(self.disk.seen()) as folder:
             ended, records = self.bench.record(folder, ["-p", self.chip.programmer + self.step.keys, *self.step.words])
             left = files_of(folder)
@@ -159,8 +163,8 @@ class Run:
             raise Lost(f"{self.name} left other files than its record says")
 
     def lose(self):
-        """Yields the machines that are lost now. Where somebody else left the chip's files unsynced, the run must have
-        synced them when it has a journal, or writes them."""
+        """Yields the host crashes at this moment. If another program left the chip's files unsynced, the run must have
+        synced them when its journal is complete, or when it writes these files."""
         for number in range(CHOICES + 2):
             place = [self.name, str(self.events), str(number)]
             files = self.disk.left(picks_of(number, random.Random(f"{SEED} {' '.join(place)}")))
@@ -168,7 +172,7 @@ class Run:
             yield Machine(place, files, self.is_done, self.is_story_old and not self.has_written and not is_saved)
 
     def problem(self, machine):
-        """Returns in which way the machine's chip is lost, or nothing."""
+        """Returns a text that says how the chip is lost after this crash, or nothing."""
         step, chip = self.step, self.chip
         difference = machine.is_done and chip.difference(machine.files, step.wanted)
         if difference:
@@ -190,7 +194,7 @@ class Run:
         return ended.returncode == 1 and not ended.stdout and is_told
 
     def restore(self, folder):
-        """Restores. A file that the session may have made is moved away where it has a wrong length."""
+        """Runs the restore. A file that the session may have created is moved away if it has a wrong length."""
         for _ in range(1 + len(self.made)):
             ended = self.bench.run(folder, ["-p", self.chip.programmer, "--restore", self.step.journal])
             short = [name for name in self.made if ended.stderr == f"File fault 3: {name}.\n".encode()]
@@ -205,7 +209,7 @@ class Run:
 
 
 def disk_of(files):
-    """Returns a disk with these files, for good."""
+    """Returns a disk on which these files are durable."""
     disk = Disk()
     for name, content in files.items():
         disk.put(name, content)
@@ -227,7 +231,7 @@ def runs_of(bench, story):
 
 
 def leave_unsynced(disk, files):
-    """Gives the files on the disk this content, while what is seen of them stays."""
+    """Gives the files on the disk these contents, while programs still see the present ones."""
     for name, content in files.items():
         file = disk.file(name)
         disk.put(name, content)
@@ -238,8 +242,8 @@ def leave_unsynced(disk, files):
 
 
 def runs_again(run, story, machines):
-    """Yields restores behind the run: of some of these machines, of those whose journal gives the chip back, and of
-    some runs that were killed, so that nothing is lost and what they wrote isn't synced."""
+    """Yields restores after the run: after some of the crashes whose journal can restore the chip, and after some runs
+    that were killed, so that nothing is lost and their writes aren't synced."""
     step, chance = run.step, random.Random(f"{SEED} {run.name} again")
     undo = Step(["--restore", step.journal], "", step.journal, step.before, step.before, DONE)
     lost = [it for it in machines if run.needs_restore(it)]
@@ -253,14 +257,15 @@ def runs_again(run, story, machines):
 
 
 class Account:
-    """What came of the machines: of those of a place alone, if one is given: a story or run, an event and a choice."""
+    """The results of the crashes. If a place is given, only of its crashes: a story or run, an event and a choice."""
 
     def __init__(self, pool, place):
         self.pool, self.place = pool, place
         self.kinds = collections.Counter()
 
     def is_asked(self, place):
-        """Whether these machines are to be judged. A run stands for those behind it as long as no event is given."""
+        """Returns whether the crashes of this place are selected. A run includes those of the restores after it, unless
+        an event is given."""
         name, *rest = self.place or [""]
         is_below = not name or f"{place[0]}/".startswith(f"{name}/")
         return is_below and (not rest or [name, *rest] == place[: 1 + len(rest)])
@@ -270,7 +275,7 @@ class Account:
         print(f"kill: {place}: {problem}", file=sys.stderr)
 
     def add(self, run):
-        """Judges the machines of a run and tells the first chip that is lost. Returns the machines."""
+        """Checks the crashes of a run, and prints the first one that loses the chip. Returns the crashes."""
         machines = run.machines()
         asked = [it for it in machines if self.is_asked(it.place)]
         first = None
@@ -284,7 +289,7 @@ class Account:
         return machines
 
     def tell(self, bench, story):
-        """Does a story. A wrong program's ends with the first run that loses a chip."""
+        """Runs a story. For a mutant the story ends with the first run that loses a chip."""
         before, runs = self.kinds.copy(), 0
         for run in runs_of(bench, story):
             machines = self.add(run)

@@ -17,7 +17,7 @@ trap 'rm -rf "$work"' EXIT
 passed=0
 failed=0
 
-# tells STORY WAY WHAT: in that story some chip is lost, and the first one in this way, which is a pattern.
+# tells STORY WAY WHAT: in that story some chip must be lost, and the first one in this way, which is a pattern.
 tells() {
     local story=$1 way=$2 what=$3 said status last
     said=$(python3 -B "$top/tests/kill/lost.py" "$program" "$library" "lost/$story" 2>&1)
@@ -32,10 +32,10 @@ tells() {
     fi
 }
 
-# The right program, recorded with this fault.
+# Tests the right program, recorded with this fault.
 wrong() { WRONG=$1 tells "${@:2}"; }
 
-# A program that does this instead of a restore that isn't recorded.
+# Tests a program that does this instead of a restore that isn't recorded.
 restoring() {
     local right=$program program=$work/stub
     cat > "$program" << EOT
@@ -47,7 +47,7 @@ EOT
     tells "${@:2}"
 }
 
-# A program that prints before it works.
+# Tests a program that prints before it works.
 hasty() {
     local said status
     cc -x c -o "$work/hasty" - << EOT

@@ -1,4 +1,4 @@
-"""The stories of lost.py: chips in files, and the runs on each."""
+"""The stories of lost.py: each is a chip in files, and the runs on it."""
 import collections
 import random
 
@@ -7,15 +7,16 @@ SECTOR = 4096
 DONE = "Done: "
 STOPPED = "Error 12: stopped."
 
-# What a chip has, image and status: None where there is no file, or none is named.
+# The contents of a chip, image and status. None if there is no file, or none is named.
 Content = collections.namedtuple("Content", "image status")
 
-# A run: its words behind -p, the keys that are added to its programmer, its journal, what the chip had before the
-# session and gets by the run, and how it ends.
+# A run: its arguments after -p, the keys that are added to its programmer, its journal, the chip's contents before the
+# session and after the run, and the line with which it ends.
 Step = collections.namedtuple("Step", "words keys journal before wanted end")
 
-# A chip, what its files have at first, and its runs. Before the last one somebody writes its files anew with what they
-# have, or deletes them again, and syncs nothing, where there is an `old` content: that is then on the disk.
+# A chip, the contents of its files at first, and its runs. If there is an `old` content, another program writes the
+# chip's files again before the last run, with the same bytes, or deletes them, and syncs nothing: the disk then has
+# `old`.
 Story = collections.namedtuple("Story", "name chip start old steps")
 
 
@@ -36,14 +37,14 @@ class Chip:
         return SIZE if name == self.image else 2
 
     def files(self, content):
-        """Returns the files of a chip with this content."""
+        """Returns the files of the chip with this content."""
         pairs = zip((self.image, self.status), content)
         return {name: given for name, given in pairs if name and given is not None}
 
     def difference(self, files, content):
-        """Returns in which way these files aren't those of a chip with this content, or nothing. A file that wasn't
-        there may be there, of an erased chip; and BUSY, WEL and SUS are no part of it, since a chip that was stopped
-        may show them."""
+        """Returns a text that says how these files differ from those of a chip with this content, or nothing. A missing
+        file may exist as that of an erased chip. BUSY, WEL and SUS are not compared, since a chip that was stopped may
+        show them."""
         found = []
         if self.image:
             wanted, image = content.image or b"\xff" * SIZE, files.get(self.image)
@@ -67,8 +68,8 @@ def kept_bits(status):
 
 
 def images(seed):
-    """Returns images by their names: `one`, `two` and `other` differ in each block; `three` is `two`, and `few` an
-    erased chip, but for three sectors each."""
+    """Returns images by their names. `one`, `two` and `other` differ in each block. `three` equals `two`, and `few` an
+    erased chip, except for three sectors each."""
     chance = random.Random(f"{seed} images")
     found = {name: chance.randbytes(SIZE) for name in ("one", "two", "other")}
     for name, same in ("three", found["two"]), ("few", b"\xff" * SIZE):
@@ -80,7 +81,8 @@ def images(seed):
 
 
 def stories(seed):
-    """Returns all stories. Where a journal isn't needed any more it is deleted, so each session has a new name."""
+    """Returns all stories. A journal that isn't needed any more is deleted, so each session has a journal of a new
+    name."""
     found = {name: Content(image, b"\0\0") for name, image in images(seed).items()}
     one, two, other = found["one"], found["two"], found["other"]
     none, erased = Content(None, None), Content(b"\xff" * SIZE, b"\0\0")

@@ -24,7 +24,7 @@ from server import Server, Traits
 
 PART = "W25Q64FV"
 FLASHROM_NAME = "W25Q64BV/W25Q64CV/W25Q64FV"
-# The wires, and the greatest ratio of the seconds that is the goal.
+# Each wire with its traits, and the greatest ratio of the seconds that is the goal.
 WIRES = (("bare pty", {}, 1.2), ("1 ms", {"latency": 0.001}, None),
          ("1 ms and 1 MB/s", {"latency": 0.001, "rate": 1e6}, 0.8))
 GOAL_WHOLE = 0.8

@@ -11,7 +11,7 @@ from options import images
 
 STTY = "stty -F DEV raw -echo clocal -hupcl min 0 time 50"
 FIRMWARE = "Install other firmware on it."
-# For tests of silence, in tenths of a second.
+# The time-out for tests of silence, in tenths of a second.
 SOON = 10
 UNPLUG = "Disconnect the programmer from power for a second before the next run."
 RESTORE = "Then restore the chip with --restore and the journal."

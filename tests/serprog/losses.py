@@ -11,7 +11,8 @@ from bench import Bench, Differs, check
 from chip import SECTOR
 from options import images
 
-# The sectors that a session changes. Sector 1 only has bits that fall, the others are erased; 8 to 15 by one erase.
+# The sectors that a session changes. In sector 1 bits only change from 1 to 0. The others are erased, 8 to 15 by one
+# erase.
 FEW = (1, 2, 12, 13, 14, 15)
 MANY = (1, 2, *range(8, 16))
 UNSEALED = ["Error 15: journal fault 1."]
@@ -54,7 +55,7 @@ def losses():
     back = numbered(reference.restore("TINY64", new, old, FEW))
     found = [Loss(event, at) for event in ("kill", "lose") for at in range(1, len(wire) + 1)]
     found += [Loss(event, 0, at) for event in ("kill", "lose") for at in range(1, len(back) + 1)]
-    # A session that is stopped in the middle, and its restore too.
+    # A session that is stopped after its first changes, and a restore that is stopped, too.
     middle = range(sealed_after(wire) + 6, len(wire) + 1, 4)
     found += [Loss(event, at, at // 2) for event in ("kill", "lose") for at in middle]
     return found + rare_losses()

@@ -158,7 +158,7 @@ def waits_for_the_chip(start):
     check("the last word", (got.status, got.err, got.out[:1]), (0, [], [reference.found("TINY64")]))
     bench.chip.wait()
     bench.check_chip(new)
-    # An erase of a saved sector, as a session that was killed leaves it.
+    # An erase of a saved sector is in progress, as after a session that was killed.
     bench.chip.transfer(b"\x06", 0)
     bench.chip.transfer(bytes.fromhex("20002000"), 0)
     check("the erase is in progress", bench.chip.is_busy(), True)
@@ -189,7 +189,7 @@ def takes_stale_bytes(start):
         bench.expect(out=[reference.found("TINY64")])
 
 
-# The text of -p, or other arguments, with the number of the usage fault.
+# Values of -p that are usage fault 3.
 WRONG_PROGRAMMERS = (
     "dummy:emulate=TINY64", "serprog", "serprog:", "serprog:dev=", "serprog:spispeed=1", "serprog:dev=DEV,",
     "serprog:dev=DEV,dev=DEV", "serprog:dev=DEV,image=x", "serprog:dev=DEV,spispeed=0", "serprog:dev=DEV,spispeed=1M",

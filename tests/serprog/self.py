@@ -12,7 +12,7 @@ from pathlib import Path
 
 HERE = Path(__file__).resolve().parent
 
-# A mistake, and the case that must detect it.
+# Each mistake of the program, and the case that must detect it.
 MISTAKES = {
     "opens anything": "needs_a_character_device",
     "does not lock": "holds_its_lock",

@@ -54,13 +54,14 @@ class Traits:
     buffer: int = 4096
     selects: int = 0
     clock: int = 12_000_000
-    # Replies nothing at all; sends text without end, whatever it receives; these bytes wait for the first client.
+    # True if the programmer never replies; true if it sends text without end, whatever it receives; bytes that wait for
+    # the first client.
     is_silent: bool = False
     babbles: bool = False
     stale: bytes = b""
-    # Replies in the place of the right ones, by opcode, except for O_SPIOP. None: the programmer is unplugged.
+    # Replies that replace the right ones, by opcode, except for O_SPIOP. None unplugs the programmer.
     replies: dict = field(default_factory=dict)
-    # The transactions in whose replies a bit is flipped, if they read data.
+    # The numbers of the transactions in whose replies a bit is flipped, if they read data.
     flips: tuple = ()
     events: dict = field(default_factory=dict)
     # Seconds for each way there and back, and bytes per second.

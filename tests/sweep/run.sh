@@ -49,7 +49,7 @@ fail() {
     finish 1
 }
 
-# Memory that is allocated in another way could not be refused.
+# refuse.c can't refuse memory that is allocated by other functions, so the program must not use them.
 nm -D --undefined-only "$program" > symbols || fail "nm tells no calls of $program"
 others=$(grep -owE 'mmap|mmap64|s?brk|aligned_alloc|posix_memalign|memalign|valloc|reallocarray' symbols | xargs || true)
 [[ -z $others ]] || fail "the program takes memory by $others too, which refuse.c doesn't refuse"
