@@ -1,19 +1,19 @@
-//! `flashnor_serprog`, which does flashnor's jobs on a chip that is connected to a serial programmer.
+//! `flashnor_serprog` does the jobs of `flashnor` on a chip at a serial programmer.
 //!
-//! It identifies, reads, verifies, writes, erases and write-protects a SPI NOR chip over the serprog protocol. Each
-//! change first saves a journal in a new file, from which `--restore` restores the original chip. The engine, the lines
-//! and the numbers are flashnor's.
+//! It identifies, reads, verifies, writes, erases and write-protects a SPI NOR chip over the serprog protocol. Before a
+//! change it saves a journal in a new file, from which `--restore` restores the original chip. It uses the engine of
+//! `flashnor`, and prints the same lines and error numbers.
 //!
 //! - `run.rt`: a run of the program, from its arguments to its exit status
-//! - `help.rt`: the texts of the help
+//! - `help.rt`: the text of the help that `-h` prints
 //! - `setting.rt`: the value of `-p`
-//! - `roles.rt`: checks that no file of a job has two roles
+//! - `roles.rt`: checks that no file that a job writes has a second role
 //! - `sources.rt`: reads the files that a job needs, before the programmer is used
-//! - `port.rt`: the device of the programmer, as a port
-//! - `progress.rt`: a bus that prints on a terminal how far a job is
+//! - `port.rt`: a port over the device of the programmer
+//! - `progress.rt`: a bus that prints the progress of a job to standard error
 //! - `connect.rt`: opens the device and identifies the programmer
 //! - `jobs.rt`: performs a job on the chip
-//! - `trouble.rt`: what ends a run with status 1, and the lines for it
+//! - `trouble.rt`: the reasons why a run ends early, and their printed lines
 #![tactic(auto)]
 
 mod connect;

@@ -13,11 +13,11 @@ struct Named<'a> {
     journal: Option<&'a str>,
 }
 
-/// Checks that each file of a job has one role, and that no file that is written is one that the program prints to. The
-/// device of the programmer is no file of the job.
+/// Checks that the device, and each file that the job writes, have no second role, and that the program does not print
+/// to the output file or to a journal. A layout and an image, which a job only reads, may be the same file.
 ///
-/// Returns file fault 5 with the name of the later of two roles (device, layout, image to write or compare, output,
-/// journal), or with a name that is printed to. Returns file fault 1 if a name can't be looked up.
+/// Returns file fault 5 with the name in the later of two roles (device, layout, image to write or compare, output,
+/// journal), or with the name of a file to which the program prints. Returns file fault 1 if a name can't be looked up.
 pub fn have_one_role<'a, R: Store>(
     rt: &R,
     device: &'a str,
@@ -83,7 +83,7 @@ fn image_of<'a>(change: &Change<'a>) -> Option<&'a str> {
     }
 }
 
-/// Returns the file of a change's journal.
+/// Returns the name of the file for a change's journal, or `None` for a rehearsal.
 pub fn journal_of<'a>(change: &Change<'a>) -> Option<&'a str> {
     match &change.journal_use {
         JournalUse::Journal { file } => Some(*file),

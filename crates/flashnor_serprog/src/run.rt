@@ -42,8 +42,8 @@ pub fn run_words<O: Write, E: Write>(
     }
 }
 
-/// Ends a run that could not keep the descriptors of the standard streams in use. Opens no file, prints the fault, and
-/// returns the exit status, which is 1.
+/// Ends a run that could not keep descriptors 0, 1 and 2 open. Opens no file, prints the fault, and returns the exit
+/// status, which is 1.
 pub fn end_without_streams<E: Write>(errors: &mut E) -> u8
     ensures { result ≡ 1 }
 {
@@ -55,7 +55,7 @@ fn words_behind_name(alloc: Global, args: Args) -> Result<Vec<String>, AllocErro
     args.skip(1).collect(alloc)
 }
 
-// Prints a fault, and returns the exit status.
+// Prints a fault, and returns the exit status, which is 1.
 fn end_badly<E: Write>(errors: &mut E, fault: &Fault<'_>) -> u8
     ensures { result ≡ 1 }
 {
@@ -74,7 +74,8 @@ fn run<O: Write, E: Write>(rt: &HostRuntime, words: &[String], output: &mut O, e
     }
 }
 
-// Prints what ended a run before its first transaction: a fault to `errors`, or the help to `output`.
+// Prints the reason why a run ended before its first transaction, a fault, to `errors`; or the help to `output`, if the
+// arguments ask for it. Returns the exit status.
 fn end_early<O: Write, E: Write>(output: &mut O, errors: &mut E, trouble: &Trouble<'_>) -> u8
     ensures { result ≤ 1 }
 {
@@ -87,7 +88,7 @@ fn end_early<O: Write, E: Write>(output: &mut O, errors: &mut E, trouble: &Troub
     1
 }
 
-// Returns the exit status of a run that printed its answer or help, or could not.
+// Returns the exit status after an answer or the help: 0 if it was printed, 1 if printing failed.
 fn status_of(printed: io::Result<()>) -> u8
     ensures few { result ≤ 1 }
     ensures printed { result ≡ 0 → IsOk printed }
@@ -179,7 +180,7 @@ fn changes(task: &Task<'_>) -> bool
     matches!(task, Task::Change(_) | Task::Restore { .. })
 }
 
-// Prints the line of the cause of error 12.
+// Prints the line that follows error 12: the cause, and advice.
 fn print_cause<E: Write>(errors: &mut E, bus: &ChipBus<'_>, changes: bool) {
     let twice = bus.inner();
     let line = StopLine {
