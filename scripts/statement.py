@@ -1,14 +1,12 @@
 #!/usr/bin/env python3
-"""scripts/statement.py [--check]: makes the page docs/STATEMENT.md from the sources.
+"""scripts/statement.py [--check]: the page docs/STATEMENT.md, made from the sources.
 
-The page has the contracts of the main calls, the laws about calls that follow each other, and the contract for the
-files of a run, in parts. A part has each definition of specs/ and each type of src/ that its contracts use and no part
-before it has, each after those that it uses, and then these contracts. A definition with one equation is printed with
-its signature in that equation.
-
-With --check the script compares the page with the text that it would print, prints each difference, and then ends with
-status 1. It fails if a name isn't found, if SUBJECTS lacks the file of a word, if LEGEND doesn't explain a name of a
-library, or if a part is too long.
+It prints all that three calls promise, the laws that join them, and what a run leaves of files, in parts: each
+definition of specs/ and each type of src/ that the contracts of a part need and no part before it has, in an order in
+which each word is explained before it is used, and then these contracts. A definition by one equation has its signature
+in it. With --check it compares the page with what it would print, tells each difference, and ends with status 1 where
+there is one. It fails where a name is found nowhere, where SUBJECTS hasn't the file of a word, where LEGEND doesn't
+explain a word of a library, and where a part is too long.
 """
 import copy
 import difflib
@@ -17,16 +15,17 @@ import itertools
 import re
 import sys
 
-sys.dont_write_bytecode = True  # so that no other file is created in docs/
+sys.dont_write_bytecode = True  # nothing else is to be left in docs/
 from sources import TOP, Word, fail, source
+from statement_lines import count, lines_of
 from statement_parts import ELSEWHERE, HEAD, LEGEND, PARTS, SUBJECTS
 
 PAGE = "docs/STATEMENT.md"
 
 
 def with_clauses(word, kept):
-    """Returns a function with only those clauses whose names `kept` accepts, and with all its premises; and the names
-    of these clauses."""
+    """Returns a function with those of its clauses alone whose names pass this test, and with all that its caller owes;
+    and its clauses' names."""
     lines, names, taken, free = [], [], True, []
     for line in word.code:
         if line.startswith("    //"):
@@ -43,8 +42,8 @@ def with_clauses(word, kept):
 
 
 def needed():
-    """Returns for each part of the page its contracts, and each word that these need and no part before it has, with
-    the words that it uses; and the names of libraries."""
+    """Returns for each part of the page its contracts, each word that they need and no part before it has, with those
+    that it uses; and the names of libraries."""
     parts, told, names, done = [], {}, set(), set()
     for calls, _, _ in PARTS.values():
         contracts, uses = [], {}
@@ -72,7 +71,7 @@ def needed():
 
 @functools.cache
 def ranks():
-    """Returns the rank of each file of SUBJECTS: the number of its subject, and its position in that subject."""
+    """Returns the place of each file of SUBJECTS: the number of its subject, and where it stands there."""
     found = {}
     crate = ""
     for number, files in enumerate(SUBJECTS.values()):
@@ -83,8 +82,8 @@ def ranks():
 
 
 def ready(words, uses, done):
-    """Returns the words of a subject that can be printed now, each after those that it uses, if the words `done` were
-    printed. The words of a file stay together, in the order of the file."""
+    """Returns as many of a subject's words as can follow those that are done, each behind those that it uses. A file's
+    words stand together, in its order."""
     taken = []
     while can := [word for word in words if word not in taken and uses[word] <= done | set(taken)]:
         same = [word for word in can if taken and word.source is taken[-1].source]
@@ -93,9 +92,9 @@ def ready(words, uses, done):
 
 
 def sections(uses, done):
-    """Returns the words in groups, each with the name of a subject, so that each word is after those that it uses. The
-    words `done` were printed before. The next group is the first subject of which all words can follow, or else the
-    first of which some can."""
+    """Returns the words in groups, each the name of a subject and its words, so that each stands behind those that it
+    uses, where some are done already. The next group is the first subject that can follow whole, or the first of which
+    some words can."""
     for word in uses:
         if word.source.path not in ranks():
             fail(f"SUBJECTS of scripts/statement_parts.py hasn't {word.source.path}: add it to the subject of its "
@@ -116,88 +115,8 @@ def sections(uses, done):
     return found
 
 
-def split_type(text):
-    """Returns the arguments of a signature as pairs of the argument, with its names if it has any, and its type; and
-    the type of the result."""
-    parts, depth, done = [], 0, 0
-    for match in re.finditer(r"[({\[]|[)}\]]|\s→\s", text):
-        depth += {"(": 1, "{": 1, "[": 1, ")": -1, "}": -1, "]": -1}.get(match.group(), 0)
-        if not depth and "→" in match.group():
-            parts, done = [*parts, text[done : match.start()].strip()], match.end()
-    found = []
-    for part in parts:
-        named = re.fullmatch(r"\(([\w' ]+) : (.*)\)", part)
-        kind = named[2] if named else re.sub(r"^\(([^()]*)\)$", r"\1", part)
-        found += [(part, kind)] * (len(named[1].split()) if named else 1)
-    return found, text[done:].strip()
-
-
-def filled(lines, end=""):
-    """Returns these lines and `end` as one line if that has at most 120 columns, otherwise the lines with `end` after
-    the last one."""
-    whole = " ".join([lines[0], *(line.strip() for line in lines[1:])]) + end
-    return [whole] if len(whole) <= 120 else [*lines[:-1], lines[-1] + end]
-
-
-def packed(word):
-    """Returns the lines of a type of src/ as on the page: fields without a comment between them share a line."""
-    lines, free = [], False
-    for line in word.code:
-        field = re.fullmatch(r"    (?![ }]|//).*,", line)
-        if field and free and len(lines[-1]) + len(line) <= 120:
-            lines[-1] += line[3:]
-            continue
-        free = bool(field) and not lines[-1].lstrip().startswith("//")
-        lines.append(line)
-    if len(lines) == 3 and lines[1].endswith(","):
-        return filled([lines[0], lines[1].rstrip(","), lines[2]])
-    return lines
-
-
-def joined(word):
-    """Returns the lines of a definition as on the page: without keywords, a record without its type, and a single
-    equation with the types of its arguments, if these are all names."""
-    code = [re.sub(r"^((abbrev|unfoldable|pub) )+|^(  )pub ", r"\3", line) for line in word.code]
-    if word.kind == "record":
-        head, where, fields = "\n".join(code).partition(" : Type 0 where")
-        return [*filled(head.split("\n"), " where"), *fields.splitlines()[1:]] if where else code
-    equation = next((at for at, line in enumerate(code) if line.startswith(f"{word.name} ") and at), None)
-    if any(line.startswith("--") for line in code):  # a comment above the equation
-        return code
-    if word.kind or equation is None or sum(line.startswith(f"{word.name} ") for line in code) != 2:
-        return code
-    types, answer = split_type(" ".join(line.strip() for line in code[:equation]).partition(" : ")[2])
-    left, _, right = "\n".join(code[equation:]).partition(" =")
-    names = left.split()[1:]
-    if len(names) > len(types) or not all(re.fullmatch(r"[a-z]\w*'?", name) for name in names):
-        return code
-    groups = [(kind, [name for _, name in group]) for kind, group in
-              itertools.groupby(zip(types, names), key=lambda pair: pair[0][1])]
-    head = " ".join([word.name, *(f"({' '.join(group)} : {kind})" for kind, group in groups)])
-    rest = [part for part, _ in types[len(names) :]]
-    if rest or answer != "Type 0":
-        head += " : " + " → ".join([*rest, answer])
-    head += " ="
-    lines = (head + right).splitlines()
-    if len(lines) == 2:
-        lines = filled(lines)
-    return lines if len(lines[0]) <= 120 else [head, "    " + lines[0][len(head) :].strip(), *lines[1:]]
-
-
-def lines_of(word):
-    """Returns the lines of a word as on the page."""
-    if word.source.path.endswith(".antt"):
-        return joined(word)
-    return packed(word) if word.kind in ("struct", "enum") else word.code
-
-
-def count(words):
-    """Returns the number of lines of these words, without comments and blank lines."""
-    return sum(line.strip()[:2] not in ("", "--", "//") for word in words for line in lines_of(word))
-
-
 def show(words):
-    """Returns these words as lines of the page, grouped by their files."""
+    """Returns some words as lines of the page, by the files in which they stand."""
     lines = []
     for path, group in itertools.groupby(words, key=lambda word: word.source.path):
         group, part = list(group), ""
@@ -217,13 +136,13 @@ def listed(number, subject, words):
 
 
 def told_of(words):
-    """Returns a text with the number of words, and of their lines without comments and blank lines."""
+    """Returns how many words there are, and how many lines without comments and blanks."""
     numbers = (len(words), "word"), (count(words), "line")
     return ", ".join(f"{number:,} {what}{'s' * (number != 1)}" for number, what in numbers)
 
 
 def page():
-    """Returns the lines of the page, and a text with its size."""
+    """Returns the lines of the page, and how much it has."""
     parts, names = needed()
     explained = {name for line in LEGEND for name in line.split()}
     if missing := sorted(names - explained):
@@ -251,8 +170,7 @@ def page():
 
 
 def check(lines, told):
-    """Prints the differences between the page and `lines`, and the page's size. Returns the number of lines that
-    differ."""
+    """Tells what the page has otherwise than the sources, and how much it has. Returns how many lines differ."""
     old = (TOP / PAGE).read_text(encoding="utf-8").splitlines() if (TOP / PAGE).exists() else []
     told_apart = list(difflib.unified_diff(old, lines, lineterm="", n=0))[2:]
     others = [line for line in told_apart if line[0] in "-+" and line[1:]]
@@ -265,7 +183,7 @@ def check(lines, told):
 
 
 def main():
-    """Prints the page, or with --check compares it with docs/STATEMENT.md."""
+    """Prints the page, or compares it with the one that stands there."""
     sys.stdout.reconfigure(encoding="utf-8")
     lines, told = page()
     if sys.argv[1:] == ["--check"]:

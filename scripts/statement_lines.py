@@ -1,0 +1,82 @@
+"""How scripts/statement.py sets a definition: closer than its source has it, and without the marks of the language."""
+import itertools
+import re
+
+
+def split_type(text):
+    """Returns the parts of a signature that are arguments, a pair for each: the part, with the names that it may give,
+    and the argument's kind. And the kind of the answer."""
+    parts, depth, done = [], 0, 0
+    for match in re.finditer(r"[({\[]|[)}\]]|\s→\s", text):
+        depth += {"(": 1, "{": 1, "[": 1, ")": -1, "}": -1, "]": -1}.get(match.group(), 0)
+        if not depth and "→" in match.group():
+            parts, done = [*parts, text[done : match.start()].strip()], match.end()
+    found = []
+    for part in parts:
+        named = re.fullmatch(r"\(([\w' ]+) : (.*)\)", part)
+        kind = named[2] if named else re.sub(r"^\(([^()]*)\)$", r"\1", part)
+        found += [(part, kind)] * (len(named[1].split()) if named else 1)
+    return found, text[done:].strip()
+
+
+def filled(lines, end=""):
+    """Returns some lines that belong together, and what stands behind the last, as one line where they fit into it."""
+    whole = " ".join([lines[0], *(line.strip() for line in lines[1:])]) + end
+    return [whole] if len(whole) <= 120 else [*lines[:-1], lines[-1] + end]
+
+
+def packed(word):
+    """Returns the lines of a type of src as the page has them: fields that no comment parts stand side by side."""
+    lines, free = [], False
+    for line in word.code:
+        field = re.fullmatch(r"    (?![ }]|//).*,", line)
+        if field and free and len(lines[-1]) + len(line) <= 120:
+            lines[-1] += line[3:]
+            continue
+        free = bool(field) and not lines[-1].lstrip().startswith("//")
+        lines.append(line)
+    if len(lines) == 3 and lines[1].endswith(","):
+        return filled([lines[0], lines[1].rstrip(","), lines[2]])
+    return lines
+
+
+def joined(word):
+    """Returns the lines of a definition as the page has them: without the marks of the language; a record without its
+    kind; and where there is one equation, whose arguments are all names, with their kinds beside them."""
+    code = [re.sub(r"^((abbrev|unfoldable|pub) )+|^(  )pub ", r"\3", line) for line in word.code]
+    if word.kind == "record":
+        head, where, fields = "\n".join(code).partition(" : Type 0 where")
+        return [*filled(head.split("\n"), " where"), *fields.splitlines()[1:]] if where else code
+    equation = next((at for at, line in enumerate(code) if line.startswith(f"{word.name} ") and at), None)
+    if any(line.startswith("--") for line in code):  # a comment of its own stands above the equation
+        return code
+    if word.kind or equation is None or sum(line.startswith(f"{word.name} ") for line in code) != 2:
+        return code
+    types, answer = split_type(" ".join(line.strip() for line in code[:equation]).partition(" : ")[2])
+    left, _, right = "\n".join(code[equation:]).partition(" =")
+    names = left.split()[1:]
+    if len(names) > len(types) or not all(re.fullmatch(r"[a-z]\w*'?", name) for name in names):
+        return code
+    groups = [(kind, [name for _, name in group]) for kind, group in
+              itertools.groupby(zip(types, names), key=lambda pair: pair[0][1])]
+    head = " ".join([word.name, *(f"({' '.join(group)} : {kind})" for kind, group in groups)])
+    rest = [part for part, _ in types[len(names) :]]
+    if rest or answer != "Type 0":
+        head += " : " + " → ".join([*rest, answer])
+    head += " ="
+    lines = (head + right).splitlines()
+    if len(lines) == 2:
+        lines = filled(lines)
+    return lines if len(lines[0]) <= 120 else [head, "    " + lines[0][len(head) :].strip(), *lines[1:]]
+
+
+def lines_of(word):
+    """Returns the lines of a word as the page has them."""
+    if word.source.path.endswith(".antt"):
+        return joined(word)
+    return packed(word) if word.kind in ("struct", "enum") else word.code
+
+
+def count(words):
+    """Returns how many lines some words have without comments and blanks."""
+    return sum(line.strip()[:2] not in ("", "--", "//") for word in words for line in lines_of(word))
