@@ -30,7 +30,7 @@ DIST := out/flashnor-$(VERSION)
 MANUALS := man/flashnor.8 man/flashnor-journal.5
 COMPLETION := completion/flashnor.bash
 # README, the licence if there is one, and each page that README or a manual page names.
-PAGES = README.md $(wildcard LICEN[CS]E*) $(sort $(shell grep -ohE '[A-Za-z_]+(/[A-Za-z_]+)*\.md' README.md $(MANUALS)))
+PAGES = README.md $(wildcard LICEN[CS]E*) $(sort $(shell grep -ohE '[A-Za-z_-]+(/[A-Za-z_-]+)*\.md' README.md $(MANUALS)))
 
 # The cases that `make storm` runs: the seed, or the first and the last one (1-6), and the number of cases of each seed.
 SEED := 1
@@ -150,10 +150,8 @@ serprog: toolchain ## runs the program for serial programmers on the cases of te
 agree: ## compares help, pages and completion with the sources
 	@bash scripts/agree.sh
 
-statement: ## makes docs/STATEMENT.md from the sources
-	@mkdir -p out
-	@python3 scripts/statement.py > out/STATEMENT.md
-	@mv out/STATEMENT.md docs/STATEMENT.md
+statement: ## makes docs/STATEMENT.md and docs/STATEMENT-FULL.md from the sources
+	@python3 scripts/statement.py
 
 lint: ## checks each script with its linter (shellcheck, a C compiler, pyflakes)
 	@scripts/lint.sh

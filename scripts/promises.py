@@ -1,52 +1,52 @@
 #!/usr/bin/env python3
-"""scripts/promises.py: checks that the tables of docs/PROMISES.md, docs/TESTING.md and README.md name what exists.
+"""scripts/promises.py: whether the tables of PROMISES, STATEMENT, TESTING and README name what there is.
 
-A cell that names the source of a promise has parts between semicolons, each in one of these forms:
+A cell that tells where a promise stands has parts between semicolons, each of these forms:
 
     `call`, `clause` and `clause`           `call`, `call`: `clause`, `clause`          `law`, `law`
     `call` and `call` of `Type` and `Type`: `clause`, `clause`
 
-A call is a function with a contract. A law is a function without arguments. A definition may replace a call if a
-contract uses it. A clause is the name of an `ensures` of that call, or a field of the record that an `ensures` of that
-call has. Parentheses after a call or a clause contain definitions that it names, fields of records that it names, and
-`Definition`: `field`. A name that no comma joins to the one before it may begin a new promise.
+A call is a function with a contract, a law one that takes nothing, and where a definition stands in place of a call it
+is one that a contract uses. A clause is an `ensures` of that very call, by its name, or a field of the record that an
+`ensures` of it is. In parentheses behind either stand definitions that it says, fields of records that it
+says, and `Definition`: `field`. A word that no comma joins to the last one may begin anew.
 
-In all other cells each name must be one of the sources. In columns that name tests it must be a test, an edit or a
-case. Each difference is printed with its line, and then the exit status is 1.
+Of the other cells each name has to be one of the sources: tests, edits and cases where the table's head says so. Each
+difference is told with its line; the status is 1 where there is one.
 """
 import functools
 import re
 import sys
 
-sys.dont_write_bytecode = True  # so that no other file is created in scripts/
+sys.dont_write_bytecode = True  # nothing else is to be left in scripts/
 import contracts
 import texts
 
-PAGES = "docs/PROMISES.md", "docs/TESTING.md", "README.md"
-# The heads of the columns that name the source of a promise, and of those that name tests. TESTING.md must have the
-# first head of TESTING, and each other page the head of PROMISING.
+PAGES = "docs/PROMISES.md", "docs/STATEMENT.md", "docs/TESTING.md", "README.md"
+# The heads of the columns that tell where a promise stands, and of those that name tests. TESTING.md must have the
+# first of the latter, each other page one of the former.
 PROMISING, TESTING = ["Call, clause"], ["Test", "Command"]
 NAME = re.compile(r"[A-Za-z_]\w*(::\w+)?")
 JOINING = set(", and with".split()) | {","}
 
 
 class Name:
-    """A name in a cell, and the parts in parentheses after it."""
+    """A name of a cell, and what stands in parentheses behind it."""
 
     def __init__(self, text):
         self.text, self.inside = text, []
 
 
 class Wrong(Exception):
-    """The reason why a cell is wrong."""
+    """What is wrong with a cell."""
 
 
-# ---- the things to which a name refers
+# ---- what a name stands for
 
 
 class Thing:
-    """A call or definition that a name may refer to: its position, its clauses by their names, each with the
-    definitions that it names, and all definitions that it names."""
+    """What a name may stand for that says something: where it is, its clauses by their names, each with the definitions
+    that it names, and the definitions that it says in all."""
 
     def __init__(self, place, clauses, says):
         self.place, self.clauses = place, clauses
@@ -54,14 +54,14 @@ class Thing:
 
 
 def add_fields(clauses, words):
-    """Adds the fields of the records among the definitions `words`, and among the definitions that these name."""
+    """Adds the fields of the records among these definitions, and among what they stand for."""
     for word in contracts.reached(words, False):
         for name, kind in contracts.fields(word).items():
             clauses.setdefault(name, set()).update(contracts.named_in(word.source, kind))
 
 
 def thing_of_call(call):
-    """Returns a function as a `Thing`."""
+    """Returns what a function says."""
     clauses, says = {}, set()
     for code, clause in call.promises():
         if clause.kind == "ensures":
@@ -74,7 +74,7 @@ def thing_of_call(call):
 
 
 def thing_of_word(word):
-    """Returns a definition as a `Thing`."""
+    """Returns what a definition says."""
     clauses = {}
     add_fields(clauses, {word})
     return Thing(f"crates/{word.source.path}:{word.line}", clauses, {word})
@@ -82,8 +82,7 @@ def thing_of_word(word):
 
 @functools.cache
 def things(name):
-    """Returns the things that a name may refer to. Functions with exactly this name take precedence over functions of
-    types."""
+    """Returns what a name may stand for: functions of just this name before those of types."""
     found = [call for call in contracts.calls().get(name, ()) if call.promises()]
     found = [call for call in found if call.name == name] or found
     if found:
@@ -92,20 +91,20 @@ def things(name):
 
 
 def is_law(name):
-    """Returns whether a name is that of a law."""
+    """Whether a name is a law's."""
     return any(call.is_law() for call in contracts.calls().get(name, ()))
 
 
 def is_type(name):
-    """Returns whether a name is that of a type or a trait."""
+    """Whether a name is a type's or a trait's."""
     return any(word.kind in ("struct", "enum", "trait") for word in contracts.words().get(name, ()))
 
 
-# ---- the cells that name the source of a promise
+# ---- the cells that tell where a promise stands
 
 
 def parts_of(cell):
-    """Returns the names, marks and words of a cell. The parts in parentheses after a name belong to that name."""
+    """Returns the names, marks and words of a cell, where what stands in parentheses behind a name is that name's."""
     levels = [[]]
     for name, mark, word in re.findall(r"`([^`]*)`|([(),;:])|([^\s`(),;:]+)", cell):
         if mark == "(":
@@ -124,7 +123,7 @@ def parts_of(cell):
 
 
 def split(parts, mark):
-    """Returns the lists of parts between the marks `mark`."""
+    """Returns the parts between such marks."""
     marks = [-1, *(at for at, part in enumerate(parts) if part == mark), len(parts)]
     return [parts[start + 1 : end] for start, end in zip(marks, marks[1:])]
 
@@ -135,7 +134,7 @@ def names_of(parts):
 
 
 def with_types(parts):
-    """Returns the parts with `call` of `Type` replaced by one name, for each of these calls and types."""
+    """Returns the parts with `call` of `Type` in one name, for each of such calls and types."""
     at = next((at for at, part in enumerate(parts) if part == "of"), None)
     methods, types = names_of(parts[:at]) if at else [], names_of(parts[at:]) if at else []
     if not methods or not types or not all(is_type(name.text) for name in types):
@@ -144,8 +143,7 @@ def with_types(parts):
 
 
 def subject(name):
-    """Returns the things that a name refers to, and checks the parts in parentheses after it. Raises `Wrong` if there
-    are none."""
+    """Returns what a name stands for that says something, and looks at what stands in parentheses behind it."""
     if not NAME.fullmatch(name.text):
         raise Wrong(f"`{name.text}` is no name")
     found = things(name.text)
@@ -157,13 +155,12 @@ def subject(name):
 
 
 def told(found):
-    """Returns a text with the position of each thing, and its clauses."""
+    """Returns where these are, and which clauses they have."""
     return "; ".join(f"{thing.place} has {', '.join(thing.clauses) or 'none that has a name'}" for thing in found)
 
 
 def clause(of, found, name):
-    """Raises `Wrong` if a name is no clause of the things found, or if that clause does not name the parts in
-    parentheses after it."""
+    """Raises where a name is no clause of what was found, or what stands in parentheses behind it isn't said there."""
     having = [thing for thing in found if name.text in thing.clauses]
     if not having:
         raise Wrong(f"`{of}` has no clause `{name.text}`: {told(found)}")
@@ -172,15 +169,14 @@ def clause(of, found, name):
 
 
 def first_that_holds(problems):
-    """Raises the first of these problems if each is a problem: one thing without a problem is enough."""
+    """Raises the first of some problems where there is one for each."""
     if all(problems := list(problems)):
         raise Wrong(problems[0])
 
 
 def inside_of(says, clauses, name):
-    """Returns the first problem of the parts in parentheses after a name, or nothing. `says` has the definitions and
-    `clauses` the clauses of that name. After a definition or a call, a colon introduces the definitions that it names
-    and its clauses."""
+    """Returns what is wrong with what stands in parentheses behind a name, which says these definitions and has these
+    clauses. Behind a definition or a call and a colon stand what that says and its clauses."""
     known = {*clauses, *(word.name for word in says), *(field for word in says for field in contracts.fields(word))}
     for item in split(name.inside, ";"):
         left, *others = split(item, ":")
@@ -197,7 +193,7 @@ def inside_of(says, clauses, name):
 
 
 def check_item(parts):
-    """Raises `Wrong` if a part of a cell, between semicolons, names something that doesn't exist."""
+    """Raises where a part of a cell, between semicolons, names what isn't there."""
     sides = split(parts, ":")
     if len([side for side in sides if names_of(side)]) > 2:
         raise Wrong("two colons between names can't be read: put a semicolon between two promises")
@@ -213,7 +209,7 @@ def check_item(parts):
 
 
 def check_phrases(parts):
-    """Raises `Wrong` if a part without a colon names something that doesn't exist."""
+    """Raises where words without a colon name what isn't there."""
     of, found, joined = None, [], False
     for part in parts:
         if not isinstance(part, Name):
@@ -228,7 +224,7 @@ def check_phrases(parts):
 
 
 def check_promise(cell):
-    """Yields the first problem of a cell that names the source of a promise."""
+    """Yields what is wrong first with a cell that tells where a promise stands."""
     try:
         for item in split(parts_of(cell), ";"):
             check_item(item)
@@ -246,15 +242,14 @@ def tests():
 
 
 def check_names(cell, known, what):
-    """Yields each name of a cell that isn't in `known`, as a problem."""
+    """Yields what is wrong with the names of a cell that have to be these."""
     for name in texts.quoted(cell):
         if NAME.fullmatch(name) and name not in known:
             yield f"there is no {what} `{name}`"
 
 
 def check_test(cell):
-    """Yields the problems of a cell that names tests: test functions, targets of the Makefile, and cases of
-    transcripts."""
+    """Yields what is wrong with a cell that names tests: functions, goals of the Makefile, and cases of transcripts."""
     yield from check_names(cell, tests(), "test")
     goals = texts.read("Makefile")
     cases = texts.read("crates/transcripts/stdin")
@@ -267,7 +262,7 @@ def check_test(cell):
 
 
 def checked(head, cell):
-    """Returns the problems of a cell in a column with this head."""
+    """Returns what is wrong with a cell of a column with this head."""
     if head in PROMISING:
         return check_promise(cell)
     if head in TESTING:
@@ -279,11 +274,11 @@ def checked(head, cell):
 
 
 def main():
-    """Prints the problems of all tables, and how many cells were checked."""
+    """Tells what the tables name that isn't there, and how much they name."""
     count = 0
     for page in PAGES:
         cells = [(number, heads[column], cell, heads) for number, heads, column, cell in texts.cells_of(page)]
-        if page == "README.md":  # only its table of promises names clauses
+        if page == "README.md":  # of its tables only that of promises names what the sources have
             cells = [cell for cell in cells if PROMISING[0] in cell[3]]
         needed = TESTING[0] if page == "docs/TESTING.md" else PROMISING[0]
         if not any(head == needed for _, head, _, _ in cells):

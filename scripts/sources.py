@@ -1,8 +1,6 @@
-"""Reads the sources, for scripts/statement.py: the definitions of specs/, the types of src/, and the names that each
-uses.
+"""The words of the sources, for scripts/statement.py: definitions of specs/, types of src/, and what each of them uses.
 
-A name is looked up as the compiler does: first among the names that a definition binds itself, then among those that
-its file defines or imports by `use`. Here a definition or a type is called a word.
+A name is looked up as the compiler does: what a definition binds itself, then what its file has or brings in by `use`.
 """
 import collections
 import functools
@@ -19,16 +17,18 @@ CRATES = TOP / "crates"
 TOKEN = re.compile(r'"(?:[^"\\]|\\.)*"|--[^\n]*|[(){}.;,@]|[^\s(){}.;,@"«»]+')
 SYNTAX = set("= : ↦ | [ ] _ in as where Type pub unfolding".split())
 NOTATION = set("→ × λ ¬ ⊥ Unit record let elim".split())
-# Constructors on the left of an equation. There another name of a library is a variable.
+# What stands for itself on the left of an equation; another name of a library is a variable there.
 CONSTRUCTORS = set("Ok Err Some None true false [] ∷ zero suc tt".split())
-# The first characters of a line that continues the line above it.
+# The names that a contract of src/ has without a `use`, as Rust does.
+PRELUDE = set("Some None Ok Err".split())
+# How a line begins that goes on with the one above it.
 CLOSING = " )]}"
 MARKED = re.compile(r"(?:(?:pub|abbrev|unfoldable|pattern|axiom) )+(?:(record|data) )?(\S+)|(\S+) : ")
 CLAUSE = re.compile(r"\b(?:(?:requires|ensures)(?:\s+\w+)?|ghost\s+\w+\s*[:=])\s*\{")
 
 
 def fail(message):
-    """Ends the script, since the page can't be made."""
+    """Ends the script: the page can't be made."""
     sys.exit(f"DIFFERS: statement: {message}")
 
 
@@ -36,7 +36,7 @@ def fail(message):
 
 
 def tokens_of(term):
-    """Returns the tokens of a term, each with whether it is a field after a dot."""
+    """Returns the tokens of a term, each with whether it is a field that stands behind its dot."""
     found, is_field = [], False
     for match in TOKEN.finditer(term):
         token, start, end = match.group(), *match.span()
@@ -49,7 +49,7 @@ def tokens_of(term):
 
 
 def free_names(term, bound, stands_for_itself=lambda name: False):
-    """Returns the free names of a term, each with the field that is taken of it."""
+    """Returns the names in a term that nothing in it binds, each with the field that is taken of it."""
     tokens = tokens_of(term)
     words = [token for token, _ in tokens] + [""]
     scopes, groups, binders, in_pattern, free = [set(bound)], [], None, False, []
@@ -88,8 +88,7 @@ def free_names(term, bound, stands_for_itself=lambda name: False):
 
 
 class Word:
-    """A definition or a type: its source and line, its kind, its comment, its lines, and the part of the file that
-    contains it."""
+    """A definition or a type: where it stands, its kind, its comment and its lines, and the part of the file."""
 
     def __init__(self, source, kind, name, line, comment, part=""):
         self.source, self.kind, self.name, self.line = source, kind, name, line
@@ -97,8 +96,7 @@ class Word:
 
 
 def uses_in(text):
-    """Returns the names that the `use` lines of a text import: each local name, and the path and name to which it
-    refers."""
+    """Returns what the `use` lines of a text bring in: each local name, and the path and name that it stands for."""
     found = {}
     for path, names in re.findall(r"\buse ([\w.]+)\.\{([^}]*)\}", text):
         for entry in re.split(r",\s*", names.strip()):
@@ -110,7 +108,7 @@ def uses_in(text):
 
 
 def find(path, name):
-    """Returns the word to which a name of this path refers. For a library, returns the name."""
+    """Returns the word that a name of this path is, or of a library the name."""
     _, crate, _, *parts = path.split(".")
     if not (CRATES / crate).is_dir():
         return name
@@ -118,19 +116,19 @@ def find(path, name):
         *modules, kind = [part for part in parts[1:] if part != "TheVariants"]
         return source(f"{crate}/src/{'/'.join(modules)}.rt").type_of(kind)
     if not (CRATES / crate / f"specs/{'/'.join(parts)}.antt").exists():
-        *parts, name = parts  # a constructor of this type
+        *parts, name = parts  # a constructor of this kind
     return source(f"{crate}/specs/{'/'.join(parts)}.antt").word(name)
 
 
 def is_equation_of(name, line):
-    """Returns whether a line begins an equation of this name. The parts of an operator are between its arguments."""
+    """Whether a line begins an equation of this name; an operator's parts stand between its arguments."""
     words = line.partition(" =")[0].split()
     parts = [part for part in name.split("◌") if part]
     return all(part in words for part in parts) if "◌" in name else words[0] == name
 
 
 class Source:
-    """A file below crates/: its words, the names that its `use` lines import, and its header comment."""
+    """A file below crates/: its words, what its `use` lines bring in, and what its head says of it."""
 
     def __init__(self, path):
         self.path, self.words = path, {}
@@ -141,13 +139,13 @@ class Source:
         self.head = " ".join(line.split(" ", 1)[1] for line in head.splitlines())
 
     def take_parts(self):
-        """Stores the operators by the parts of their names."""
+        """Notes the operators by the parts of their names."""
         names = [*self.uses, *self.words]
         self.parts = {part: name for name in names for part in name.split("◌") if part not in ("", name)}
 
     def known(self, name, uses):
-        """Returns the word to which a name of a term refers, if the file defines or imports it."""
-        name = self.parts.get(name, name)
+        """Returns what a name of a term is, which the file has or brings in."""
+        name = self.parts.get(name) or next((whole for whole in uses if name in whole.split("◌")), name)
         if name in uses:
             return find(*uses[name])
         if name in self.words or name in NOTATION:
@@ -156,8 +154,8 @@ class Source:
 
 
 class Spec(Source):
-    """A file of specs/. Each definition is a line with its name and its type, followed by the equations of that name. A
-    comment directly above an equation belongs to that equation. Any other line ends the script."""
+    """A file of specs/: definitions, each a line with its name and its type, and behind it the equations of that name.
+    A comment that stands right above an equation belongs to it. What is neither ends the script."""
 
     def __init__(self, path):
         super().__init__(path)
@@ -185,7 +183,7 @@ class Spec(Source):
         self.take_parts()
 
     def begin(self, marked, number, comment, part):
-        """Reads the first line of a definition."""
+        """Takes the first line of a definition."""
         kind, name = marked[1], marked[2] or marked[3]
         if name in self.words:
             fail(f"crates/{self.path}:{number}: '{name}' is defined twice")
@@ -198,7 +196,7 @@ class Spec(Source):
         return self.known(name, self.uses)
 
     def is_constructor(self, name):
-        """Returns whether a name on the left of an equation is a constructor, and not a variable."""
+        """Whether a name on the left of an equation stands for itself, and is no variable."""
         is_ours = name in self.words and self.words[name].kind == "data"
         return is_ours or name in CONSTRUCTORS or self.uses.get(name, ("",))[0].endswith(".TheVariants")
 
@@ -228,7 +226,7 @@ class Spec(Source):
         return free
 
     def names_of_record(self, word):
-        """Returns the free names of a record. Each field may use the fields before it."""
+        """Returns the free names of a record, each field of which sees those before it."""
         header, *fields = re.split(r"\n(?=  pub )", "\n".join(word.code))
         header = header.split(f" {word.name}", 1)[1].rsplit(" where", 1)[0]
         bound = {name for group in re.findall(r"[({]([^(){}:]*) :", header) for name in group.split()}
@@ -261,7 +259,7 @@ class Code(Source):
         return self.text.count("\n", 0, position) + 1
 
     def take(self, item, name):
-        """Reads a type, a trait, or a function or method with its contract, and the comment above it, without the
+        """Takes a type, a trait, a function or a method with its contract, and the comment above it, without the
         attributes of its parts."""
         number = self.line_of(item.head)
         comment = self.comment_above(item, number)
@@ -271,7 +269,7 @@ class Code(Source):
         self.take_model(word)
 
     def take_model(self, word):
-        """Replaces the fields of a type by the `ghost Value` with which contracts see it, if it has one."""
+        """Gives a type that contracts see as a value of another kind that kind in place of its fields."""
         models = [item for item in self.items if item.kind == "impl" and rust.block_of(item) == (word.name, "Model")]
         if models and word.kind != "fn":
             line = word.code[0]
@@ -288,14 +286,14 @@ class Code(Source):
         return [line.strip() for line in self.lines[start : number - 1] if line.lstrip().startswith("//")]
 
     def text_of(self, item):
-        """Returns the text of an item. For a function this ends before its body."""
+        """Returns the text of an item from its first line on, a function's without its body."""
         start = self.text.rfind("\n", 0, item.head) + 1
         text = self.text[start : item.body if item.kind == "fn" else item.end].rstrip()
         kept = [line for line in text.splitlines() if item.kind == "fn" or not re.match(r" +#\[", line)]
         return textwrap.dedent("\n".join(kept))
 
     def type_of(self, name):
-        """Returns the type or trait to which a Rust name refers. For a library, returns the name."""
+        """Returns the type or trait that a name of Rust's is, or of a library the name."""
         if name in self.words:
             return self.words[name]
         mine = self.path.split("/")[0]
@@ -307,8 +305,12 @@ class Code(Source):
                 return next(filter(None, here), None) or source(f"{crate}/src/lib.rt").type_of(name)
         return name
 
+    def known(self, name, uses):
+        """Returns what a name of a clause is; Rust's prelude is there without a `use`."""
+        return name if name in PRELUDE and name not in uses else super().known(name, uses)
+
     def used(self, word):
-        """Returns the words that the clauses of an item use, and the types that the item names."""
+        """Returns the words that the clauses of an item use, and the types that it names."""
         text = "\n".join(word.code)
         clauses, rest = clauses_of(text)
         bound = {"result", "self", "Self", *re.findall(r"(\w+):", rest), *re.findall(r"ghost (\w+)", text)}
@@ -316,7 +318,7 @@ class Code(Source):
         found = [self.known(name, uses) for clause in clauses for name, _ in free_names(clause.term, bound)]
         if word.kind == "enum":
             rest = re.sub(r"(?m)^ +\w+", "", rest)
-        types = {name for name in re.findall(r"\b[A-Z]\w*", rest) if "_" not in name}  # without constants
+        types = {name for name in re.findall(r"\b[A-Z]\w*", rest) if "_" not in name}  # and no constants
         return found + [self.type_of(name) for name in sorted(types - bound)]
 
 
@@ -324,7 +326,7 @@ Clause = collections.namedtuple("Clause", "kind name term")
 
 
 def end_of_braces(text, start):
-    """Returns the position after the brace that closes the brace before `start`."""
+    """Returns the place behind the brace that closes the one before this place."""
     depth = 1
     while depth:
         depth += {"{": 1, "}": -1}.get(text[start], 0)

@@ -1,12 +1,12 @@
 #!/usr/bin/env python3
-"""scripts/statement.py [--check]: the page docs/STATEMENT.md, made from the sources.
+"""scripts/statement.py [--check]: the pages docs/STATEMENT.md and docs/STATEMENT-FULL.md, made from the sources.
 
-It prints all that three calls promise, the laws that join them, and what a run leaves of files, in parts: each
-definition of specs/ and each type of src/ that the contracts of a part need and no part before it has, in an order in
-which each word is explained before it is used, and then these contracts. A definition by one equation has its signature
-in it. With --check it compares the page with what it would print, tells each difference, and ends with status 1 where
-there is one. It fails where a name is found nowhere, where SUBJECTS hasn't the file of a word, where LEGEND doesn't
-explain a word of a library, and where a part is too long.
+STATEMENT.md has the contracts of HEADLINE and each definition of specs/ and type of src/ that they need, in an order in
+which each is explained before it is used. It describes the definitions of NAMES, and leaves out fields of the records
+of FIELDS. STATEMENT-FULL.md has all these, and further contracts, in appendices. A definition by one equation has its
+signature in it. With --check the script compares the pages with what it would write, prints each difference, and ends
+with status 1 if there is one. It fails if a name isn't found, if SUBJECTS lacks the file of a definition, if
+docs/NOTATION.md doesn't explain a name of a library, and if STATEMENT.md is too long.
 """
 import copy
 import difflib
@@ -16,57 +16,102 @@ import re
 import sys
 
 sys.dont_write_bytecode = True  # nothing else is to be left in docs/
+import texts
 from sources import TOP, Word, fail, source
 from statement_lines import count, lines_of
-from statement_parts import ELSEWHERE, HEAD, LEGEND, PARTS, SUBJECTS
+from statement_parts import APPENDICES, ELSEWHERE, FIELDS, HEADLINE, MOST_LINES, NAMES, NOTES, SUBJECTS
 
-PAGE = "docs/STATEMENT.md"
+PAGE, FULL, NOTATION = "docs/STATEMENT.md", "docs/STATEMENT-FULL.md", "docs/NOTATION.md"
+PROSE = "scripts/statement_page.md"
+FULL_HEAD = """# The statement: appendices
+
+[STATEMENT.md](STATEMENT.md) has the headline and what it needs. This page has everything else on which its calls, and
+the files of a run, rest: the definitions that STATEMENT.md only describes, the whole of each record of which it has some
+fields, and further contracts with all their clauses. Each appendix begins with what breaks if it is wrong. A definition
+is on the first of these pages and appendices that needs it. `make statement` makes this page from the sources. It has
+{told}.
+
+"""
+
+
+# ---- definitions, contracts and parts of them
 
 
 def with_clauses(word, kept):
-    """Returns a function with those of its clauses alone whose names pass this test, and with all that its caller owes;
-    and its clauses' names."""
-    lines, names, taken, free = [], [], True, []
+    """Returns a function with only the clauses of these names, or all if none is given, and what its caller owes."""
+    lines, names, taken, free = [], set(), True, []
     for line in word.code:
         if line.startswith("    //"):
             free.append(line)
             continue
         if clause := re.match(r"    (?:(requires)\b|ensures(?: (\w+))? \{)", line):
-            names.append(clause[2])
-            taken = bool(clause[1]) or kept(clause[2])
+            names.add(clause[2])
+            taken = bool(clause[1]) or not kept or clause[2] in kept
         lines += [*free, line] if taken else []
         free = []
+    if missing := set(kept) - names:
+        fail(f"'{word.name}' has no clause {' '.join(sorted(missing))}")
     part = copy.copy(word)
     part.code = lines
-    return part, {name for name in names if name}
+    return part
 
 
-def needed():
-    """Returns for each part of the page its contracts, each word that they need and no part before it has, with those
-    that it uses; and the names of libraries."""
-    parts, told, names, done = [], {}, set(), set()
-    for calls, _, _ in PARTS.values():
-        contracts, uses = [], {}
-        for name, place in calls.items():
+def with_fields(word, kept):
+    """Returns a record with only the fields of these names, and a comment that names the others."""
+    lines, others, taken, free = [], [], True, []
+    for line in word.code:
+        if line.startswith("  --"):
+            free.append(line)
+            continue
+        if field := re.match(r"  pub (\w+) :", line):
+            taken = field[1] in kept
+            others += [] if taken else [field[1]]
+        lines += [*free, line] if taken else []
+        free = []
+    if missing := set(kept) - set(re.findall(r"(?m)^  pub (\w+) :", "\n".join(lines))):
+        fail(f"'{word.name}' has no field {' '.join(sorted(missing))}")
+    part = copy.copy(word)
+    part.code = [*lines, f"  -- also, in STATEMENT-FULL.md: {', '.join(others)}"]
+    return part
+
+
+class Part:
+    """Contracts and definitions, and all that they need except what was explained before and what is only named: each
+    definition with those that it uses, the records that are cut, and the names of libraries."""
+
+    def __init__(self, roots, done, named=(), cut=()):
+        self.contracts, self.uses, self.shown, self.named, self.libraries = [], {}, {}, set(), set()
+        todo = []
+        for name, place in roots.items():
             path, *clauses = place.split()
             word = source(path).words.get(name) or fail(f"{path} has no '{name}'")
-            before = told.setdefault(name, set())
-            contract, known = with_clauses(word, lambda clause: clause in clauses if clauses else clause not in before)
-            if missing := set(clauses) - known:
-                fail(f"'{name}' has no clause {' '.join(sorted(missing))}")
-            before |= set(clauses)
-            contracts.append(contract)
-        todo = list(contracts)
+            if word.kind == "fn":
+                word = with_clauses(word, clauses)
+                self.contracts.append(word)
+            todo += [] if word in done else [word]
         while todo:
             word = todo.pop()
-            found = word.source.used(word)
-            names |= {use for use in found if isinstance(use, str)}
-            others = {use for use in found if isinstance(use, Word) and use.name not in ELSEWHERE}
-            uses[word] = others - {word}
-            todo += [use for use in uses[word] if use not in uses and use not in done]
-        done |= set(uses)
-        parts.append((contracts, uses))
-    return parts, names
+            shown = with_fields(word, cut[word.name].split()) if word.name in cut else word
+            found = word.source.used(shown)
+            self.shown[word] = shown
+            self.libraries |= {use for use in found if isinstance(use, str)}
+            others = {use for use in found if isinstance(use, Word) and use.name not in ELSEWHERE} - {word}
+            self.named |= {use for use in others if use.name in named}
+            self.uses[word] = others - self.named
+            todo += [use for use in self.uses[word] if use not in self.uses and use not in done]
+
+    def told(self, words=None):
+        """Returns how many definitions there are, and how many lines without comments and blanks."""
+        words = list(self.uses) if words is None else words
+        numbers = (len(words), "definition"), (self.lines(words), "line")
+        return ", ".join(f"{number:,} {what}{'s' * (number != 1)}" for number, what in numbers)
+
+    def lines(self, words=None):
+        """Returns how many lines these have without comments and blanks."""
+        return count(self.shown[word] for word in (self.uses if words is None else words))
+
+
+# ---- their order
 
 
 @functools.cache
@@ -82,8 +127,8 @@ def ranks():
 
 
 def ready(words, uses, done):
-    """Returns as many of a subject's words as can follow those that are done, each behind those that it uses. A file's
-    words stand together, in its order."""
+    """Returns those of a subject's definitions that can follow the ones that are done, each after those that it uses.
+    A file's definitions stand together, in its order."""
     taken = []
     while can := [word for word in words if word not in taken and uses[word] <= done | set(taken)]:
         same = [word for word in can if taken and word.source is taken[-1].source]
@@ -92,9 +137,9 @@ def ready(words, uses, done):
 
 
 def sections(uses, done):
-    """Returns the words in groups, each the name of a subject and its words, so that each stands behind those that it
-    uses, where some are done already. The next group is the first subject that can follow whole, or the first of which
-    some words can."""
+    """Returns the definitions in groups, each the name of a subject and its definitions, if some are done already: each
+    definition after those that it uses. The next group is the first subject that can follow whole, or the first of which
+    some definitions can."""
     for word in uses:
         if word.source.path not in ranks():
             fail(f"SUBJECTS of scripts/statement_parts.py hasn't {word.source.path}: add it to the subject of its "
@@ -115,81 +160,125 @@ def sections(uses, done):
     return found
 
 
-def show(words):
-    """Returns some words as lines of the page, by the files in which they stand."""
+# ---- the pages
+
+
+def show(part, words):
+    """Returns some definitions as lines of the page, by the files in which they stand."""
     lines = []
     for path, group in itertools.groupby(words, key=lambda word: word.source.path):
-        group, part = list(group), ""
+        group, title = list(group), ""
         lines += [f"`crates/{path}`: {group[0].source.head}", "", "```" + ("" if path.endswith(".antt") else "rust")]
         for word in group:
-            lines += [word.part, ""] if word.part != part else []
-            lines += [*word.comment, *lines_of(word), ""]
-            part = word.part
+            lines += [word.part, ""] if word.part != title else []
+            lines += [*word.comment, *lines_of(part.shown[word]), ""]
+            title = word.part
         lines[-1:] = ["```", ""]
     return lines[:-1]
 
 
-def listed(number, subject, words):
-    """Returns a group's line in the list of all, with a link to it."""
-    link = re.sub(r"[^\w -]", "", f"{number}. {subject}").lower().replace(" ", "-")
-    return f"{number}. [{subject}](#{link}): {told_of(words)}"
+def body(part, done, numbers):
+    """Returns a part as lines of the page: its definitions by subjects, with these numbers, and then its contracts."""
+    groups = sections({word: part.uses[word] for word in part.uses if word not in part.contracts}, done)
+    groups += [("The contracts", part.contracts)] if part.contracts else []
+    lines, seen = [], set()
+    for subject, words in groups:
+        further, number = ", further" * (subject in seen), next(numbers, None)
+        lines += [f"### {f'{number}. ' if number else ''}{subject}{further}", "", *show(part, words), ""]
+        seen.add(subject)
+    return lines[:-1]
 
 
-def told_of(words):
-    """Returns how many words there are, and how many lines without comments and blanks."""
-    numbers = (len(words), "word"), (count(words), "line")
-    return ", ".join(f"{number:,} {what}{'s' * (number != 1)}" for number, what in numbers)
+def letters():
+    """Returns the title of each appendix with its letter before it."""
+    return {title: f"{chr(ord('A') + at)}. {title}" for at, title in enumerate(APPENDICES)}
 
 
-def page():
-    """Returns the lines of the page, and how much it has."""
-    parts, names = needed()
-    explained = {name for line in LEGEND for name in line.split()}
-    if missing := sorted(names - explained):
-        fail(f"LEGEND of scripts/statement_parts.py doesn't explain {' '.join(missing)}")
-    if idle := sorted(explained - names):
-        fail(f"LEGEND of scripts/statement_parts.py explains {' '.join(idle)}, which the page doesn't have")
-    numbers, done, seen, contents, lines = itertools.count(1), set(), set(), [], []
-    for (title, (_, end, most)), count_word, (contracts, uses) in zip(PARTS.items(), ("one", "two", "three"), parts):
-        if count(uses) > most:
-            fail(f"part {count_word} has {count(uses)} lines, at most {most} in PARTS of scripts/statement_parts.py")
-        groups = sections({word: uses[word] for word in uses if word not in contracts}, done)
-        groups = [(subject + ", further" * (subject in seen), words) for subject, words in groups]
-        seen |= {subject for subject, _ in groups}
-        done |= set(uses)
-        numbered = [(next(numbers), group) for group in [*groups, (f"The contracts of part {count_word}", contracts)]]
-        title = f"Part {count_word}: {title}"
-        contents += [f"**{title}**: {told_of(uses)}", "", *(listed(number, *group) for number, group in numbered), ""]
-        lines += ["", f"## {title}"]
-        for number, (subject, words) in numbered:
-            lines += ["", f"### {number}. {subject}", "", *show(words)]
-        lines += ["", *end.splitlines()] if end else []
-    told = told_of(done)
-    legend = ["## How to read it", "", *(f"- {text}" for text in LEGEND.values())]
-    return [*HEAD.format(told=told).splitlines(), *contents, *legend, *lines], told
+def link(title, text):
+    """Returns a link to an appendix."""
+    anchor = re.sub(r"[^\w -]", "", letters()[title]).lower().replace(" ", "-")
+    return f"[{text}]({FULL.rpartition('/')[2]}#{anchor})"
 
 
-def check(lines, told):
-    """Tells what the page has otherwise than the sources, and how much it has. Returns how many lines differ."""
-    old = (TOP / PAGE).read_text(encoding="utf-8").splitlines() if (TOP / PAGE).exists() else []
+def names(page, appendices):
+    """Returns the lines that describe what STATEMENT.md only names, by the appendices that have the definitions."""
+    found = sorted(word.name for word in page.named)
+    if doubtful := sorted({name for name in found if found.count(name) > 1}):
+        fail(f"NAMES of scripts/statement_parts.py has a name of several definitions: {' '.join(doubtful)}")
+    if idle := sorted(set(NAMES) - set(found)):
+        fail(f"NAMES of scripts/statement_parts.py has what STATEMENT.md doesn't use: {' '.join(idle)}")
+    lines, left = [], set(page.named)
+    for title, part in appendices.items():
+        mine = [word for word in part.uses if word in left]
+        mine.sort(key=lambda word: list(NAMES).index(word.name))
+        lines += [f"From appendix {link(title, letters()[title])}:", ""] if mine else []
+        lines += [*(f"- {NAMES[word.name]}" for word in mine), *([""] if mine else [])]
+        left -= set(mine)
+    if left:
+        fail(f"no appendix has {' '.join(sorted(word.name for word in left))}")
+    return lines[:-1]
+
+
+def check_notation(used):
+    """Fails if NOTATION.md doesn't explain a name of a library, or explains one of which the pages have none."""
+    cells = [(heads[0], cell.replace("\\|", "|")) for _, heads, column, cell in texts.cells_of(NOTATION) if not column]
+    known = {head: set(re.findall(r"[^\s()]+", " ".join(" ".join(texts.quoted(cell)) for which, cell in cells
+                                                       if which == head))) for head in ("Sign", "Name")}
+    parts = {part for name in used for part in name.split("◌") if part}
+    if missing := sorted(parts - known["Sign"] - known["Name"]):
+        fail(f"{NOTATION} doesn't explain {' '.join(missing)}")
+    if idle := sorted(name for name in known["Name"] - parts if len(name) > 2):
+        fail(f"{NOTATION} explains {' '.join(idle)}, which the pages don't have")
+
+
+def pages():
+    """Returns the lines of both pages by their paths, and how much they have."""
+    page = Part(HEADLINE, set(), NAMES, FIELDS)
+    if page.lines() > MOST_LINES:
+        fail(f"{PAGE} has {page.lines()} lines, at most {MOST_LINES} in MOST_LINES of scripts/statement_parts.py")
+    done = {word for word in page.uses if page.shown[word] is word}
+    appendices, full, libraries = {}, [], set(page.libraries)
+    for title, (breaks, roots) in APPENDICES.items():
+        part = appendices[title] = Part(roots, done)
+        full += [f"## {letters()[title]}", "", f"**{breaks}**", "", *body(part, done, iter(())), ""]
+        full += [NOTES[title], ""] if title in NOTES else []
+        done |= set(part.uses)
+        libraries |= part.libraries
+    check_notation(libraries)
+    told = f"{sum(len(part.uses) for part in appendices.values()):,} definitions, " \
+        f"{sum(part.lines() for part in appendices.values()):,} lines"
+    contents = [f"- {link(title, letters()[title]).replace(FULL.rpartition('/')[2], '')}: {part.told()}"
+                for title, part in appendices.items()]
+    prose = texts.read(PROSE).replace("{told}", page.told())
+    prose = re.sub(r"\{(\w)\}", lambda at: link(list(APPENDICES)[ord(at[1]) - ord("A")], at[1]), prose)
+    prose = prose.replace("{names}", "\n".join(names(page, appendices)))
+    prose = prose.replace("{definitions}", "\n".join(body(page, set(), itertools.count(1))))
+    head = FULL_HEAD.format(told=f"{told} without comments and blanks")
+    return {PAGE: prose.splitlines(), FULL: [*head.splitlines(), *contents, "", *full[:-1]]}, \
+        f"{page.told()} in STATEMENT.md; {told} in STATEMENT-FULL.md"
+
+
+def check(path, lines):
+    """Prints what a page has otherwise than the sources. Returns how many lines differ."""
+    old = (TOP / path).read_text(encoding="utf-8").splitlines() if (TOP / path).exists() else []
     told_apart = list(difflib.unified_diff(old, lines, lineterm="", n=0))[2:]
     others = [line for line in told_apart if line[0] in "-+" and line[1:]]
     for line in others[:20]:
-        print(f"DIFFERS: statement: {PAGE} {'has' if line[0] == '-' else 'is to have'} '{line[1:]}'")
+        print(f"DIFFERS: statement: {path} {'has' if line[0] == '-' else 'is to have'} '{line[1:]}'")
     if others:
         print(f"DIFFERS: statement: {len(others)} lines in all; 'make statement' makes the page anew")
-    print(f"statement: {told} in STATEMENT.md")
     return len(others)
 
 
 def main():
-    """Prints the page, or compares it with the one that stands there."""
+    """Writes the pages, or compares them with those that are there."""
     sys.stdout.reconfigure(encoding="utf-8")
-    lines, told = page()
+    found, told = pages()
+    print(f"statement: {told}")
     if sys.argv[1:] == ["--check"]:
-        sys.exit(check(lines, told) > 0)
-    print("\n".join(lines))
-    print(f"statement: {told}", file=sys.stderr)
+        sys.exit(sum(check(path, lines) for path, lines in found.items()) > 0)
+    for path, lines in found.items():
+        (TOP / path).write_text("\n".join(lines) + "\n", encoding="utf-8")
 
 
 if __name__ == "__main__":

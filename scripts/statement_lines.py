@@ -70,10 +70,21 @@ def joined(word):
     return lines if len(lines[0]) <= 120 else [head, "    " + lines[0][len(head) :].strip(), *lines[1:]]
 
 
+def signed(word):
+    """Returns the lines of a function as the page has them: its arguments side by side."""
+    code = "\n".join(word.code)
+    if not (arguments := re.match(r"[^\n]*\(\n((?:    .*,\n)+)\)", code)):
+        return word.code
+    side = "    " + " ".join(line.strip() for line in arguments[1].splitlines()) + "\n"
+    return code.replace(arguments[1], side, 1).splitlines() if len(side) <= 120 else word.code
+
+
 def lines_of(word):
     """Returns the lines of a word as the page has them."""
     if word.source.path.endswith(".antt"):
         return joined(word)
+    if word.kind == "fn":
+        return signed(word)
     return packed(word) if word.kind in ("struct", "enum") else word.code
 
 

@@ -206,9 +206,39 @@ PLANTS = {
     "a result that isn't printed": (
         FAULTS, "man/flashnor.8", r"(?m)^Mode: open", "Mode: open, idle",
         "lines of results: examples has 'Mode: _, idle'"),
-    "an equation that the page hasn't": (
-        AGREE, "docs/STATEMENT.md", r"(?m)^most_status_writes _ unlock = .*\n", "",
-        "STATEMENT.md is to have 'most_status_writes _ unlock = "),
+    "an equation that a page hasn't": (
+        AGREE, "docs/STATEMENT-FULL.md", r"(?m)^most_status_writes _ unlock = .*\n", "",
+        "STATEMENT-FULL.md is to have 'most_status_writes _ unlock = "),
+    "a field that the headline's page hasn't": (
+        STATEMENT, "docs/STATEMENT.md", r"(?m)^  leads_back : .*\n", "", "STATEMENT.md is to have '  leads_back : "),
+    "an appendix without what breaks": (
+        STATEMENT, "docs/STATEMENT-FULL.md", r"(?m)^\*\*If this is wrong, .*\n", "",
+        r"STATEMENT-FULL.md is to have '\*\*If this is wrong, "),
+    "a page that is too long": (
+        STATEMENT, "crates/nor_session/specs/Headline.antt", r"(?m)^  pub still : ",
+        "".join(f"  pub still{at} : vault.sealed ≡ vault.sealed\n" for at in range(40)) + "  pub still : ",
+        r"docs/STATEMENT.md has 4\d\d lines, at most 400"),
+    "a name that the headline's page doesn't use": (
+        STATEMENT, "scripts/statement_parts.py", r'"Allows": "`Allows', '"Allow": "`Allows',
+        r"NAMES of scripts/statement_parts.py has what STATEMENT.md doesn't use: Allow$"),
+    "a name that no appendix has": (
+        STATEMENT, "scripts/statement_parts.py", r'(?m)^ +"Ranges": "nor_layout.*\n', "", "no appendix has Ranges"),
+    "a field of the page that isn't there": (
+        STATEMENT, "scripts/statement_parts.py", r'"made code is_wanted kept"', '"made code is_wanted keeps"',
+        "'IsDone' has no field keeps"),
+    "a clause of the page that isn't there": (
+        STATEMENT, "scripts/statement_parts.py", r"sessions.rt keeps always", "sessions.rt keeps ever",
+        "'session' has no clause ever"),
+    "a clause of the summary that another call has": (
+        ROWS, "docs/STATEMENT.md", r"`restore`: `within` \|", "`restore`: `leads_back` |",
+        r"STATEMENT.md:\d+: `restore` has no clause `leads_back`"),
+    "a name of a library without its notation": (
+        STATEMENT, "docs/NOTATION.md", r"`bit_and a b`, ", "", "docs/NOTATION.md doesn't explain bit_and"),
+    "a sign without its notation": (
+        STATEMENT, "docs/NOTATION.md", r"`A ⊎ B`, ", "", "docs/NOTATION.md doesn't explain ⊎"),
+    "a notation that no formula has": (
+        STATEMENT, "docs/NOTATION.md", r"\| `codes s`, ", "| `codes s`, `words s`, ",
+        "docs/NOTATION.md explains words, which the pages don't have"),
     "a comment between equations": (
         STATEMENT, "crates/nor_session/specs/Session.antt", r"(?m)^most_status_writes _ unlock",
         "-- else two\nmost_status_writes _ unlock", "is to have '-- else two'"),

@@ -113,6 +113,45 @@ class Definitions(Small):
         self.refuses_spec("abbrev pub low : ℕ\nlow = 1\n\nabbrev pub low : ℕ\nlow = 2\n", "'low' is defined twice")
 
 
+class Cut(Small):
+    """Parts of records and of contracts, and how they are set."""
+
+    FIELDS = "  -- low\n  pub low : x ≤ 3\n  -- high\n  pub high :\n      3 ≤ x\n  pub same : x ≡ 3\n"
+    CALL = "pub fn one(\n    x: u8,\n    y: u8,\n) -> u8\n    requires { ⊤ }\n    // low\n" \
+        "    ensures low { ⊤ }\n    ensures high { ⊥ }\n{}\n"
+
+    def record(self):
+        """Returns a record with three fields."""
+        return self.put("one/specs/Some.antt", f"{HEAD}pub record IsThree (x : ℕ) : Type 0 where\n{self.FIELDS}"
+                        ).words["IsThree"]
+
+    def test_a_field_that_is_left_out_is_named(self):
+        cut = statement.with_fields(self.record(), ["high"])
+        self.assertEqual(statement.lines_of(cut), [
+            "record IsThree (x : ℕ) where", "  -- high", "  high :", "      3 ≤ x",
+            "  -- also, in STATEMENT-FULL.md: low, same"])
+
+    def test_the_record_itself_stays_whole(self):
+        word = self.record()
+        before = list(word.code)
+        statement.with_fields(word, ["high"])
+        self.assertEqual(word.code, before)
+
+    def test_a_field_that_is_not_there_is_refused(self):
+        with self.assertRaises(SystemExit) as ended:
+            statement.with_fields(self.record(), ["highest"])
+        self.assertIn("'IsThree' has no field highest", str(ended.exception))
+
+    def test_a_contract_has_the_clauses_that_are_named_and_what_its_caller_owes(self):
+        word = self.put("one/src/a.rt", self.CALL).words["one"]
+        self.assertEqual(statement.lines_of(statement.with_clauses(word, ["high"])),
+                         ["pub fn one(", "    x: u8, y: u8,", ") -> u8", "    requires { ⊤ }", "    ensures high { ⊥ }"])
+
+    def test_without_names_a_contract_is_whole(self):
+        word = self.put("one/src/a.rt", self.CALL).words["one"]
+        self.assertEqual(statement.with_clauses(word, []).code, word.code)
+
+
 class Contracts(Small):
     """Files of src/."""
 
@@ -131,6 +170,21 @@ class Contracts(Small):
     def test_a_clause_that_has_no_braces_is_refused(self):
         with self.assertRaises(SystemExit):
             sources.clauses_of("fn one()\n    ensures low")
+
+    def test_a_trait_may_bring_in_its_own_signs(self):
+        code = self.put("one/src/a.rt", "pub trait Law {\n    ghost use Rattle.std.specs.Prelude.{◌≡◌};\n\n"
+                                        "    fn law(x: u8)\n        ensures { x ≡ x };\n}\n")
+        self.assertIn("◌≡◌", code.used(code.words["Law"]))
+
+    def test_a_sign_that_nothing_brings_in_is_refused(self):
+        code = self.put("one/src/a.rt", "pub trait Law {\n    fn law(x: u8)\n        ensures { x ≡ x };\n}\n")
+        with self.assertRaises(SystemExit) as ended:
+            code.used(code.words["Law"])
+        self.assertIn("says '≡', which is found nowhere", str(ended.exception))
+
+    def test_the_cases_of_options_and_results_need_no_use(self):
+        code = self.put("one/src/a.rt", "pub fn one(x: u8)\n    ensures { Some x }\n{}\n")
+        self.assertIn("Some", code.used(code.words["one"]))
 
     def test_a_type_without_an_end_is_refused(self):
         self.refuses("one/src/a.rt", "pub struct One {\n    a: u8,\n", "a.rt:1: this '{' isn't closed")
