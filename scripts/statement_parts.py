@@ -16,8 +16,10 @@ HEADLINE = {
 
 # Of these records STATEMENT.md has only these fields; STATEMENT-FULL.md has all.
 FIELDS = {
-    "SessionAlways": "answers",
-    "SessionModelled": "tells done",
+    "SessionAlways": "answers ends",
+    "SessionModelled": "tells done undo",
+    "EndsSealed": "sealed",
+    "CanBeUndone": "accepted",
     "IsDone": "made code is_wanted kept",
     "RestoreModelled": "tells leaves",
     "LeavesRestore": "config bytes fixed",
@@ -33,6 +35,7 @@ NAMES = {
         "that the chip must ignore changes nothing.",
     "done_of": "`done_of chip out replies`: the command that the chip carries out, or `Ignored`.",
     "wears": "`wears command s`: the command is an erase whose block has sector `s`.",
+    "is_known_running": "`is_known_running running`: the operation isn't `Unknown`.",
     "IsChip": "`IsChip chip`: bytes are below 256, status bits fit their registers, and `busy` is below 65,536.",
     "is_guarded": "`is_guarded chip a`: the protection bits of the chip protect the address `a`.",
     "is_unit_guarded":
@@ -45,6 +48,7 @@ NAMES = {
     "IsNotOffered": "`IsNotOffered size start len`: no defined protection bits protect exactly these addresses.",
     "id_of": "`id_of config`: the three bytes that 9Fh reads.",
     "unique_of": "`unique_of config`: the eight bytes that 4Bh reads, the unique ID.",
+    "Part": "`Part`: a chip type, with its `name`, `id`, `size`, erase types (`kinds`), and block protection or none.",
     "part_with_id": "`part_with_id id`: the row of the table of known chips (W25Q64FV, W25Q128FV) with this ID.",
     "chip_says":
         "`chip_says config`: the size and erase types that the chip's SFDP gives, or the first `SfdpFault`.",
@@ -115,6 +119,7 @@ APPENDICES = {
             "done_of": "nor_chip/specs/Step.antt",
             "wears": "nor_chip/specs/Step.antt",
             "IsChip": "nor_chip/specs/Chip.antt",
+            "is_known_running": "nor_chip/specs/Power.antt",
         },
     ),
     "Identification": (
