@@ -102,7 +102,7 @@ NAMES = {
 # appendix has.
 APPENDICES = {
     "Block protection": (
-        "If this is wrong, refusals 6 to 10 are wrong for a real chip, and so is the range that it protects.",
+        "If this is wrong, errors 7 to 10 are wrong for a real chip, and so is the range that it protects.",
         {
             "is_guarded": "nor_chip/specs/Guard.antt",
             "is_unit_guarded": "nor_chip/specs/Guard.antt",
@@ -157,7 +157,7 @@ APPENDICES = {
     ),
     "The record of modifying commands": (
         "If this is wrong, a modifying command may be sent before the journal is sealed, or by a refused session: "
-        "`still` says only that this record is as it was. On a faulty bus nothing else is promised.",
+        "`still` says only that this record is as it was. On a faulty bus little else is promised.",
         {
             "Notes": "nor_chip/specs/Sent.antt",
             "Hears": "nor_chip/specs/Bus.antt",
@@ -224,7 +224,7 @@ ELSEWHERE = {"Work", "Fault", "Answer", "AreIncluded"}
 NOTES = {
     "The model of files":
         "`Memory` (nor_files) is proved to keep this contract, with files in memory, so it can be kept. `Disk`, the "
-        "system's files, is assumed to keep it. `seen_may_stay` makes `may_leave` mean something: a store of which a "
+        "system's files, is assumed to behave so. `seen_may_stay` makes `may_leave` mean something: a store of which a "
         "host crash may leave nothing would meet each promise that speaks of what it may leave.",
     "The files of a run":
         "`R: Store` is any store of files, and `R.state` what contracts see of it. In this appendix `Journal` is the "
