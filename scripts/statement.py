@@ -231,6 +231,16 @@ def check_notation(used):
         fail(f"{NOTATION} explains {' '.join(idle)}, which the pages don't have")
 
 
+def check_prose(prose, lines):
+    """Fails if a name between backticks in what isn't made from the sources is on none of these lines."""
+    known = set(re.findall(r"\w+", "\n".join(lines)))
+    named = re.findall(r"`([A-Za-z_]\w\w+)[` ]", "\n".join([prose, *NAMES.values(), *NOTES.values()]))
+    if missing := sorted(set(named) - known - {"make"}):
+        fail(f"{PROSE} or scripts/statement_parts.py names {' '.join(missing)}, which no definition has")
+    if other := [name for name, text in NAMES.items() if not re.match(rf"`{name}[` ]", text)]:
+        fail(f"NAMES of scripts/statement_parts.py describes another name than {' '.join(other)}")
+
+
 def pages():
     """Returns the lines of both pages by their paths, and how much they have."""
     page = Part(HEADLINE, set(), NAMES, FIELDS)
@@ -249,10 +259,12 @@ def pages():
         f"{sum(part.lines() for part in appendices.values()):,} lines"
     contents = [f"- {link(title, letters()[title]).replace(FULL.rpartition('/')[2], '')}: {part.told()}"
                 for title, part in appendices.items()]
+    defined = body(page, set(), itertools.count(1))
+    check_prose(texts.read(PROSE), [*defined, *full])
     prose = texts.read(PROSE).replace("{told}", page.told())
     prose = re.sub(r"\{(\w)\}", lambda at: link(list(APPENDICES)[ord(at[1]) - ord("A")], at[1]), prose)
     prose = prose.replace("{names}", "\n".join(names(page, appendices)))
-    prose = prose.replace("{definitions}", "\n".join(body(page, set(), itertools.count(1))))
+    prose = prose.replace("{definitions}", "\n".join(defined))
     head = FULL_HEAD.format(told=f"{told} without comments and blanks")
     return {PAGE: prose.splitlines(), FULL: [*head.splitlines(), *contents, "", *full[:-1]]}, \
         f"{page.told()} in STATEMENT.md; {told} in STATEMENT-FULL.md"

@@ -219,8 +219,8 @@ PLANTS = {
         "".join(f"  pub still{at} : vault.sealed ≡ vault.sealed\n" for at in range(40)) + "  pub still : ",
         r"docs/STATEMENT.md has 4\d\d lines, at most 400"),
     "a name that the headline's page doesn't use": (
-        STATEMENT, "scripts/statement_parts.py", r'"Allows": "`Allows', '"Allow": "`Allows',
-        r"NAMES of scripts/statement_parts.py has what STATEMENT.md doesn't use: Allow$"),
+        STATEMENT, "scripts/statement_parts.py", r'"Allows": "`Allows', '"Looks": "`Looks',
+        "NAMES of scripts/statement_parts.py has what STATEMENT.md doesn't use: Looks"),
     "a name that no appendix has": (
         STATEMENT, "scripts/statement_parts.py", r'(?m)^ +"Ranges": "nor_layout.*\n', "", "no appendix has Ranges"),
     "a field of the page that isn't there": (
@@ -232,6 +232,12 @@ PLANTS = {
     "a clause of the summary that another call has": (
         ROWS, "docs/STATEMENT.md", r"`restore`: `within` \|", "`restore`: `leads_back` |",
         r"STATEMENT.md:\d+: `restore` has no clause `leads_back`"),
+    "a name of the prose that no definition has": (
+        STATEMENT, "scripts/statement_page.md", r"\(`RanOut`, `most_of`\)", "(`RunsOut`, `most_of`)",
+        "names RunsOut, which no definition has"),
+    "a description of another name": (
+        STATEMENT, "scripts/statement_parts.py", r"`IsChip chip`: ", "`IsSame chip`: ",
+        "describes another name than IsChip"),
     "a name of a library without its notation": (
         STATEMENT, "docs/NOTATION.md", r"`bit_and a b`, ", "", "docs/NOTATION.md doesn't explain bit_and"),
     "a sign without its notation": (
