@@ -26,8 +26,8 @@ PROSE = "scripts/statement_page.md"
 FULL_HEAD = """# The statement: appendices
 
 [STATEMENT.md](STATEMENT.md) has the headline and what it needs. This page has everything else on which its calls, and
-the files of a run, rest: the definitions that STATEMENT.md only describes, the whole of each record of which it has some
-fields, and further contracts with all their clauses. Each appendix begins with what breaks if it is wrong. A definition
+the files of a run, rest: the definitions that STATEMENT.md only describes, the whole of each record of which it has
+some fields, and further contracts with all their clauses. Each appendix begins with what breaks if it is wrong. A definition
 is on the first of these pages and appendices that needs it. `make statement` makes this page from the sources. It has
 {told}.
 
@@ -138,8 +138,8 @@ def ready(words, uses, done):
 
 def sections(uses, done):
     """Returns the definitions in groups, each the name of a subject and its definitions, if some are done already: each
-    definition after those that it uses. The next group is the first subject that can follow whole, or the first of which
-    some definitions can."""
+    definition after those that it uses. The next group is the first subject that can follow whole, or the first of
+    which some definitions can."""
     for word in uses:
         if word.source.path not in ranks():
             fail(f"SUBJECTS of scripts/statement_parts.py hasn't {word.source.path}: add it to the subject of its "

@@ -43,8 +43,8 @@ NAMES = {
     "code_of": "`code_of kept`: the protection bits CMP, SEC, TB, BP2, BP1 and BP0 as one number, CMP the highest.",
     "is_undefined": "`is_undefined code`: SEC is set and BP is 110, for which the datasheets define no range.",
     "IsLeastCode":
-        "`IsLeastCode size start len code`: `code` is the least number whose protection bits protect exactly the `len` "
-        "addresses from `start` on.",
+        "`IsLeastCode size start len code`: `code` is the least number whose protection bits are defined and protect "
+        "exactly the `len` addresses from `start` on.",
     "IsNotOffered": "`IsNotOffered size start len`: no defined protection bits protect exactly these addresses.",
     "id_of": "`id_of config`: the three bytes that 9Fh reads.",
     "unique_of": "`unique_of config`: the eight bytes that 4Bh reads, the unique ID.",

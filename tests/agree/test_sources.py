@@ -145,7 +145,8 @@ class Cut(Small):
     def test_a_contract_has_the_clauses_that_are_named_and_what_its_caller_owes(self):
         word = self.put("one/src/a.rt", self.CALL).words["one"]
         self.assertEqual(statement.lines_of(statement.with_clauses(word, ["high"])),
-                         ["pub fn one(", "    x: u8, y: u8,", ") -> u8", "    requires { ⊤ }", "    ensures high { ⊥ }"])
+                         ["pub fn one(", "    x: u8, y: u8,", ") -> u8", "    requires { ⊤ }",
+                          "    ensures high { ⊥ }"])
 
     def test_without_names_a_contract_is_whole(self):
         word = self.put("one/src/a.rt", self.CALL).words["one"]
