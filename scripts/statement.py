@@ -27,9 +27,9 @@ FULL_HEAD = """# The statement: appendices
 
 [STATEMENT.md](STATEMENT.md) has the headline and what it needs. This page has everything else on which its calls, and
 the files of a run, rest: the definitions that STATEMENT.md only describes, the whole of each record of which it has
-some fields, and further contracts with all their clauses. Each appendix begins with what breaks if it is wrong. A definition
-is on the first of these pages and appendices that needs it. `make statement` makes this page from the sources. It has
-{told}.
+some fields, and further contracts with all their clauses. Each appendix begins with what breaks if it is wrong. A
+definition is on the first of these pages and appendices that needs it. `make statement` makes this page from the
+sources. It has {told}.
 
 """
 
