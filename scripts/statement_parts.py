@@ -10,7 +10,7 @@ MOST_LINES = 400
 HEADLINE = {
     "session": "nor_session/src/sessions.rt keeps always modelled",
     "restore": "nor_session/src/restores.rt gives_back modelled",
-    "rehearse": "nor_session/src/rehearsals.rt gives_back modelled",
+    "rehearse": "nor_session/src/rehearsals.rt gives_back always modelled",
     "Journal::read": "nor_journal/src/journal.rt found only",
 }
 
@@ -21,8 +21,11 @@ FIELDS = {
     "EndsSealed": "sealed",
     "CanBeUndone": "accepted",
     "IsDone": "made code is_wanted kept",
-    "RestoreModelled": "tells leaves",
+    "RestoreModelled": "tells leaves done",
+    "IsRestored": "accepted",
     "LeavesRestore": "config bytes fixed",
+    "RehearsalAlways": "counts",
+    "IsRehearsal": "seal ended",
     "RehearsalModelled": "tells ended",
 }
 
@@ -94,7 +97,10 @@ NAMES = {
         "has a unique ID, and the chip another), `StatusDiffers` (bits that are never changed differ; without block "
         "protection, any non-volatile bit), `StatusLocked` (the status is locked, and either the protection bits "
         "differ from the journal's, or a saved sector that differs from the chip has a protected address).",
-    "Allows": "`Allows n old new`: on an honest bus `left` is now `n`, and nothing else changed.",
+    "IsRestorable": "`IsRestorable journal chip`: no refusal is the verdict.",
+    "first_allowance":
+        "`first_allowance stops`: the first stop, or without stops the bound of a session on a chip of 16 MiB.",
+    "Meter": "`Meter`: a `Bus` with a call `allow`, which on an honest bus sets `left`, and nothing else.",
 }
 
 # The appendices of STATEMENT-FULL.md: the title of each, what breaks if it is wrong, and the definitions and contracts
@@ -161,7 +167,7 @@ APPENDICES = {
         {
             "Notes": "nor_chip/specs/Sent.antt",
             "Hears": "nor_chip/specs/Bus.antt",
-            "Allows": "nor_chip/specs/Bus.antt",
+            "Meter": "nor_chip/src/bus.rt",
             "SendsSaved": "nor_session/specs/Session.antt",
             "SendsFew": "nor_session/specs/Session.antt",
             "NamesAddress": "nor_session/specs/Session.antt",

@@ -219,7 +219,7 @@ PLANTS = {
         "".join(f"  pub still{at} : vault.sealed ≡ vault.sealed\n" for at in range(40)) + "  pub still : ",
         r"docs/STATEMENT.md has 4\d\d lines, at most 400"),
     "a name that the headline's page doesn't use": (
-        STATEMENT, "scripts/statement_parts.py", r'"Allows": "`Allows', '"Looks": "`Looks',
+        STATEMENT, "scripts/statement_parts.py", r'"held_by": "`held_by', '"Looks": "`Looks',
         "NAMES of scripts/statement_parts.py has what STATEMENT.md doesn't use: Looks"),
     "a name that no appendix has": (
         STATEMENT, "scripts/statement_parts.py", r'(?m)^ +"Ranges": "nor_layout.*\n', "", "no appendix has Ranges"),
