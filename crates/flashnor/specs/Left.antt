@@ -74,10 +74,10 @@ LeavesAsLong (Some name) old new = (had : List ℕ) → old.view.seen name.now �
     → new.may_leave name.now left → IsSomeAnd left (λ has. length has ≡ length had)
 
 -- Holds at every exit of a run that changes a chip, with its journal in the file of this name, which was missing
--- before. `same`: until the journal is sealed, all contents that a host crash may leave of the chip's files open to the
--- original chip. `back`: after that the file is one journal, and it can restore the original chip. A missing file of
--- the chip may be moved aside. A file of the chip that existed keeps its length. Every other file stays, if its name is
--- apart from those of the trace, the chip's files and the journal.
+-- before. One of two cases holds. `same`: all contents that a host crash may leave of the chip's files open to the
+-- original chip. `back`: a host crash leaves the journal's file as one journal, which can restore the original chip. A
+-- missing file of the chip may be moved aside. A file of the chip that existed keeps its length. Every other file stays,
+-- if its name is apart from those of the trace, the chip's files and the journal.
 pub record LeavesWayBack (programmer : Programmer) (file : Text) (old new : FilesState) : Type 0 where
   pub missing : old.view.seen file ≡ None
   pub others : (name : Text) → IsNoFileOf old.view.nature programmer name → AreApart old.view.nature file name

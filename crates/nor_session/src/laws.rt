@@ -65,7 +65,8 @@ pub fn read_gives_back()
 {}
 
 /// A vault that was never sealed may hold the whole journal, for example if only its seal failed. If its bytes are read
-/// as a journal, that journal can restore the chip, which is still the original one.
+/// as a journal, that journal can restore the original chip from an idle chip with the same bytes and non-volatile
+/// status bits.
 pub fn begun_gives_back()
     ensures { (request : Request) (image : List ℕ) (old new : BusState) (bytes : List ℕ) (journal : Content)
         → IsModelled old → IsChip old.chip → HoldsBegun request image old.chip bytes
