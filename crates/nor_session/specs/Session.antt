@@ -89,11 +89,11 @@ pub record WritesOnly (IsCode : (code : ℕ) → Type 0) (journal : Content) (on
   pub clear1 : one % 4 ≡ 0
   pub clear2 : two < 128
 
--- What was sent that may modify a chip, by a number of calls with the same journal. Each sector that was targeted is one
--- that had been targeted before, or that the journal saves, or it lies past the end of a chip that the journal saves
--- whole. All calls together sent at most one erase for each saved sector and call, and sixteen page programs. Each status
--- write has bytes that had been written before, or is as `WritesOnly` says. Nothing was sent that the model does not
--- know.
+-- What was sent that may modify a chip, by a number of calls with the same journal. Each sector that was targeted is
+-- one that had been targeted before, or that the journal saves, or it lies past the end of a chip that the journal
+-- saves whole. All calls together sent at most one erase for each saved sector and call, and sixteen page programs.
+-- Each status write has bytes that had been written before, or is as `WritesOnly` says. Nothing was sent that the model
+-- does not know.
 pub record SendsSaved (IsCode : ℕ → Type 0) (calls : ℕ) (journal : Content) (old new : BusState) : Type 0 where
   pub aimed : (s : ℕ) → (is_aimed_at new.sent s ≡ is_aimed_at old.sent s)
       ⊎ ((is_saved journal s ≡ true) ⊎ IsBehindWhole journal s)
@@ -132,8 +132,8 @@ pub record IsWithinBound (scanned writes : ℕ) (verify : Bool) (report : Report
   pub least : 4 + scanned + (if verify then report.touched else 0) + 3 * (report.erases + report.programs)
       ≤ report.transactions
 
--- The session ended: the vault is sealed and did not fail, and the report is within its bounds and counts the erases and
--- page programs that were sent.
+-- The session ended: the vault is sealed and did not fail, and the report is within its bounds and counts the erases
+-- and page programs that were sent.
 pub record EndsSealed (request : Request) (old new : BusState) (vault vault' : VaultState)
     (report : Report) : Type 0 where
   pub sealed : vault'.sealed ≡ true
