@@ -1,6 +1,6 @@
 -- The effect of one restore with a stop, of restores in turn, and of restores from bytes.
 use Rattle.std.proofs.Common.{◌≡◌, ◌<◌, ◌≤◌, ◌+◌, ◌∙◌, ℕ, Bool, List, length, slice_index, true, false, refl, sym, arith, inl, inr}
-use Rattle.std.specs.Prelude.{Ok, Err, Result}
+use Rattle.std.specs.Prelude.{Ok, Err, Result, if◌then◌else◌}
 use Rattle.std.proofs.lemmas.Bool.{cases_eq}
 use Rattle.nor_chip.specs.Chip.{Chip}
 use Rattle.nor_chip.specs.Bus.{BusState, Allows}
@@ -11,6 +11,8 @@ use Rattle.nor_journal.specs.Saved.{Saves, JournalSaves}
 use Rattle.nor_journal.proofs.Saves.{Saves-set}
 use Rattle.nor_journal.proofs.OneForm.{is_read}
 use Rattle.nor_probe.specs.Known.{IsModelled}
+use Rattle.nor_journal.specs.Vault.{VaultState}
+use Rattle.nor_call.specs.declared.request.Request.{Request}
 use Rattle.nor_call.specs.declared.report.Report.{Report}
 use Rattle.nor_call.specs.declared.refusal.Refusal.{Refusal}
 use Rattle.nor_call.specs.declared.refusal.Refusal.TheVariants.{Stopped, Timeout, BadJournal}
@@ -20,7 +22,7 @@ use Rattle.nor_session.specs.Headline.{CanGiveBack, GivesBack}
 use Rattle.nor_session.specs.Restore.{RestoreAlways, RestoreHonest, RestoreModelled}
 use Rattle.nor_session.specs.Session.{HonestTells}
 use Rattle.nor_session.specs.Rehearsal.{IsNoHalt}
-use Rattle.nor_session.specs.Rehearsing.{LeadsBack, LeavesRestores, ShowsRestore, ShowsRestores, StopsRestores, Undoes, WearsSaved, SendsText, RefusesUndo}
+use Rattle.nor_session.specs.Rehearsing.{LeadsBack, ShowsSession, LeavesRestores, ShowsRestore, ShowsRestores, StopsRestores, Undoes, WearsSaved, SendsText, RefusesUndo}
 use Rattle.nor_session.proofs.Rescanned.{unraised_other}
 use Rattle.nor_session.specs.Session.{IsSavedCode}
 use Rattle.nor_session.proofs.Aiming.{none_sent, sends_then, sends_most, none_written}
@@ -65,8 +67,10 @@ module _ {n : ℕ} {journal : Content} {old mid new : BusState} (allows : Allows
   -- the restore ended
   pub under_ends : (report : Report) → (IsModelled mid → GivesBack journal mid new (Ok report))
       → RestoreAlways journal mid new (Ok report)
-      → (mid.honest ≡ true → RestoreHonest journal mid new (Ok report)) → ShowsRestore journal n old new true
-  under_ends report gives always told = let leaves = allow_leaves journal old mid allows in search arith
+      → (mid.honest ≡ true → RestoreHonest journal mid new (Ok report))
+      → (IsModelled mid → RestoreModelled journal mid new (Ok report)) → ShowsRestore journal n old new true
+  under_ends report gives always told promise =
+      let leaves = allow_leaves journal old mid allows in search (arith, allows.chip)
 
   -- the restore returned an error other than a stop
   pub under_refuses : (refusal : Refusal) → (IsModelled mid → GivesBack journal mid new (Err refusal))
@@ -78,10 +82,11 @@ module _ {n : ℕ} {journal : Content} {old mid new : BusState} (allows : Allows
 
 -- ---- restores in turn
 
--- This many restores were stopped.
+-- This many restores were stopped. If that is none, the latch is set only if it was set before.
 pub record AreStopped (journal : Content) (stops : List ℕ) (old now : BusState) (n : ℕ) : Type 0 where
   pub leaves : LeavesRestores journal n old now
   pub stopped : IsModelled old → (i : ℕ) → i < n → slice_index stops i < most_of (length journal.saved)
+  pub latch : n ≡ 0 → now.chip.latch ≡ true → old.chip.latch ≡ true
 
 module _ {journal : Content} {stops : List ℕ} {old now : BusState} {n : ℕ} (before : AreStopped journal stops old now n)
     (new : BusState) where
@@ -97,6 +102,7 @@ module _ {journal : Content} {stops : List ℕ} {old now : BusState} {n : ℕ} (
       | inl here ↦ rw here (shows.below (before.leaves.modelled modelled).honest refl)
       | inr other ↦ before.stopped modelled i (omega arith)
     ];
+    latch = λ none. absurd (omega arith);
   }
 
   -- the next restore ended, so the restores in turn ended
@@ -113,6 +119,12 @@ refuses_before refusal leaves refuses = search arith
 pub last_ends : {journal : Content} {now new : BusState} {most : ℕ} → most ≡ most_of 4096
     → ShowsRestore journal most now new false → StopsRestores journal now Stopped
 last_ends {journal = journal} is shows = search (arith, saved_room)
+
+-- restores were run, but no call was stopped: the session ended, and so did the only restore
+unstopped : (restores : ℕ) (ended : Bool) → 1 ≤ restores → restores ≤ (if ended then 1 else 0)
+    → (ended ≡ true) × (restores ≡ 1)
+unstopped restores true some most = (refl, omega arith)
+unstopped restores false some most = absurd (omega arith)
 
 -- ---- restores from bytes
 
@@ -134,6 +146,7 @@ module _ {bytes : List ℕ} {journal : Content} (is : IsContent journal) (same :
   undoes restores shows = record {
     some = shows.some;
     most = shows.most;
+    latch = shows.latch;
     same = λ modelled saved first leads. shows.back modelled first (can_back saved first leads);
     are = λ modelled saved first leads.
         rw (saved_count first.bytes saved journal (saves_all saved first leads)) at (shows.are modelled);
@@ -159,7 +172,15 @@ module _ {bytes : List ℕ} {journal : Content} (is : IsContent journal) (same :
     never = λ modelled saved first leads. refuses.never modelled first (can_back saved first leads);
   }
 
--- bytes that can't be read as a journal are no journal, and can't restore a chip
+-- a session and its only restore ended: the latch is set only if it was set before
+pub latch_alone : {request : Request} {image bytes stops : List ℕ} {allowance : ℕ} {old mid new : BusState}
+    {vault : VaultState} {ended : Bool} (restores : ℕ) → ShowsSession request image allowance old mid vault ended
+    → Undoes bytes stops mid new restores → IsModelled old → IsModelled mid → restores ≤ (if ended then 1 else 0)
+    → new.chip.latch ≡ true → old.chip.latch ≡ true
+latch_alone {ended = ended} restores shows undoes modelled still few set =
+    let (done, one) = unstopped restores ended undoes.some few in shows.latch modelled done (undoes.latch still one set)
+
+-- bytes that are a journal, or can restore a chip, are read without an error
 pub unread : (bytes : List ℕ) (old : BusState) (fault : JournalFault) → ((content : Content) → IsContent content → bytes ≡ text content → ⊥)
     → RefusesUndo bytes old (BadJournal fault)
 unread bytes old fault never = search arith

@@ -75,6 +75,9 @@ module _ {n : ℕ} {old mid : BusState} (allows : Allows n old mid) where
                 (untouched_unraised mid.chip.bytes (wanted request image mid.chip) s (rw allows.chip other)) ∙ allows.worn s
             | inr unsealed ↦ ((always.looks unsealed).looked is.honest).stays.worn s ∙ allows.worn s
           ];
+      latch = λ modelled unsealed.
+          let is = modelled_mid modelled in
+          rw allows.chip at (((always.looks unsealed).looked is.honest).latch);
       still = search arith;
       sends = λ sealed.
           let (journal, sent) = always.sends sealed telling in
@@ -107,6 +110,7 @@ module _ {n : ℕ} {old mid : BusState} (allows : Allows n old mid) where
               (can_end request image n mid.chip undone.accepted report.erases done.reported.erases (omega arith));
           bytes = λ modelled ended. rw allows.chip at (done modelled).made.bytes;
           bits = λ modelled ended. rw allows.chip at (wanted_bits request image mid new report (done modelled));
+          latch = λ modelled ended. rw allows.chip at (done modelled).made.latch;
           none_left = λ honest never. absurd cc;
           below = λ modelled never. absurd cc;
           seal = λ modelled. record {

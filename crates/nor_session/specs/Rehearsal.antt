@@ -1,5 +1,5 @@
 -- The promises of a rehearsal.
-use Rattle.std.specs.Prelude.{◌≡◌, ◌≤◌, ◌<◌, ◌+◌, ◌-◌, ◌*◌, ◌/◌, ◌==◌, ◌⊎◌, max, ℕ, Bool, true, false, List, [], ◌∷◌, Result, IfOk, IfErr, OnErr, drop, length, slice_index}
+use Rattle.std.specs.Prelude.{◌≡◌, ◌≤◌, ◌<◌, ◌+◌, ◌-◌, ◌*◌, ◌/◌, ◌==◌, ◌⊎◌, max, ℕ, Bool, true, false, List, [], ◌∷◌, Result, IfOk, IfErr, OnErr, drop, length, slice_index, if◌then◌else◌}
 use Rattle.std.specs.List.{list_any}
 use Rattle.nor_chip.specs.Chip.{Chip, IsSame}
 use Rattle.nor_chip.specs.Bus.{BusState, KeepsNature}
@@ -54,9 +54,8 @@ pub record CanEnd (request : Request) (image : List ℕ) (allowance : ℕ) (chip
   pub fewest : AreFewestErases chip.config chip.bytes (wanted request image chip) erases
   pub enough : least_needed request image chip erases ≤ allowance
 
--- The relation between the first allowance and the vault's seal. If the vault is sealed, the allowance was enough for
--- the shortest identification and the scan. If the vault isn't sealed, the allowance was less than the identification
--- and the scan may need.
+-- If the vault was sealed, the allowance was enough for the shortest identification and the scan. If the vault wasn't
+-- sealed, the allowance was less than these may need.
 pub record SealFits (request : Request) (allowance : ℕ) (chip : Chip) (seal : Bool) : Type 0 where
   pub enough : seal ≡ true → 4 + scanned_sectors request chip.config.size ≤ allowance
   pub below : seal ≡ false → allowance < most_looked (scanned_sectors request chip.config.size)
@@ -152,7 +151,9 @@ pub record RehearsalModelled (request : Request) (image stops : List ℕ) (old n
   pub restores : IfOk result (λ rehearsal. rehearsal.sealed ≡ true
       → AreRestores (sector_count (is_touched old.chip.bytes (wanted request image old.chip))) (drop 1 stops)
       rehearsal.restores)
-  -- the stop of the last restore, if it had one, was enough for the transactions that it sent and those that are left
+  -- at the end, if no restore was run, or if session and first restore ended, the latch is set only if it was set before
+  pub latch : IfOk result (λ r. r.restores ≤ (if r.ended then 1 else 0) → new.chip.latch ≡ true → old.chip.latch ≡ true)
+  -- the last of them was allowed no more than its stop
   pub last : IfOk result (λ rehearsal. rehearsal.sealed ≡ true
       → FitsLastStop (sector_count (is_touched old.chip.bytes (wanted request image old.chip))) (drop 1 stops)
       new.left rehearsal.restores)

@@ -38,9 +38,10 @@ pub record LeadsBack (saved : ℕ → Bool) (first : Chip) (text : List ℕ) (st
   pub free : is_locked first.kept ≡ true → NoneHeld saved first
   pub within : IsWithin (places_of saved) first state
 
--- At every exit of the session. On a modelled bus: if the vault isn't sealed, the chip is as it was; if it is, the
--- vault can restore the chip, and the request is accepted; only touched sectors were erased. On every bus: no modifying
--- command was sent before the seal, and a sealed vault holds a journal that saves the sectors that were targeted.
+-- At every exit of the session. On a modelled bus: if the vault isn't sealed, the chip is as it was, and the latch is
+-- set only if it was set before; if the vault is sealed, it can restore the chip, and the request is accepted; only
+-- touched sectors were erased. On every bus: no modifying command was sent before the seal, and a sealed vault holds a
+-- journal that saves the sectors that were targeted.
 pub record LeavesSession (request : Request) (image : List ℕ) (old new : BusState) (vault : VaultState) : Type 0 where
   pub nature : KeepsNature old new
   pub same : IsModelled old → IsCalm old → vault.sealed ≡ false → IsSame old.chip new.chip
@@ -49,6 +50,7 @@ pub record LeavesSession (request : Request) (image : List ℕ) (old new : BusSt
   pub accepted : IsModelled old → vault.sealed ≡ true → IsAccepted request image old.chip
   pub wears : IsModelled old → (s : ℕ) → is_touched old.chip.bytes (wanted request image old.chip) s ≡ false
       → new.worn s ≡ old.worn s
+  pub latch : IsModelled old → vault.sealed ≡ false → new.chip.latch ≡ true → old.chip.latch ≡ true
   pub still : vault.sealed ≡ false → new.sent ≡ old.sent
   pub sends : vault.sealed ≡ true → (journal : IsJournal vault.bytes)
       × SendsSaved (IsWrittenCode request.what journal.content) 1 journal.content old new
@@ -61,13 +63,14 @@ pub record HasWantedBits (what : What) (old new : Chip) : Type 0 where
   pub kept : new.kept ≡ with_code code old.kept
 
 -- The session was allowed this many transactions. It ended, and the chip is the target; or it was stopped because the
--- allowance was too small, and no transaction is left.
+-- allowance was too small, and no transaction is left. If it ended, the latch is set only if it was set before.
 pub record ShowsSession (request : Request) (image : List ℕ) (allowance : ℕ) (old new : BusState) (vault : VaultState)
     (ended : Bool) : Type 0 where
   pub seals : ended ≡ true → vault.sealed ≡ true
   pub can : IsModelled old → ended ≡ true → CanEnd request image allowance old.chip
   pub bytes : IsModelled old → ended ≡ true → (a : ℕ) → new.chip.bytes a ≡ wanted request image old.chip a
   pub bits : IsModelled old → ended ≡ true → HasWantedBits request.what old.chip new.chip
+  pub latch : IsModelled old → ended ≡ true → new.chip.latch ≡ true → old.chip.latch ≡ true
   pub none_left : old.honest ≡ true → ended ≡ false → new.left ≡ 0
   pub below : IsModelled old → ended ≡ false → allowance < most_of (old.chip.config.size / 4096)
   pub seal : IsModelled old → SealFits request allowance old.chip vault.sealed
@@ -96,18 +99,21 @@ pub record LeavesRestores (journal : Content) (restores : ℕ) (old new : BusSta
   pub writes : WritesStatusAtMost (2 * restores) old new
 
 -- One restore was allowed this many transactions. It ended, and restored each chip that the journal could restore; or
--- it was stopped because the allowance was too small, and no transaction is left.
+-- it was stopped because the allowance was too small, and no transaction is left. If it ended, the latch is set only if
+-- it was set before.
 pub record ShowsRestore (journal : Content) (allowance : ℕ) (old new : BusState) (ended : Bool) : Type 0 where
   pub back : IsModelled old → ended ≡ true → (first : Chip) → CanGiveBack journal first old → IsSame first new.chip
+  pub latch : IsModelled old → ended ≡ true → new.chip.latch ≡ true → old.chip.latch ≡ true
   pub enough : IsModelled old → ended ≡ true → new.left + (4 + length journal.saved) ≤ allowance
   pub none_left : old.honest ≡ true → ended ≡ false → new.left ≡ 0
   pub below : old.honest ≡ true → ended ≡ false → allowance < most_of (length journal.saved)
 
--- Holds after one of several restores in turn ended. On a modelled bus it restored each chip that the journal could
--- restore.
+-- Restores in turn ended, and restored each chip that the journal could restore. If none was stopped, the latch is set
+-- only if it was set before.
 pub record ShowsRestores (journal : Content) (stops : List ℕ) (old new : BusState) (restores : ℕ) : Type 0 where
   pub some : 1 ≤ restores
   pub most : restores ≤ length stops + 1
+  pub latch : IsModelled old → restores ≡ 1 → new.chip.latch ≡ true → old.chip.latch ≡ true
   pub are : IsModelled old → AreRestores (length journal.saved) stops restores
   pub last : IsModelled old → FitsLastStop (length journal.saved) stops new.left restores
   pub back : IsModelled old → (first : Chip) → CanGiveBack journal first old → IsSame first new.chip
@@ -123,10 +129,12 @@ pub record StopsRestores (journal : Content) (old : BusState) (refusal : Refusal
 
 -- ---- restores from bytes
 
--- Holds after the restores ended. On a modelled bus they restored the chip that the bytes can restore.
+-- The restores ended, and restored the chip that the bytes can restore. If none was stopped, the latch is set only if
+-- it was set before.
 pub record Undoes (text : List ℕ) (stops : List ℕ) (old new : BusState) (restores : ℕ) : Type 0 where
   pub some : 1 ≤ restores
   pub most : restores ≤ length stops + 1
+  pub latch : IsModelled old → restores ≡ 1 → new.chip.latch ≡ true → old.chip.latch ≡ true
   pub same : IsModelled old → (saved : ℕ → Bool) (first : Chip) → LeadsBack saved first text old → IsSame first new.chip
   pub are : IsModelled old → (saved : ℕ → Bool) (first : Chip) → LeadsBack saved first text old
       → AreRestores (sector_count saved) stops restores

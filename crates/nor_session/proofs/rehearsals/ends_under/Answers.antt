@@ -9,6 +9,7 @@ returns-in-Ok-clause-leaves g c = search (rules, under_leaves)
 pub returns-in-Ok-clause-shows : goal.returns-in-Ok-clause-shows
 returns-in-Ok-clause-shows g c =
     let ran = c.in-Ok.ensures in under_ends c.allow.ensures c.in-Ok.field-0 ran.gives_back ran.always ran.honest
+    ran.modelled
 
 pub returns-in-Err-clause-leaves : goal.returns-in-Err-clause-leaves
 returns-in-Err-clause-leaves g c = search (rules, under_leaves)

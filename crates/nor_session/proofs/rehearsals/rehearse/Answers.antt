@@ -4,6 +4,7 @@ use Rattle.std.proofs.lemmas.Result.{err_from_is_err_and}
 use Rattle.nor_journal.specs.MemVault.{held_by}
 use Rattle.nor_chip.proofs.Nature.{nature_then}
 use Rattle.nor_probe.specs.Known.{IsModelled}
+use Rattle.nor_session.proofs.RehearsedRestores.{latch_alone}
 use Rattle.nor_session.proofs.RehearsedSessions.{session_sends, led, both_wear, both_send, both_write, undo_refused}
 use Rattle.nor_session.proofs.rehearsals.rehearse.Goals as goal
 
@@ -66,5 +67,6 @@ returns g c =
           let wears = both_wear session sealed is undone modelled in
           let are = rw c.later.ensures at (undoes.are still _ _ leads) in
           let last = rw c.later.ensures at (undoes.last still _ _ leads) in
+          let latch = latch_alone _ c.in_ok-ended.ensures.shows undoes modelled still in
           search rules;
     }
