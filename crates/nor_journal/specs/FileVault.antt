@@ -1,12 +1,26 @@
--- The effect of a vault's calls on its file.
-use Rattle.std.specs.Prelude.{ℕ, List, take, Option, Result, Ok, Err}
+-- The state of a vault in a file, and the effect of its calls on the file.
+use Rattle.std.specs.Prelude.{ℕ, Bool, false, List, [], ◌∷◌, take, Option, Result, Ok, Err, if◌then◌else◌}
 use Rattle.std.specs.Io.KnownBytes.{Appends, Keeps}
 use Rattle.nor_journal.specs.declared.file_vault.FileVault.{FileVault}
 use Rattle.nor_journal.specs.declared.vault.VaultFault.{VaultFault}
+use Rattle.nor_journal.specs.Vault.{VaultState}
 
 -- the file that a vault writes to
 abbrev pub file_of : {F : Type 0} → FileVault F → F
 file_of vault = vault.file
+
+-- These stand for accepted bytes that contracts don't know: none if no byte was accepted.
+abbrev pub unknown_bytes : (used : Bool) → List ℕ
+unknown_bytes used = if used then 0 ∷ [] else []
+
+-- the state of a vault in a file, which isn't faithful
+abbrev pub filed_by : {F : Type 0} → FileVault F → VaultState
+filed_by vault = record {
+  telling = false;
+  bytes = unknown_bytes vault.used;
+  sealed = vault.sealed;
+  failures = vault.failures;
+}
 
 -- The effect of `put` on the contents of a file, if known: the piece was appended, or at a refusal its first `kept`
 -- bytes.

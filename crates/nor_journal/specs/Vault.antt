@@ -5,9 +5,9 @@ use Rattle.nor_journal.specs.declared.vault.VaultFault.{VaultFault}
 
 -- The state of a vault.
 pub record VaultState : Type 0 where
-  -- true for a faithful vault, which holds exactly the bytes it accepted; nothing is known about other vaults' bytes
+  -- true for a faithful vault, which holds exactly the bytes it accepted
   pub telling : Bool
-  -- for a faithful vault, the bytes that it accepted, in order
+  -- the bytes that were accepted, in order; of a vault that isn't faithful only whether there are any is known
   pub bytes : List ℕ
   -- true if the vault was sealed
   pub sealed : Bool
@@ -27,12 +27,13 @@ abbrev pub Rose : (old new : VaultState) → Type 0
 Rose old new = new.failures ≢ old.failures
 
 -- The effect of an accepted piece: it is appended, and nothing else changes. The bytes are known for a faithful vault
--- only.
+-- only. Every vault is empty after it only if it was empty before and the piece is empty.
 pub record Took (old : VaultState) (piece : List ℕ) (new : VaultState) : Type 0 where
   pub telling : new.telling ≡ old.telling
   pub sealed : new.sealed ≡ old.sealed
   pub failures : new.failures ≡ old.failures
   pub bytes : old.telling ≡ true → new.bytes ≡ old.bytes ++ piece
+  pub empty : new.bytes ≡ [] → (old.bytes ≡ []) × (piece ≡ [])
 
 -- The effect of every refusal: the number of refusals is one higher (modulo 2^64), and the vault is sealed if and only
 -- if it was sealed before.
@@ -41,12 +42,13 @@ pub record Refused (old new : VaultState) : Type 0 where
   pub sealed : new.sealed ≡ old.sealed
   pub failures : new.failures ≡ one_more old.failures
 
--- The effect of a refused piece: the vault counts a refusal. A faithful vault accepted the first `kept` bytes of the
--- piece, and no others.
+-- The effect of a refused piece: the vault counts a refusal. A faithful vault has accepted the first `kept` bytes of
+-- it. Every vault is empty after it only if it was empty before and `kept` is 0.
 pub record PutRefused (old : VaultState) (piece : List ℕ) (kept : ℕ) (new : VaultState) : Type 0 where
   pub refused : Refused old new
   pub within : kept ≤ length piece
   pub bytes : old.telling ≡ true → new.bytes ≡ old.bytes ++ take kept piece
+  pub empty : new.bytes ≡ [] → (old.bytes ≡ []) × (kept ≡ 0)
 
 -- The effect of a seal: the vault is sealed, and the bytes of a faithful vault don't change.
 pub record Sealed (old new : VaultState) : Type 0 where
@@ -72,7 +74,8 @@ Seals old (Err fault) new = PutRefused old [] fault.kept new
 abbrev pub HoldsBeginning : VaultState → (whole : List ℕ) → Type 0
 HoldsBeginning vault whole = vault.telling ≡ true → StartsWith whole vault.bytes
 
--- Holds if a journal may be written to the vault: it is empty and unsealed.
+-- Holds if a journal may be written to the vault: it is unsealed, and has accepted no byte, whether it is faithful or
+-- not.
 pub record IsFresh (vault : VaultState) : Type 0 where
   pub empty : vault.bytes ≡ []
   pub unsealed : vault.sealed ≡ false

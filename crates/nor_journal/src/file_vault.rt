@@ -1,7 +1,7 @@
 //! A vault in a file.
 ghost use Rattle.std.specs.Prelude.{◌≡◌, false, []};
 ghost use Rattle.nor_journal.specs.Vault.{new_vault, one_more, Puts, Seals};
-ghost use Rattle.nor_journal.specs.FileVault.{file_of, FileTakes, Syncs};
+ghost use Rattle.nor_journal.specs.FileVault.{file_of, filed_by, FileTakes, Syncs};
 
 use crate::file::VaultFile;
 use crate::vault::{Vault, VaultFault};
@@ -10,10 +10,12 @@ use crate::vault::{Vault, VaultFault};
 ///
 /// `put` fails if a write fails or writes no bytes; the fault has the number of bytes of the piece that earlier writes
 /// wrote. `seal` fails if the sync fails. The vault isn't faithful (`telling`), because contracts don't know what a
-/// file of the system contains.
+/// file of the system contains. They know whether the vault accepted a byte since `new`.
 #[derive(Drop)]
 pub struct FileVault<F: VaultFile> {
     file: F,
+    // true if the file accepted a byte
+    used: bool,
     sealed: bool,
     failures: u64,
 }
@@ -26,6 +28,7 @@ impl<F: VaultFile> FileVault<F> {
     {
         FileVault {
             file,
+            used: false,
             sealed: false,
             failures: 0,
         }
@@ -57,7 +60,7 @@ impl<F: VaultFile> FileVault<F> {
 }
 
 impl<F: VaultFile> Vault for FileVault<F> {
-    ghost state = { λ v. record { telling = false; bytes = []; sealed = v.sealed; failures = v.failures } };
+    ghost state = { filed_by };
 
     fn put(&mut self, piece: &[u8]) -> Result<(), VaultFault>
         requires { (⟦<FileVault<F> as Vault>⟧.state self.old).sealed ≡ false }
@@ -69,7 +72,10 @@ impl<F: VaultFile> Vault for FileVault<F> {
         while kept < piece.len() {
             match self.file.append(&piece[kept..]) {
                 Ok(0) | Err(_) => return Err(self.refusal(kept)),
-                Ok(taken) => kept += taken,
+                Ok(taken) => {
+                    kept += taken;
+                    self.used = true;
+                }
             }
         }
         Ok(())
