@@ -1,7 +1,7 @@
 //! A vault in memory.
-ghost use Rattle.std.specs.Prelude.{◌≡◌, true, false, IsOk};
-ghost use Rattle.nor_journal.specs.Vault.{new_vault, Seals};
-ghost use Rattle.nor_journal.specs.MemVault.{held_by};
+ghost use Rattle.std.specs.Prelude.{◌≡◌, ◌<◌, ◌+◌, true, false, length, IsOk, OnErr};
+ghost use Rattle.nor_journal.specs.Vault.{new_vault, Puts, Seals};
+ghost use Rattle.nor_journal.specs.MemVault.{held_by, room_of};
 
 use crate::vault::{Vault, VaultFault};
 use std::alloc::Global;
@@ -47,7 +47,11 @@ impl MemVault {
 impl Vault for MemVault {
     ghost state = { held_by };
 
-    fn put(&mut self, piece: &[u8]) -> Result<(), VaultFault> {
+    fn put(&mut self, piece: &[u8]) -> Result<(), VaultFault>
+        requires { (held_by self.old).sealed ≡ false }
+        ensures law { Puts (held_by self.old) piece.now result (held_by self.new) }
+        ensures grows { OnErr result (room_of self.old < length (held_by self.old).bytes + length piece.now) }
+    {
         if self.bytes.extend_from_slice(piece).is_err() {
             self.failures = self.failures.wrapping_add(1);
             return Err(VaultFault { kept: 0 });
