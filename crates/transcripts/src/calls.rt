@@ -53,8 +53,8 @@ fn protect(alloc: Global, bus: &mut Way<'_>, status: [u8; 2], code: u32) -> Resu
     Ok(text_of(alloc, write_status(bus, Status::of(status), code))?)
 }
 
-// Returns the erase with this opcode that begins at this sector. Returns `Unread` unless the opcode is 20, 52, d8 or
-// c7, the sector is below 4,096, and the erase block is aligned.
+// Returns the erase with this opcode that begins at this sector. Returns `Unread` if the opcode isn't 20h, 52h, D8h or
+// C7h, the sector isn't below 4,096, or the erase block isn't aligned.
 fn erase_of(opcode: &str, sector: u32) -> Result<Erase, Fault>
     ensures reachable { IfOk result (λ erase. erase.sector < 4096) }
     ensures aligned { IfOk result (λ erase. is_aligned erase.unit erase.sector ≡ true) }
