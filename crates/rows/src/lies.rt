@@ -31,8 +31,8 @@ fn assert_lied(rt: &impl Abort, alloc: Global, row: Row, lied: Lied, told: (Refu
 //   sector to verify it.
 // - `NineSectorsAreErased`: 25 erases sectors 0 to 7, 28 sector 8; 30 to 38 read them to verify them, up to the first
 //   difference.
-// - `AGuardedByteIsProgrammed`: 2,053 enables the status write that clears the protection bits, 2,054 is this write,
-//   2,055 its poll. A timeout of a status write has the address 0.
+// - `AGuardedByteIsProgrammed`: 2,053 enables the status write that lifts the protection, 2,054 is this write, 2,055
+//   its poll. A timeout of a status write has the address 0.
 //
 // A wait gives up after 65,536 polls. An ID of zeros means that there is no chip. If bit 0 of each reply byte is
 // cleared, a TINY64's ID stays as it is, but the first letter of the SFDP signature changes.

@@ -11,8 +11,8 @@ use crate::runs::Runs;
 use std::alloc::Global;
 use std::process::Abort;
 
-// Runs a row with each fill byte: 00h, 5Ah and FFh. Asserts the number of runs: `runs`, which is the same for each
-// fill, plus the number of runs after an interrupted operation, which `cut_off` has for each fill.
+// Runs a row with each fill byte: 00h, 5Ah and FFh. Asserts that the number of runs is `runs`, which is the same for
+// each fill, plus the number of runs after an interrupted operation, which `cut_off` has for each fill.
 fn lose_at_each(rt: &impl Abort, alloc: Global, row: Row, runs: u64, cut_off: [u64; 3]) {
     let [zeros, others, ones] = cut_off;
     for (fill, more) in [(0x00, zeros), (0x5A, others), (0xFF, ones)] {
