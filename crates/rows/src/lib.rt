@@ -15,6 +15,7 @@
 //! - `cuts.rt`: sessions that are stopped after each number of transactions, and one restore after each stop
 //! - `undone.rt`: sessions that are stopped, restores that are stopped, too, and a second restore
 //! - `torn.rt`: sessions and restores that are stopped inside each of their transactions
+//! - `lost.rt`: sessions and restores that lose the reply to each of their transactions
 //! - `power.rt`: sessions and restores during which the chip loses its power
 //! - `rehearsed.rt`: rehearsals with each stop, and on faulty buses
 //! - `once.rt`: no call sends anything after a stop, and none reads a spoilt reply again
@@ -64,6 +65,8 @@ mod kernels;
 mod lies;
 #[cfg(test)]
 mod losses;
+#[cfg(test)]
+mod lost;
 #[cfg(test)]
 mod once;
 #[cfg(test)]
