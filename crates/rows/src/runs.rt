@@ -36,11 +36,20 @@ pub struct Cut {
 
 impl Cut {
     /// Restores from the vault's journal, with `allowed` transactions. Returns the number of transactions sent if the
-    /// restore ends, and `None` if it was stopped.
+    /// restore ends, and `None` if it was stopped. If it ends, asserts that the chip is idle, and that its write enable
+    /// latch is set only if it was set before.
     pub fn restore(&mut self, rt: &impl Abort, allowed: u64) -> Option<u64> {
         let journal = Journal::read(self.vault.bytes()).expect(rt, "a journal");
         self.bus.allow(allowed);
-        ended(rt, restore(&mut self.bus, &journal))
+        let before = self.bus.status()[0] & 0x02;
+        let sent = ended(rt, restore(&mut self.bus, &journal));
+        let latch_and_busy = self.bus.status()[0] & 0x03;
+        assert_held(
+            rt,
+            sent.is_none() || latch_and_busy == 0 || latch_and_busy == before,
+            allowed,
+        );
+        sent
     }
 }
 
@@ -86,8 +95,9 @@ impl Runs {
         }
     }
 
-    /// Runs the session on a new chip, with `allowed` transactions. Asserts that it succeeds if and only if `allowed`
-    /// is at least its length, and that its vault is sealed if and only if `allowed` is at least `Row::sealed_at`.
+    /// Runs the session on a new chip, with `allowed` transactions. Asserts that it ends, and that its vault is sealed,
+    /// if and only if the row's numbers say so. If it ends, asserts that the chip is idle and its write enable latch is
+    /// clear: each row's session ends with an operation or a reading after one, and operations clear the latch.
     pub fn cut(&self, rt: &impl Abort, allowed: u64) -> Cut {
         let mut bus = self.row.bus(rt, self.alloc, self.start);
         bus.allow(allowed);
@@ -95,6 +105,7 @@ impl Runs {
         let answer = keep(rt, self.alloc, self.row, &mut bus, &mut vault);
         let told = (ended(rt, answer), vault.is_sealed());
         assert_held(rt, told == self.told_at(allowed), allowed);
+        assert_held(rt, told.0.is_none() || bus.status()[0] & 0x03 == 0, allowed);
         Cut { bus, vault }
     }
 
