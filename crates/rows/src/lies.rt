@@ -4,6 +4,7 @@ use crate::row::{Row, Start};
 use crate::runs::Runs;
 use crate::spoilt::Lied;
 use nor_chip::Spoil;
+use nor_journal::Journal;
 use nor_probe::SfdpFault;
 use nor_session::Refusal;
 use std::alloc::Global;
@@ -119,6 +120,20 @@ fn a_restore_that_programs(rt: HostRuntime) {
     for (spoil, told) in RESTORES {
         let lied = Lied::restore(&rt, runs.cut(&rt, 25), spoil);
         assert_lied(&rt, rt.alloc(), row, lied, told);
+    }
+}
+
+// Transactions 8 to 23 of `ABitRises` scan the chip. If one is dropped, the session takes that sector for erased. Only
+// sector 0 differs from the image, so it is saved: its first byte is 00h, or FFh if its reading was dropped.
+#[test]
+fn a_lie_before_the_seal_leaves_a_journal(rt: HostRuntime) {
+    for n in 8..=23 {
+        let lied = Lied::session(&rt, rt.alloc(), Row::ABitRises, Spoil::Drop(n));
+        let journal = Journal::read(lied.cut.vault.bytes()).expect(&rt, "a journal");
+        let first = if n == 8 { 0xFF } else { 0x00 };
+        let saved = journal.find(0).and_then(|bytes| bytes.first().copied());
+        let holds = lied.cut.vault.is_sealed() && journal.count() == 1;
+        assert_held(&rt, holds && saved == Some(first), n);
     }
 }
 

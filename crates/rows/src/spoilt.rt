@@ -46,13 +46,16 @@ pub struct Lied {
 }
 
 impl Lied {
-    /// Runs the row's session on a bus with this fault. Asserts that the session keeps its bound.
+    /// Runs the row's session on a bus with this fault. Asserts that it keeps its bound, and that its vault holds a
+    /// journal if it is sealed.
     pub fn session(rt: &impl Abort, alloc: Global, row: Row, spoil: Spoil) -> Lied {
         let mut bus = spoilt(row.bus(rt, alloc, Start::IDLE), spoil);
         let mut vault = MemVault::new(alloc);
         let refusal = keep(rt, alloc, row, &mut bus, &mut vault).err();
         let sent = bus.sent();
         assert_held(rt, 0 < sent && sent <= most(row.sectors()), sent);
+        let holds_journal = Journal::read(vault.bytes()).is_ok();
+        assert_held(rt, holds_journal || !vault.is_sealed(), sent);
         let bus = bus.into_inner();
         let cut = Cut { bus, vault };
         Lied { refusal, sent, cut }
