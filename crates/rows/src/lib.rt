@@ -16,6 +16,7 @@
 //! - `undone.rt`: sessions that are stopped, restores that are stopped, too, and a second restore
 //! - `torn.rt`: sessions and restores that are stopped inside each of their transactions
 //! - `lost.rt`: sessions and restores that lose the reply to each of their transactions
+//! - `in_turn.rt`: two sessions that are stopped, and the two restores in reverse order
 //! - `power.rt`: sessions and restores during which the chip loses its power
 //! - `rehearsed.rt`: rehearsals with each stop, and on faulty buses
 //! - `once.rt`: no call sends anything after a stop, and none reads a spoilt reply again
@@ -59,6 +60,8 @@ mod failing;
 mod files;
 #[cfg(test)]
 mod held;
+#[cfg(test)]
+mod in_turn;
 #[cfg(test)]
 mod kernels;
 #[cfg(test)]

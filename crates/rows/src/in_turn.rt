@@ -1,0 +1,86 @@
+//! Two sessions that follow each other, each stopped after each of its transactions that follow the seal, and the two
+//! restores in reverse order.
+use crate::held::assert_held;
+use crate::row::{Row, Start};
+use crate::runs::{AMPLE, Cut, Runs};
+use nor_chip::{Meter, SimBus};
+use nor_journal::MemVault;
+use nor_session::{Refusal, session};
+use std::alloc::Global;
+use std::process::Abort;
+
+// Runs a second session, which writes the image of another row, on the chip that a session left, with `allowed`
+// transactions. Returns the chip and the vault of the second session, and whether it ended.
+fn write_again(rt: &impl Abort, alloc: Global, bus: SimBus, row: Row, allowed: u64) -> (Cut, bool) {
+    let mut bus = bus;
+    bus.allow(allowed);
+    let mut vault = MemVault::new(alloc);
+    let mut image = row.wanted(rt, alloc);
+    let refusal = session(&mut bus, &mut vault, &mut image, &row.request(rt, alloc)).err();
+    let stopped = matches!(refusal, None | Some(Refusal::Stopped));
+    assert_held(rt, stopped, allowed);
+    (Cut { bus, vault }, refusal.is_none())
+}
+
+// Restores from the second journal, if it is sealed, and then from the first. The restore from the second journal is
+// stopped once, after `allowed` transactions. Returns the chip.
+fn undo_both(rt: &impl Abort, second: Cut, first: MemVault, allowed: u64) -> SimBus {
+    let mut second = second;
+    if second.vault.is_sealed() && second.restore(rt, allowed).is_none() {
+        second
+            .restore(rt, AMPLE)
+            .expect(rt, "the second journal restores");
+    }
+    let mut first = Cut {
+        bus: second.bus,
+        vault: first,
+    };
+    first
+        .restore(rt, AMPLE)
+        .expect(rt, "the first journal restores");
+    first.bus
+}
+
+// Stops the second session after each number of transactions until it ends, on the chip that the first one left after
+// `n`. Returns the number of transactions of the second session.
+fn stop_second(rt: &impl Abort, alloc: Global, runs: &Runs, other: Row, n: u64) -> u64 {
+    for m in 0..AMPLE {
+        let Cut { bus, vault } = runs.cut(rt, n);
+        let (second, ended) = write_again(rt, alloc, bus, other, m);
+        let bus = undo_both(rt, second, vault, m % 16);
+        runs.assert_as_before(rt, &bus);
+        if ended {
+            return m;
+        }
+    }
+    panic!(rt; "no session behind {n} ended")
+}
+
+// The first session raises a bit of byte 0, and the second writes four bytes from FEh on; all are in the first sector.
+// The first session is stopped after 23 transactions, when it has sealed its journal, to 29, or it ends after 30. The
+// second session sends 23 transactions before its seal. It raises byte 0 with an erase if the first session was stopped
+// before its erase or ended; otherwise the byte is erased.
+//
+// - It sends three transactions for each erase and program, and one to verify. If it doesn't erase, it reads the sector
+//   again before it programs it.
+// - After the stops 23 and 24 of the first session, byte 0 is 00h: 23 + 3 * 3 + 1. After the stops 25 to 27 it is FFh:
+//   23 + 1 + 2 * 3 + 1. After 28 and 29, and at the end, it is 01h, and has to be raised again.
+const LENGTHS: [u64; 8] = [33, 33, 31, 31, 31, 33, 33, 33];
+
+// The same, if the stop of the first session loses a reply. The chip is then as after one transaction more.
+const LENGTHS_AFTER_A_LOST_REPLY: [u64; 8] = [33, 31, 31, 31, 33, 33, 33, 33];
+
+#[test]
+fn two_sessions_are_undone_in_turn(rt: HostRuntime) {
+    let starts = [
+        (Start::IDLE, LENGTHS),
+        (Start::IDLE.torn(u32::MAX), LENGTHS_AFTER_A_LOST_REPLY),
+    ];
+    for (start, lengths) in starts {
+        let runs = Runs::new(&rt, rt.alloc(), Row::ABitRises, start);
+        for (n, length) in (23..).zip(lengths) {
+            let sent = stop_second(&rt, rt.alloc(), &runs, Row::TwoPagesAreProgrammed, n);
+            assert_held(&rt, sent == length, n);
+        }
+    }
+}
