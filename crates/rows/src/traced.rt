@@ -112,12 +112,18 @@ fn a_line_is_lost_exactly_where_it_is_not_whole(rt: HostRuntime) {
     }
 }
 
-// Sends a transaction, with a buffered log over a sink that accepts one write, and flushes if `flushes` is true.
-// Returns whether the line is lost before a flush of the bus, and after it.
-fn flushed(rt: &impl Abort, alloc: Global, lines: &mut Vec<u8>, flushes: bool) -> (bool, bool) {
+// Sends a transaction, with a buffered log over a sink that accepts `good` writes before it refuses one, and flushes if
+// `flushes` is true. Returns whether the line is lost before a flush of the bus, and after it.
+fn flushed(
+    rt: &impl Abort,
+    alloc: Global,
+    lines: &mut Vec<u8>,
+    good: u8,
+    flushes: bool,
+) -> (bool, bool) {
     let sink = Failing {
         lines,
-        good: 1,
+        good,
         flushes,
     };
     let log = BufWriter::new(alloc, sink).expect(rt, "memory");
@@ -128,14 +134,16 @@ fn flushed(rt: &impl Abort, alloc: Global, lines: &mut Vec<u8>, flushes: bool) -
     (before, bus.lost())
 }
 
-// A line in the log's buffer is reported as lost if and only if a flush of the bus fails, even if the sink has received
-// the line.
+// A line in the log's buffer is reported as lost if a flush of the bus fails: because the sink refuses to write the
+// line, or because the sink received the line and refuses to flush it. It isn't lost if the flush succeeds.
 #[test]
 fn what_the_sink_refuses_is_lost_at_the_latest_by_a_flush(rt: HostRuntime) {
-    for flushes in [true, false] {
+    for (good, flushes) in [(0, true), (0, false), (1, false)] {
         let mut lines = Vec::new(rt.alloc());
-        let lost = flushed(&rt, rt.alloc(), &mut lines, flushes);
-        assert!(rt; lost == (false, !flushes));
-        assert!(rt; lines.as_slice() == b"06\n".as_slice());
+        let lost = flushed(&rt, rt.alloc(), &mut lines, good, flushes);
+        assert_held(&rt, lost == (false, true), u64::from(good));
     }
+    let mut lines = Vec::new(rt.alloc());
+    assert!(rt; flushed(&rt, rt.alloc(), &mut lines, 1, true) == (false, false));
+    assert!(rt; lines.as_slice() == b"06\n".as_slice());
 }
