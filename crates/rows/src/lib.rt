@@ -36,9 +36,11 @@
 //!
 //! - `serprog_model.rt`: a port to a simulated programmer and chip
 //! - `serprog_frames.rt`: the bytes of each command
-//! - `serprog_handshakes.rt`: synchronization of a link, and identification of a programmer
-//! - `serprog_buses.rt`: transactions over the bus, and faults of the programmer and of the port
-//! - `serprog_wrappers.rt`: pauses between polls, and reads that are made twice
+//! - `serprog_handshakes.rt`: how a link is synchronized, and how a programmer is identified
+//! - `serprog_buses.rt`: sessions over the bus, and failures of the port
+//! - `serprog_honest.rt`: an honest port in memory
+//! - `serprog_stops.rt`: sessions and restores over that port, which fails at each of its calls
+//! - `serprog_wrappers.rt`: paced polls, and readings that are made twice
 //!
 //! Single calls:
 //!
@@ -91,7 +93,11 @@ mod serprog_frames;
 #[cfg(test)]
 mod serprog_handshakes;
 #[cfg(test)]
+mod serprog_honest;
+#[cfg(test)]
 mod serprog_model;
+#[cfg(test)]
+mod serprog_stops;
 #[cfg(test)]
 mod serprog_wrappers;
 #[cfg(test)]

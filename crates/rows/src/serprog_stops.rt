@@ -1,0 +1,174 @@
+//! Sessions and restores over an honest serprog port that fails at each of its calls in turn. A transaction takes three
+//! calls: one sends its frame, one receives ACK, and one receives the rest of the reply. If one of the last two fails,
+//! the chip has carried out the transaction, and the reply is lost.
+
+use crate::held::assert_held;
+use crate::row::{Row, Start};
+use crate::runs::{Cut, Runs, keep};
+use crate::serprog_honest::HonestPort;
+use nor_chip::{Meter, SimBus};
+use nor_journal::{Journal, MemVault};
+use nor_serprog::{Link, Programmer, SerprogBus};
+use nor_session::{Refusal, restore};
+use std::alloc::Global;
+use std::process::Abort;
+
+const CALLS: u64 = 3;
+
+// More calls than a handshake and a restore of any row take.
+const AMPLE: u64 = 100_000;
+
+// The port sends no byte of a transaction that it cuts, the opcode and the address, one byte of data, or all bytes.
+const CUTS: [u32; 4] = [0, 4, 5, u32::MAX];
+
+// Returns a bus over this port, after the handshake.
+fn open<'a, R: Abort>(rt: &'a R, port: HonestPort<'a, R>) -> SerprogBus<HonestPort<'a, R>> {
+    let mut link = Link::new(port);
+    let programmer = Programmer::identify(&mut link, None);
+    let programmer = programmer.map_err(|_| "").expect(rt, "a programmer");
+    assert!(rt; link.port().is_idle());
+    SerprogBus::new(link, programmer)
+}
+
+// Returns a bus to this chip. After the handshake, `calls` calls of the port succeed; a transaction that it then cuts
+// is sent up to its first `cut` bytes.
+fn bus_to<'a, R: Abort>(
+    rt: &'a R,
+    alloc: Global,
+    mut chip: SimBus,
+    calls: u64,
+    cut: u32,
+) -> SerprogBus<HonestPort<'a, R>> {
+    chip.allow(u64::MAX);
+    let calls = calls.saturating_add(handshake(rt, alloc));
+    open(rt, HonestPort::new(rt, alloc, chip, calls, cut as usize))
+}
+
+// Returns the number of calls of the handshake.
+fn handshake(rt: &impl Abort, alloc: Global) -> u64 {
+    let chip = Row::AByteIsProgrammed.bus(rt, alloc, Start::IDLE);
+    let bus = open(rt, HonestPort::new(rt, alloc, chip, AMPLE, 0));
+    AMPLE.saturating_sub(bus.port().left())
+}
+
+// Returns how many bytes the simulated bus must send at the stop that corresponds to a port that fails after `calls`
+// calls: `cut` if the port fails while it sends, and all if the reply is lost.
+fn torn(calls: u64, cut: u32) -> u32 {
+    if calls % CALLS == 0 { cut } else { u32::MAX }
+}
+
+// Returns the cuts to try at a port that fails after `calls` calls. If the reply is lost, there is no cut.
+fn cuts(calls: u64) -> &'static [u32] {
+    if calls % CALLS == 0 { &CUTS } else { &[0] }
+}
+
+// Asserts that two chips have the same contents and status.
+fn assert_same(rt: &impl Abort, chip: &SimBus, other: &SimBus, calls: u64) {
+    let same = chip.bytes() == other.bytes() && chip.status() == other.status();
+    assert_held(rt, same, calls);
+}
+
+// Runs a row's session over a port that fails after `calls` calls. Asserts that it returns the stop, and leaves chip
+// and vault as the corresponding stop of the simulated bus does. Returns that chip and vault.
+fn stop_session(
+    rt: &impl Abort,
+    alloc: Global,
+    (row, start): (Row, Start),
+    calls: u64,
+    cut: u32,
+) -> Cut {
+    let start = start.torn(torn(calls, cut));
+    let left = Runs::new(rt, alloc, row, start).cut(rt, calls / CALLS);
+    let mut bus = bus_to(rt, alloc, row.bus(rt, alloc, start), calls, cut);
+    let mut vault = MemVault::new(alloc);
+    let refusal = keep(rt, alloc, row, &mut bus, &mut vault).err();
+    assert_held(rt, refusal == Some(Refusal::Stopped), calls);
+    assert_same(rt, bus.port().chip(), &left.bus, calls);
+    assert_held(rt, vault.is_sealed() == left.vault.is_sealed(), calls);
+    assert_held(rt, vault.bytes() == left.vault.bytes(), calls);
+    left
+}
+
+// Restores over a port that fails after `calls` calls. Asserts that the restore returns the stop, and leaves the chip
+// as the corresponding stop of the simulated bus does. `left` and `same` are what the session left, twice.
+fn stop_restore(
+    rt: &impl Abort,
+    alloc: Global,
+    (left, same): (Cut, Cut),
+    calls: u64,
+    cut: u32,
+) -> Cut {
+    let Cut { bus, vault } = left;
+    let mut same = same;
+    let journal = Journal::read(vault.bytes()).expect(rt, "a journal");
+    let mut bus = bus_to(rt, alloc, bus, calls, cut);
+    let refusal = restore(&mut bus, &journal).err();
+    assert_held(rt, refusal == Some(Refusal::Stopped), calls);
+    same.bus.tear(Some(torn(calls, cut)));
+    assert_held(rt, same.restore(rt, calls / CALLS).is_none(), calls);
+    assert_same(rt, bus.port().chip(), &same.bus, calls);
+    same
+}
+
+// Restores over a port that does not fail. Asserts that the chip is then as before the row's session.
+fn assert_restored(rt: &impl Abort, alloc: Global, row: Row, left: Cut) {
+    let Cut { bus, vault } = left;
+    let mut bus = bus_to(rt, alloc, bus, AMPLE, 0);
+    if vault.is_sealed() {
+        let journal = Journal::read(vault.bytes()).expect(rt, "a journal");
+        assert!(rt; restore(&mut bus, &journal).is_ok());
+    }
+    Runs::new(rt, alloc, row, Start::IDLE).assert_as_before(rt, bus.port().chip());
+}
+
+// Each row with its chip and the number of transactions of its session.
+const SESSIONS: [(Row, Start, u64); 3] = [
+    (Row::AByteIsProgrammed, Start::IDLE, 28),
+    (Row::AByteIsProgrammed, Start::SLOW, 28 + 3 + 2),
+    (Row::ABitRises, Start::SLOW, 30 + 3 + 2 * 2),
+];
+
+#[test]
+fn each_call_of_the_port_fails_in_a_session(rt: HostRuntime) {
+    for (row, start, length) in SESSIONS {
+        for calls in 0..CALLS * length {
+            for cut in cuts(calls) {
+                let left = stop_session(&rt, rt.alloc(), (row, start), calls, *cut);
+                assert_restored(&rt, rt.alloc(), row, left);
+            }
+        }
+    }
+}
+
+// The session is stopped after its erase, so its restore sends 13 transactions; on the slow chip the first wait has two
+// more polls, and so has the operation.
+const RESTORES: [(Start, u64, u64); 2] = [(Start::IDLE, 25, 13), (Start::SLOW, 28, 17)];
+
+#[test]
+fn each_call_of_the_port_fails_in_a_restore(rt: HostRuntime) {
+    let row = Row::ABitRises;
+    for (start, stop, length) in RESTORES {
+        let runs = Runs::new(&rt, rt.alloc(), row, start);
+        for calls in 0..CALLS * length {
+            for cut in cuts(calls) {
+                let left = (runs.cut(&rt, stop), runs.cut(&rt, stop));
+                let left = stop_restore(&rt, rt.alloc(), left, calls, *cut);
+                assert_restored(&rt, rt.alloc(), row, left);
+            }
+        }
+    }
+}
+
+// With exactly the calls that its transactions take, a session ends.
+#[test]
+fn a_session_ends_with_its_last_call(rt: HostRuntime) {
+    for (row, start, length) in SESSIONS {
+        let chip = row.bus(&rt, rt.alloc(), start);
+        let mut bus = bus_to(&rt, rt.alloc(), chip, CALLS * length, 0);
+        let mut vault = MemVault::new(rt.alloc());
+        let report = keep(&rt, rt.alloc(), row, &mut bus, &mut vault).expect(&rt, "an end");
+        assert!(rt; report.transactions == length && vault.is_sealed());
+        assert!(rt; bus.port().left() == 0);
+        assert!(rt; bus.port().chip().bytes() == row.wanted(&rt, rt.alloc()).as_slice());
+    }
+}
