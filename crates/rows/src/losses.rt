@@ -59,8 +59,41 @@ fn changes_are_lost_until_they_are_synced(rt: HostRuntime) -> Result<(), AllocEr
     Ok(())
 }
 
-// Creates `status`, sets its length to 3, writes two bytes, and opens a log. After the creation and after the write it
-// syncs.
+// A write that is torn fails. Without a tear the same write succeeds.
+#[test]
+fn a_torn_write_fails(rt: HostRuntime) -> Result<(), AllocError> {
+    for is_torn in [false, true] {
+        let mut files = Memory::new(rt.alloc(), 1);
+        files.put("image", b"abcd")?;
+        if is_torn {
+            files.tear();
+        }
+        let written = files.write_over("image", b"wxyz");
+        assert_eq!(rt; written.is_err(), is_torn);
+    }
+    Ok(())
+}
+
+// The bytes of a sealed vault in a file that existed are durable. Those of an unsealed vault are lost.
+#[test]
+fn a_sealed_vault_is_durable(rt: HostRuntime) -> Result<(), io::Error> {
+    for is_sealed in [false, true] {
+        let mut files = Memory::new(rt.alloc(), 9);
+        files.put("copy", b"old")?;
+        let mut vault = files.vault_in("copy")?;
+        let _ = vault.put(b"new");
+        if is_sealed {
+            let _ = vault.seal();
+        }
+        assert_eq!(rt; files.hand_back(vault), is_sealed);
+        let files = files.lose(Loss::Unsynced, 0);
+        let kept: &[u8] = if is_sealed { b"new" } else { b"old" };
+        assert!(rt; has(&files, "copy", kept));
+    }
+    Ok(())
+}
+
+// A file is made, and given two bytes and a length.
 fn fill<S: Store>(files: &mut S) -> io::Result<()> {
     files.make("status")?;
     files.sync_folder("status")?;
