@@ -19,7 +19,8 @@
 //! - `in_turn.rt`: two sessions that are stopped, and the two restores in reverse order
 //! - `power.rt`: sessions and restores during which the chip loses its power
 //! - `rehearsed.rt`: rehearsals with each stop, and on faulty buses
-//! - `once.rt`: no call sends anything after a stop, and none reads a spoilt reply again
+//! - `allowances.rt`: how many transactions a rehearsal allows each of its calls
+//! - `once.rt`: after a stop no call sends anything more
 //! - `readings.rt`: reading calls that are stopped, or whose vault refuses a piece
 //!
 //! Faulty buses, vaults and files:
@@ -52,6 +53,8 @@
 //! - `words.rt`: arguments of the command line, with enough memory
 #![tactic(auto)]
 
+#[cfg(test)]
+mod allowances;
 #[cfg(test)]
 mod bounds;
 #[cfg(test)]
