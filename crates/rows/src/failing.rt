@@ -1,4 +1,4 @@
-//! A bus on which one transaction fails, and the other allowed transactions succeed.
+//! A bus on which one transaction fails, or the polls of one wait do, and all others succeed.
 ghost use Rattle.std.specs.Prelude.{false};
 ghost use Rattle.std.proofs.lemmas.Bool.{false≢true};
 
@@ -11,9 +11,13 @@ pub enum Fault {
     Stop,
     /// The bus inverts each bit of the reply.
     Spoil,
+    /// If it is a poll, it shows BUSY, and so do the polls of the 65,535 transactions after it. These are all polls of
+    /// one wait.
+    Busy,
 }
 
-/// A bus on which at most one transaction fails. After the failure the bus carries out `allowed` transactions.
+/// A bus on which at most one transaction fails, or the polls of one wait. It carries out the ones after that, up to
+/// its allowance.
 #[derive(Drop)]
 pub struct OnceBus {
     pub bus: SimBus,
@@ -42,6 +46,30 @@ impl OnceBus {
             heard: false,
         }
     }
+
+    // Returns the first bytes of the transaction that fails, or that begins to: those of `out` if it is this one.
+    fn met_at(&self, out: &[u8]) -> [u8; 4] {
+        if self.behind == Some(self.asked) {
+            beginning(out)
+        } else {
+            self.met
+        }
+    }
+
+    // True if this transaction, which sends `out`, fails.
+    fn fails_at(&self, out: &[u8]) -> bool {
+        let Some(behind) = self.behind else {
+            return false;
+        };
+        match self.fault {
+            Fault::Stop | Fault::Spoil => self.asked == behind,
+            Fault::Busy => {
+                self.met == [0x05, 0, 0, 0]
+                    && beginning(out) == self.met
+                    && self.asked < behind.saturating_add(65_536)
+            }
+        }
+    }
 }
 
 impl Bus for OnceBus {
@@ -50,28 +78,21 @@ impl Bus for OnceBus {
     ghost reaches = { λ once honest. absurd (false≢true honest) };
 
     fn transfer(&mut self, out: &[u8], reply: &mut [u8]) -> Result<(), Stopped> {
-        let goes_wrong = self.behind == Some(self.asked);
+        self.met = self.met_at(out);
+        let fails = self.fails_at(out);
         self.asked = self.asked.saturating_add(1);
-        if !goes_wrong {
+        if !fails {
             self.bus.transfer(out, reply)?;
             self.heard = heard_after(out, reply, self.heard);
             return Ok(());
         }
-        self.met = beginning(out);
         match self.fault {
             Fault::Stop => self.bus.allow(0),
-            Fault::Spoil => {}
+            Fault::Spoil | Fault::Busy => {}
         }
         let answer = self.bus.transfer(out, reply);
         self.bus.allow(self.allowed);
-        match self.fault {
-            Fault::Stop => {}
-            Fault::Spoil => {
-                for byte in reply.iter_mut() {
-                    *byte = !*byte;
-                }
-            }
-        }
+        spoil(self.fault, reply);
         if answer.is_ok() {
             self.heard = heard_after(out, reply, self.heard);
         }
@@ -83,6 +104,17 @@ impl Meter for OnceBus {
     fn allow(&mut self, n: u64) {
         self.allowed = n;
         self.bus.allow(n);
+    }
+}
+
+// Spoils a reply in the way of the fault.
+fn spoil(fault: Fault, reply: &mut [u8]) {
+    for byte in reply.iter_mut() {
+        match fault {
+            Fault::Stop => {}
+            Fault::Spoil => *byte = !*byte,
+            Fault::Busy => *byte |= 1,
+        }
     }
 }
 

@@ -20,7 +20,7 @@
 //! - `power.rt`: sessions and restores during which the chip loses its power
 //! - `rehearsed.rt`: rehearsals with each stop, and on faulty buses
 //! - `allowances.rt`: how many transactions a rehearsal allows each of its calls
-//! - `once.rt`: after a stop no call sends anything more
+//! - `once.rt`: after a stop or a timeout no call sends anything more
 //! - `readings.rt`: reading calls that are stopped, or whose vault refuses a piece
 //!
 //! Faulty buses, vaults and files:

@@ -1,5 +1,5 @@
-//! After a stop each call returns and sends nothing more, even though the bus would carry out more transactions. No
-//! call reads a spoilt reply again, except a poll that shows BUSY.
+//! After a stop or a timeout each call ends and sends nothing more, even though the bus would carry it out, and later
+//! polls would show that the chip is ready. A spoilt reply isn't read again.
 use crate::failing::{Fault, OnceBus};
 use crate::held::assert_held;
 use crate::row::{Row, Start, erased};
@@ -134,6 +134,40 @@ fn stop_each_call(rt: &impl Abort, alloc: Global, job: Job, lengths: [(Call, u64
 fn a_stop_ends_each_call(rt: HostRuntime) {
     stop_each_call(&rt, rt.alloc(), Job::OnTwoBlocks, ON_TWO_BLOCKS);
     stop_each_call(&rt, rt.alloc(), Job::OnW25q64fv, ON_W25Q64FV);
+}
+
+// Each call with the number of its waits: one of the identification, and one after each erase, program and status
+// write.
+const WAITS_ON_TWO_BLOCKS: [(Call, u64); 6] = [
+    (Call::Probe, 1),
+    (Call::Protection, 1),
+    (Call::ReadOut, 1),
+    (Call::Verify, 1),
+    (Call::Session, 1 + 2 + 2),
+    (Call::Restore, 1 + 2 + 17),
+];
+
+const WAITS_ON_W25Q64FV: [(Call, u64); 6] = [
+    (Call::Probe, 1),
+    (Call::Protection, 1),
+    (Call::ReadOut, 1),
+    (Call::Verify, 1),
+    (Call::Session, 1 + 2 + 1 + 2),
+    (Call::Restore, 1 + 2 + 2 + 1),
+];
+
+// Asserts that a timeout of each wait of each call of the job ends the call.
+fn time_out_each_call(rt: &impl Abort, alloc: Global, job: Job, waits: [(Call, u64); 6]) {
+    let stage = Stage::new(rt, alloc, job, Start::IDLE.delays);
+    for (call, count) in waits {
+        assert_held(rt, stage.time_out_each(rt, call) == count, count);
+    }
+}
+
+#[test]
+fn a_timeout_ends_each_call(rt: HostRuntime) {
+    time_out_each_call(&rt, rt.alloc(), Job::OnTwoBlocks, WAITS_ON_TWO_BLOCKS);
+    time_out_each_call(&rt, rt.alloc(), Job::OnW25q64fv, WAITS_ON_W25Q64FV);
 }
 
 // Each call with the number of replies that are checked. On an idle chip a spoilt poll shows BUSY, so another poll

@@ -231,9 +231,27 @@ impl Stage {
         length
     }
 
-    /// Runs a call with each of its replies spoilt in turn. Checks the result if the spoilt reply is that of a poll, or
-    /// of a sector that is compared or written to the output. `touched` is the number of sectors that the call
-    /// verifies. Returns the number of checked results.
+    /// Shows BUSY in all 65,536 polls of each wait of a call in turn, and never afterwards. The chip is idle, so that
+    /// without a fault each wait has one poll. Asserts that the call then returns a timeout and sends nothing more.
+    /// Returns the number of waits.
+    pub fn time_out_each(&self, rt: &impl Abort, call: Call) -> u64 {
+        let (_, length) = self.right(rt, call);
+        let mut waits: u64 = 0;
+        for n in 0..length {
+            let mut bus = self.bus(rt, call, Fault::Busy, Some(n));
+            let refusal = self.refusal(rt, call, &mut bus);
+            if bus.met == [0x05, 0, 0, 0] {
+                let timed_out = matches!(refusal, Some(Refusal::Timeout { .. }));
+                let asked = n.saturating_add(65_536);
+                assert_held(rt, timed_out && bus.asked == asked, n);
+                waits = waits.saturating_add(1);
+            }
+        }
+        waits
+    }
+
+    /// Spoils each reply of a call in turn. Checks the result if the reply is a poll's, or a sector's that is compared
+    /// or written to the output. Returns the number of replies that were checked.
     pub fn spoil_each(&self, rt: &impl Abort, call: Call, touched: u64) -> u64 {
         let right = self.right(rt, call);
         let mut spoilt: u64 = 0;
