@@ -50,7 +50,7 @@
 //! - `kernels.rt`: nor_plan's comparisons of two slices
 //! - `sets.rt`: sets of addresses made from spans
 //! - `texts.rt`: malformed and very long layouts and journals
-//! - `words.rt`: arguments of the command line, with enough memory
+//! - `words.rt`: arguments of each number, with enough memory
 #![tactic(auto)]
 
 #[cfg(test)]

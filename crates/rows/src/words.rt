@@ -1,21 +1,82 @@
-//! Arguments of the command line, with enough memory.
+//! Arguments of the command line, of each number, with enough memory.
 use nor_words::request_of;
+use std::alloc::Global;
+use std::process::Abort;
 
-// The contract of `request_of` allows the error "out of memory" for any arguments. A body that always returns this
-// error fulfils it, but fails this test.
+// The arguments of a write.
+const WRITE: [&str; 6] = [
+    "-p",
+    "dummy:emulate=TINY64,image=chip",
+    "-w",
+    "new",
+    "--journal",
+    "j",
+];
+
+// Arguments that may be added to those of a write. Some of these groups together have 0 to 8 arguments.
+const MORE: [&[&str]; 4] = [
+    &["-n"],
+    &["--unlock"],
+    &["-c", "TINY64"],
+    &["-l", "map", "-i", "part"],
+];
+
+// Commands of other operations, with the least arguments and more.
+const OTHERS: [&[&str]; 6] = [
+    &["-L"],
+    &["-pdummy:emulate=TINY64", "-rcopy"],
+    &["-p", "dummy:emulate=TINY64", "--flash-size"],
+    &["-p", "dummy:emulate=TINY64", "-r", "copy"],
+    &["-p", "dummy:emulate=TINY64", "-r", "copy", "-cTINY64"],
+    &["-p", "dummy:emulate=TINY64,image=chip", "--restore", "j"],
+];
+
+fn push_all(rt: &impl Abort, alloc: Global, words: &mut Vec<String>, more: &[&str]) {
+    for word in more {
+        let word = String::from_str(alloc, word).expect(rt, "memory");
+        words.push(word).expect(rt, "memory");
+    }
+}
+
+// True if the arguments are those of a job.
+fn is_job(rt: &impl Abort, alloc: Global, words: &[&str]) -> bool {
+    let mut all = Vec::new(alloc);
+    push_all(rt, alloc, &mut all, words);
+    request_of(alloc, all.as_slice()).is_ok()
+}
+
+// Returns the arguments of a write with some of the groups: group i if bit i of `choice` is set.
+fn write_with(rt: &impl Abort, alloc: Global, choice: u32) -> Vec<String> {
+    let mut words = Vec::new(alloc);
+    push_all(rt, alloc, &mut words, &WRITE);
+    let mut left = choice;
+    for group in MORE {
+        if left % 2 == 1 {
+            push_all(rt, alloc, &mut words, group);
+        }
+        left /= 2;
+    }
+    words
+}
+
+// The contract of `request_of` lets it return out of memory for any arguments, so it doesn't exclude a body that always
+// does, or for some number of arguments. These tests do, for one to 14 arguments.
 #[test]
 fn words_memory(rt: HostRuntime) {
-    let mut words = Vec::new(rt.alloc());
-    for word in [
-        "-p",
-        "dummy:emulate=TINY64,image=chip",
-        "-w",
-        "new",
-        "--journal",
-        "j",
-    ] {
-        let word = String::from_str(rt.alloc(), word).expect(&rt, "memory");
-        words.push(word).expect(&rt, "memory");
+    for words in OTHERS {
+        assert!(rt; is_job(&rt, rt.alloc(), words));
     }
-    assert!(rt; request_of(rt.alloc(), words.as_slice()).is_ok());
+}
+
+#[test]
+fn writes_of_each_number_of_arguments(rt: HostRuntime) {
+    let mut seen = [false; 15];
+    for choice in 0..16 {
+        let words = write_with(&rt, rt.alloc(), choice);
+        assert!(rt; request_of(rt.alloc(), words.as_slice()).is_ok());
+        if let Some(one) = seen.get_mut(words.len()) {
+            *one = true;
+        }
+    }
+    assert!(rt; seen[6..] == [true; 9]);
 }
