@@ -151,7 +151,7 @@ pub record RehearsalModelled (request : Request) (image stops : List ℕ) (old n
   pub restores : IfOk result (λ rehearsal. rehearsal.sealed ≡ true
       → AreRestores (sector_count (is_touched old.chip.bytes (wanted request image old.chip))) (drop 1 stops)
       rehearsal.restores)
-  -- at the end, if no restore was run, or if session and first restore ended, the latch is set only if it was set before
+  -- at the end, if no restore was run, or if session and first restore ended, the latch is set only if it was before
   pub latch : IfOk result (λ r. r.restores ≤ (if r.ended then 1 else 0) → new.chip.latch ≡ true → old.chip.latch ≡ true)
   -- the last of them was allowed no more than its stop
   pub last : IfOk result (λ rehearsal. rehearsal.sealed ≡ true
