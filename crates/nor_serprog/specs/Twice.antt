@@ -1,5 +1,5 @@
 -- A bus that reads data twice, as contracts see it.
-use Rattle.std.specs.Prelude.{◌==◌, ℕ, Bool, false, List, [], ◌∷◌}
+use Rattle.std.specs.Prelude.{◌==◌, ℕ, Bool, true, false, None, Some, List, [], ◌∷◌}
 use Rattle.nor_chip.specs.Bus.{BusState, Carries, unknown_bus}
 use Rattle.nor_serprog.specs.declared.twice.ReadTwice.{ReadTwice}
 
@@ -10,6 +10,10 @@ twice_of twice = twice.bus
 -- Two reads of the same bytes differed.
 abbrev pub has_differed : {B : Type 0} → ReadTwice B → Bool
 has_differed twice = twice.differed
+
+-- True if an image is expected.
+abbrev pub expects : {B : Type 0} → ReadTwice B → Bool
+expects twice = elim twice.expected [ None ↦ false | Some image ↦ true ]
 
 -- The state of the bus: only what was sent over the bus inside, and the replies to polls, are known.
 abbrev pub view_of : BusState → BusState

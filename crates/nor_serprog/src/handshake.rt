@@ -56,6 +56,7 @@ pub struct Programmer {
     name: [u8; 16],
     longest_write: u32,
     longest_read: u32,
+    serial_buffer: u16,
     frequency: Option<u32>,
     // A transaction may send a page program, and read a sector.
     ghost writes: { 260 ≤ longest_write },
@@ -99,7 +100,7 @@ impl Programmer {
         if longest_read < LONGEST_REPLY {
             return Err(HandshakeFault::ReadLimit(longest_read));
         }
-        check_buffer(link, &commands)?;
+        let serial_buffer = query_buffer(link, &commands)?;
         let name = query_name(link, &commands)?;
         let frequency = set_frequency(link, &commands, hertz)?;
         enable_pins(link, &commands)?;
@@ -107,6 +108,7 @@ impl Programmer {
             name,
             longest_write,
             longest_read,
+            serial_buffer,
             frequency,
         })
     }
@@ -130,6 +132,12 @@ impl Programmer {
         ensures enough { 4096 ≤ result }
     {
         self.longest_read
+    }
+
+    /// Returns the size of the serial buffer in bytes, or 0 if the programmer lacks the query (Q_SERBUF). So many bytes
+    /// may be sent before their replies are read.
+    pub fn serial_buffer(&self) -> u16 {
+        self.serial_buffer
     }
 
     /// Returns the clock in hertz that the programmer set, or `None` if no clock was requested.
@@ -225,24 +233,25 @@ fn query_limit<P: Port + Drop>(
     }
 }
 
-// Checks that the longest frame fits into the serial buffer. A programmer with Q_WRNMAXLEN accepts frames of that
-// length, regardless of its buffer.
-fn check_buffer<P: Port + Drop>(
+// Returns the size of the serial buffer, or 0 if the programmer lacks the query. Returns `SmallBuffer` if the longest
+// frame does not fit into it; but a programmer with a limit of writes accepts frames of that length, regardless of its
+// buffer.
+fn query_buffer<P: Port + Drop>(
     link: &mut Link<P>,
     commands: &Map,
-) -> Result<(), HandshakeFault<P::Cause>>
+) -> Result<u16, HandshakeFault<P::Cause>>
     ensures { is_in_step link.old ≡ true → OnOk result (is_in_step link.new ≡ true) }
 {
-    if offers(commands, 0x08) || !offers(commands, 0x04) {
-        return Ok(());
+    if !offers(commands, 0x04) {
+        return Ok(0);
     }
     let mut size = [0; 2];
     ask(link, Command::QuerySerialBuffer, &mut size)?;
     let size = u16::from_le_bytes(size);
-    if size < LONGEST_FRAME {
+    if size < LONGEST_FRAME && !offers(commands, 0x08) {
         return Err(HandshakeFault::SmallBuffer(size));
     }
-    Ok(())
+    Ok(size)
 }
 
 fn query_name<P: Port + Drop>(

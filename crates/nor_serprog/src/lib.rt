@@ -6,10 +6,16 @@
 //! - `link.rt`: exchanges of a frame and its reply, and synchronization
 //! - `handshake.rt`: identifies a programmer and prepares it for SPI
 //! - `bus.rt`: the bus; one transaction is one O_SPIOP
+//! - `batch.rt`: frames that are sent together
+//! - `batching.rt`: a bus that sends modifying commands together with the next poll
+//! - `ahead.rt`: a bus that reads ahead
 //! - `paced.rt`: a bus that pauses between polls of a busy chip
 //! - `twice.rt`: a bus that reads data twice and compares
 #![tactic(auto)]
 
+mod ahead;
+mod batch;
+mod batching;
 mod bus;
 mod command;
 mod handshake;
@@ -18,6 +24,8 @@ mod paced;
 mod port;
 mod twice;
 
+pub use ahead::ReadAhead;
+pub use batching::BatchingBus;
 pub use bus::SerprogBus;
 pub use command::{Answer, Command, Frame, LONGEST_OUT, TooLong, frame_len};
 pub use handshake::{HandshakeFault, Programmer};

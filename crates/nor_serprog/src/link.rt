@@ -54,6 +54,8 @@ pub struct Link<P: Port + Drop> {
     sync: Sync,
 }
 
+const O_SPIOP: u8 = 0x13;
+
 // Commands of one byte each, which have no effect (10h SYNCNOP, 00h NOP).
 const ROW: [u8; 16] = [
     0x10, 0x10, 0x00, 0x10, 0x00, 0x00, 0x10, 0x10, 0x10, 0x00, 0x00, 0x00, 0x10, 0x00, 0x10, 0x10,
@@ -165,6 +167,34 @@ impl<P: Port + Drop> Link<P> {
         Ok(())
     }
 
+    /// Sends frames of O_SPIOP together, and then reads their replies: an ACK for each frame, and after the last ACK as
+    /// many bytes as `reply` holds. Before the last frame there are `earlier` frames, which request no reply bytes.
+    ///
+    /// After an error nothing more is sent, until `synchronize` returns `Ok`; the programmer may have carried out any
+    /// of the frames. If the link was out of step, the call returns `OutOfStep` or `CutFrame` and does not use the port.
+    pub(crate) fn exchange_batch(
+        &mut self,
+        frames: &[u8],
+        earlier: u32,
+        reply: &mut [u8],
+    ) -> Result<(), Failure<P::Cause>>
+        ensures silent { is_in_step self.old ≡ false → self.new ≡ self.old }
+        ensures was_in_step { OnOk result (is_in_step self.old ≡ true) }
+        ensures ok { OnOk result (is_in_step self.new ≡ true) }
+        ensures err { OnErr result (is_in_step self.new ≡ false) }
+    {
+        if self.sync != Sync::InStep {
+            return Err(self.rejection());
+        }
+        self.sync = Sync::Cut;
+        self.port.send(frames).map_err(Failure::Port)?;
+        self.sync = Sync::Lost;
+        receive_acks(&mut self.port, earlier)?;
+        receive_answer(&mut self.port, O_SPIOP, reply)?;
+        self.sync = Sync::InStep;
+        Ok(())
+    }
+
     /// Matches the replies to the frames again: sends SYNCNOP, and then a row of SYNCNOP and NOP, and skips all bytes
     /// before the replies to that row (serprog protocol, flashrom's Documentation/serprog-protocol.txt, 10h).
     ///
@@ -248,6 +278,14 @@ fn receive_answer<P: Port>(
         Answer::Nak => Err(Failure::Refused(opcode)),
         Answer::Other(byte) => Err(Failure::Strange(byte)),
     }
+}
+
+// Receives the replies to this number of O_SPIOP that request no reply bytes.
+fn receive_acks<P: Port>(port: &mut P, count: u32) -> Result<(), Failure<P::Cause>> {
+    for _ in 0..count {
+        receive_answer(port, O_SPIOP, &mut [])?;
+    }
+    Ok(())
 }
 
 // Receives bytes until the last ones are `wanted`. Returns `NoSync` after 65,536 bytes.

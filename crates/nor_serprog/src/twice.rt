@@ -2,26 +2,32 @@
 ghost use Rattle.std.specs.Prelude.{◌≡◌, ◌≢◌, ◌≤◌, true, false, length, OnOk, OnErr};
 ghost use Rattle.std.proofs.lemmas.Bool.{false≢true};
 ghost use Rattle.nor_chip.specs.Bus.{IsHonestFor, Sends, Stops, Carries, Hears, unknown_bus};
-ghost use Rattle.nor_serprog.specs.Twice.{twice_of, has_differed, begins_read, ReadsTwice, view_of};
+ghost use Rattle.nor_serprog.specs.Twice.{twice_of, has_differed, expects, begins_read, ReadsTwice, view_of};
 
+use crate::ahead::data_address;
 use nor_chip::{Bus, Stopped};
 
-// The greatest length of a read: a sector.
-const LONGEST_READ: usize = 4096;
+// The greatest length of a read: a block of `ReadAhead`.
+const LONGEST_READ: usize = 65536;
 
 const READ_DATA: u8 = 0x03;
 
 /// A bus that carries out each read of data (03h) twice, and stops if the replies differ. A poor contact flips bits in
 /// some reads. Without a second read a flipped bit gets into the journal, and a restore writes it to the chip. A read
-/// of more than 4,096 bytes is rejected.
+/// of more than 65,536 bytes is rejected.
+///
+/// If an image is expected (`expecting`), a read whose reply equals the image at its address is carried out once. A
+/// session saves no sector that equals the image, so all that its journal saves was read twice.
 ///
 /// An error that is the same in both reads is not detected. A read over this bus is two transactions over the bus
 /// inside, so this bus is not honest as `Bus` defines it, even if the bus inside is. If the bus inside is honest, a
-/// read that succeeds had the same reply twice. A read of at most 4,096 bytes then fails only if no transaction is left
+/// read that succeeds had the same reply twice. A read of at most 65,536 bytes then fails only if no transaction is left
 /// afterwards.
 #[derive(Drop)]
 pub struct ReadTwice<B> {
     bus: B,
+    again: [u8; LONGEST_READ],
+    expected: Option<Vec<u8>>,
     differed: bool,
 }
 
@@ -30,9 +36,26 @@ impl<B: Bus + Drop> ReadTwice<B> {
     pub fn new(bus: B) -> ReadTwice<B>
         ensures bus { twice_of result ≡ bus }
         ensures differed { has_differed result ≡ false }
+        ensures expected { expects result ≡ false }
     {
         ReadTwice {
             bus,
+            again: [0; LONGEST_READ],
+            expected: None,
+            differed: false,
+        }
+    }
+
+    /// Returns a bus that reads data twice over `bus`, except for data that equals `image`, whose first byte is that at
+    /// address 0.
+    pub fn expecting(bus: B, image: Vec<u8>) -> ReadTwice<B>
+        ensures bus { twice_of result ≡ bus }
+        ensures differed { has_differed result ≡ false }
+    {
+        ReadTwice {
+            bus,
+            again: [0; LONGEST_READ],
+            expected: Some(image),
             differed: false,
         }
     }
@@ -49,6 +72,21 @@ impl<B: Bus + Drop> ReadTwice<B> {
         ensures { result ≡ has_differed self.now }
     {
         self.differed
+    }
+}
+
+impl<B> ReadTwice<B> {
+    // Returns whether the reply to a read equals the expected bytes at its address.
+    fn is_expected(&self, out: &[u8], reply: &[u8]) -> bool
+        ensures { expects self.now ≡ false → result ≡ false }
+    {
+        match (&self.expected, data_address(out)) {
+            (Some(image), Some(address)) => {
+                let start = address as usize;
+                image.get(start..start + reply.len()) == Some(reply)
+            }
+            _ => false,
+        }
     }
 }
 
@@ -71,9 +109,11 @@ impl<B: Bus> Bus for ReadTwice<B> {
         ensures once { IsHonestFor out.now (length reply.old) (B.state (twice_of self.old)) → begins_read out.now ≡ false
             → OnOk result (Carries out.now reply.new (B.state (twice_of self.old)) (B.state (twice_of self.new))) }
         ensures twice { IsHonestFor out.now (length reply.old) (B.state (twice_of self.old)) → begins_read out.now ≡ true
+            → expects self.old ≡ false
             → OnOk result (ReadsTwice out.now reply.new (B.state (twice_of self.old)) (B.state (twice_of self.new))) }
-        ensures no_difference { IsHonestFor out.now (length reply.old) (B.state (twice_of self.old)) → length reply.old ≤ 4096
+        ensures no_difference { IsHonestFor out.now (length reply.old) (B.state (twice_of self.old)) → length reply.old ≤ 65536
             → OnErr result ((B.state (twice_of self.new)).left ≡ 0) }
+        ensures expected { expects self.new ≡ expects self.old }
         ensures remembers { has_differed self.old ≡ true → has_differed self.new ≡ true }
     {
         if !reads_data(out) {
@@ -83,8 +123,11 @@ impl<B: Bus> Bus for ReadTwice<B> {
             return Err(Stopped);
         }
         self.bus.transfer(out, &mut *reply)?;
-        let mut again = [0; LONGEST_READ];
-        let again = &mut again[..reply.len()];
+        if self.is_expected(out, reply) {
+            return Ok(());
+        }
+        let buffer = &mut self.again[..];
+        let again = &mut buffer[..reply.len()];
         self.bus.transfer(out, &mut *again)?;
         if !are_same(reply, again) {
             self.differed = true;

@@ -6,7 +6,7 @@ returns g c =
     c.in_ok-enable_pins.ensures
     (c.in_ok-frequency.ensures
     (c.in_ok-name.ensures
-    (c.in_ok-check_buffer.ensures
+    (c.in_ok-serial_buffer.ensures
     (c.in_ok-longest_read.ensures
     (c.in_ok-longest_write.ensures
     (c.in_ok-select_spi.ensures

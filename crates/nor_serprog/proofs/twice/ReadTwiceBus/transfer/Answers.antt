@@ -6,7 +6,7 @@ use Rattle.nor_serprog.proofs.twice.ReadTwiceBus.transfer.Goals as goal
 
 -- Both reads had the reply that is returned.
 pub returns-clause-twice : goal.returns-clause-twice
-returns-clause-twice g c honest reads =
+returns-clause-twice g c honest reads expects =
     let P : List ℕ → Type 0 =
     λ (reply : List ℕ).
     Carries c.args.out.now reply (g.B.Bus.state c.transfer-2.new.self) (g.B.Bus.state c.transfer-3.new.self) in

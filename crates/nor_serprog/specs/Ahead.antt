@@ -1,0 +1,15 @@
+-- A bus that reads ahead, as contracts see it.
+use Rattle.std.specs.Prelude.{ℕ}
+use Rattle.nor_serprog.specs.declared.ahead.ReadAhead.{ReadAhead}
+
+-- The bus inside.
+abbrev pub ahead_of : {B : Type 0} → ReadAhead B → B
+ahead_of ahead = ahead.bus
+
+-- The address of the first byte that is held in memory.
+abbrev pub begin : {B : Type 0} → ReadAhead B → ℕ
+begin ahead = ahead.start
+
+-- The number of bytes that are held in memory.
+abbrev pub held : {B : Type 0} → ReadAhead B → ℕ
+held ahead = ahead.len

@@ -1,0 +1,189 @@
+//! A bus that reads ahead.
+ghost use Rattle.std.specs.Prelude.{◌≡◌, ◌≤◌, ◌+◌, true, false, length, OnOk, OnErr, IfSome};
+ghost use Rattle.std.proofs.lemmas.Bool.{false≢true};
+ghost use Rattle.nor_chip.specs.Bus.{IsHonestFor, Sends, Stops, Carries, Hears};
+ghost use Rattle.nor_serprog.specs.Reads.{only_reads, reads_data, KeepsRecord};
+ghost use Rattle.nor_serprog.specs.Twice.{view_of};
+
+use nor_chip::{Bus, Stopped};
+
+// The greatest length of a block. The size of a chip is a multiple of it (64 KiB to 16 MiB, a power of two), so no block
+// that begins and ends in the same 64 KiB reaches past the end of a chip.
+const LONGEST_BLOCK: u32 = 1 << 16;
+
+const SECTOR_LEN: u32 = 4096;
+
+const READ_DATA: u8 = 0x03;
+
+/// A bus that reads data (03h) ahead, if reads follow each other: each read that begins at the end of the block that was
+/// read last reads a block of twice the length, up to 64 KiB. Reads inside that block are answered from memory.
+///
+/// The block is forgotten at each transaction that may modify the chip (every opcode except 03h, 05h, 35h, 4Bh, 5Ah and
+/// 9Fh), and if the bus inside stops. A block ends at a multiple of 64 KiB at the latest, so it never reaches past the
+/// end of a chip. It is never longer than the bus inside can read. A read that is longer than a block, or reaches past
+/// a multiple of 64 KiB, is passed on as it is.
+///
+/// A read over this bus may be no transaction over the bus inside, or a longer one, so this bus is not honest as `Bus`
+/// defines it, even if the bus inside is. Nobody else may modify the chip meanwhile.
+#[derive(Drop)]
+pub struct ReadAhead<B> {
+    bus: B,
+    block: [u8; LONGEST_BLOCK as usize],
+    start: u32,
+    len: u32,
+    // The length of the last block before it was shortened to end at a multiple of 64 KiB.
+    step: u32,
+    longest: u32,
+    ghost fits: { len ≤ 65536 },
+    ghost below: { start ≤ 16777216 },
+    ghost longest_fits: { longest ≤ 65536 },
+    ghost step_fits: { step ≤ 65536 },
+}
+
+impl<B: Bus + Drop> ReadAhead<B> {
+    ghost use Rattle.nor_serprog.specs.Ahead.{ahead_of, held};
+
+    /// Returns a bus that reads ahead over `bus`, which can read `longest_read` bytes in a transaction. That must be at
+    /// least 4,096.
+    pub fn new(bus: B, longest_read: u32) -> ReadAhead<B>
+        ensures bus { ahead_of result ≡ bus }
+        ensures empty { held result ≡ 0 }
+    {
+        let longest = longest_read.min(LONGEST_BLOCK) / SECTOR_LEN * SECTOR_LEN;
+        ReadAhead {
+            bus,
+            block: [0; LONGEST_BLOCK as usize],
+            start: 0,
+            len: 0,
+            step: 0,
+            longest,
+        }
+    }
+
+    /// Returns the bus inside.
+    pub fn inner(&self) -> &B
+        ensures { result.now ≡ ahead_of self.now }
+    {
+        &self.bus
+    }
+}
+
+impl<B: Bus> ReadAhead<B> {
+    ghost use Rattle.nor_serprog.specs.Ahead.{ahead_of, begin, held};
+
+    // Reads `reply` out of the block, which is read first if it does not hold all of these bytes.
+    fn read(&mut self, address: u32, reply: &mut [u8]) -> Result<(), Stopped>
+        requires address { address ≤ 16777215 }
+        requires len { length reply.old ≤ 65536 }
+        ensures record { KeepsRecord (B.state (ahead_of self.old)) (B.state (ahead_of self.new)) }
+    {
+        self.hold(address, reply.len() as u32)?;
+        let at = (address - self.start) as usize;
+        reply.copy_from_slice(&self.block[at..at + reply.len()]);
+        Ok(())
+    }
+
+    // Reads a block that begins with these bytes, unless the block holds them.
+    fn hold(&mut self, address: u32, len: u32) -> Result<(), Stopped>
+        requires address { address ≤ 16777215 }
+        requires len { len ≤ 65536 }
+        ensures record { KeepsRecord (B.state (ahead_of self.old)) (B.state (ahead_of self.new)) }
+        ensures begins { OnOk result (begin self.new ≤ address) }
+        ensures ends { OnOk result (address + len ≤ begin self.new + held self.new) }
+    {
+        if self.start <= address && address + len <= self.start + self.len {
+            return Ok(());
+        }
+        let goes_on = self.len > 0 && address == self.start + self.len;
+        self.step = if goes_on {
+            (2 * self.step).min(self.longest)
+        } else {
+            len
+        };
+        self.fill(
+            address,
+            self.step
+                .min(LONGEST_BLOCK - address % LONGEST_BLOCK)
+                .max(len),
+        )
+    }
+
+    // Reads a block of this length.
+    fn fill(&mut self, address: u32, len: u32) -> Result<(), Stopped>
+        requires address { address ≤ 16777215 }
+        requires len { len ≤ 65536 }
+        ensures record { KeepsRecord (B.state (ahead_of self.old)) (B.state (ahead_of self.new)) }
+        ensures begins { OnOk result (begin self.new ≡ address) }
+        ensures filled { OnOk result (held self.new ≡ len) }
+    {
+        self.len = 0;
+        let [_, high, middle, low] = address.to_be_bytes();
+        let out = [READ_DATA, high, middle, low];
+        let block = &mut self.block[..];
+        self.bus.transfer(&out, &mut block[..len as usize])?;
+        self.start = address;
+        self.len = len;
+        Ok(())
+    }
+}
+
+impl<B: Bus> Bus for ReadAhead<B> {
+    ghost use Rattle.nor_serprog.specs.Ahead.{ahead_of, held};
+
+    ghost state = { λ ahead. view_of (B.state ahead.bus) };
+
+    ghost reaches = { λ ahead honest. absurd (false≢true honest) };
+
+    fn transfer(&mut self, out: &[u8], reply: &mut [u8]) -> Result<(), Stopped>
+        ensures sends { Sends out.now (view_of (B.state (ahead_of self.old))) (view_of (B.state (ahead_of self.new))) }
+        ensures stops { IsHonestFor out.now (length reply.old) (view_of (B.state (ahead_of self.old)))
+            → OnErr result
+            (Stops out.now (view_of (B.state (ahead_of self.old))) (view_of (B.state (ahead_of self.new)))) }
+        ensures unread { IsHonestFor out.now (length reply.old) (view_of (B.state (ahead_of self.old)))
+            → OnErr result (reply.new ≡ reply.old) }
+        ensures carries { IsHonestFor out.now (length reply.old) (view_of (B.state (ahead_of self.old)))
+            → OnOk result (Carries out.now reply.new
+            (view_of (B.state (ahead_of self.old))) (view_of (B.state (ahead_of self.new)))) }
+        ensures hears { Hears out.now reply.new result
+            (view_of (B.state (ahead_of self.old))) (view_of (B.state (ahead_of self.new))) }
+        ensures forgets { only_reads out.now ≡ false → held self.new ≡ 0 }
+    {
+        match data_address(out) {
+            Some(address) if is_in_block(address, reply.len(), self.longest) => {
+                self.read(address, reply)
+            }
+            _ => {
+                if !only_reads(out) {
+                    self.len = 0;
+                }
+                self.bus.transfer(out, reply)
+            }
+        }
+    }
+}
+
+// Returns the address of a transaction that reads data, or `None` for any other.
+pub(crate) fn data_address(out: &[u8]) -> Option<u32>
+    ensures reads { IfSome result (λ address. reads_data out.now ≡ true) }
+    ensures fits { IfSome result (λ address. address ≤ 16777215) }
+{
+    match out {
+        [READ_DATA, high, middle, low] => Some(u32::from_be_bytes([0, *high, *middle, *low])),
+        _ => None,
+    }
+}
+
+// Returns whether bytes fit into a block of at most this length, which ends at a multiple of 64 KiB at the latest.
+fn is_in_block(address: u32, len: usize, longest: u32) -> bool
+    requires { longest ≤ 65536 }
+    ensures { result ≡ true → len ≤ 65536 }
+{
+    len <= longest as usize && len <= (LONGEST_BLOCK - address % LONGEST_BLOCK) as usize
+}
+
+// Returns whether a transaction only reads: it begins with 03h, 05h, 35h, 4Bh, 5Ah or 9Fh.
+fn only_reads(out: &[u8]) -> bool
+    ensures { result ≡ only_reads out.now }
+{
+    matches!(out, [0x03 | 0x05 | 0x35 | 0x4B | 0x5A | 0x9F, ..])
+}

@@ -1,0 +1,141 @@
+//! A bus to the chip at a serial programmer that needs few round trips.
+ghost use Rattle.std.specs.Prelude.{◌≡◌, ◌<◌, ◌⊎◌, [], true, false, length, OnOk, OnErr, IsSome, option_copied};
+ghost use Rattle.std.proofs.lemmas.Bool.{false≢true};
+ghost use Rattle.nor_chip.specs.Bus.{IsHonestFor, Sends, Hears, Stops, Carries};
+ghost use Rattle.nor_chip.specs.Sent.{IsNothing};
+
+use crate::batch::Batch;
+use crate::{Failure, Link, Port, Programmer, Sync};
+use nor_chip::{Bus, Sent, Stopped, heard_after};
+
+/// A bus to the chip at a serial programmer, over any port, that needs fewer round trips than `SerprogBus`: a modifying
+/// command without a reply is sent together with the next transaction that reads a reply. After a modifying command
+/// the engine polls, so write enable, page program and the first poll are one write to the port.
+///
+/// - `transfer` of a modifying command (06h, 01h, 02h, 20h, 52h, D8h, C7h) that reads no reply returns `Ok` before the
+///   command is sent. If it fails later, the transaction that sends it returns `Stopped`.
+/// - Every other transaction first sends what waits, in order. If it returns `Ok`, nothing waits.
+/// - `flush` sends what waits. Without a later transaction or `flush` a command is never sent: a session or restore
+///   that returns `Ok` has polled last, so nothing waits then.
+/// - What waits fits into the programmer's serial buffer together with what is sent with it. Nothing waits if the
+///   programmer does not report the size of that buffer.
+///
+/// Over any port the modifying commands and the replies to polls are recorded; a modifying command is recorded before
+/// it waits. A transaction that sends more than 260 bytes, or reads more than the programmer can, is rejected, and
+/// changes nothing. After any other transaction that failed, nothing more is sent until `synchronize` returns `Ok`; what
+/// waited then is dropped.
+///
+/// The bus is not honest as `Bus` defines it, even over an honest port: a command that waits has not reached the chip.
+#[derive(Drop)]
+pub struct BatchingBus<P: Port + Drop> {
+    batch: Batch<P>,
+    programmer: Programmer,
+    cause: Option<Failure<P::Cause>>,
+    sent: Sent,
+    heard: bool,
+}
+
+impl<P: Port + Drop> BatchingBus<P> {
+    ghost use Rattle.nor_serprog.specs.Batching.{link_of, waiting_of, sent_of, heard_of, cause_of, is_ready};
+
+    /// Returns a bus over a link whose programmer was identified (`Programmer::identify`).
+    pub fn new(link: Link<P>, programmer: Programmer) -> BatchingBus<P>
+        ensures link { link_of result ≡ link }
+        ensures empty { waiting_of result ≡ [] }
+        ensures sent { IsNothing (sent_of result) }
+        ensures heard { heard_of result ≡ false }
+    {
+        let batch = Batch::new(link, &programmer);
+        BatchingBus {
+            batch,
+            programmer,
+            cause: None,
+            sent: Sent::new(),
+            heard: false,
+        }
+    }
+
+    /// Returns what the programmer replied when it was identified.
+    pub fn programmer(&self) -> &Programmer {
+        &self.programmer
+    }
+
+    /// Returns the cause of the last transaction that failed. A transaction that is rejected because an earlier one
+    /// failed does not replace the earlier cause.
+    pub fn cause(&self) -> Option<&Failure<P::Cause>>
+        ensures { option_copied result ≡ cause_of self.now }
+    {
+        self.cause.as_ref()
+    }
+
+    /// Sends what waits, and reads its acknowledgements. Returns `Stopped` if an exchange failed.
+    pub fn flush(&mut self) -> Result<(), Stopped>
+        ensures sent { sent_of self.new ≡ sent_of self.old }
+        ensures heard { heard_of self.new ≡ heard_of self.old }
+        ensures silent { is_ready self.old ≡ false → link_of self.new ≡ link_of self.old }
+        ensures empty { waiting_of self.new ≡ [] }
+    {
+        match self.batch.flush() {
+            Ok(()) => Ok(()),
+            Err(cause) => {
+                self.cause = Some(cause);
+                Err(Stopped)
+            }
+        }
+    }
+
+    /// Synchronizes the programmer after a transaction failed, as `Link::synchronize` does; a programmer that is in step
+    /// is left alone. The record of modifying commands and polls is kept. After a failure nothing waits.
+    pub fn synchronize(&mut self) -> Result<(), Failure<P::Cause>>
+        ensures sent { sent_of self.new ≡ sent_of self.old }
+        ensures heard { heard_of self.new ≡ heard_of self.old }
+        ensures ok { OnOk result (is_ready self.new ≡ true) }
+        ensures err { OnErr result (is_ready self.new ≡ false) }
+    {
+        if self.batch.link().sync() == Sync::InStep {
+            return Ok(());
+        }
+        self.batch.synchronize()
+    }
+}
+
+impl<P: Port + Drop> Bus for BatchingBus<P> {
+    ghost use Rattle.nor_serprog.specs.Batching.{link_of, waiting_of, cause_of, is_ready, state_of};
+
+    ghost state = { state_of };
+
+    ghost reaches = { λ batching honest. absurd (false≢true honest) };
+
+    fn transfer(&mut self, out: &[u8], reply: &mut [u8]) -> Result<(), Stopped>
+        ensures sends { Sends out.now (state_of self.old) (state_of self.new) }
+        ensures stops { IsHonestFor out.now (length reply.old) (state_of self.old)
+            → OnErr result (Stops out.now (state_of self.old) (state_of self.new)) }
+        ensures unread { IsHonestFor out.now (length reply.old) (state_of self.old)
+            → OnErr result (reply.new ≡ reply.old) }
+        ensures carries { IsHonestFor out.now (length reply.old) (state_of self.old)
+            → OnOk result (Carries out.now reply.new (state_of self.old) (state_of self.new)) }
+        ensures hears { Hears out.now reply.new result (state_of self.old) (state_of self.new) }
+        ensures silent { is_ready self.old ≡ false → link_of self.new ≡ link_of self.old }
+        ensures was_ready { OnOk result (is_ready self.old ≡ true) }
+        ensures ok { OnOk result (is_ready self.new ≡ true) }
+        ensures err { OnErr result ((link_of self.new ≡ link_of self.old) ⊎ (is_ready self.new ≡ false)) }
+        ensures sent { 0 < length reply.old → OnOk result (waiting_of self.new ≡ []) }
+        ensures cause { is_ready self.old ≡ true → OnErr result (IsSome (cause_of self.new)) }
+        ensures first_cause { is_ready self.old ≡ false → cause_of self.new ≡ cause_of self.old }
+    {
+        self.sent.note(out);
+        let was_in_step = self.batch.link().sync() == Sync::InStep;
+        match self.batch.transact(out, reply) {
+            Ok(()) => {
+                self.heard = heard_after(out, reply, self.heard);
+                Ok(())
+            }
+            Err(cause) => {
+                if was_in_step {
+                    self.cause = Some(cause);
+                }
+                Err(Stopped)
+            }
+        }
+    }
+}
