@@ -1,6 +1,6 @@
 -- An exchange over an honest port, from the effects of its calls.
-use Rattle.std.proofs.Common.{◌≡◌, ◌∙◌, ◌<◌, ◌≤◌, true, ◌++◌, ℕ, Bool, List, [], ◌∷◌, length, refl, sym, subst, ap, arith, inr, length-append}
-use Rattle.std.specs.Prelude.{◌⊎◌, slice_index, Result, Ok, Err, OnErr}
+use Rattle.std.proofs.Common.{◌≡◌, ◌∙◌, ◌<◌, ◌≤◌, true, ◌++◌, ℕ, Bool, List, [], ◌∷◌, length, refl, sym, subst, ap, arith, length-append}
+use Rattle.std.specs.Prelude.{slice_index, Result, Ok, Err, OnErr}
 use Rattle.std.proofs.lemmas.List.{append-nil}
 use Rattle.std.proofs.Math.Seq.{take-length}
 use Rattle.nor_chip.specs.Chip.{Chip}

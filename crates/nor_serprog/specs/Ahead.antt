@@ -1,5 +1,5 @@
 -- A bus that reads ahead, as contracts see it.
-use Rattle.std.specs.Prelude.{ℕ}
+use Rattle.std.specs.Prelude.{ℕ, List}
 use Rattle.nor_serprog.specs.declared.ahead.ReadAhead.{ReadAhead}
 
 -- The bus inside.
@@ -13,3 +13,7 @@ begin ahead = ahead.start
 -- The number of bytes that are held in memory.
 abbrev pub held : {B : Type 0} → ReadAhead B → ℕ
 held ahead = ahead.len
+
+-- The bytes in memory, of which the first `held` are data.
+abbrev pub block_of : {B : Type 0} → ReadAhead B → List ℕ
+block_of ahead = ahead.block

@@ -1,5 +1,7 @@
 -- A bus that reads data twice, as contracts see it.
-use Rattle.std.specs.Prelude.{◌==◌, ℕ, Bool, true, false, None, Some, List, [], ◌∷◌}
+use Rattle.std.specs.Prelude.{◌≡◌, ◌==◌, ℕ, Bool, false, Option, None, Some, length, List, [], ◌∷◌}
+use Rattle.std.proofs.Common.{Vec, Global}
+use Rattle.nor_serprog.specs.Reads.{address_in, part}
 use Rattle.nor_chip.specs.Bus.{BusState, Carries, unknown_bus}
 use Rattle.nor_serprog.specs.declared.twice.ReadTwice.{ReadTwice}
 
@@ -11,9 +13,16 @@ twice_of twice = twice.bus
 abbrev pub has_differed : {B : Type 0} → ReadTwice B → Bool
 has_differed twice = twice.differed
 
--- True if an image is expected.
-abbrev pub expects : {B : Type 0} → ReadTwice B → Bool
-expects twice = elim twice.expected [ None ↦ false | Some image ↦ true ]
+-- The image that is expected, if any.
+abbrev pub expected_of : {B : Type 0} → ReadTwice B → Option (Vec ℕ Global)
+expected_of twice = twice.expected
+
+-- The reply to a transaction that reads data equals the expected image at its address.
+abbrev pub Expects : {B : Type 0} → ReadTwice B → (out answer : List ℕ) → Type 0
+Expects twice out answer = elim twice.expected [
+  | None ↦ ⊥
+  | Some image ↦ answer ≡ part image.items (address_in out) (length answer)
+]
 
 -- The state of the bus: only what was sent over the bus inside, and the replies to polls, are known.
 abbrev pub view_of : BusState → BusState

@@ -1,27 +1,26 @@
 //! A bus that reads ahead.
-ghost use Rattle.std.specs.Prelude.{◌≡◌, ◌≤◌, ◌+◌, true, false, length, OnOk, OnErr, IfSome};
+ghost use Rattle.std.specs.Prelude.{◌≡◌, ◌≤◌, ◌+◌, ◌-◌, true, false, length, OnOk, OnErr, IfSome};
 ghost use Rattle.std.proofs.lemmas.Bool.{false≢true};
 ghost use Rattle.nor_chip.specs.Bus.{IsHonestFor, Sends, Stops, Carries, Hears};
-ghost use Rattle.nor_serprog.specs.Reads.{only_reads, reads_data, KeepsRecord};
+ghost use Rattle.nor_serprog.specs.Reads.{reads_data, address_in, part, KeepsRecord};
 ghost use Rattle.nor_serprog.specs.Twice.{view_of};
 
 use nor_chip::{Bus, Stopped};
 
-// The greatest length of a block. The size of a chip is a multiple of it (64 KiB to 16 MiB, a power of two), so no block
-// that begins and ends in the same 64 KiB reaches past the end of a chip.
+// The greatest length of a block. The size of a chip is a multiple of it (a power of two from 64 KiB), so a block that
+// lies between two of its multiples does not reach past the end of a chip.
 const LONGEST_BLOCK: u32 = 1 << 16;
 
 const SECTOR_LEN: u32 = 4096;
 
 const READ_DATA: u8 = 0x03;
 
-/// A bus that reads data (03h) ahead, if reads follow each other: each read that begins at the end of the block that was
-/// read last reads a block of twice the length, up to 64 KiB. Reads inside that block are answered from memory.
+/// A bus that reads data (03h) ahead, if reads follow each other. A read that begins where the last block ended reads a
+/// block of twice the length, up to 64 KiB. Reads inside the last block are answered from memory.
 ///
-/// The block is forgotten at each transaction that may modify the chip (every opcode except 03h, 05h, 35h, 4Bh, 5Ah and
-/// 9Fh), and if the bus inside stops. A block ends at a multiple of 64 KiB at the latest, so it never reaches past the
-/// end of a chip. It is never longer than the bus inside can read. A read that is longer than a block, or reaches past
-/// a multiple of 64 KiB, is passed on as it is.
+/// The block is forgotten at each transaction other than a read of data, and if the bus inside stops. A block ends at a
+/// multiple of 64 KiB at the latest, so it never reaches past the end of a chip. It is never longer than the bus inside
+/// can read. A read that is longer than such a block, or reaches past a multiple of 64 KiB, is passed on as it is.
 ///
 /// A read over this bus may be no transaction over the bus inside, or a longer one, so this bus is not honest as `Bus`
 /// defines it, even if the bus inside is. Nobody else may modify the chip meanwhile.
@@ -69,13 +68,15 @@ impl<B: Bus + Drop> ReadAhead<B> {
 }
 
 impl<B: Bus> ReadAhead<B> {
-    ghost use Rattle.nor_serprog.specs.Ahead.{ahead_of, begin, held};
+    ghost use Rattle.nor_serprog.specs.Ahead.{ahead_of, begin, held, block_of};
 
     // Reads `reply` out of the block, which is read first if it does not hold all of these bytes.
     fn read(&mut self, address: u32, reply: &mut [u8]) -> Result<(), Stopped>
         requires address { address ≤ 16777215 }
         requires len { length reply.old ≤ 65536 }
         ensures record { KeepsRecord (B.state (ahead_of self.old)) (B.state (ahead_of self.new)) }
+        ensures part { OnOk result
+            (reply.new ≡ part (block_of self.new) (address - begin self.new) (length reply.old)) }
     {
         self.hold(address, reply.len() as u32)?;
         let at = (address - self.start) as usize;
@@ -146,16 +147,14 @@ impl<B: Bus> Bus for ReadAhead<B> {
             (view_of (B.state (ahead_of self.old))) (view_of (B.state (ahead_of self.new)))) }
         ensures hears { Hears out.now reply.new result
             (view_of (B.state (ahead_of self.old))) (view_of (B.state (ahead_of self.new))) }
-        ensures forgets { only_reads out.now ≡ false → held self.new ≡ 0 }
+        ensures forgets { reads_data out.now ≡ false → held self.new ≡ 0 }
     {
         match data_address(out) {
             Some(address) if is_in_block(address, reply.len(), self.longest) => {
                 self.read(address, reply)
             }
             _ => {
-                if !only_reads(out) {
-                    self.len = 0;
-                }
+                self.len = 0;
                 self.bus.transfer(out, reply)
             }
         }
@@ -166,6 +165,7 @@ impl<B: Bus> Bus for ReadAhead<B> {
 pub(crate) fn data_address(out: &[u8]) -> Option<u32>
     ensures reads { IfSome result (λ address. reads_data out.now ≡ true) }
     ensures fits { IfSome result (λ address. address ≤ 16777215) }
+    ensures address { IfSome result (λ address. address ≡ address_in out.now) }
 {
     match out {
         [READ_DATA, high, middle, low] => Some(u32::from_be_bytes([0, *high, *middle, *low])),
@@ -179,11 +179,4 @@ fn is_in_block(address: u32, len: usize, longest: u32) -> bool
     ensures { result ≡ true → len ≤ 65536 }
 {
     len <= longest as usize && len <= (LONGEST_BLOCK - address % LONGEST_BLOCK) as usize
-}
-
-// Returns whether a transaction only reads: it begins with 03h, 05h, 35h, 4Bh, 5Ah or 9Fh.
-fn only_reads(out: &[u8]) -> bool
-    ensures { result ≡ only_reads out.now }
-{
-    matches!(out, [0x03 | 0x05 | 0x35 | 0x4B | 0x5A | 0x9F, ..])
 }

@@ -109,7 +109,8 @@ impl<P: Port + Drop> Batch<P> {
         ensures most { most_in self.new ≡ most_in self.old }
         ensures ok { OnOk result (is_in_step (batch_link self.new) ≡ true) }
         ensures err { OnErr result (is_in_step (batch_link self.new) ≡ false) }
-        ensures room { OnOk result ((length (waiting_in self.new) + len ≤ most_in self.new) ⊎ (waiting_in self.new ≡ [])) }
+        ensures room { OnOk result
+            ((length (waiting_in self.new) + len ≤ most_in self.new) ⊎ (waiting_in self.new ≡ [])) }
     {
         if self.waiting.len() + len <= self.most {
             return Ok(());

@@ -15,15 +15,15 @@ use nor_chip::{Bus, Sent, Stopped, heard_after};
 /// - `transfer` of a modifying command (06h, 01h, 02h, 20h, 52h, D8h, C7h) that reads no reply returns `Ok` before the
 ///   command is sent. If it fails later, the transaction that sends it returns `Stopped`.
 /// - Every other transaction first sends what waits, in order. If it returns `Ok`, nothing waits.
-/// - `flush` sends what waits. Without a later transaction or `flush` a command is never sent: a session or restore
+/// - `flush` sends what waits. Without `flush` or a later transaction a command is never sent. A session or restore
 ///   that returns `Ok` has polled last, so nothing waits then.
 /// - What waits fits into the programmer's serial buffer together with what is sent with it. Nothing waits if the
 ///   programmer does not report the size of that buffer.
 ///
 /// Over any port the modifying commands and the replies to polls are recorded; a modifying command is recorded before
 /// it waits. A transaction that sends more than 260 bytes, or reads more than the programmer can, is rejected, and
-/// changes nothing. After any other transaction that failed, nothing more is sent until `synchronize` returns `Ok`; what
-/// waited then is dropped.
+/// changes nothing. After any other transaction that failed, what waited is dropped, and nothing more is sent until
+/// `synchronize` returns `Ok`.
 ///
 /// The bus is not honest as `Bus` defines it, even over an honest port: a command that waits has not reached the chip.
 #[derive(Drop)]
@@ -84,8 +84,8 @@ impl<P: Port + Drop> BatchingBus<P> {
         }
     }
 
-    /// Synchronizes the programmer after a transaction failed, as `Link::synchronize` does; a programmer that is in step
-    /// is left alone. The record of modifying commands and polls is kept. After a failure nothing waits.
+    /// Synchronizes the programmer after a transaction failed, as `Link::synchronize` does. A programmer that is in
+    /// step is left alone. The record of modifying commands and polls is kept. After a failure nothing waits.
     pub fn synchronize(&mut self) -> Result<(), Failure<P::Cause>>
         ensures sent { sent_of self.new ≡ sent_of self.old }
         ensures heard { heard_of self.new ≡ heard_of self.old }

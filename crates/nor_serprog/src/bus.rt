@@ -72,8 +72,8 @@ impl<P: Port + Drop> SerprogBus<P> {
         self.cause.as_ref()
     }
 
-    /// Synchronizes the programmer after a transaction failed, as `Link::synchronize` does. If the link is in step,
-    /// nothing is sent. The record of modifying commands and polls is kept.
+    /// Synchronizes the programmer after a transaction failed, as `Link::synchronize` does. A programmer that is in
+    /// step is left alone. The record of modifying commands and polls is kept.
     ///
     /// The chip may have carried out the transaction that failed, or not.
     pub fn synchronize(&mut self) -> Result<(), Failure<P::Cause>>

@@ -1,6 +1,7 @@
 //! Exchanges with a programmer: a frame, and the reply to it.
 ghost use Rattle.std.specs.Prelude.{◌≡◌, ◌≤◌, ◌+◌, ◌⊎◌, true, false, length, ◌↔◌, IsOk, IfOk, OnOk, OnErr};
-ghost use Rattle.nor_serprog.specs.Device.{IsIdle, IsSent, IsCutOff, IfOperates, Exchanged, Interrupted, AnswerBegins, TakesAnswer, MissesAnswer};
+ghost use Rattle.nor_serprog.specs.Device.{IsIdle, IsSent, IsCutOff, IfOperates, Exchanged, Interrupted};
+ghost use Rattle.nor_serprog.specs.Device.{AnswerBegins, TakesAnswer, MissesAnswer};
 ghost use Rattle.nor_serprog.specs.Frame.{Fits, IsFrame, Reads};
 ghost use Rattle.nor_serprog.specs.Link.{port_of, sync_of, is_in_step, is_cut};
 
@@ -130,8 +131,8 @@ impl<P: Port + Drop> Link<P> {
         }
     }
 
-    /// Returns why a command that is too long is not sent: `TooLong`, or `OutOfStep` or `CutFrame` if the link isn't in
-    /// step.
+    /// Returns why a command that is too long is not sent: `TooLong`, or `OutOfStep` or `CutFrame` if the link is out
+    /// of step.
     pub(crate) fn rejection(&self) -> Failure<P::Cause> {
         match self.sync {
             Sync::InStep => Failure::TooLong,
@@ -171,7 +172,7 @@ impl<P: Port + Drop> Link<P> {
     /// many bytes as `reply` holds. Before the last frame there are `earlier` frames, which request no reply bytes.
     ///
     /// After an error nothing more is sent, until `synchronize` returns `Ok`; the programmer may have carried out any
-    /// of the frames. If the link was out of step, the call returns `OutOfStep` or `CutFrame` and does not use the port.
+    /// of the frames. If the link was out of step, the call returns `OutOfStep` or `CutFrame` and uses no port.
     pub(crate) fn exchange_batch(
         &mut self,
         frames: &[u8],

@@ -1,8 +1,8 @@
 //! A bus that reads data twice.
-ghost use Rattle.std.specs.Prelude.{◌≡◌, ◌≢◌, ◌≤◌, true, false, length, OnOk, OnErr};
+ghost use Rattle.std.specs.Prelude.{◌≡◌, ◌≢◌, ◌≤◌, ◌⊎◌, true, false, ℕ, List, length, OnOk, OnErr};
 ghost use Rattle.std.proofs.lemmas.Bool.{false≢true};
 ghost use Rattle.nor_chip.specs.Bus.{IsHonestFor, Sends, Stops, Carries, Hears, unknown_bus};
-ghost use Rattle.nor_serprog.specs.Twice.{twice_of, has_differed, expects, begins_read, ReadsTwice, view_of};
+ghost use Rattle.nor_serprog.specs.Twice.{twice_of, has_differed, expected_of, Expects, begins_read, ReadsTwice, view_of};
 
 use crate::ahead::data_address;
 use nor_chip::{Bus, Stopped};
@@ -21,8 +21,8 @@ const READ_DATA: u8 = 0x03;
 ///
 /// An error that is the same in both reads is not detected. A read over this bus is two transactions over the bus
 /// inside, so this bus is not honest as `Bus` defines it, even if the bus inside is. If the bus inside is honest, a
-/// read that succeeds had the same reply twice. A read of at most 65,536 bytes then fails only if no transaction is left
-/// afterwards.
+/// read that succeeds had the same reply twice, or returned the expected bytes. A read of at most 65,536 bytes then
+/// fails only if no transaction is left afterwards.
 #[derive(Drop)]
 pub struct ReadTwice<B> {
     bus: B,
@@ -36,7 +36,7 @@ impl<B: Bus + Drop> ReadTwice<B> {
     pub fn new(bus: B) -> ReadTwice<B>
         ensures bus { twice_of result ≡ bus }
         ensures differed { has_differed result ≡ false }
-        ensures expected { expects result ≡ false }
+        ensures expected { (out answer : List ℕ) → Expects result out answer → ⊥ }
     {
         ReadTwice {
             bus,
@@ -78,7 +78,7 @@ impl<B: Bus + Drop> ReadTwice<B> {
 impl<B> ReadTwice<B> {
     // Returns whether the reply to a read equals the expected bytes at its address.
     fn is_expected(&self, out: &[u8], reply: &[u8]) -> bool
-        ensures { expects self.now ≡ false → result ≡ false }
+        ensures { result ≡ true → Expects self.now out.now reply.now }
     {
         match (&self.expected, data_address(out)) {
             (Some(image), Some(address)) => {
@@ -100,20 +100,21 @@ impl<B: Bus> Bus for ReadTwice<B> {
         ensures stops { IsHonestFor out.now (length reply.old) (view_of (B.state (twice_of self.old)))
             → OnErr result
             (Stops out.now (view_of (B.state (twice_of self.old))) (view_of (B.state (twice_of self.new)))) }
-        ensures unread { IsHonestFor out.now (length reply.old) (view_of (B.state (twice_of self.old))) → OnErr result (reply.new ≡ reply.old) }
+        ensures unread { IsHonestFor out.now (length reply.old) (view_of (B.state (twice_of self.old)))
+            → OnErr result (reply.new ≡ reply.old) }
         ensures carries { IsHonestFor out.now (length reply.old) (view_of (B.state (twice_of self.old)))
             → OnOk result (Carries out.now reply.new
             (view_of (B.state (twice_of self.old))) (view_of (B.state (twice_of self.new)))) }
         ensures hears { Hears out.now reply.new result
             (view_of (B.state (twice_of self.old))) (view_of (B.state (twice_of self.new))) }
-        ensures once { IsHonestFor out.now (length reply.old) (B.state (twice_of self.old)) → begins_read out.now ≡ false
-            → OnOk result (Carries out.now reply.new (B.state (twice_of self.old)) (B.state (twice_of self.new))) }
-        ensures twice { IsHonestFor out.now (length reply.old) (B.state (twice_of self.old)) → begins_read out.now ≡ true
-            → expects self.old ≡ false
-            → OnOk result (ReadsTwice out.now reply.new (B.state (twice_of self.old)) (B.state (twice_of self.new))) }
-        ensures no_difference { IsHonestFor out.now (length reply.old) (B.state (twice_of self.old)) → length reply.old ≤ 65536
-            → OnErr result ((B.state (twice_of self.new)).left ≡ 0) }
-        ensures expected { expects self.new ≡ expects self.old }
+        ensures once { IsHonestFor out.now (length reply.old) (B.state (twice_of self.old))
+            → begins_read out.now ≡ false → OnOk result (Carries out.now reply.new (B.state (twice_of self.old)) (B.state (twice_of self.new))) }
+        ensures twice { IsHonestFor out.now (length reply.old) (B.state (twice_of self.old))
+            → begins_read out.now ≡ true → OnOk result (Expects self.old out.now reply.new
+            ⊎ ReadsTwice out.now reply.new (B.state (twice_of self.old)) (B.state (twice_of self.new))) }
+        ensures no_difference { IsHonestFor out.now (length reply.old) (B.state (twice_of self.old))
+            → length reply.old ≤ 65536 → OnErr result ((B.state (twice_of self.new)).left ≡ 0) }
+        ensures expected { expected_of self.new ≡ expected_of self.old }
         ensures remembers { has_differed self.old ≡ true → has_differed self.new ≡ true }
     {
         if !reads_data(out) {

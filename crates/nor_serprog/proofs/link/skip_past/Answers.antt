@@ -1,4 +1,4 @@
-use Rattle.std.proofs.Common.{◌∙◌, arith, refl}
+use Rattle.std.proofs.Common.{◌∙◌, arith}
 use Rattle.nor_serprog.proofs.Exchanges.{uses_none, uses_then}
 use Rattle.nor_serprog.proofs.link.skip_past.Goals as goal
 

@@ -1,4 +1,4 @@
-use Rattle.std.proofs.Common.{◌≡◌, ◌∙◌, List, ℕ, arith, length, subst, sym, true}
+use Rattle.std.proofs.Common.{◌≡◌, ◌∙◌, List, ℕ, arith, length, subst, sym, inr}
 use Rattle.std.proofs.lemmas.Grind.{common_steps}
 use Rattle.nor_chip.specs.Bus.{Carries}
 use Rattle.nor_serprog.proofs.SameReply.{same_reply, fits_again}
@@ -6,16 +6,17 @@ use Rattle.nor_serprog.proofs.twice.ReadTwiceBus.transfer.Goals as goal
 
 -- Both reads had the reply that is returned.
 pub returns-clause-twice : goal.returns-clause-twice
-returns-clause-twice g c honest reads expects =
+returns-clause-twice g c honest reads =
     let P : List ℕ → Type 0 =
     λ (reply : List ℕ).
     Carries c.args.out.now reply (g.B.Bus.state c.transfer-2.new.self) (g.B.Bus.state c.transfer-3.new.self) in
-    record {
+    inr
+    (record {
       between = g.B.Bus.state c.transfer-2.new.self;
       first = c.in_ok-transfer.ensures.carries honest;
       again = subst P (c.are_same.ensures.same c.if-not-are_same.false) (c.in_ok-transfer-2.ensures.carries (fits_again _ _ _ _ _ c.transfer-2.ensures.sends.nature
           (grind (arith, common_steps, c.transfer-2.auto.reply)) honest));
-    }
+    })
 
 -- If the bus inside is honest, the second reply equals the first one.
 pub returns-then-not-are_same-clause-no_difference : goal.returns-then-not-are_same-clause-no_difference
