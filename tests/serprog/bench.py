@@ -1,6 +1,8 @@
 """A chip at a programmer, the program that is tested, and the checks of what it prints and sends."""
+import copy
 import os
 import subprocess
+import time
 from pathlib import Path
 from typing import NamedTuple
 
@@ -53,6 +55,7 @@ class Bench:
         self.program, self.folder, self.part = program, Path(folder), part
         self.chip = Chip(part, data, status, unique, scale)
         self.server, self.command = None, ""
+        self.before, self.image = None, None
         self.plug(**traits)
 
     def plug(self, **traits):
@@ -76,6 +79,9 @@ class Bench:
 
     def start_words(self, words):
         self.command = " ".join(map(str, words[1:]))
+        self.before = copy.deepcopy(self.chip)
+        names = [name for option, name in zip(words, words[1:]) if option in ("-w", "-v")]
+        self.image = self.path(names[0]).read_bytes() if names and self.path(names[0]).exists() else None
         process = subprocess.Popen(words, cwd=self.folder, stdin=subprocess.DEVNULL, stdout=subprocess.PIPE,
                                    stderr=subprocess.PIPE, env=dict(os.environ, LC_ALL="C"))
         self.server.kill_at(process)
@@ -116,10 +122,14 @@ class Bench:
         """Returns the transactions of the last run as lines of a trace."""
         return [trace_line(*it) for it in self.server.log]
 
+    def carried(self, plan):
+        """Returns the transactions over the wire of a plan that is the plan of the last run."""
+        return reference.carried(plan, self.server.longest_read(), copy.deepcopy(self.before), self.image)
+
     def check_frames(self, plan):
         """Checks that the bytes of the last run after the handshake are exactly the frames of this plan."""
         _, rest = split_handshake(self.server.received)
-        wanted = reference.frames(plan)
+        wanted = reference.frames(self.carried(plan))
         if rest == wanted:
             return
         at = next((at for at, (one, other) in enumerate(zip(rest, wanted)) if one != other),
@@ -127,6 +137,13 @@ class Bench:
         raise Differs(f"the frames differ at byte {at} of {len(rest)}, and {len(wanted)} were wanted:",
                       f"    got    {rest[max(0, at - 12) : at + 12].hex(' ')}",
                       f"    wanted {wanted[max(0, at - 12) : at + 12].hex(' ')}")
+
+    def check_carried(self, number):
+        """Checks how many transactions the programmer carried out, once it is done with those that it received."""
+        end = time.monotonic() + 2
+        while len(self.server.log) < number and time.monotonic() < end:
+            time.sleep(0.01)
+        check("transactions that were carried out", len(self.server.log), number)
 
     def check_chip(self, data, status=b"\0\0"):
         check_data("the chip", bytes(self.chip.data), data)

@@ -63,7 +63,7 @@ class Clients:
             seconds = time.monotonic() - begun
             if done.returncode != 0:
                 sys.exit(f"{client} {job}: status {done.returncode}\n{done.stdout[-2000:]}{done.stderr[-2000:]}")
-            return Run(seconds, len(server.log), server.ways, len(server.received) + server.sent)
+            return Run(seconds, len(server.log), len(server.ways), len(server.received) + server.sent)
         finally:
             server.close()
 

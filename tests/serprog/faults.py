@@ -7,6 +7,7 @@ import os
 
 import reference
 from bench import check
+from chip import Chip
 from options import images
 
 STTY = "stty -F DEV raw -echo clocal -hupcl min 0 time 50"
@@ -169,14 +170,17 @@ def needs_wide_limits(start):
 def reports_causes(start):
     """A line after error 12 has the cause, and says what to do. After a change that is to restore."""
     old, new = images("reports_causes")
-    seal = len(reference.identify("TINY64")) + 32
+    wire = reference.carried(reference.session("TINY64", old, new), chip=Chip("TINY64", old), image=new)
+    seal = wire.index(reference.WRITE_ENABLE)
     for event, text in CAUSES.items():
         for at in 3, seal, seal + 5:
             bench = start(data=old, timeout=SOON)
             bench.write("new", new)
             got = bench.run("-w", "new", "--journal", "j", events={at: event})
             bench.compare(got, [], ["Error 12: stopped.", f"Cause: {text}. {UNPLUG} {RESTORE}"])
-            check("transactions that were carried out", len(bench.server.log), at - (event == "nak"))
+            # The rest of a batch is on its way already.
+            batch = next(at for at in range(at, len(wire) + 1) if wire[at - 1][1])
+            bench.check_carried(batch - (event == "nak"))
         got = bench.run("-r", "out", events={9: event})
         bench.compare(got, [], ["Error 12: stopped.", f"Cause: {text}. {UNPLUG}"])
 
@@ -198,7 +202,7 @@ def reads_twice(start):
     bench = start(data=old)
     bench.write("new", new)
     line = "Cause: two reads of the same bytes differ. Lower the clock (spispeed=), shorten the wires, and try again."
-    for first in 8, 9, 20:
+    for first in 8, 10, 13:
         bench.server.traits.flips = (first,)
         got = bench.run("-w", "new", "--journal", f"j{first}")
         check("the lines", (got.out, got.err[:1], got.status), ([], ["Error 12: stopped."], 1))
@@ -208,6 +212,9 @@ def reads_twice(start):
         whole = reference.journal("TINY64", old, (1, 2, 7, 15))
         check("the journal is a prefix", journal == whole[: len(journal)] and len(journal) < len(whole), True)
         bench.expect("--restore", f"j{first}", err=["Error 15: journal fault 1."])
+    bench.write("same", old)
+    bench.server.traits.flips = (7,)
+    check("a flipped bit", bench.run("-v", "same").err[-1][: len(line)], line)
 
 
 CASES = [needs_a_device, needs_a_character_device, locks_the_device, holds_its_lock, needs_an_answer, needs_its_step,

@@ -8,7 +8,7 @@ from typing import NamedTuple
 
 import reference
 from bench import Bench, Differs, check
-from chip import SECTOR
+from chip import SECTOR, Chip
 from options import images
 
 # The sectors that a session changes. In sector 1 bits only change from 1 to 0. The others are erased, 8 to 15 by one
@@ -43,27 +43,27 @@ def chip_images(changed):
     return bytes(old), bytes(new)
 
 
-def numbered(plan):
-    """Returns the plan with data read twice, as it is counted on the wire."""
-    return [it for it in plan for _ in range(2 if it[0][0] == 0x03 else 1)]
+def session_wire(old, new):
+    """Returns the transactions over the wire of a session."""
+    return reference.carried(reference.session("TINY64", old, new), chip=Chip("TINY64", old), image=new)
 
 
 def losses():
     """Returns the losses: at each transaction of a session, and at each of a restore after a session that ended."""
     old, new = chip_images(FEW)
-    wire = numbered(reference.session("TINY64", old, new))
-    back = numbered(reference.restore("TINY64", new, old, FEW))
+    wire = session_wire(old, new)
+    back = reference.carried(reference.restore("TINY64", new, old, FEW))
     found = [Loss(event, at) for event in ("kill", "lose") for at in range(1, len(wire) + 1)]
     found += [Loss(event, 0, at) for event in ("kill", "lose") for at in range(1, len(back) + 1)]
-    # A session that is stopped after its first changes, and a restore that is stopped, too.
-    middle = range(sealed_after(wire) + 6, len(wire) + 1, 4)
+    # A session that is stopped in the middle, and its restore too.
+    middle = range(sealed_after(wire) + 6, len(wire) + 1)
     found += [Loss(event, at, at // 2) for event in ("kill", "lose") for at in middle]
     return found + rare_losses()
 
 
 def rare_losses():
     """Returns losses of power in an operation, and frames that are cut in it. The programmer is plugged in again."""
-    wire = numbered(reference.session("TINY64", *chip_images(MANY)))
+    wire = session_wire(*chip_images(MANY))
     changing = [at for at, (out, _) in enumerate(wire, 1) if out[0] in (0x02, 0x20, 0x52, 0xD8, 0xC7)]
     found = [Loss("power", at, 0, MANY) for at in changing]
     return found + [Loss(f"cut {length}", at, 0, MANY) for at in changing for length in (1, 7, 8, 10)]
@@ -95,7 +95,7 @@ def one_loss(bench, loss, old, new):
     else:
         check("the session", bench.run("-w", "new", "--journal", "j").status, 0)
         bench.check_chip(new)
-    wire = numbered(reference.session("TINY64", old, new))
+    wire = session_wire(old, new)
     journal = reference.journal("TINY64", old, loss.changed)
     if 0 < loss.session <= sealed_after(wire):
         bench.check_chip(old)

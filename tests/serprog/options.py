@@ -96,6 +96,22 @@ def reads_regions(start):
     bench.check_frames(reference.read_out("TINY64", [1, *range(8, 16)]))
 
 
+def reads_inside(start):
+    """No read reaches past the end of the chip, nor is longer than the programmer allows."""
+    size, old = 1 << 23, random.Random("reads_inside").randbytes(1 << 23)
+    for longest, sectors in (65536, 40), (65536, 3), (5000, 9), (9000, 9), (20000, 21), (0, 33):
+        bench = start("W25Q64FV", data=old, longest_read=longest)
+        first = size // SECTOR - sectors
+        bench.write("layout", b"%x:%x last\n" % (first * SECTOR, size - 1))
+        bench.expect("-r", "out", "-l", "layout", "-i", "last",
+                     out=[reference.found("W25Q64FV"), f"Read {size} bytes."])
+        reads = [(int.from_bytes(out[1:], "big"), len(reply)) for out, reply in bench.server.log if out[0] == 0x03]
+        check("reads past the end", [it for it in reads if sum(it) > size], [])
+        check("reads that are too long", [it for it in reads if it[1] > (longest or 1 << 24)], [])
+        bench.check_file("out", b"\xff" * (first * SECTOR) + old[first * SECTOR :])
+        bench.check_frames(reference.read_out("W25Q64FV", range(first, size // SECTOR)))
+
+
 def verifies(start):
     """-v compares, and error 14 has the first address that differs."""
     old, new = images("verifies")
@@ -103,6 +119,10 @@ def verifies(start):
     bench.write("same", old)
     bench.write("other", old[:0x1234] + bytes([old[0x1234] ^ 1]) + new[0x1235:])
     bench.expect("-v", "same", out=[reference.found("TINY64"), "Verified."])
+    # What equals the image is read once.
+    plan = reference.probe("TINY64") + [reference.read_sector(it) for it in range(16)]
+    bench.check_frames(plan)
+    check("reads", sum(out[0] == 0x03 for out, _ in bench.server.log), 5)
     bench.expect("-v", "other", err=["Error 14: bytes differ at 0x001234."])
     bench.check_chip(old)
 
@@ -238,6 +258,12 @@ def erases_regions(start):
         "Found SFDP (fe1010), 65536 bytes.", "Done: touched 9, erases 2, programs 0, transactions 31."])
     bench.check_chip(new)
     bench.check_frames(reference.erasure("TINY64", bytes(SIZE), new, [0, *range(8, 16)]))
+    # The sector that was read last is read again after the erase.
+    bench = start(data=bytes(SIZE))
+    bench.write("layout", LAYOUT)
+    bench.expect("-E", "-l", "layout", "-i", "first", "--journal", "j", out=[
+        "Found SFDP (fe1010), 65536 bytes.", "Done: touched 1, erases 1, programs 0, transactions 12."])
+    bench.check_frames(reference.erasure("TINY64", bytes(SIZE), b"\xff" * SECTOR + bytes(SIZE - SECTOR), [0]))
 
 
 def prints_the_size(start):
@@ -289,6 +315,6 @@ def protects(start):
 
 
 CASES = [identifies, sets_the_clock, selects_a_chip, keeps_to_the_protocol, names_the_chip, reads, reads_regions,
-         verifies, verifies_regions, writes, writes_without_verification, writes_regions, writes_at_random,
+         reads_inside, verifies, verifies_regions, writes, writes_without_verification, writes_regions, writes_at_random,
          writes_large_chips, changes_nothing, erases, erases_regions, prints_the_size, shows_protection, lists_ranges,
          protects]

@@ -1,7 +1,7 @@
 """What flashnor sends and writes, computed from docs/SPECIFICATION.md for a chip that is never busy.
 
-A plan is a list of transactions, each the bytes sent and the number of bytes received. `frames` makes the bytes of the
-serprog protocol from it. None of this is taken from the program.
+A plan is a list of transactions, each the bytes sent and the number of bytes received. `carried` makes those over the
+wire from it, and `frames` the bytes of the serprog protocol from these. None of this is taken from the program.
 """
 import hashlib
 
@@ -11,6 +11,9 @@ POLL = (b"\x05", 1)
 READ_STATUS_2 = (b"\x35", 1)
 WRITE_ENABLE = (b"\x06", 0)
 PROTECTION_1 = 0x7C
+# The greatest length of a block that is read ahead, and the opcodes that modify a chip.
+BLOCK = 65536
+CHANGING = (0x06, 0x01, 0x02, *ERASES, 0xC7)
 
 
 def command(opcode, address=None, dummies=0):
@@ -18,13 +21,54 @@ def command(opcode, address=None, dummies=0):
     return bytes([opcode]) + (b"" if address is None else address.to_bytes(3, "big")) + bytes(dummies)
 
 
-def frames(plan):
-    """Returns the serprog frames of a plan (O_SPIOP). Data is read twice."""
-    found = bytearray()
+def carried(plan, longest=BLOCK, chip=None, image=None):
+    """Returns the transactions over the wire of a plan, for a programmer that reads at most `longest` bytes in one.
+
+    Data is read ahead: a read that goes on where the last block ended reads a block of twice the length, up to the limit
+    and the next multiple of 64 KiB. A block is forgotten at each other transaction. It is read twice,
+    unless it equals the image that is expected; `chip` is a model of the chip before the plan, which is changed.
+    """
+    found, begin, end, step = [], 0, 0, 0
     for out, replies in plan:
-        frame = b"\x13" + len(out).to_bytes(3, "little") + replies.to_bytes(3, "little") + out
-        found += frame * (2 if out[0] == READ_DATA else 1)
+        if out[0] != READ_DATA:
+            end = begin
+            found.append((out, replies))
+            if chip:
+                chip.transfer(out, replies)
+            continue
+        at = int.from_bytes(out[1:], "big")
+        if at < begin or at + replies > end:
+            step = min(2 * step, longest // SECTOR * SECTOR) if at == end > begin else replies
+            begin, end = at, at + max(replies, min(step, BLOCK - at % BLOCK))
+            is_expected = image is not None and chip.read_data(begin, end - begin) == image[begin:end]
+            found += [(out, end - begin)] * (1 if is_expected else 2)
+    return found
+
+
+def frames(transactions):
+    """Returns the serprog frames of these transactions (O_SPIOP)."""
+    found = bytearray()
+    for out, replies in transactions:
+        found += b"\x13" + len(out).to_bytes(3, "little") + replies.to_bytes(3, "little") + out
     return bytes(found)
+
+
+def writes(plan, buffer):
+    """Returns the number of bytes of each write to the port for these transactions, with a serial buffer of this size.
+
+    A modifying command without a reply is sent together with the next transaction, if both fit into the buffer.
+    """
+    found, waiting = [], 0
+    for out, replies in plan:
+        length = 7 + len(out)
+        if waiting and waiting + length > buffer:
+            found.append(waiting)
+            waiting = 0
+        waiting += length
+        if replies or out[0] not in CHANGING or length > buffer:
+            found.append(waiting)
+            waiting = 0
+    return found
 
 
 def probe(part):

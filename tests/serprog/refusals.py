@@ -182,6 +182,21 @@ def uses_small_programmers(start):
         bench.check_frames(plan)
 
 
+def fills_no_buffer(start):
+    """Modifying commands share a write to the port with the next poll, if all fit into the serial buffer."""
+    old = bytes(SECTOR) + b"\xff" * (SIZE - SECTOR)
+    new = b"\x01" + old[1:SECTOR] + bytes(range(255)) * 2 + b"\xff" * (SIZE - SECTOR - 510)
+    plan = reference.session("TINY64", old, new)
+    for buffer in 65535, 283, 282, 274, 64, 18, 15, 8, 0:
+        bench = start(data=old, latency=0.002, buffer=buffer, lacks=() if buffer else (0x04,))
+        bench.write("new", new)
+        bench.expect("-w", "new", "--journal", "j", out=[reference.found("TINY64"), reference.done(plan, old, new)])
+        wanted = reference.writes(bench.carried(plan), buffer)
+        check(f"bytes of each write, with a buffer of {buffer}", bench.server.ways[-len(wanted) :], wanted)
+        bench.check_frames(plan)
+        bench.check_chip(new)
+
+
 def takes_stale_bytes(start):
     """Bytes that an earlier client left unread don't disturb a run."""
     for stale in b"\x06", b"\x15\x06" * 20, bytes(range(256)) * 8:
@@ -238,4 +253,4 @@ def prints_help(start):
 
 CASES = [unlocks, refuses_protected, refuses_locked, restores, restores_the_named_chip, restores_no_other,
          keeps_old_journals, refuses_images, refuses_regions, needs_a_chip, waits_for_the_chip, uses_small_programmers,
-         takes_stale_bytes, refuses_arguments, helps_with_the_device, prints_help]
+         fills_no_buffer, takes_stale_bytes, refuses_arguments, helps_with_the_device, prints_help]

@@ -27,6 +27,13 @@ MISTAKES = {
     "seals late": "writes",
     "does not enable writes": "erases",
     "overwrites journals": "keeps_old_journals",
+    "keeps blocks at programs": "writes",
+    "keeps blocks at erases": "erases_regions",
+    "keeps blocks at status writes": "unlocks",
+    "reads past the limit": "uses_small_programmers",
+    "reads past the end": "reads_inside",
+    "overfills the buffer": "fills_no_buffer",
+    "sends one by one": "fills_no_buffer",
 }
 RIGHT = sorted(set(MISTAKES.values()))
 

@@ -92,7 +92,7 @@ class Server:
         if events is not None:
             self.traits.events = events
         self.received, self.commands, self.log = bytearray(), [], []
-        self.ways, self.sent, self.is_mute = 0, 0, self.traits.is_silent
+        self.ways, self.sent, self.is_mute = [], 0, self.traits.is_silent
         self.has_victim = threading.Event()
         self.killed = False
 
@@ -156,6 +156,10 @@ class Server:
         """Returns the commands that the programmer has."""
         return [it for it in COMMANDS + [S_SPI_CS] * bool(self.traits.selects) if it not in self.traits.lacks]
 
+    def longest_read(self):
+        """Returns the greatest number of bytes that a transaction reads, as a client knows it."""
+        return (0x11 in self.known() and self.traits.longest_read) or 1 << 24
+
     def command_map(self):
         bits = sum(1 << opcode for opcode in self.known())
         return bits.to_bytes(32, "little")
@@ -163,7 +167,7 @@ class Server:
     def serve_transaction(self):
         """Reads the rest of an O_SPIOP, carries the transaction out, and replies, except for the events."""
         number = len(self.log) + 1
-        event = self.traits.events.get(number, "")
+        event = self.traits.events.pop(number, "")
         if event.startswith("cut"):
             self.take(int(event.split()[1]) - 1)
             raise Unplugged
@@ -220,7 +224,7 @@ class Server:
             time.sleep(self.traits.latency)
         got = os.read(self.port, 65536)
         self.received += got
-        self.ways += 1
+        self.ways.append(len(got))
         self.pay(len(got))
         return got
 

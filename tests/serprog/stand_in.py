@@ -256,9 +256,11 @@ def run(words):
     if "-h" in given:
         return [HELP]
     keys = check_usage(given)
+    image = b""
     for option in ("-w", "-v", "-l", "--restore"):
         if option in given:
-            read_file(given[option])
+            content = read_file(given[option])
+            image = content if option in ("-w", "-v") else image
     regions(given)
     if "--restore" in given and len(Path(given["--restore"]).read_bytes()) % (SECTOR + 4) not in (61,):
         raise Fault("Error 15: journal fault 1.")
@@ -266,6 +268,7 @@ def run(words):
     if journal and Path(journal).exists() and MISTAKE != "overwrites journals":
         raise Fault(f"File fault 4: {journal}.")
     job = Job(Link(keys["dev"], keys), given)
+    job.link.image = image
     if journal:
         Path(journal).touch()
     try:

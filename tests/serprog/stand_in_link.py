@@ -5,7 +5,8 @@ import re
 import stat
 
 import reference
-from chip import PARTS
+from chip import ERASES, PARTS, SECTOR
+from reference import BLOCK
 
 MISTAKE = os.environ.get("MISTAKE", "")
 STTY = "stty -F {} raw -echo clocal -hupcl min 0 time 50"
@@ -13,6 +14,9 @@ ROW = bytes.fromhex("10100010000010101000000010001010")
 FIRMWARE = ". Install other firmware on it."
 OPERATIONS = ("-r", "-w", "-v", "-E", "--flash-size", "--wp-status", "--wp-list", "--wp-range", "--restore")
 TAKE_VALUES = ("-p", "-c", "-r", "-w", "-v", "--wp-range", "--restore", "-l", "-i", "--journal")
+# Mistakes that don't forget what was read at these opcodes.
+KEPT = {"keeps blocks at programs": (0x05, 0x06, 0x02), "keeps blocks at erases": (0x05, 0x06, *ERASES, 0xC7),
+        "keeps blocks at status writes": (0x05, 0x06, 0x01)}
 HELP = "options: -h -n --unlock -E --flash-size --wp-status --wp-list " + " ".join(TAKE_VALUES)
 
 
@@ -86,6 +90,8 @@ class Link:
 
     def __init__(self, path, keys):
         self.path, self.count, self.status = path, 0, 0
+        self.waiting, self.frames, self.buffer, self.longest, self.image = b"", 0, 0, BLOCK, b""
+        self.forget()
         self.device = self.open(path)
         try:
             self.synchronize()
@@ -108,6 +114,9 @@ class Link:
         except BlockingIOError:
             raise Fault(f"Programmer fault 3: {path} is in use by another program. End that program first.") from None
         return device
+
+    def forget(self):
+        self.begin, self.block, self.step = 0, b"", 0
 
     def send(self, content):
         try:
@@ -156,9 +165,12 @@ class Link:
 
     def exchange(self, frame, length):
         self.send(frame)
+        return self.answer(frame[0], length)
+
+    def answer(self, opcode, length):
         first = self.receive(1)[0]
         if first == 0x15:
-            raise Stopped(f"the programmer refused command {frame[0]:02X}h")
+            raise Stopped(f"the programmer refused command {opcode:02X}h")
         if first != 6:
             raise Stopped(f"the programmer answered {first:02X}h, which is neither ACK nor NAK")
         return self.receive(length)
@@ -210,18 +222,61 @@ class Link:
         if reads < 4096:
             raise Fault(f"Programmer fault 9: the programmer reads at most {reads} bytes in a transaction, and a "
                         "sector needs 4096" + FIRMWARE)
+        if MISTAKE != "reads past the limit":
+            self.longest = min(reads, BLOCK) // SECTOR * SECTOR
         size = limit(0x04, 2)
+        self.buffer = min(size, 512) if self.has(0x04) else 0
         if size < 267 and not self.has(0x08):
             raise Fault(f"Programmer fault 9: the serial buffer of the programmer has {size} bytes, and a page program "
                         "needs 267" + FIRMWARE)
 
     def transfer(self, out, length):
         self.count += 1
-        lengths = len(out).to_bytes(3, "little") + length.to_bytes(3, "little")
-        reply = self.exchange(b"\x13" + lengths + out, length)
-        if out[0] == 3 and MISTAKE != "reads once" and self.exchange(b"\x13" + lengths + out, length) != reply:
+        if out[0] == 3:
+            return self.read(int.from_bytes(out[1:], "big"), length)
+        if out[0] not in KEPT.get(MISTAKE, ()):
+            self.forget()
+        return self.operate(out, length)
+
+    def read(self, at, length):
+        """Returns bytes of the chip. Reads a block if the last one doesn't have them."""
+        end = self.begin + len(self.block)
+        if at < self.begin or at + length > end:
+            self.step = min(2 * self.step, self.longest) if self.block and at == end else length
+            border = BLOCK if MISTAKE == "reads past the end" else BLOCK - at % BLOCK
+            self.block = self.read_twice(at, max(length, min(self.step, border)))
+            self.begin = at
+        return self.block[at - self.begin :][:length]
+
+    def read_twice(self, at, length):
+        """Returns data. It is read twice, unless it equals the image."""
+        out = b"\x03" + at.to_bytes(3, "big")
+        block = self.operate(out, length)
+        if MISTAKE == "reads once" or block == self.image[at : at + length]:
+            return block
+        if self.operate(out, length) != block:
             raise Stopped("two reads of the same bytes differ")
-        return reply
+        return block
+
+    def operate(self, out, length):
+        """Makes a transaction. A modifying command waits for the next one, if both fit into the serial buffer."""
+        frame = b"\x13" + len(out).to_bytes(3, "little") + length.to_bytes(3, "little") + out
+        if len(self.waiting) + len(frame) > self.buffer and MISTAKE != "overfills the buffer":
+            self.flush()
+        self.waiting, self.frames = self.waiting + frame, self.frames + 1
+        waits = not length and out[0] in reference.CHANGING and len(frame) <= self.buffer and MISTAKE != "sends one by one"
+        return b"" if waits else self.flush(length)
+
+    def flush(self, length=0):
+        """Sends the frames that wait, and returns the reply to the last one."""
+        sent, count = self.waiting, self.frames
+        self.waiting, self.frames = b"", 0
+        if not count:
+            return b""
+        self.send(sent)
+        for _ in range(count - 1):
+            self.answer(0x13, 0)
+        return self.answer(0x13, length)
 
     def run(self, plan):
         """Carries out a plan, and polls as long as the chip is busy."""

@@ -6,21 +6,28 @@ use crate::setting::Setting;
 use crate::trouble::ProgrammerFault;
 use nor_files::LockFile;
 use nor_serprog::{
-    Answer, Failure, HandshakeFault, Link, Paced, Port, Programmer, ReadTwice, SerprogBus,
+    Answer, BatchingBus, Failure, HandshakeFault, Link, Paced, Port, Programmer, ReadAhead,
+    ReadTwice,
 };
 use std::fs;
 use std::fs::{File, OpenOptions};
 use std::os::unix::fs::FileTypeExt;
 
-/// The bus to a chip at a serial programmer. It pauses between polls, reads data twice, and prints the progress of a
-/// job.
-pub type ChipBus<'a> = Shown<'a, ReadTwice<Paced<SerprogBus<DevicePort>, &'a HostRuntime>>>;
+/// The bus to a chip at a serial programmer: commands are sent together, polls are paced, data is read ahead and twice,
+/// and a terminal shows the progress.
+pub type ChipBus<'a> = Shown<
+    'a,
+    ReadAhead<ReadTwice<Paced<BatchingBus<DevicePort>, &'a HostRuntime>>>,
+>;
 
-/// Opens and locks the device, identifies the programmer, and sets its chip select if `setting` has one. Requests no
-/// transaction with the chip. Returns a `ProgrammerFault` if any of these steps fails.
+/// Opens and locks the device, identifies the programmer, and selects the chip if `cs=` is given. Sends no transaction.
+///
+/// If `image` is given, data that equals it is read once. It must be the image that the job writes or compares: then no
+/// data that was read once gets into a journal.
 pub fn connect<'a>(
     rt: &'a HostRuntime,
     setting: Setting<'_>,
+    image: Option<Vec<u8>>,
 ) -> Result<ChipBus<'a>, ProgrammerFault> {
     let device = open_device(rt, setting.device)?;
     let Ok(same_device) = device.try_clone() else {
@@ -33,8 +40,13 @@ pub fn connect<'a>(
     if let Some(chip_select) = setting.chip_select {
         select_chip(&mut DevicePort::new(same_device), chip_select)?;
     }
-    let bus = SerprogBus::new(link, programmer);
-    Ok(Shown::new(ReadTwice::new(Paced::new(bus, rt)), rt))
+    let longest_read = programmer.longest_read();
+    let bus = Paced::new(BatchingBus::new(link, programmer), rt);
+    let bus = match image {
+        Some(image) => ReadTwice::expecting(bus, image),
+        None => ReadTwice::new(bus),
+    };
+    Ok(Shown::new(ReadAhead::new(bus, longest_read), rt))
 }
 
 // Opens the device, and locks it against a second run. Returns `NoDevice` and opens nothing if the file is no character

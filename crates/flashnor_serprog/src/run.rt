@@ -113,7 +113,8 @@ fn prepare<'a, 'b, R: Store>(
     let (setting, operation) = read_words(rt.alloc(), words)?;
     have_one_role(files, setting.device, &operation.task)?;
     let sources = read_sources(files, &operation.task)?;
-    match connect(rt, setting) {
+    let image = sources.image_of(&operation.task);
+    match connect(rt, setting, image) {
         Ok(bus) => Ok(Prepared {
             operation,
             sources,
@@ -182,7 +183,7 @@ fn changes(task: &Task<'_>) -> bool
 
 // Prints the line that follows error 12: the cause, and advice.
 fn print_cause<E: Write>(errors: &mut E, bus: &ChipBus<'_>, changes: bool) {
-    let twice = bus.inner();
+    let twice = bus.inner().inner();
     let line = StopLine {
         differed: twice.differed(),
         failure: twice.inner().inner().cause(),

@@ -17,7 +17,21 @@ pub struct Sources {
     pub bytes: Vec<u8>,
 }
 
-/// Reads the files that a task needs: a layout, then an image, or a journal.
+impl Sources {
+    /// Returns a copy of the image that a task writes or compares, or `None` if it has no image or memory is short.
+    pub fn image_of(&self, task: &Task<'_>) -> Option<Vec<u8>> {
+        match task {
+            Task::Verify { .. } => self.bytes.clone().ok(),
+            Task::Change(change) => match change.wanted {
+                Wanted::Write { .. } => self.bytes.clone().ok(),
+                _ => None,
+            },
+            _ => None,
+        }
+    }
+}
+
+/// Reads the files that a task needs: the layout, then the image or the journal.
 ///
 /// Returns the faults of `read_included`, `read_file` and `read_journal`, error 15 if the journal to restore from is
 /// invalid, or file fault 4 if the file for the journal of a change exists already.
