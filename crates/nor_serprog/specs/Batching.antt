@@ -12,6 +12,10 @@ use Rattle.nor_serprog.specs.Link.{is_in_step}
 abbrev pub link_of : {P C : Type 0} {over : Ghosts P C} → BatchingBus P C over → Link P C
 link_of batching = batching.batch.link
 
+-- The port to the programmer.
+abbrev pub port_in : {P C : Type 0} {over : Ghosts P C} → BatchingBus P C over → P
+port_in batching = batching.batch.link.port
+
 -- The bytes of the frames that wait to be sent.
 abbrev pub waiting_of : {P C : Type 0} {over : Ghosts P C} → BatchingBus P C over → List ℕ
 waiting_of batching = batching.batch.waiting.items

@@ -1,5 +1,6 @@
 //! Frames that wait to be sent over a link, so that several of them need one round trip.
 ghost use Rattle.std.specs.Prelude.{◌≡◌, ◌<◌, ◌≤◌, ◌⊎◌, ◌+◌, ◌++◌, [], true, false, length, OnOk, OnErr};
+ghost use Rattle.nor_chip.specs.Command.{begins_change};
 ghost use Rattle.nor_serprog.specs.Link.{is_in_step};
 
 use crate::{Command, Failure, Frame, Link, Port, Programmer, Sync};
@@ -59,6 +60,7 @@ impl<P: Port + Drop> Batch<P> {
         ensures ok { OnOk result (is_in_step (batch_link self.new) ≡ true) }
         ensures err { OnErr result ((self.new ≡ self.old) ⊎ (is_in_step (batch_link self.new) ≡ false)) }
         ensures sent { 0 < length reply.old → OnOk result (waiting_in self.new ≡ []) }
+        ensures quiet { begins_change out.now ≡ false → OnOk result (waiting_in self.new ≡ []) }
     {
         if self.link.sync() != Sync::InStep || reply.len() > self.longest_read as usize {
             return Err(self.link.rejection());

@@ -2,6 +2,7 @@
 ghost use Rattle.std.specs.Prelude.{◌≡◌, ◌<◌, ◌⊎◌, [], true, false, length, OnOk, OnErr, IsSome, option_copied};
 ghost use Rattle.std.proofs.lemmas.Bool.{false≢true};
 ghost use Rattle.nor_chip.specs.Bus.{IsHonestFor, Sends, Hears, Stops, Carries};
+ghost use Rattle.nor_chip.specs.Command.{begins_change};
 ghost use Rattle.nor_chip.specs.Sent.{IsNothing};
 
 use crate::batch::Batch;
@@ -36,7 +37,7 @@ pub struct BatchingBus<P: Port + Drop> {
 }
 
 impl<P: Port + Drop> BatchingBus<P> {
-    ghost use Rattle.nor_serprog.specs.Batching.{link_of, waiting_of, sent_of, heard_of, cause_of, is_ready};
+    ghost use Rattle.nor_serprog.specs.Batching.{link_of, port_in, waiting_of, sent_of, heard_of, cause_of, is_ready};
 
     /// Returns a bus over a link whose programmer was identified (`Programmer::identify`).
     pub fn new(link: Link<P>, programmer: Programmer) -> BatchingBus<P>
@@ -58,6 +59,13 @@ impl<P: Port + Drop> BatchingBus<P> {
     /// Returns what the programmer replied when it was identified.
     pub fn programmer(&self) -> &Programmer {
         &self.programmer
+    }
+
+    /// Returns the port.
+    pub fn port(&self) -> &P
+        ensures { result.now ≡ port_in self.now }
+    {
+        self.batch.link().port()
     }
 
     /// Returns the cause of the last transaction that failed. A transaction that is rejected because an earlier one
@@ -120,6 +128,7 @@ impl<P: Port + Drop> Bus for BatchingBus<P> {
         ensures ok { OnOk result (is_ready self.new ≡ true) }
         ensures err { OnErr result ((link_of self.new ≡ link_of self.old) ⊎ (is_ready self.new ≡ false)) }
         ensures sent { 0 < length reply.old → OnOk result (waiting_of self.new ≡ []) }
+        ensures quiet { begins_change out.now ≡ false → OnOk result (waiting_of self.new ≡ []) }
         ensures cause { is_ready self.old ≡ true → OnErr result (IsSome (cause_of self.new)) }
         ensures first_cause { is_ready self.old ≡ false → cause_of self.new ≡ cause_of self.old }
     {
