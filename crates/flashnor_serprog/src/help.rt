@@ -20,9 +20,9 @@ TEXT of -p is serprog: and then KEY=VALUE, between commas, each key at most once
 Set up the port before each run, or the run may hang:
   stty -F PATH raw -echo clocal -hupcl min 0 time 50
 
-Each read of the chip is sent twice, and a difference stops the run. A journal
-holds the old content and status of all that a change touches, and --restore
-needs it: keep it until you have accepted the change.
+Data is read twice, unless it equals the image; a difference stops the run. A
+journal holds the old content and status of all that a change touches, and
+--restore needs it: keep it until you have accepted the change.
 
 After a run that was killed, disconnect the programmer from power for a second
 before the next run.
