@@ -2,7 +2,8 @@
 ghost use Rattle.std.specs.Prelude.{◌≡◌, ◌≢◌, ◌≤◌, ◌⊎◌, true, false, ℕ, List, length, OnOk, OnErr};
 ghost use Rattle.std.proofs.lemmas.Bool.{false≢true};
 ghost use Rattle.nor_chip.specs.Bus.{IsHonestFor, Sends, Stops, Carries, Hears, unknown_bus};
-ghost use Rattle.nor_serprog.specs.Twice.{twice_of, has_differed, expected_of, Expects, begins_read, ReadsTwice, view_of};
+ghost use Rattle.nor_serprog.specs.Twice.{twice_of, has_differed, expected_of, Expects, begins_read};
+ghost use Rattle.nor_serprog.specs.Twice.{ReadsTwice, view_of};
 
 use crate::ahead::data_address;
 use nor_chip::{Bus, Stopped};
@@ -108,7 +109,8 @@ impl<B: Bus> Bus for ReadTwice<B> {
         ensures hears { Hears out.now reply.new result
             (view_of (B.state (twice_of self.old))) (view_of (B.state (twice_of self.new))) }
         ensures once { IsHonestFor out.now (length reply.old) (B.state (twice_of self.old))
-            → begins_read out.now ≡ false → OnOk result (Carries out.now reply.new (B.state (twice_of self.old)) (B.state (twice_of self.new))) }
+            → begins_read out.now ≡ false
+            → OnOk result (Carries out.now reply.new (B.state (twice_of self.old)) (B.state (twice_of self.new))) }
         ensures twice { IsHonestFor out.now (length reply.old) (B.state (twice_of self.old))
             → begins_read out.now ≡ true → OnOk result (Expects self.old out.now reply.new
             ⊎ ReadsTwice out.now reply.new (B.state (twice_of self.old)) (B.state (twice_of self.new))) }
