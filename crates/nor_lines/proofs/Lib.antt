@@ -1,3 +1,4 @@
 pub mod Printed
 pub mod FileFaults
 pub mod Included
+pub mod Lent

@@ -7,3 +7,7 @@ pub mod Printing
 pub mod Stored
 pub mod Files
 pub mod Requests
+pub mod Readings
+pub mod Sessions
+pub mod Roles
+pub mod Tasks

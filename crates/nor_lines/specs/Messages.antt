@@ -1,8 +1,9 @@
 -- The numbers of faults in messages, and the fault of arguments that could not be collected.
-use Rattle.std.specs.Prelude.{◌≡◌, ◌≢◌, ◌⊎◌, ℕ}
+use Rattle.std.specs.Prelude.{◌≡◌, ◌≢◌, ◌⊎◌, ℕ, Result, Ok, Err}
 use Rattle.std.specs.IoError.{error_kind}
 use Rattle.std.specs.declared.io.Error.{Error}
 use Rattle.std.specs.declared.io.ErrorKind.TheVariants as Kinds
+use Rattle.nor_call.specs.declared.refusal.Refusal.{Refusal}
 use Rattle.nor_words.specs.declared.words.UsageFault.TheVariants as usage
 use Rattle.nor_lines.specs.declared.messages.Fault.{Fault}
 use Rattle.nor_lines.specs.declared.messages.Fault.TheVariants as end
@@ -21,3 +22,8 @@ file_number file.Taken = 5
 abbrev pub IsOfWords : Error → Fault → Type 0
 IsOfWords error fault = ((error_kind error ≡ Kinds.OutOfMemory) × (fault ≡ end.Usage usage.Memory))
     ⊎ ((error_kind error ≢ Kinds.OutOfMemory) × (fault ≡ end.NoText))
+
+-- an error of a call is a fault of the run
+abbrev pub IsToldAs : {T : Type 0} → Result T Refusal → Result T Fault → Type 0
+IsToldAs (Ok found) outcome = outcome ≡ Ok found
+IsToldAs (Err refusal) outcome = outcome ≡ Err (end.Refused refusal)

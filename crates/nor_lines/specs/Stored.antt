@@ -4,6 +4,7 @@ use Rattle.std.specs.Borrow.{Bor}
 use Rattle.nor_files.specs.Calls.{LeavesNoMore, LeavesOrEmpty, Reads}
 use Rattle.nor_files.specs.Files.{AreApart, Failure, FilesState, IsKnown, IsSettled, Nature, Stays, View, is_lawful}
 use Rattle.nor_files.specs.Files.Failure.{Unwritten}
+use Rattle.nor_journal.specs.Vault.{VaultState}
 use Rattle.nor_words.specs.Text.{Text}
 
 -- Holds if this failure is possible on these files, at any time.
@@ -75,3 +76,9 @@ IsMissing (Some name) view = IsKnown name.now view → view.seen name.now ≡ No
 abbrev pub MakesNothing : Option (Bor Text) → (old new : FilesState) → Type 0
 MakesNothing None old new = ⊤
 MakesNothing (Some name) old new = IsKnown name.now old.view → LeavesOrEmpty name.now old new
+
+-- The file has exactly the bytes of the vault. If the vault is sealed, these are durable.
+pub record IsKeptFile (name : Text) (vault : VaultState) (files : FilesState) : Type 0 where
+  pub telling : vault.telling ≡ true
+  pub seen : files.view.seen name ≡ Some vault.bytes
+  pub settled : vault.sealed ≡ true → IsSettled name (Some vault.bytes) files

@@ -1,35 +1,43 @@
-//! What programs print about a chip and about a fault, and the files that their jobs read and create.
+//! What programs print about a chip and about a fault, the files that their jobs read and create, and the calls to the
+//! engine that they make.
 //!
-//! Two programs use this crate, so a line and the number of a fault are the same in both. The crate sends nothing to a
-//! chip.
+//! Two programs use this crate, so a line and the number of a fault are the same in both.
 //!
 //! - `answers.rt`: the result of a job
+//! - `calls.rt`: the calls to the engine that both programs make, with their files
 //! - `messages.rt`: the faults that end a run with status 1, and their texts
 //! - `escapes.rt`: file names with their control characters escaped
 //! - `printing.rt`: prints answers, help and faults
 //! - `files.rt`: reads, locks and creates the files of a job, and makes the faults of files
 //! - `requests.rt`: the request of a change, and its included addresses
+//! - `roles.rt`: the files that a task names, and the check that two names refer to two files
 //! - `streams.rt`: keeps the descriptors 0, 1 and 2 open, and prints by lines
 //!
 //! `specs/AnswerLines.antt` and `specs/FaultLines.antt` define each printed line, `specs/Files.antt` the faults of
-//! files.
+//! files, `specs/Readings.antt` and `specs/Sessions.antt` the results of the calls.
 #![tactic(auto)]
 
 mod answers;
+mod calls;
 mod escapes;
 mod files;
 mod messages;
 mod printing;
 mod requests;
+mod roles;
 mod streams;
 
 pub use answers::{Answer, Outcome};
+pub use calls::{
+    erased, list_ranges, read_to_file, session_in_file, tell_protection, verify_image,
+};
 pub use escapes::Escaped;
 pub use files::{
     MOST_IMAGE_BYTES, create_log, empty, make, read_file, read_journal, reading, taken, unheld,
     unmade, unread,
 };
-pub use messages::{Fault, FileFault};
+pub use messages::{Fault, FileFault, or_fault};
 pub use printing::{help_of, print_answer, print_fault, print_help};
 pub use requests::{read_included, request_for};
+pub use roles::{Named, apart, journal_of, named_by, unprinted};
 pub use streams::{DIRECTORY, Streams, by_line, keep_streams};

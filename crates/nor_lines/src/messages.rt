@@ -1,5 +1,6 @@
 //! The faults that end a run with status 1, and their texts.
 ghost use Rattle.std.specs.Prelude.{◌≡◌, Some};
+ghost use Rattle.nor_lines.specs.Messages.{IsToldAs};
 
 use crate::escapes::Escaped;
 use nor_layout::LayoutFault;
@@ -63,6 +64,16 @@ impl Fault<'_> {
             ErrorKind::OutOfMemory => Fault::Usage(UsageFault::Memory),
             _ => Fault::NoText,
         }
+    }
+}
+
+/// Returns the result of a call as a run reports it: an error of the call is a fault of the run.
+pub fn or_fault<'a, T>(outcome: Result<T, Refusal>) -> Result<T, Fault<'a>>
+    ensures { IsToldAs outcome result }
+{
+    match outcome {
+        Ok(value) => Ok(value),
+        Err(refusal) => Err(Fault::Refused(refusal)),
     }
 }
 

@@ -1,0 +1,39 @@
+-- The file of a vault that was borrowed and taken back, and the files that stay as they were.
+use Rattle.std.proofs.Common.{◌≡◌, ◌∙◌, Some, ap, refl, subst, sym, true}
+use Rattle.nor_files.specs.Calls.{Lends, TakesBack}
+use Rattle.nor_files.specs.Files.{AreApart, FilesState, Name, Nature, Stays, is_lawful}
+use Rattle.nor_journal.specs.Vault.{VaultState}
+use Rattle.nor_lines.specs.Stored.{IsKeptFile}
+
+pub stays_same : (name : Name) (files : FilesState) → Stays name files files
+stays_same name files = record { out = refl; seen = refl; leaves = λ left can. can }
+
+pub stays_on : {name : Name} {old mid new : FilesState} → Stays name old mid → Stays name mid new → Stays name old new
+stays_on one other = record {
+  out = other.out ∙ one.out;
+  seen = other.seen ∙ one.seen;
+  leaves = λ left can. one.leaves left (other.leaves left can);
+}
+
+-- names stay apart after calls, which keep the nature of the files
+pub apart_after : {old new : Nature} {one other : Name} → new ≡ old → AreApart old one other → AreApart new one other
+apart_after {one = one} {other = other} same apart = subst (λ (n : Nature). AreApart n one other) (sym same) apart
+
+pub lawful_after : {old new : Nature} → new ≡ old → old.lawful ≡ true → new.lawful ≡ true
+lawful_after same is = ap (λ (n : Nature). n.lawful) same ∙ is
+
+-- a vault that was borrowed and taken back
+module _ (name : Name) (old mid new : FilesState) (vault : VaultState)
+    (made : mid.view.nature ≡ old.view.nature) (lends : is_lawful old.view ≡ true → Lends name old mid)
+    (back : new.view.nature ≡ mid.view.nature)
+    (takes : is_lawful mid.view ≡ true → (n : Name) → mid.lent ≡ Some n → TakesBack n vault mid new) where
+  taken : is_lawful old.view ≡ true → TakesBack name vault mid new
+  taken is = takes (lawful_after made is) name (lends is).lent
+
+  pub kept_file : is_lawful new.view ≡ true → IsKeptFile name vault new
+  kept_file is =
+      let t = taken (lawful_after (sym (back ∙ made)) is) in
+      record { telling = t.telling; seen = t.seen; settled = t.settled }
+
+  pub others_stay : is_lawful old.view ≡ true → (any : Name) → AreApart old.view.nature name any → Stays any old new
+  others_stay is any other = stays_on ((lends is).others any other) ((taken is).others any (apart_after made other))

@@ -1,0 +1,136 @@
+//! The calls to the engine that both programs make, with their files and their answers.
+ghost use Rattle.std.specs.Prelude.{◌≡◌, IfErr, IfOk, OnErr, false, option_copied, replicate, true};
+ghost use Rattle.nor_files.specs.Calls.{LendsNone};
+ghost use Rattle.nor_files.specs.Files.{OthersStay, is_lawful};
+ghost use Rattle.nor_journal.specs.Vault.{IsFresh};
+ghost use Rattle.nor_lines.specs.Files.{IsMaking};
+ghost use Rattle.nor_lines.specs.Readings.{HasReadInto, HasReadOut, HasTold, HasVerified, ListsRanges, TellsGuarded};
+ghost use Rattle.nor_lines.specs.Sessions.{HasRunInFile, HasRunSession};
+
+use crate::answers::{Answer, Outcome};
+use crate::files::{empty, make};
+use crate::messages::Fault;
+use nor_chip::{Bus, offered};
+use nor_files::Store;
+use nor_journal::Vault;
+use nor_layout::Ranges;
+use nor_probe::ChipName;
+use nor_read::{read_out, verify, wp_status};
+use nor_session::{Request, session};
+use std::alloc::{AllocError, Global};
+
+/// Returns the chip's protected range, and whether its status is locked.
+pub fn tell_protection<B: Bus>(bus: &mut B, named: Option<ChipName>) -> Outcome
+    ensures { HasTold TellsGuarded named (B.state bus.old) (B.state bus.new) result }
+{
+    let protection = wp_status(bus, named)?;
+    Ok(Answer::Protection(protection))
+}
+
+/// Returns the ranges of the chip that can be protected.
+pub fn list_ranges<B: Bus>(bus: &mut B, named: Option<ChipName>) -> Outcome
+    ensures { HasTold ListsRanges named (B.state bus.old) (B.state bus.new) result }
+{
+    let protection = wp_status(bus, named)?;
+    Ok(Answer::Ranges(offered(protection.size)))
+}
+
+/// Reads the chip into the file of this name, which is created or emptied: the included addresses as they are, and FFh
+/// for the others. An error is a fault of the file, which occurred before the first transaction.
+pub fn read_to_file<'a, R: Store, B: Bus>(
+    rt: &mut R,
+    bus: &mut B,
+    named: Option<ChipName>,
+    file: &'a str,
+    included: Option<&Ranges>,
+) -> Result<Outcome, Fault<'a>>
+    ensures nature { (R.state rt.new).view.nature ≡ (R.state rt.old).view.nature }
+    ensures others { is_lawful (R.state rt.old).view ≡ true
+        → OthersStay file.now (R.state rt.old) (R.state rt.new) }
+    ensures ok { IfOk result (HasReadOut named file.now (option_copied included.entry)
+        (B.state bus.old) (B.state bus.new) (R.state rt.new).view) }
+    ensures unsent { OnErr result (B.state bus.new ≡ B.state bus.old) }
+    ensures err { IfErr result (IsMaking (R.state rt.old).view file.now) }
+{
+    let mut out = empty(rt, file)?;
+    let outcome = read_into(bus, named, included, &mut out);
+    rt.hand_back(out);
+    Ok(outcome)
+}
+
+// Reads the chip into `out`, at the included addresses if any are given.
+fn read_into<B: Bus, V: Vault>(
+    bus: &mut B,
+    named: Option<ChipName>,
+    included: Option<&Ranges>,
+    out: &mut V,
+) -> Outcome
+    requires { (V.state out.old).sealed ≡ false }
+    ensures { HasReadInto named (option_copied included.entry) (B.state bus.old) (B.state bus.new)
+        (V.state out.old) (V.state out.new) result }
+{
+    let report = read_out(bus, included, named, out)?;
+    Ok(Answer::Read(report))
+}
+
+/// Compares the chip with an image, at the included addresses if any are given.
+pub fn verify_image<B: Bus>(
+    bus: &mut B,
+    named: Option<ChipName>,
+    image: &[u8],
+    included: Option<&Ranges>,
+) -> Outcome
+    ensures { HasVerified named (option_copied included.entry) image.now (B.state bus.old) (B.state bus.new) result }
+{
+    let report = verify(bus, image, included, named)?;
+    Ok(Answer::Verified(report))
+}
+
+/// Returns `size` bytes of FFh, the contents of an erased chip.
+pub fn erased(alloc: Global, size: u32) -> Result<Vec<u8>, AllocError>
+    ensures { IfOk result (λ bytes. bytes.items ≡ replicate size 255) }
+{
+    vec![in alloc; 0xFF; size as usize]
+}
+
+/// Runs the session of a request with its journal in the file of this name, which must not exist. An error is a fault
+/// of the file, which occurred before the first transaction.
+///
+/// `image` is the buffer of `session`, which describes it.
+pub fn session_in_file<'a, R: Store, B: Bus>(
+    rt: &mut R,
+    bus: &mut B,
+    file: &'a str,
+    image: &mut [u8],
+    request: &Request,
+) -> Result<Outcome, Fault<'a>>
+    ensures nature { (R.state rt.new).view.nature ≡ (R.state rt.old).view.nature }
+    ensures others { is_lawful (R.state rt.old).view ≡ true
+        → OthersStay file.now (R.state rt.old) (R.state rt.new) }
+    ensures ok { IfOk result (HasRunInFile request.now image.old file.now (R.state rt.old).view (R.state rt.new)
+        (B.state bus.old) (B.state bus.new)) }
+    ensures unmade { is_lawful (R.state rt.old).view ≡ true
+        → OnErr result (LendsNone file.now (R.state rt.old) (R.state rt.new)) }
+    ensures unsent { OnErr result (B.state bus.new ≡ B.state bus.old) }
+    ensures err { IfErr result (IsMaking (R.state rt.old).view file.now) }
+{
+    let mut journal = make(rt, file)?;
+    let outcome = run_session(bus, &mut journal, image, request);
+    rt.hand_back(journal);
+    Ok(outcome)
+}
+
+// Runs the session of a request with its journal in `vault`.
+fn run_session<B: Bus, V: Vault>(
+    bus: &mut B,
+    vault: &mut V,
+    image: &mut [u8],
+    request: &Request,
+) -> Outcome
+    requires { IsFresh (V.state vault.old) }
+    ensures { HasRunSession request.now image.old (B.state bus.old) (B.state bus.new)
+        (V.state vault.old) (V.state vault.new) result }
+{
+    let report = session(bus, vault, image, request)?;
+    Ok(Answer::Done(report))
+}

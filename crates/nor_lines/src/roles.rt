@@ -1,0 +1,124 @@
+//! The files that a task names, and the check that two names refer to two files.
+ghost use Rattle.std.specs.Prelude.{◌≡◌, IfErr, OnOk};
+ghost use Rattle.nor_lines.specs.Roles.{FailsApart, FailsUnprinted};
+ghost use Rattle.nor_lines.specs.Tasks.{image_of, journal_of, layout_of, named_by};
+ghost use Rattle.nor_lines.specs.Stored.{AreTwo};
+
+use crate::files::{taken, unread};
+use crate::messages::Fault;
+use nor_files::Store;
+use nor_words::{Change, JournalUse, Regions, Task, Wanted};
+
+/// The files that a task names, by their roles.
+#[derive(Clone, Copy)]
+pub struct Named<'a> {
+    /// The layout of the included regions.
+    pub layout: Option<&'a str>,
+    /// The image to write, or to compare with.
+    pub wanted: Option<&'a str>,
+    /// The file that the chip is read into.
+    pub output: Option<&'a str>,
+    /// The journal of a change, or to restore from.
+    pub journal: Option<&'a str>,
+}
+
+/// Returns the files that this task names.
+pub fn named_by<'a>(task: &Task<'a>) -> Named<'a>
+    ensures { result ≡ named_by task.now }
+{
+    let none = Named {
+        layout: None,
+        wanted: None,
+        output: None,
+        journal: None,
+    };
+    match task {
+        Task::Read { file, regions } => Named {
+            layout: layout_of(*regions),
+            output: Some(*file),
+            ..none
+        },
+        Task::Verify { file, regions } => Named {
+            layout: layout_of(*regions),
+            wanted: Some(*file),
+            ..none
+        },
+        Task::Change(change) => Named {
+            layout: layout_of(change.regions),
+            wanted: image_of(change),
+            journal: journal_of(change),
+            ..none
+        },
+        Task::Restore { journal } => Named {
+            journal: Some(*journal),
+            ..none
+        },
+        _ => none,
+    }
+}
+
+fn layout_of<'a>(regions: Option<Regions<'a>>) -> Option<&'a str>
+    ensures { result ≡ layout_of regions.entry }
+{
+    match regions {
+        Some(Regions { layout, .. }) => Some(layout),
+        None => None,
+    }
+}
+
+// Returns the image that a change writes, if it writes one.
+fn image_of<'a>(change: &Change<'a>) -> Option<&'a str>
+    ensures { result ≡ image_of change.now.wanted }
+{
+    match change.wanted {
+        Wanted::Write { image } => Some(image),
+        Wanted::Erase | Wanted::Range { .. } => None,
+    }
+}
+
+/// Returns the file of a change's journal, or `None` if the change is a rehearsal.
+pub fn journal_of<'a>(change: &Change<'a>) -> Option<&'a str>
+    ensures { result ≡ journal_of change.now.journal_use }
+{
+    match &change.journal_use {
+        JournalUse::Journal { file } => Some(*file),
+        JournalUse::Rehearse { .. } => None,
+    }
+}
+
+/// Checks that two names refer to two files, if both are given.
+///
+/// Returns file fault 5 with the later name if they refer to one file, or file fault 1 if a name can't be looked up.
+pub fn apart<'a, R: Store>(
+    rt: &R,
+    earlier: Option<&'a str>,
+    later: Option<&'a str>,
+) -> Result<(), Fault<'a>>
+    ensures ok { OnOk result (AreTwo (R.state rt.now).view.nature earlier.entry later.entry) }
+    ensures err { IfErr result (FailsApart (R.state rt.now).view.nature earlier.entry later.entry) }
+{
+    let (Some(one), Some(other)) = (earlier, later) else {
+        return Ok(());
+    };
+    match rt.is_one_file(one, other) {
+        Ok(false) => Ok(()),
+        Ok(true) => Err(taken(other)),
+        Err(name) => Err(unread(name)),
+    }
+}
+
+/// Checks that the program does not print to this file, if one is named.
+///
+/// Returns file fault 5 if it does, or file fault 1 if the name can't be looked up.
+pub fn unprinted<'a, R: Store>(rt: &R, name: Option<&'a str>) -> Result<(), Fault<'a>>
+    ensures { IfErr result (FailsUnprinted (R.state rt.now).view.nature name.entry) }
+{
+    let Some(name) = name else {
+        return Ok(());
+    };
+    match rt.is_stream(name) {
+        Ok(false) => Ok(()),
+        Ok(true) => Err(taken(name)),
+        Err(name) => Err(unread(name)),
+    }
+}
