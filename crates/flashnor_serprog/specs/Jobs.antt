@@ -1,15 +1,190 @@
--- Definitions for the jobs of the program: which tasks may change a chip, and whether a job only read it.
-use Rattle.std.specs.Prelude.{◌≡◌, Bool, true, false}
+-- What a job does on a chip, on every bus: its call to the engine, its answer, and the faults that occur before the call.
+use Rattle.std.specs.Prelude.{◌≡◌, ◌⊎◌, ℕ, true, List, Option, None, Some, Result, Ok, Err, IfOk, replicate}
 use Rattle.nor_chip.specs.Bus.{BusState}
+use Rattle.nor_files.specs.Files.{FilesState, View}
+use Rattle.nor_journal.specs.Fault.{HasFault}
+use Rattle.nor_journal.specs.Text.{Content as Journal, IsContent, text}
+use Rattle.nor_journal.specs.declared.fault.JournalFault.{JournalFault}
+use Rattle.nor_layout.specs.declared.ranges.Span.{Span}
+use Rattle.nor_probe.specs.Found.{IsConfigOf, ProbeAlways, ProbeHonest}
+use Rattle.nor_probe.specs.Known.{IsModelled}
+use Rattle.nor_probe.specs.declared.probes.Found.{Found}
+use Rattle.nor_probe.specs.declared.probes.ProbeFault.{ProbeFault}
+use Rattle.nor_probe.specs.declared.table.ChipName.{ChipName}
+use Rattle.nor_call.specs.Refusal.{of_probe}
+use Rattle.nor_call.specs.declared.refusal.Refusal.{Refusal}
+use Rattle.nor_call.specs.declared.refusal.Refusal.TheVariants.{BadJournal, Memory}
+use Rattle.nor_call.specs.declared.report.Report.{Report}
+use Rattle.nor_session.specs.Headline.{GivesBack}
+use Rattle.nor_session.specs.Restore.{RestoreAlways, RestoreHonest, RestoreModelled}
+use Rattle.nor_words.specs.Text.{Text}
+use Rattle.nor_words.specs.declared.job.Change.{Change}
+use Rattle.nor_words.specs.declared.job.JournalUse.{JournalUse}
+use Rattle.nor_words.specs.declared.job.JournalUse.TheVariants as uses
 use Rattle.nor_words.specs.declared.job.Task.{Task}
 use Rattle.nor_words.specs.declared.job.Task.TheVariants as task
+use Rattle.nor_words.specs.declared.job.Wanted.{Wanted}
+use Rattle.nor_words.specs.declared.job.Wanted.TheVariants as wanted
+use Rattle.nor_words.specs.declared.words.UsageFault.TheVariants as usage
+use Rattle.nor_lines.specs.Files.{IsMaking}
+use Rattle.nor_lines.specs.Readings.{AnswersCall, HasReadOut, HasTold, HasVerified, ListsRanges, TellsGuarded}
+use Rattle.nor_lines.specs.Requests.{request_for}
+use Rattle.nor_lines.specs.Sessions.{HasRunInFile, TellsReport}
+use Rattle.nor_lines.specs.declared.answers.Answer.{Answer}
+use Rattle.nor_lines.specs.declared.answers.Answer.TheVariants as answer
+use Rattle.nor_lines.specs.declared.messages.Fault.{Fault}
+use Rattle.nor_lines.specs.declared.messages.Fault.TheVariants as end
 
--- True if the task is a change or a restore, which may modify the chip.
-abbrev pub changes : Task → Bool
-changes (task.Change change) = true
-changes (task.Restore journal) = true
-changes _ = false
+-- ---- identification
 
--- Holds if the bus's record of modifying commands is unchanged.
-abbrev pub OnlyReads : (old new : BusState) → Type 0
-OnlyReads old new = new.sent ≡ old.sent
+-- the chip that was found, or the error for the probe's fault
+abbrev pub IsProbed : Result Found ProbeFault → Result Found Refusal → Type 0
+IsProbed (Ok found) result = result ≡ Ok found
+IsProbed (Err fault) result = result ≡ Err (of_probe fault)
+
+-- The chip was identified, or the identification returned an error. It kept all promises of `probe`.
+pub record HasIdentified (named : Option ChipName) (old new : BusState) (result : Result Found Refusal) : Type 0 where
+  pub probed : Result Found ProbeFault
+  pub always : ProbeAlways named old new probed
+  pub honest : old.honest ≡ true → ProbeHonest named old new probed
+  pub modelled : IsModelled old → IfOk probed (IsConfigOf old.chip.config)
+  pub told : IsProbed probed result
+
+-- the answer is the chip that was found
+abbrev pub TellsFound : Found → Answer → Type 0
+TellsFound found (answer.Found told) = told ≡ found
+TellsFound found _ = ⊥
+
+-- the answer is the size of the chip that was found
+abbrev pub TellsSize : Found → Answer → Type 0
+TellsSize found (answer.Size size) = size ≡ found.size
+TellsSize found _ = ⊥
+
+-- The chip was identified, and the answer is about it; or the error of the identification was passed on.
+pub record HasLookedUp (tells : Found → Answer → Type 0) (named : Option ChipName) (old new : BusState)
+    (outcome : Result Answer Refusal) : Type 0 where
+  pub result : Result Found Refusal
+  pub identified : HasIdentified named old new result
+  pub told : AnswersCall tells result outcome
+
+-- the identification before a call returned an error, which is the fault of the run; nothing else was sent
+abbrev pub FailsToFind : Option ChipName → (old new : BusState) → Fault → Type 0
+FailsToFind named old new fault =
+    (refusal : Refusal) × HasIdentified named old new (Err refusal) × (fault ≡ end.Refused refusal)
+
+-- after the identification, and before anything else was sent, the file of this name could not be created or emptied, or
+-- memory ran out
+abbrev pub FailsToMake : Option ChipName → Text → View → (old new : BusState) → Fault → Type 0
+FailsToMake named file view old new fault =
+    (chip : Found) × HasIdentified named old new (Ok chip) × IsMaking view file fault
+
+-- ---- reading
+
+-- The chip was identified, and then read into the file, in the given ranges.
+pub record HasReadChip (named : Option ChipName) (file : Text) (ranges : Option (List Span)) (after : View)
+    (old new : BusState) (outcome : Result Answer Refusal) : Type 0 where
+  pub found : BusState
+  pub chip : Found
+  pub identified : HasIdentified named old found (Ok chip)
+  pub read : HasReadOut named file ranges found new after outcome
+
+abbrev pub FailsToRead : Option ChipName → Text → View → (old new : BusState) → Fault → Type 0
+FailsToRead named file view old new fault =
+    FailsToFind named old new fault ⊎ FailsToMake named file view old new fault
+
+-- ---- changes
+
+-- The buffer of a session, after nothing or an identification was sent: for an erase FFh for each byte of the chip that
+-- was identified, otherwise the given bytes.
+abbrev pub IsBufferOf : Option ChipName → Wanted → (bytes : List ℕ) → (old new : BusState) → (image : List ℕ) → Type 0
+IsBufferOf named wanted.Erase bytes old new image =
+    (chip : Found) × HasIdentified named old new (Ok chip) × (image ≡ replicate chip.size 255)
+IsBufferOf named _ bytes old new image = (new ≡ old) × (image ≡ bytes)
+
+-- the buffer of an erase could not be made: the identification failed, or memory ran out
+abbrev pub FailsToFill : Option ChipName → Wanted → (old new : BusState) → Fault → Type 0
+FailsToFill named wanted.Erase old new fault = FailsToFind named old new fault
+    ⊎ ((chip : Found) × HasIdentified named old new (Ok chip) × (fault ≡ end.Refused Memory))
+FailsToFill named _ old new fault = ⊥
+
+-- The session of a change was run with its journal in a new file. Only an erase identifies the chip before.
+pub record HasChanged (named : Option ChipName) (change : Change) (ranges : Option (List Span)) (bytes : List ℕ)
+    (file : Text) (before : View) (after : FilesState) (old new : BusState)
+    (outcome : Result Answer Refusal) : Type 0 where
+  pub found : BusState
+  pub image : List ℕ
+  pub buffer : IsBufferOf named change.wanted bytes old found image
+  pub ran : HasRunInFile (request_for change named ranges) image file before after found new outcome
+
+-- this program rehearses nothing
+abbrev pub HasChangedBy : Option ChipName → Change → Option (List Span) → (bytes : List ℕ) → JournalUse
+    → (before : View) → (after : FilesState) → (old new : BusState) → Result Answer Refusal → Type 0
+HasChangedBy named change ranges bytes (uses.Journal file) before after old new outcome =
+    HasChanged named change ranges bytes file.now before after old new outcome
+HasChangedBy named change ranges bytes (uses.Rehearse stops) before after old new outcome = ⊥
+
+-- The faults of a change before its session. Nothing was sent, except for an erase, which identifies the chip.
+abbrev pub FailsToChange : Option ChipName → Wanted → JournalUse → View → (old new : BusState) → Fault → Type 0
+FailsToChange named wanted (uses.Rehearse stops) view old new fault =
+    (new ≡ old) × (fault ≡ end.Usage usage.Journal)
+FailsToChange named wanted.Erase (uses.Journal file) view old new fault =
+    FailsToFind named old new fault ⊎ FailsToMake named file.now view old new fault
+FailsToChange named _ (uses.Journal file) view old new fault = (new ≡ old) × IsMaking view file.now fault
+
+-- ---- restores
+
+-- A restore ended or returned an error. It kept all promises of `restore`.
+pub record HasRunRestore (journal : Journal) (old new : BusState) (outcome : Result Answer Refusal) : Type 0 where
+  pub result : Result Report Refusal
+  pub gives_back : IsModelled old → GivesBack journal old new result
+  pub always : RestoreAlways journal old new result
+  pub honest : old.honest ≡ true → RestoreHonest journal old new result
+  pub modelled : IsModelled old → RestoreModelled journal old new result
+  pub told : AnswersCall TellsReport result outcome
+
+-- the chip was identified and has the name, if one is given; otherwise nothing was sent
+abbrev pub IsNamedFirst : Option ChipName → (old new : BusState) → Type 0
+IsNamedFirst None old new = new ≡ old
+IsNamedFirst (Some name) old new = (chip : Found) × HasIdentified (Some name) old new (Ok chip)
+
+-- The restore of the journal that these bytes are, after the chip's name was checked, if one is given.
+pub record HasRestored (named : Option ChipName) (bytes : List ℕ) (old new : BusState)
+    (outcome : Result Answer Refusal) : Type 0 where
+  pub journal : Journal
+  pub sound : IsContent journal
+  pub read : bytes ≡ text journal
+  pub found : BusState
+  pub first : IsNamedFirst named old found
+  pub ran : HasRunRestore journal found new outcome
+
+-- the bytes are no journal, which is error 15, and nothing was sent
+abbrev pub IsNoJournal : (bytes : List ℕ) → (old new : BusState) → Fault → Type 0
+IsNoJournal bytes old new fault = (new ≡ old)
+    × ((why : JournalFault) × HasFault bytes why × (fault ≡ end.Refused (BadJournal why)))
+
+-- ---- tasks
+
+-- The call of each task, with the given ranges and the bytes of its image or journal.
+abbrev pub DoesTask : Option ChipName → Task → (ranges : Option (List Span)) → (bytes : List ℕ) → (before : View)
+    → (after : FilesState) → (old new : BusState) → Result Answer Refusal → Type 0
+DoesTask named task.Probe ranges bytes before after old new outcome = HasLookedUp TellsFound named old new outcome
+DoesTask named task.FlashSize ranges bytes before after old new outcome = HasLookedUp TellsSize named old new outcome
+DoesTask named task.WpStatus ranges bytes before after old new outcome = HasTold TellsGuarded named old new outcome
+DoesTask named task.WpList ranges bytes before after old new outcome = HasTold ListsRanges named old new outcome
+DoesTask named (task.Read file regions) ranges bytes before after old new outcome =
+    HasReadChip named file.now ranges after.view old new outcome
+DoesTask named (task.Verify file regions) ranges bytes before after old new outcome =
+    HasVerified named ranges bytes old new outcome
+DoesTask named (task.Change change) ranges bytes before after old new outcome =
+    HasChangedBy named change ranges bytes change.journal_use before after old new outcome
+DoesTask named (task.Restore journal) ranges bytes before after old new outcome =
+    HasRestored named bytes old new outcome
+
+-- the faults of each task before its call
+abbrev pub FailsBefore : Option ChipName → Task → (bytes : List ℕ) → View → (old new : BusState) → Fault → Type 0
+FailsBefore named (task.Read file regions) bytes view old new fault = FailsToRead named file.now view old new fault
+FailsBefore named (task.Change change) bytes view old new fault =
+    FailsToChange named change.wanted change.journal_use view old new fault
+FailsBefore named (task.Restore journal) bytes view old new fault =
+    FailsToFind named old new fault ⊎ IsNoJournal bytes old new fault
+FailsBefore named _ bytes view old new fault = ⊥

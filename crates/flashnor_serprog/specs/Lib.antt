@@ -1,1 +1,4 @@
 pub mod Jobs
+pub mod Sends
+pub mod Sources
+pub mod Run

@@ -1,22 +1,32 @@
 //! Performs a job on a chip, over any bus.
-ghost use Rattle.std.specs.Prelude.{◌≡◌, false};
-ghost use Rattle.nor_journal.specs.Vault.{IsFresh};
-ghost use Rattle.nor_session.specs.Headline.{KeepsFirst};
-ghost use Rattle.flashnor_serprog.specs.Jobs.{OnlyReads, changes};
+ghost use Rattle.std.specs.Prelude.{◌≡◌, ◌⊎◌, IfErr, IfOk, Ok, OnOk, option_copied, true};
+ghost use Rattle.nor_files.specs.Files.{Name, OthersStay, Stays, is_lawful};
+ghost use Rattle.nor_lines.specs.Tasks.{journal_of, made_by};
+ghost use Rattle.nor_lines.specs.Readings.{HasVerified};
+ghost use Rattle.nor_lines.specs.Stored.{IsNot};
+ghost use Rattle.flashnor_serprog.specs.Jobs.{DoesTask, FailsBefore, FailsToChange, FailsToFill, FailsToFind, FailsToRead};
+ghost use Rattle.flashnor_serprog.specs.Jobs.{HasChangedBy, HasIdentified, HasLookedUp, HasReadChip, HasRestored};
+ghost use Rattle.flashnor_serprog.specs.Jobs.{HasRunRestore, IsBufferOf, IsNamedFirst, IsNoJournal, TellsFound, TellsSize};
 
 use crate::sources::Sources;
-use nor_chip::{Bus, offered};
+use nor_chip::Bus;
 use nor_files::Store;
-use nor_journal::{Journal, Vault};
+use nor_journal::Journal;
 use nor_layout::Ranges;
-use nor_lines::{Answer, Fault, Outcome, empty, make, request_for};
+use nor_lines::{
+    Answer, Fault, Outcome, erased, list_ranges, or_fault, read_to_file, request_for,
+    session_in_file, tell_protection, verify_image,
+};
 use nor_probe::{ChipName, Found, probe};
-use nor_read::{read_out, verify, wp_status};
-use nor_session::{Refusal, Request, restore, session};
+use nor_session::{Refusal, restore};
 use nor_words::{Change, JournalUse, Operation, Task, UsageFault, Wanted};
 use std::alloc::Global;
 
-/// Performs the job that the arguments ask for, with the contents of the files that it needs.
+/// Performs the job that the arguments ask for, with the contents of the files that it needs. An error is a fault that
+/// occurred before the job's call to the engine.
+///
+/// The clauses hold on every bus: what each call promises (`DoesTask`), which faults occur before it and what was sent
+/// until then (`FailsBefore`), and that only the file that the task creates is changed.
 ///
 /// A read identifies the chip before it empties its file, so a file is kept if there is no chip. An erase identifies the
 /// chip to know its size, before its journal is created.
@@ -25,87 +35,83 @@ pub fn perform<'a, R: Store, B: Bus>(
     bus: &mut B,
     operation: &Operation<'a>,
     sources: Sources,
-) -> Result<Answer, Fault<'a>>
-    ensures reads { changes operation.now.task ≡ false → OnlyReads (B.state bus.old) (B.state bus.new) }
+) -> Result<Outcome, Fault<'a>>
+    ensures ok { IfOk result (DoesTask operation.now.named operation.now.task sources.included sources.bytes.items
+        (R.state rt.old).view (R.state rt.new) (B.state bus.old) (B.state bus.new)) }
+    ensures err { IfErr result (FailsBefore operation.now.named operation.now.task sources.bytes.items
+        (R.state rt.old).view (B.state bus.old) (B.state bus.new)) }
+    ensures others { is_lawful (R.state rt.old).view ≡ true → (name : Name)
+        → IsNot (R.state rt.old).view.nature (made_by operation.now.task) name
+        → Stays name (R.state rt.old) (R.state rt.new) }
 {
     let named = operation.named;
     match &operation.task {
-        Task::Read { file, .. } => read_chip(rt, bus, named, *file, sources.included),
+        Task::Probe => Ok(find_chip(bus, named)),
+        Task::FlashSize => Ok(tell_size(bus, named)),
+        Task::WpStatus => Ok(tell_protection(bus, named)),
+        Task::WpList => Ok(list_ranges(bus, named)),
+        Task::Read { file, .. } => read_chip(rt, bus, named, *file, sources.included.as_ref()),
+        Task::Verify { .. } => Ok(verify_chip(bus, named, sources)),
         Task::Change(change) => change_chip(rt, bus, named, change, sources),
-        task => or_fault(look_or_restore(bus, named, task, sources)),
-    }
-}
-
-// Returns the result of a call, with its refusal as a fault.
-fn or_fault<'a, T>(outcome: Result<T, Refusal>) -> Result<T, Fault<'a>> {
-    match outcome {
-        Ok(value) => Ok(value),
-        Err(refusal) => Err(Fault::Refused(refusal)),
-    }
-}
-
-// Performs a job that creates no file.
-fn look_or_restore<B: Bus>(
-    bus: &mut B,
-    named: Option<ChipName>,
-    task: &Task<'_>,
-    sources: Sources,
-) -> Outcome
-    ensures reads { changes task.now ≡ false → OnlyReads (B.state bus.old) (B.state bus.new) }
-{
-    match task {
-        Task::FlashSize => Ok(Answer::Size(find(bus, named)?.size)),
-        Task::WpStatus => Ok(Answer::Protection(wp_status(bus, named)?)),
-        Task::WpList => Ok(Answer::Ranges(offered(wp_status(bus, named)?.size))),
-        Task::Verify { .. } => verify_chip(bus, named, sources),
         Task::Restore { .. } => restore_chip(bus, named, &sources.bytes),
-        _ => Ok(Answer::Found(find(bus, named)?)),
     }
+}
+
+// Identifies the chip.
+fn find_chip<B: Bus>(bus: &mut B, named: Option<ChipName>) -> Outcome
+    ensures { HasLookedUp TellsFound named (B.state bus.old) (B.state bus.new) result }
+{
+    let found = find(bus, named)?;
+    Ok(Answer::Found(found))
+}
+
+// Returns the chip's size in bytes.
+fn tell_size<B: Bus>(bus: &mut B, named: Option<ChipName>) -> Outcome
+    ensures { HasLookedUp TellsSize named (B.state bus.old) (B.state bus.new) result }
+{
+    let found = find(bus, named)?;
+    Ok(Answer::Size(found.size))
 }
 
 // Identifies the chip. Returns error 3 if `named` is given and the chip has another name.
 fn find<B: Bus>(bus: &mut B, named: Option<ChipName>) -> Result<Found, Refusal>
-    ensures { OnlyReads (B.state bus.old) (B.state bus.new) }
+    ensures { HasIdentified named (B.state bus.old) (B.state bus.new) result }
 {
     Ok(probe(bus, named)?)
 }
 
-fn verify_chip<B: Bus>(bus: &mut B, named: Option<ChipName>, sources: Sources) -> Outcome
-    ensures { OnlyReads (B.state bus.old) (B.state bus.new) }
+// Identifies the chip before a call that needs more than this.
+fn find_first<'a, B: Bus>(bus: &mut B, named: Option<ChipName>) -> Result<Found, Fault<'a>>
+    ensures ok { IfOk result (λ found. HasIdentified named (B.state bus.old) (B.state bus.new) (Ok found)) }
+    ensures err { IfErr result (FailsToFind named (B.state bus.old) (B.state bus.new)) }
 {
-    let Sources { included, bytes } = sources;
-    let report = verify(bus, &bytes, included.as_ref(), named)?;
-    Ok(Answer::Verified(report))
+    or_fault(find(bus, named))
 }
 
-// Reads the chip into the file of this name.
+// Identifies the chip, and reads it into the file of this name.
 fn read_chip<'a, R: Store, B: Bus>(
     rt: &mut R,
     bus: &mut B,
     named: Option<ChipName>,
     file: &'a str,
-    included: Option<Ranges>,
-) -> Result<Answer, Fault<'a>>
-    ensures { OnlyReads (B.state bus.old) (B.state bus.new) }
+    included: Option<&Ranges>,
+) -> Result<Outcome, Fault<'a>>
+    ensures ok { IfOk result (HasReadChip named file.now (option_copied included.entry) (R.state rt.new).view
+        (B.state bus.old) (B.state bus.new)) }
+    ensures err { IfErr result (FailsToRead named file.now (R.state rt.old).view (B.state bus.old) (B.state bus.new)) }
+    ensures others { is_lawful (R.state rt.old).view ≡ true
+        → OthersStay file.now (R.state rt.old) (R.state rt.new) }
 {
-    or_fault(find(bus, named))?;
-    let mut out = empty(rt, file)?;
-    let outcome = read_into(bus, named, included.as_ref(), &mut out);
-    rt.hand_back(out);
-    or_fault(outcome)
+    find_first(bus, named)?;
+    read_to_file(rt, bus, named, file, included)
 }
 
-fn read_into<B: Bus, V: Vault>(
-    bus: &mut B,
-    named: Option<ChipName>,
-    included: Option<&Ranges>,
-    out: &mut V,
-) -> Outcome
-    requires { (V.state out.old).sealed ≡ false }
-    ensures { OnlyReads (B.state bus.old) (B.state bus.new) }
+// Compares the chip with an image.
+fn verify_chip<B: Bus>(bus: &mut B, named: Option<ChipName>, sources: Sources) -> Outcome
+    ensures { HasVerified named sources.included sources.bytes.items (B.state bus.old) (B.state bus.new) result }
 {
-    let report = read_out(bus, included, named, out)?;
-    Ok(Answer::Read(report))
+    let Sources { included, bytes } = sources;
+    verify_image(bus, named, &bytes, included.as_ref())
 }
 
 // Changes the chip, with its journal in a new file.
@@ -115,57 +121,79 @@ fn change_chip<'a, R: Store, B: Bus>(
     named: Option<ChipName>,
     change: &Change<'a>,
     sources: Sources,
-) -> Result<Answer, Fault<'a>> {
+) -> Result<Outcome, Fault<'a>>
+    ensures ok { IfOk result (HasChangedBy named change.now sources.included sources.bytes.items change.now.journal_use
+        (R.state rt.old).view (R.state rt.new) (B.state bus.old) (B.state bus.new)) }
+    ensures err { IfErr result (FailsToChange named change.now.wanted change.now.journal_use
+        (R.state rt.old).view (B.state bus.old) (B.state bus.new)) }
+    ensures others { is_lawful (R.state rt.old).view ≡ true → (name : Name)
+        → IsNot (R.state rt.old).view.nature (journal_of change.now.journal_use) name
+        → Stays name (R.state rt.old) (R.state rt.new) }
+{
     let JournalUse::Journal { file } = &change.journal_use else {
         return Err(Fault::Usage(UsageFault::Journal));
     };
     let Sources { included, bytes } = sources;
     let request = request_for(change, named, included);
-    let mut image = match change.wanted {
-        Wanted::Erase => erased_image(bus, named, rt.alloc())?,
-        _ => bytes,
-    };
-    let mut journal = make(rt, *file)?;
-    let outcome = change_with_journal(bus, &mut journal, &mut image, &request);
-    rt.hand_back(journal);
-    or_fault(outcome)
+    let mut image = fill_buffer(bus, named, change.wanted, bytes, rt.alloc())?;
+    session_in_file(rt, bus, *file, &mut image, &request)
 }
 
-// Returns the contents of the chip after an erase: FFh for each byte. Identifies the chip to know its size.
-fn erased_image<'a, B: Bus>(
+// Returns the buffer of a session: for an erase FFh for each byte of the chip, which is identified to know its size;
+// otherwise `bytes`.
+fn fill_buffer<'a, B: Bus>(
     bus: &mut B,
     named: Option<ChipName>,
+    wanted: Wanted<'a>,
+    bytes: Vec<u8>,
     alloc: Global,
 ) -> Result<Vec<u8>, Fault<'a>>
-    ensures { OnlyReads (B.state bus.old) (B.state bus.new) }
+    ensures ok { IfOk result (λ image. IsBufferOf named wanted.entry bytes.items
+        (B.state bus.old) (B.state bus.new) image.items) }
+    ensures err { IfErr result (FailsToFill named wanted.entry (B.state bus.old) (B.state bus.new)) }
 {
-    let found = or_fault(find(bus, named))?;
-    Ok(vec![in alloc; 0xFF; found.size as usize]?)
+    match wanted {
+        Wanted::Erase => {
+            let found = find_first(bus, named)?;
+            Ok(erased(alloc, found.size)?)
+        }
+        _ => Ok(bytes),
+    }
 }
 
-fn change_with_journal<B: Bus, V: Vault>(
+// Restores the chip from the bytes of a journal. If `named` is given, the chip must have that name. Returns error 15 if
+// the bytes are no journal.
+fn restore_chip<'a, B: Bus>(
     bus: &mut B,
-    vault: &mut V,
-    image: &mut [u8],
-    request: &Request,
-) -> Outcome
-    requires { IsFresh (V.state vault.old) }
-    ensures keeps { KeepsFirst (B.state bus.old) (B.state bus.new) (V.state vault.new) }
-    ensures reads { (V.state vault.new).sealed ≡ false → OnlyReads (B.state bus.old) (B.state bus.new) }
+    named: Option<ChipName>,
+    bytes: &[u8],
+) -> Result<Outcome, Fault<'a>>
+    ensures ok { IfOk result (HasRestored named bytes.now (B.state bus.old) (B.state bus.new)) }
+    ensures err { IfErr result (λ fault. FailsToFind named (B.state bus.old) (B.state bus.new) fault
+        ⊎ IsNoJournal bytes.now (B.state bus.old) (B.state bus.new) fault) }
 {
-    let report = session(bus, vault, image, request)?;
-    Ok(Answer::Done(report))
-}
-
-// Restores the chip from the bytes of a journal. If `named` is given, the chip must have that name.
-fn restore_chip<B: Bus>(bus: &mut B, named: Option<ChipName>, bytes: &[u8]) -> Outcome {
     let journal = match Journal::read(bytes) {
         Ok(journal) => journal,
-        Err(fault) => return Err(Refusal::BadJournal(fault)),
+        Err(fault) => return Err(Fault::Refused(Refusal::BadJournal(fault))),
     };
+    check_name(bus, named)?;
+    Ok(run_restore(bus, &journal))
+}
+
+// If `named` is given, identifies the chip and checks that it has that name. If not, sends nothing.
+fn check_name<'a, B: Bus>(bus: &mut B, named: Option<ChipName>) -> Result<(), Fault<'a>>
+    ensures ok { OnOk result (IsNamedFirst named (B.state bus.old) (B.state bus.new)) }
+    ensures err { IfErr result (FailsToFind named (B.state bus.old) (B.state bus.new)) }
+{
     if named.is_some() {
-        find(bus, named)?;
+        find_first(bus, named)?;
     }
-    let report = restore(bus, &journal)?;
+    Ok(())
+}
+
+fn run_restore<B: Bus>(bus: &mut B, journal: &Journal<'_>) -> Outcome
+    ensures { HasRunRestore journal.now (B.state bus.old) (B.state bus.new) result }
+{
+    let report = restore(bus, journal)?;
     Ok(Answer::Done(report))
 }

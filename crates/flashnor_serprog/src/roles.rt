@@ -1,17 +1,10 @@
 //! Checks that each file has one role in a run.
+ghost use Rattle.std.specs.Prelude.{IfErr, OnOk};
+ghost use Rattle.flashnor_serprog.specs.Sources.{FailsRoles, HaveOneRole};
 
 use nor_files::Store;
-use nor_lines::{Fault, taken, unread};
-use nor_words::{Change, JournalUse, Regions, Task, Wanted};
-
-// The files that a task names, by their roles.
-#[derive(Clone, Copy, Default)]
-struct Named<'a> {
-    layout: Option<&'a str>,
-    wanted: Option<&'a str>,
-    output: Option<&'a str>,
-    journal: Option<&'a str>,
-}
+use nor_lines::{Fault, Named, apart, named_by, unprinted};
+use nor_words::Task;
 
 /// Checks that the device, and each file that the job writes, have no second role, and that the program does not print
 /// to the output file or to a journal. A layout and an image, which a job only reads, may be the same file.
@@ -22,7 +15,10 @@ pub fn have_one_role<'a, R: Store>(
     rt: &R,
     device: &'a str,
     task: &Task<'a>,
-) -> Result<(), Fault<'a>> {
+) -> Result<(), Fault<'a>>
+    ensures ok { OnOk result (HaveOneRole (R.state rt.now).view.nature device.entry task.now) }
+    ensures err { IfErr result (FailsRoles (R.state rt.now).view.nature device.entry task.now) }
+{
     let Named {
         layout,
         wanted,
@@ -39,82 +35,4 @@ pub fn have_one_role<'a, R: Store>(
     apart(rt, wanted, journal)?;
     unprinted(rt, output)?;
     unprinted(rt, journal)
-}
-
-// Returns the files that this task names.
-fn named_by<'a>(task: &Task<'a>) -> Named<'a> {
-    let none = Named::default();
-    match task {
-        Task::Read { file, regions } => Named {
-            layout: layout_of(*regions),
-            output: Some(*file),
-            ..none
-        },
-        Task::Verify { file, regions } => Named {
-            layout: layout_of(*regions),
-            wanted: Some(*file),
-            ..none
-        },
-        Task::Change(change) => Named {
-            layout: layout_of(change.regions),
-            wanted: image_of(change),
-            journal: journal_of(change),
-            ..none
-        },
-        Task::Restore { journal } => Named {
-            journal: Some(*journal),
-            ..none
-        },
-        _ => none,
-    }
-}
-
-fn layout_of(regions: Option<Regions<'_>>) -> Option<&str> {
-    match regions {
-        Some(Regions { layout, .. }) => Some(layout),
-        None => None,
-    }
-}
-
-fn image_of<'a>(change: &Change<'a>) -> Option<&'a str> {
-    match change.wanted {
-        Wanted::Write { image } => Some(image),
-        _ => None,
-    }
-}
-
-/// Returns the name of the file for a change's journal, or `None` for a rehearsal.
-pub fn journal_of<'a>(change: &Change<'a>) -> Option<&'a str> {
-    match &change.journal_use {
-        JournalUse::Journal { file } => Some(*file),
-        JournalUse::Rehearse { .. } => None,
-    }
-}
-
-// Checks that two names refer to two files, if both are given.
-fn apart<'a, R: Store>(
-    rt: &R,
-    one: Option<&'a str>,
-    other: Option<&'a str>,
-) -> Result<(), Fault<'a>> {
-    let (Some(one), Some(other)) = (one, other) else {
-        return Ok(());
-    };
-    match rt.is_one_file(one, other) {
-        Ok(false) => Ok(()),
-        Ok(true) => Err(taken(other)),
-        Err(name) => Err(unread(name)),
-    }
-}
-
-// Checks that the program does not print to this file, if one is named.
-fn unprinted<'a, R: Store>(rt: &R, name: Option<&'a str>) -> Result<(), Fault<'a>> {
-    let Some(name) = name else {
-        return Ok(());
-    };
-    match rt.is_stream(name) {
-        Ok(false) => Ok(()),
-        Ok(true) => Err(taken(name)),
-        Err(name) => Err(unread(name)),
-    }
 }

@@ -1,8 +1,11 @@
 //! A run of the program: from its arguments to its exit status.
-ghost use Rattle.std.specs.Prelude.{◌≡◌, ◌≤◌, IsOk};
+ghost use Rattle.std.specs.Prelude.{◌≡◌, ◌≤◌, IfOk, IsOk};
+ghost use Rattle.nor_files.specs.Disk.{unknown};
+ghost use Rattle.nor_files.specs.Files.{AreUntouched};
 ghost use Rattle.nor_lines.specs.AnswerLines.{AreLines};
 ghost use Rattle.nor_lines.specs.Printing.{Prints};
-ghost use Rattle.flashnor_serprog.specs.Jobs.{changes};
+ghost use Rattle.flashnor_serprog.specs.Run.{AsksForHelp, EndsJob, HasRun, HasSucceeded, IsPrepared};
+ghost use Rattle.flashnor_serprog.specs.Sends.{SendsOnly, changes};
 
 use crate::connect::{ChipBus, connect};
 use crate::help::HELP;
@@ -11,8 +14,11 @@ use crate::roles::have_one_role;
 use crate::setting::Setting;
 use crate::sources::{Sources, read_sources};
 use crate::trouble::{StopLine, Trouble};
+use nor_chip::Bus;
 use nor_files::{Disk, Store};
-use nor_lines::{Answer, DIRECTORY, Fault, help_of, print_answer, print_fault, print_help, unread};
+use nor_lines::{
+    Answer, DIRECTORY, Fault, help_of, or_fault, print_answer, print_fault, print_help, unread,
+};
 use nor_session::Refusal;
 use nor_words::{HardwareJob, Operation, Task, UsageFault, operation_of};
 use std::alloc::{AllocError, Global};
@@ -31,11 +37,12 @@ pub fn run_words<O: Write, E: Write>(
     output: &mut O,
     errors: &mut E,
 ) -> u8
-    ensures { result ≤ 1 }
+    ensures few { result ≤ 1 }
+    ensures done { result ≡ 0 → HasSucceeded unknown unknown (O.contents output.old) (O.contents output.new) }
 {
     match given {
         Ok(args) => match words_behind_name(rt.alloc(), args) {
-            Ok(words) => run(rt, words.as_slice(), output, errors),
+            Ok(words) => run_over(rt, &mut Disk::new(rt), words.as_slice(), output, errors),
             Err(_) => end_badly(errors, &Fault::Usage(UsageFault::Memory)),
         },
         Err(error) => end_badly(errors, &Fault::of_words(&error)),
@@ -63,13 +70,20 @@ fn end_badly<E: Write>(errors: &mut E, fault: &Fault<'_>) -> u8
     1
 }
 
-// Performs the job given by the arguments, without the program's name.
-fn run<O: Write, E: Write>(rt: &HostRuntime, words: &[String], output: &mut O, errors: &mut E) -> u8
-    ensures { result ≤ 1 }
+// Performs the job given by the arguments, without the program's name, over any store of files.
+fn run_over<R: Store, O: Write, E: Write>(
+    rt: &HostRuntime,
+    files: &mut R,
+    words: &[String],
+    output: &mut O,
+    errors: &mut E,
+) -> u8
+    ensures few { result ≤ 1 }
+    ensures done { result ≡ 0 → HasSucceeded (R.state files.old) (R.state files.new)
+        (O.contents output.old) (O.contents output.new) }
 {
-    let mut files = Disk::new(rt);
-    match prepare(rt, &mut files, words) {
-        Ok(prepared) => run_prepared(&mut files, prepared, output, errors),
+    match prepare(rt, files, words) {
+        Ok(prepared) => run_prepared(files, prepared, output, errors),
         Err(trouble) => end_early(output, errors, &trouble),
     }
 }
@@ -77,7 +91,8 @@ fn run<O: Write, E: Write>(rt: &HostRuntime, words: &[String], output: &mut O, e
 // Prints the reason why a run ended before its first transaction, a fault, to `errors`; or the help to `output`, if the
 // arguments ask for it. Returns the exit status.
 fn end_early<O: Write, E: Write>(output: &mut O, errors: &mut E, trouble: &Trouble<'_>) -> u8
-    ensures { result ≤ 1 }
+    ensures few { result ≤ 1 }
+    ensures help { result ≡ 0 → AsksForHelp trouble.now }
 {
     if let Trouble::Fault(fault) = trouble
         && let Some(help) = help_of(fault)
@@ -109,7 +124,11 @@ fn prepare<'a, 'b, R: Store>(
     rt: &'b HostRuntime,
     files: &mut R,
     words: &'a [String],
-) -> Result<Prepared<'a, 'b>, Trouble<'a>> {
+) -> Result<Prepared<'a, 'b>, Trouble<'a>>
+    ensures same { AreUntouched (R.state files.old) (R.state files.new) }
+    ensures ok { IfOk result (λ prepared. IsPrepared (R.state files.old).view prepared.operation
+        prepared.sources.included prepared.sources.bytes.items) }
+{
     let (setting, operation) = read_words(rt.alloc(), words)?;
     have_one_role(files, setting.device, &operation.task)?;
     let sources = read_sources(files, &operation.task)?;
@@ -147,14 +166,15 @@ fn run_prepared<R: Store, O: Write, E: Write>(
     output: &mut O,
     errors: &mut E,
 ) -> u8
-    ensures { result ≤ 1 }
+    ensures { HasRun prepared.entry.operation prepared.entry.sources.included prepared.entry.sources.bytes.items
+        (R.state files.old).view (R.state files.new) (O.contents output.old) (O.contents output.new) result }
 {
     let Prepared {
         operation,
         sources,
         mut bus,
     } = prepared;
-    match perform(files, &mut bus, &operation, sources) {
+    match end_job(files, &mut bus, &operation, sources) {
         Ok(answer) => end_well(output, answer),
         Err(fault) => {
             let status = end_badly(errors, &fault);
@@ -164,6 +184,22 @@ fn run_prepared<R: Store, O: Write, E: Write>(
             status
         }
     }
+}
+
+// Performs a job, and returns its answer or its fault.
+fn end_job<'a, R: Store, B: Bus>(
+    files: &mut R,
+    bus: &mut B,
+    operation: &Operation<'a>,
+    sources: Sources,
+) -> Result<Answer, Fault<'a>>
+    ensures ends { EndsJob operation.now sources.included sources.bytes.items (R.state files.old).view
+        (R.state files.new) (B.state bus.old) (B.state bus.new) result }
+    ensures sends { SendsOnly operation.now.task sources.bytes.items (B.state bus.old) (B.state bus.new)
+        (R.state files.new) }
+{
+    let outcome = perform(files, bus, operation, sources)?;
+    or_fault(outcome)
 }
 
 // Prints an answer, and returns the exit status, which is 0 only if all lines were printed.

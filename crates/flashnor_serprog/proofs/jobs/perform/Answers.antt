@@ -1,0 +1,29 @@
+use Rattle.std.proofs.Common.{rules}
+use Rattle.nor_lines.proofs.Lent.{stays_same}
+use Rattle.flashnor_serprog.proofs.jobs.perform.Goals as goal
+
+pub returns-in-Probe : goal.returns-in-Probe
+returns-in-Probe g c = rw c.in-Probe.is (search (rules, stays_same, c.find_chip.ensures))
+
+pub returns-in-FlashSize : goal.returns-in-FlashSize
+returns-in-FlashSize g c = rw c.in-FlashSize.is (search (rules, stays_same, c.tell_size.ensures))
+
+pub returns-in-WpStatus : goal.returns-in-WpStatus
+returns-in-WpStatus g c = rw c.in-WpStatus.is (search (rules, stays_same, c.tell_protection.ensures))
+
+pub returns-in-WpList : goal.returns-in-WpList
+returns-in-WpList g c = rw c.in-WpList.is (search (rules, stays_same, c.list_ranges.ensures))
+
+pub returns-in-Read : goal.returns-in-Read
+returns-in-Read g c = rw c.in-Read.is (record {
+  ok = rw c.as_ref.ensures.value at c.read_chip.ensures.ok;
+  err = c.read_chip.ensures.err;
+  others = c.read_chip.ensures.others;
+})
+
+pub returns-in-Change : goal.returns-in-Change
+returns-in-Change g c = rw c.in-Change.is (record {
+  ok = c.change_chip.ensures.ok;
+  err = c.change_chip.ensures.err;
+  others = c.change_chip.ensures.others;
+})

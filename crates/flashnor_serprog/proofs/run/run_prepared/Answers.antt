@@ -1,0 +1,24 @@
+use Rattle.std.proofs.Common.{Err, Ok, arith}
+use Rattle.flashnor_serprog.proofs.run.run_prepared.Goals as goal
+
+pub returns-in-Ok : goal.returns-in-Ok
+returns-in-Ok g c = record {
+  first = _;
+  last = _;
+  outcome = Ok c.in-Ok.answer;
+  ends = c.in-Ok.ensures.ends;
+  sends = c.end_job.ensures.sends;
+  few = c.end_well.ensures.few;
+  printed = c.end_well.ensures.printed;
+}
+
+pub returns : goal.returns
+returns g c = record {
+  first = _;
+  last = _;
+  outcome = Err c.in-Err.fault;
+  ends = c.in-Err.ensures.ends;
+  sends = c.in-Err.ensures.sends;
+  few = omega (arith, c.end_badly-status.ensures);
+  printed = λ zero. absurd (omega (arith, zero, c.end_badly-status.ensures));
+}
