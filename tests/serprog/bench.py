@@ -2,7 +2,7 @@
 import copy
 import os
 import subprocess
-import time
+from concurrent.futures import ThreadPoolExecutor
 from pathlib import Path
 from typing import NamedTuple
 
@@ -45,6 +45,18 @@ def check_data(what, got, wanted):
         raise Differs(f"{what}: the first other byte is at 0x{at:06x}: got {got[at]:02x}, wanted {wanted[at]:02x}")
 
 
+def read_all(terminal):
+    """Returns what is printed to a terminal, until no process has it open, and closes it."""
+    shown = b""
+    with os.fdopen(terminal, "rb", buffering=0) as source:
+        try:
+            while more := source.read(4096):
+                shown += more
+        except OSError:
+            pass  # Linux reports EIO if no process has the terminal open
+    return shown
+
+
 class Bench:
     """A directory with a programmer at the link `dev`, and a chip behind it.
 
@@ -72,18 +84,18 @@ class Bench:
     def write(self, name, content):
         self.path(name).write_bytes(content)
 
-    def start(self, words, keys=""):
+    def start(self, words, keys="", err=subprocess.PIPE):
         """Starts the program with these arguments, after -p, and returns the process."""
         words = [str(self.program), "-p", f"serprog:dev={self.folder / 'dev'}{keys}", *words]
-        return self.start_words(words)
+        return self.start_words(words, err)
 
-    def start_words(self, words):
+    def start_words(self, words, err=subprocess.PIPE):
         self.command = " ".join(map(str, words[1:]))
         self.before = copy.deepcopy(self.chip)
         names = [name for option, name in zip(words, words[1:]) if option in ("-w", "-v")]
         self.image = self.path(names[0]).read_bytes() if names and self.path(names[0]).exists() else None
         process = subprocess.Popen(words, cwd=self.folder, stdin=subprocess.DEVNULL, stdout=subprocess.PIPE,
-                                   stderr=subprocess.PIPE, env=dict(os.environ, LC_ALL="C"))
+                                   stderr=err, env=dict(os.environ, LC_ALL="C"))
         self.server.kill_at(process)
         return process
 
@@ -107,6 +119,18 @@ class Bench:
         got = self.run(*words, keys=keys, events=events)
         self.compare(got, out, err)
         return got
+
+    def run_at_terminal(self, *words):
+        """Runs the program with standard error at a terminal, checks that it succeeds, and returns the lines there."""
+        terminal, slave = os.openpty()
+        self.server.begin({})
+        process = self.start(words, err=slave)
+        os.close(slave)
+        with ThreadPoolExecutor(1) as pool:
+            shown = pool.submit(read_all, terminal)
+            process.communicate(timeout=LONGEST)
+        check("exit status", process.returncode, 0)
+        return shown.result().decode().splitlines()
 
     @staticmethod
     def compare(got, out, err):

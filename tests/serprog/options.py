@@ -35,12 +35,16 @@ def identifies(start):
 
 
 def sets_the_clock(start):
-    """spispeed= sets the clock by S_SPI_FREQ before the first transaction. Without it the clock isn't set."""
+    """spispeed= sets the clock by S_SPI_FREQ before the first transaction. Without it the clock isn't set.
+
+    A number with leading zeros is decimal, as in flashrom, which reads it with strtol and base 10.
+    """
     bench = start()
-    bench.expect(keys=",spispeed=2000000", out=[reference.found("TINY64")])
-    clocks = [arguments for opcode, arguments in bench.server.commands if opcode == 0x14]
-    check("S_SPI_FREQ", clocks, [(2_000_000).to_bytes(4, "little")])
-    bench.check_frames(reference.probe("TINY64"))
+    for speed in "2000000", "02000000", "00000000000002000000":
+        bench.expect(keys=f",spispeed={speed}", out=[reference.found("TINY64")])
+        clocks = [arguments for opcode, arguments in bench.server.commands if opcode == 0x14]
+        check("S_SPI_FREQ", clocks, [(2_000_000).to_bytes(4, "little")])
+        bench.check_frames(reference.probe("TINY64"))
     bench.expect(out=[reference.found("TINY64")])
     check("commands 14h", [it for it in bench.server.commands if it[0] == 0x14], [])
 
@@ -314,7 +318,20 @@ def protects(start):
     bench.expect("--wp-range", "0x1000,0x1000", "--journal", "k", err=["Error 8: range not offered."])
 
 
+def shows_progress(start):
+    """On a terminal a session prints SEALED before its first change. A restore seals nothing, and prints another line."""
+    old, new = images("shows_progress")
+    bench = start(data=old)
+    bench.write("new", new)
+    for words, line in ((("-w", "new", "--journal", "j"), "SEALED: the chip is changed from here on."),
+                        (("--restore", "j"), "The chip is changed from here on."), (("-v", "again"), None)):
+        lines = bench.run_at_terminal(*words)
+        check("the first step", lines[:1], ["identify 1"])
+        check("lines of a change", [it for it in lines if "changed" in it], [line] * bool(line))
+        bench.write("again", old)
+
+
 CASES = [identifies, sets_the_clock, selects_a_chip, keeps_to_the_protocol, names_the_chip, reads, reads_regions,
          reads_inside, verifies, verifies_regions, writes, writes_without_verification, writes_regions, writes_at_random,
          writes_large_chips, changes_nothing, erases, erases_regions, prints_the_size, shows_protection, lists_ranges,
-         protects]
+         protects, shows_progress]

@@ -51,7 +51,7 @@ def programmer_keys(text):
     for part in text.removeprefix("serprog:").split(","):
         key, _, value = part.partition("=")
         rule = {"dev": ".+", "spispeed": "0*[1-9][0-9]{0,9}", "cs": "[0-9]{1,3}"}.get(key)
-        if not rule or key in found or not re.fullmatch(rule, value) or (key != "dev" and len(value) > 10):
+        if not rule or key in found or not re.fullmatch(rule, value) or (key != "dev" and len(value) > 20):
             raise usage(3)
         found[key] = value
     if not text.startswith("serprog:") or "dev" not in found or int(found.get("cs", 0)) > 255 or \

@@ -57,20 +57,26 @@ impl Step {
     }
 }
 
-// The number of transactions of a step from one printed line to the next.
+// The lines before the first modifying command, of a session and of a restore.
+const SEALED: &str = "SEALED: the chip is changed from here on.";
+
+const CHANGED: &str = "The chip is changed from here on.";
+
+// The number of transactions of one step after which a line is printed.
 const LINE_EACH: u64 = 256;
 
 /// A bus that prints a line to standard error before the first transaction of each step, and before every 256th one
 /// after that. It prints nothing if standard error is not a character device.
 ///
-/// The opcode of a transaction determines its step. Before the first modifying command the bus prints the line
-/// `SEALED`, since a session sends no modifying command before its journal is sealed. Contracts see this bus in the
-/// state of the bus inside.
+/// A step is recognized by the opcode of a transaction. Before the first modifying command a line says that the chip is
+/// changed from here on. In a session it begins with `SEALED`, since a session sends none before its journal is sealed.
+/// The bus has the state of the bus inside.
 #[derive(Drop)]
 pub struct Shown<'a, B> {
     bus: B,
     rt: &'a HostRuntime,
     visible: bool,
+    in_session: bool,
     changing: bool,
     counts: Counts,
 }
@@ -82,6 +88,7 @@ impl<'a, B: Bus + Drop> Shown<'a, B> {
             bus,
             rt,
             visible: is_terminal(rt),
+            in_session: false,
             changing: false,
             counts: Counts::default(),
         }
@@ -90,6 +97,11 @@ impl<'a, B: Bus + Drop> Shown<'a, B> {
     /// Returns the bus inside.
     pub fn inner(&self) -> &B {
         &self.bus
+    }
+
+    /// Marks the transactions from now on as those of a session, whose journal is sealed before the first change.
+    pub fn begin_session(&mut self) {
+        self.in_session = true;
     }
 }
 
@@ -111,7 +123,8 @@ impl<B> Shown<'_, B> {
         }
         if is_changing(out) && !self.changing {
             self.changing = true;
-            let _ = eprintln!(self.rt; "SEALED: the chip is changed from here on.");
+            let what = if self.in_session { SEALED } else { CHANGED };
+            let _ = eprintln!(self.rt; "{what}");
         }
         let Some(step) = step_of(out, self.changing) else {
             return;

@@ -174,6 +174,9 @@ fn run_prepared<R: Store, O: Write, E: Write>(
         sources,
         mut bus,
     } = prepared;
+    if let Task::Change(_) = &operation.task {
+        bus.begin_session();
+    }
     match end_job(files, &mut bus, &operation, sources) {
         Ok(answer) => end_well(output, answer),
         Err(fault) => {

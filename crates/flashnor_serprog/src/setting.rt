@@ -8,7 +8,7 @@ use nor_words::read_number;
 pub struct Setting<'a> {
     /// `dev=PATH`: the device of the programmer.
     pub device: &'a str,
-    /// `spispeed=HZ`: the requested clock in hertz, from 1 to 4,294,967,295. With `None` the programmer keeps its own.
+    /// `spispeed=HZ`: the clock in hertz, from 1 to 4,294,967,295, in at most 20 decimal digits.
     pub hertz: Option<u32>,
     /// `cs=N`: the chip select that the programmer uses, from 0 to 255. With `None` it is not set.
     pub chip_select: Option<u8>,
@@ -73,7 +73,8 @@ impl<'a> Settings<'a> {
     }
 }
 
-// Parses a clock in hertz. Returns `None` unless the value is a number from 1 to 4,294,967,295: serprog reserves 0.
+// Returns a clock in hertz, or `None` if the value isn't one. 0 isn't one: serprog has no such clock. A number with
+// leading zeros is decimal, as flashrom reads it.
 fn read_hertz(value: &str) -> Option<u32> {
     let hertz = u32::try_from(read_number(value)?).ok()?;
     if hertz == 0 { None } else { Some(hertz) }
