@@ -5,7 +5,7 @@
 //! memory: interrupted at a given transaction, and then undone.
 //!
 //! - `run.rt`: a run of the program, from its arguments to its exit status
-//! - `existing.rt`: ends a session whose journal exists
+//! - `existing.rt`: ends a run if the file for its new journal already exists
 //! - `roles.rt`: checks that no file of a job has two roles, and that none that is written is a standard stream
 //! - `holding.rt`: opens, locks, reads and syncs the chip's files if the job writes them, and writes them back
 //! - `chips.rt`: reads the chip's files, and makes the simulated bus

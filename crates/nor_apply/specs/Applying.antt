@@ -124,7 +124,8 @@ pub record DoesApply (changes : Changes) (wanted : ℕ → ℕ) (old new : BusSt
       → work.programs ≡ count_below 65536
       (is_programmed (touched_in changes) (once_erased (raised_in changes) old.chip.bytes) wanted)
 
--- Holds on every bus: a timeout names 0 if a status write was needed, or an address in a touched sector.
+-- Holds for every stop. Holds for a timeout that names an address in a touched sector, or names 0 if a status write was
+-- needed.
 abbrev pub NamesChange : Changes → Halt → Type 0
 NamesChange changes Stopped = ⊤
 NamesChange changes (Timeout address) =

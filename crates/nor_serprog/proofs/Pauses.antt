@@ -9,6 +9,6 @@ unfolding pauses
 long_pauses zero = omega arith
 long_pauses (suc n) = grind (arith, nat_tests, long_pauses n)
 
--- The pauses of all polls of a wait, 65,536, are at least 400 s.
+-- The pauses before the 65,536 polls of one wait add up to at least 400 s.
 pub wait_lasts : 400000 ≤ pauses 65536
 wait_lasts = omega (arith, long_pauses 65536)

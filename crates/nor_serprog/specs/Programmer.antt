@@ -1,4 +1,4 @@
--- The replies of a programmer to its identification, as contracts see them.
+-- The limits of a programmer, as it reported them when it was identified.
 use Rattle.std.specs.Prelude.{ℕ}
 use Rattle.nor_serprog.specs.declared.handshake.Programmer.{Programmer}
 

@@ -91,7 +91,7 @@ pub record WritesOnly (IsCode : (code : ℕ) → Type 0) (journal : Content) (on
 
 -- What was sent that may modify a chip, by a number of calls with the same journal. Each sector that was targeted is
 -- one that had been targeted before, or that the journal saves, or it lies past the end of a chip that the journal
--- saves whole. All calls together sent at most one erase for each saved sector and call, and sixteen page programs.
+-- saves whole. All calls together sent, for each call and saved sector, at most one erase and sixteen page programs.
 -- Each status write has bytes that had been written before, or is as `WritesOnly` says. Nothing was sent that the model
 -- does not know.
 pub record SendsSaved (IsCode : ℕ → Type 0) (calls : ℕ) (journal : Content) (old new : BusState) : Type 0 where
