@@ -1,4 +1,4 @@
--- The settings of a programmer, as they are taken in one after another.
+-- The settings of `-p`, as they are parsed and stored one after another.
 use Rattle.std.specs.Prelude.{◌≡◌, Bool, true, false, Option, None, Some, codes, is_some, option_map}
 use Rattle.nor_words.specs.declared.settings.Settings.{Settings}
 use Rattle.nor_words.specs.Numbers.{byte_number, decimal_number, polls_of, unique_number}
@@ -29,7 +29,7 @@ pub record PutsAt {T : Type 0} (key : Text) (read : Text → Option T) (setting 
   pub met : has_key key setting ≡ true → (old ≡ None) × (read (value_of setting) ≡ new) × (is_some new ≡ true)
   pub other : has_key key setting ≡ false → new ≡ old
 
--- Holds if the setting was added to those that were taken in before.
+-- Holds if the setting was added to those that were stored before.
 abbrev pub Adds : Text → (old new : Settings) → Type 0
 Adds setting old new = EachKey (λ T key is_value read place. PutsAt key read setting (place old) (place new))
 
