@@ -9,24 +9,24 @@ MOST_LINES = 400
 # must ensure is always included.
 HEADLINE = {
     "session": "nor_session/src/sessions.rt keeps always modelled",
-    "restore": "nor_session/src/restores.rt gives_back modelled",
-    "rehearse": "nor_session/src/rehearsals.rt gives_back always modelled",
+    "restore": "nor_session/src/restores.rt restores_original modelled",
+    "rehearse": "nor_session/src/rehearsals.rt restores_original always modelled",
     "Journal::read": "nor_journal/src/journal.rt found only",
 }
 
 # Of these records STATEMENT.md has only these fields; STATEMENT-FULL.md has all.
 FIELDS = {
     "SessionAlways": "answers ends",
-    "SessionModelled": "tells done undo",
+    "SessionModelled": "errors done undo",
     "EndsSealed": "sealed",
     "CanBeUndone": "accepted",
     "IsDone": "made code is_wanted kept",
-    "RestoreModelled": "tells leaves done",
+    "RestoreModelled": "errors leaves done",
     "IsRestored": "accepted",
     "LeavesRestore": "config bytes fixed",
     "RehearsalAlways": "counts",
     "IsRehearsal": "seal ended",
-    "RehearsalModelled": "tells ended",
+    "RehearsalModelled": "errors ended",
 }
 
 # The names that STATEMENT.md describes in one line each; STATEMENT-FULL.md has their definitions.
@@ -40,9 +40,9 @@ NAMES = {
     "wears": "`wears command s`: the command is an erase whose block has sector `s`.",
     "is_known_running": "`is_known_running running`: the operation isn't `Unknown`.",
     "IsChip": "`IsChip chip`: bytes are below 256, status bits fit their registers, and `busy` is below 65,536.",
-    "is_guarded": "`is_guarded chip a`: the protection bits of the chip protect the address `a`.",
-    "is_unit_guarded":
-        "`is_unit_guarded chip start len`: the first or the last of the `len` addresses from `start` on is protected.",
+    "is_protected": "`is_protected chip a`: the protection bits of the chip protect the address `a`.",
+    "is_block_protected":
+        "`is_block_protected chip start len`: the first or the last of the `len` addresses from `start` on is protected.",
     "code_of": "`code_of kept`: the protection bits CMP, SEC, TB, BP2, BP1 and BP0 as one number, CMP the highest.",
     "is_undefined": "`is_undefined code`: SEC is set and BP is 110, for which the datasheets define no range.",
     "IsLeastCode":
@@ -88,9 +88,9 @@ NAMES = {
     "Notes":
         "`Notes out old new`: a transaction that sends nothing, or begins with 03h, 04h, 05h, 35h, 4Bh, 5Ah or 9Fh, "
         "leaves the record as it was; any other is added to it.",
-    "Hears": "`Hears out answer result old new`: `heard` says what the last poll replied.",
+    "RecordsPoll": "`RecordsPoll out answer result old new`: `polled_ready` says what the last poll replied.",
     "Report": "`Report`: the chip that was found, and the numbers of sectors, erases, programs and transactions.",
-    "number_of": "`number_of refusal`: the number in the comment above the case of `Refusal`.",
+    "refusal_number": "`refusal_number refusal`: the number in the comment above the case of `Refusal`.",
     "IsRestoreVerdict":
         "`IsRestoreVerdict journal chip refusal`: the refusal is the first of these, in this order, that holds: "
         "`NoChip`, `UnknownChip`, `OtherChip` (the ID or size differs from the journal's), `OtherUnit` (the journal "
@@ -110,8 +110,8 @@ APPENDICES = {
     "Block protection": (
         "If this is wrong, errors 7 to 10 are wrong for a real chip, and so is the range that it protects.",
         {
-            "is_guarded": "nor_chip/specs/Guard.antt",
-            "is_unit_guarded": "nor_chip/specs/Guard.antt",
+            "is_protected": "nor_chip/specs/Guard.antt",
+            "is_block_protected": "nor_chip/specs/Guard.antt",
             "is_undefined": "nor_chip/specs/Guard.antt",
             "IsLeastCode": "nor_chip/specs/Offer.antt",
             "IsNotOffered": "nor_chip/specs/Offer.antt",
@@ -163,10 +163,10 @@ APPENDICES = {
     ),
     "The record of modifying commands": (
         "If this is wrong, a modifying command may be sent before the journal is sealed, or by a refused session: "
-        "`still` says only that this record is as it was. On a faulty bus little else is promised.",
+        "`unsent` says only that this record is as it was. On a faulty bus little else is promised.",
         {
             "Notes": "nor_chip/specs/Sent.antt",
-            "Hears": "nor_chip/specs/Bus.antt",
+            "RecordsPoll": "nor_chip/specs/Bus.antt",
             "Meter": "nor_chip/src/bus.rt",
             "SendsSaved": "nor_session/specs/Session.antt",
             "SendsFew": "nor_session/specs/Session.antt",
@@ -177,7 +177,7 @@ APPENDICES = {
         "If this is wrong, a report's numbers are wrong, or a call takes longer than promised. No promise about the "
         "chip's bytes depends on it.",
         {
-            "Looks": "nor_driver/specs/Looks.antt",
+            "OnlyReads": "nor_driver/specs/OnlyReads.antt",
             "Spends": "nor_apply/specs/Spending.antt",
             "IsReported": "nor_session/specs/Made.antt",
             "IsWithinBound": "nor_session/specs/Session.antt",
@@ -201,13 +201,13 @@ APPENDICES = {
         "If this is wrong, a loss of power between two calls, or a second session before the first is undone, may "
         "leave a chip that can't be restored.",
         {
-            "read_gives_back": "nor_session/src/laws.rt",
-            "begun_gives_back": "nor_session/src/laws.rt",
+            "read_restores_original": "nor_session/src/laws.rt",
+            "begun_restores_original": "nor_session/src/laws.rt",
             "session_written_over": "nor_session/src/laws.rt",
             "restore_written_over": "nor_session/src/laws.rt",
             "same_written_over": "nor_session/src/laws.rt",
-            "power_lost_gives_back": "nor_session/src/laws.rt",
-            "undone_leads_back": "nor_session/src/laws.rt",
+            "power_lost_restores_original": "nor_session/src/laws.rt",
+            "undone_is_restorable": "nor_session/src/laws.rt",
             "undone_in_turn": "nor_session/src/laws.rt",
         },
     ),
@@ -245,11 +245,11 @@ NOTES = {
 SUBJECTS = {
     "The chip": "nor_count: specs/Size nor_chip: src/config specs/Makers src/running specs/Sfdp specs/Chip",
     "Protected addresses": "nor_chip: specs/Guard specs/Offer",
-    "Commands": "nor_chip: src/command specs/Command specs/Aim",
+    "Commands": "nor_chip: src/command specs/Command specs/TargetedSectors",
     "The step of a chip": "nor_chip: specs/Step",
     "A loss of power": "nor_chip: specs/Power",
-    "The bus, and its stops": "nor_chip: specs/Bus src/bus specs/Sent src/sent specs/Heard",
-    "Reading, and counting transactions": "nor_driver: specs/Looks nor_apply: specs/Spending",
+    "The bus, and its stops": "nor_chip: specs/Bus src/bus specs/Sent src/sent specs/PolledReady",
+    "Reading, and counting transactions": "nor_driver: specs/OnlyReads nor_apply: specs/Spending",
     "IDs and status bits": "nor_chip: src/status nor_driver: specs/Reads specs/StatusWrites",
     "SFDP": "nor_probe: src/sfdp specs/Sfdp",
     "Genuine chips": "nor_probe: src/table specs/Table src/probes specs/Known specs/Found",
@@ -259,7 +259,7 @@ SUBJECTS = {
     "Refusals": "nor_call: src/refusal specs/Refusal",
     "A chip that can be restored": "nor_apply: specs/Within nor_session: specs/Headline",
     "The most transactions":
-        "nor_driver: specs/Operations specs/Limits nor_save: specs/Opening nor_session: specs/Bounds",
+        "nor_driver: specs/Operations specs/Limits nor_save: specs/Identity nor_session: specs/Bounds",
     "The fewest erases": "nor_driver: src/units specs/Units nor_plan: specs/Erase specs/Planned",
     "Requests":
         "nor_count: specs/Below nor_layout: src/ranges specs/Ranges specs/Sectors nor_call: src/request specs/Request",

@@ -75,7 +75,7 @@ def limits():
         ("polls", polls, "# polls in a row"),
         ("polls of an operation", polls, "BUSY is clear, at most #"),
         ("transactions of a probe", bound("nor_probe/specs/Found.antt", "most_probe"), "and at most # transactions"),
-        ("transactions of an opening", bound("nor_save/specs/Opening.antt", "most_opening"), r"# \+ s \+ 2t"),
+        ("transactions of an opening", bound("nor_save/specs/Identity.antt", "most_identity"), r"# \+ s \+ 2t"),
         ("transactions of an operation", bound("nor_driver/specs/Operations.antt", "most_operation"), r"\+ #\(e \+ p"),
         ("KiB of the smallest chip", constant("nor_probe/src/sfdp.rt", "LEAST_BITS") >> 13, "from # KiB to"),
         ("MiB of the largest chip", 2 ** constant("nor_probe/src/sfdp.rt", "MOST_EXPONENT") >> 23, "KiB to # MiB"),

@@ -24,18 +24,18 @@ STATEMENT = ["python3", "scripts/statement.py", "--check"]
 # expected message. One plant of each kind must be rejected by agree as a whole, the others by its part.
 PLANTS = {
     "a clause of another call": (
-        AGREE, "README.md", r"`session`: `still`, `same`, `leads_back`", "`probe`: `still`, `same`, `leads_back`",
-        r"README.md:\d+: `probe` has no clause `still`: crates/nor_probe/src/"),
+        AGREE, "README.md", r"`session`: `unsent`, `same`, `restorable`", "`probe`: `unsent`, `same`, `restorable`",
+        r"README.md:\d+: `probe` has no clause `unsent`: crates/nor_probe/src/"),
     "a clause of a call's neighbour": (
         ROWS, "README.md", r"`session`, `done`", "`session`, `back`", "`session` has no clause `back`"),
     "a premise for a clause": (
         ROWS, "README.md", r"`session`, `done`", "`session`, `steady`", "`session` has no clause `steady`"),
     "what a caller owes for a clause": (
-        ROWS, "docs/PROMISES.md", r"`rehearse`, `gives_back`", "`rehearse`, `fresh`",
+        ROWS, "docs/PROMISES.md", r"`rehearse`, `restores_original`", "`rehearse`, `fresh`",
         "`rehearse` has no clause `fresh`"),
     "the clause that a row had": (
-        ROWS, "docs/PROMISES.md", r"`rehearse`, `honest` \(`IsNoHalt`\)", "`rehearse`, `halts`",
-        "`rehearse` has no clause `halts`"),
+        ROWS, "docs/PROMISES.md", r"`rehearse`, `honest` \(`IsNoBusError`\)", "`rehearse`, `fails`",
+        "`rehearse` has no clause `fails`"),
     "a call that isn't there": (
         ROWS, "docs/PROMISES.md", r"`Layout::include`: ", "`Layout::includes`: ",
         "there is no call, law or definition `Layout::includes`"),
@@ -46,8 +46,8 @@ PLANTS = {
         ROWS, "docs/PROMISES.md", r"`session`, `restore`: `gives_up`", "`session`, `rehearse`: `gives_up`",
         "`rehearse` has no clause `gives_up`"),
     "a definition that the clause doesn't say": (
-        ROWS, "docs/PROMISES.md", r"`honest` \(`IsNoHalt`\)", "`modelled` (`IsNoHalt`)",
-        "`modelled` doesn't say `IsNoHalt`"),
+        ROWS, "docs/PROMISES.md", r"`honest` \(`IsNoBusError`\)", "`modelled` (`IsNoBusError`)",
+        "`modelled` doesn't say `IsNoBusError`"),
     "a field of another clause": (
         ROWS, "docs/PROMISES.md", r"`done` \(`latch`, ", "`spares` (`latch`, ", "`spares` doesn't say `latch`"),
     "a field that a record hasn't": (
@@ -135,7 +135,7 @@ PLANTS = {
         WORDS, "docs/FLASHROM.md", r"`busy=N`", "`busier=N`",
         "keys with values: FLASHROM has 'busier=N', help hasn't"),
     "a glossary's name that isn't there": (
-        PATHS, "docs/GLOSSARY.md", r"`CanGiveBack`", "`CanGiveBacks`",
+        PATHS, "docs/GLOSSARY.md", r"`CanRestore`", "`CanGiveBacks`",
         r"docs/GLOSSARY.md:\d+: there is no CanGiveBacks"),
     "a test that isn't there, for what only tests show": (
         ROWS, "docs/TESTING.md", r"`a_stop_ends_each_call`", "`a_stop_ends_every_call`",
@@ -210,17 +210,17 @@ PLANTS = {
         AGREE, "docs/STATEMENT-FULL.md", r"(?m)^most_status_writes _ unlock = .*\n", "",
         "STATEMENT-FULL.md is to have 'most_status_writes _ unlock = "),
     "a field that the headline's page hasn't": (
-        STATEMENT, "docs/STATEMENT.md", r"(?m)^  leads_back : .*\n", "", "STATEMENT.md is to have '  leads_back : "),
+        STATEMENT, "docs/STATEMENT.md", r"(?m)^  restorable : .*\n", "", "STATEMENT.md is to have '  restorable : "),
     "an appendix without what breaks": (
         STATEMENT, "docs/STATEMENT-FULL.md", r"(?m)^\*\*If this is wrong, .*\n", "",
         r"STATEMENT-FULL.md is to have '\*\*If this is wrong, "),
     "a page that is too long": (
-        STATEMENT, "crates/nor_session/specs/Headline.antt", r"(?m)^  pub still : ",
-        "".join(f"  pub still{at} : vault.sealed ≡ vault.sealed\n" for at in range(40)) + "  pub still : ",
+        STATEMENT, "crates/nor_session/specs/Headline.antt", r"(?m)^  pub unsent : ",
+        "".join(f"  pub unsent{at} : vault.sealed ≡ vault.sealed\n" for at in range(40)) + "  pub unsent : ",
         r"docs/STATEMENT.md has 4\d\d lines, at most 400"),
     "a name that the headline's page doesn't use": (
-        STATEMENT, "scripts/statement_parts.py", r'"held_by": "`held_by', '"Looks": "`Looks',
-        "NAMES of scripts/statement_parts.py has what STATEMENT.md doesn't use: Looks"),
+        STATEMENT, "scripts/statement_parts.py", r'"held_by": "`held_by', '"OnlyReads": "`OnlyReads',
+        "NAMES of scripts/statement_parts.py has what STATEMENT.md doesn't use: OnlyReads"),
     "a name that no appendix has": (
         STATEMENT, "scripts/statement_parts.py", r'(?m)^ +"Ranges": "nor_layout.*\n', "", "no appendix has Ranges"),
     "a field of the page that isn't there": (
@@ -230,8 +230,8 @@ PLANTS = {
         STATEMENT, "scripts/statement_parts.py", r"sessions.rt keeps always", "sessions.rt keeps ever",
         "'session' has no clause ever"),
     "a clause of the summary that another call has": (
-        ROWS, "docs/STATEMENT.md", r"`restore`: `within` \|", "`restore`: `leads_back` |",
-        r"STATEMENT.md:\d+: `restore` has no clause `leads_back`"),
+        ROWS, "docs/STATEMENT.md", r"`restore`: `within` \|", "`restore`: `restorable` |",
+        r"STATEMENT.md:\d+: `restore` has no clause `restorable`"),
     "a name of the prose that no definition has": (
         STATEMENT, "scripts/statement_page.md", r"\(`RanOut`, `most_of`\)", "(`RunsOut`, `most_of`)",
         "names RunsOut, which no definition has"),

@@ -2,9 +2,9 @@
 ghost use Rattle.std.specs.Prelude.{◌≡◌, IfOk, vec_len};
 
 use crate::fault::Fault;
-use crate::timing::{Aim, Work, compare, look_at};
+use crate::timing::{TargetedSectors, Work, compare, look_at};
 use nor_chip::{Config, Delays, MOST_SECTORS, Meter, SECTOR_LEN, SimBus};
-use nor_driver::{Erase, EraseUnit, erase, program_page, read_sector};
+use nor_driver::{Erase, EraseBlock, erase, program_page, read_sector};
 use std::alloc::{AllocError, Global};
 use std::rt::Clock;
 
@@ -15,21 +15,21 @@ const PAGES: u32 = 65536;
 
 const SECTOR: usize = SECTOR_LEN as usize;
 
-const READS: Aim = Aim {
+const READS: TargetedSectors = TargetedSectors {
     what: "reads of a sector",
     beside: "a copy",
     at_most: 2.0,
     rounds: 301,
 };
 
-const ERASES: Aim = Aim {
+const ERASES: TargetedSectors = TargetedSectors {
     what: "erases of a sector",
     beside: "a copy",
     at_most: 2.0,
     rounds: 301,
 };
 
-const PROGRAMS: Aim = Aim {
+const PROGRAMS: TargetedSectors = TargetedSectors {
     what: "programs of a page",
     beside: "a copy",
     at_most: 6.0,
@@ -131,7 +131,7 @@ struct Erases<'a> {
 impl Work for Erases<'_> {
     fn run(&mut self) -> Result<u64, Fault> {
         for sector in 0..MOST_SECTORS {
-            let unit = EraseUnit::Sector;
+            let unit = EraseBlock::Sector;
             let sector = sector as u16;
             erase(self.bus, Erase { unit, sector })?;
         }

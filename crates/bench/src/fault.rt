@@ -1,7 +1,7 @@
 //! The errors that end a run of the program.
 
 use nor_chip::{Stopped, WrongLength};
-use nor_driver::Halt;
+use nor_driver::OperationError;
 use nor_journal::{JournalFault, VaultFault};
 use nor_session::Refusal;
 use std::alloc::AllocError;
@@ -48,8 +48,8 @@ impl From<Stopped> for Fault {
     }
 }
 
-impl From<Halt> for Fault {
-    fn from(_: Halt) -> Fault {
+impl From<OperationError> for Fault {
+    fn from(_: OperationError) -> Fault {
         Fault::Chip
     }
 }

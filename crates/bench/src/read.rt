@@ -1,7 +1,7 @@
 //! A readout of a whole W25Q128FV into memory, and a verification against an image.
 
 use crate::fault::Fault;
-use crate::timing::{Aim, Work, compare};
+use crate::timing::{TargetedSectors, Work, compare};
 use nor_chip::{Config, Delays, Meter, SimBus};
 use nor_journal::MemVault;
 use nor_read::{read_out, verify};
@@ -11,14 +11,14 @@ use std::rt::Clock;
 /// The size of the chip in bytes.
 const CHIP: usize = 16777216;
 
-const READING: Aim = Aim {
+const READING: TargetedSectors = TargetedSectors {
     what: "a chip read out",
     beside: "a copy",
     at_most: 3.0,
     rounds: 31,
 };
 
-const VERIFYING: Aim = Aim {
+const VERIFYING: TargetedSectors = TargetedSectors {
     what: "a chip verified",
     beside: "a copy",
     at_most: 3.0,

@@ -2,9 +2,9 @@
 
 use crate::fault::Fault;
 use crate::read::Copies;
-use crate::timing::{Aim, Work, compare};
+use crate::timing::{TargetedSectors, Work, compare};
 use nor_chip::{Config, Delays, Meter, SimBus};
-use nor_driver::{Erase, EraseUnit, erase};
+use nor_driver::{Erase, EraseBlock, erase};
 use nor_journal::{Journal, MemVault};
 use nor_session::{Request, What, restore, session};
 use sha2::{Digest, Sha256};
@@ -22,28 +22,28 @@ const WRITE: Request = Request {
     verify: true,
 };
 
-const WRITING: Aim = Aim {
+const WRITING: TargetedSectors = TargetedSectors {
     what: "a whole image written",
     beside: "SHA-256 of its journal",
     at_most: 2.0,
     rounds: 5,
 };
 
-const RESTORING: Aim = Aim {
+const RESTORING: TargetedSectors = TargetedSectors {
     what: "a whole chip restored",
     beside: "SHA-256 of the journal",
     at_most: 2.0,
     rounds: 5,
 };
 
-const LOOKING: Aim = Aim {
+const LOOKING: TargetedSectors = TargetedSectors {
     what: "a session that changes nothing",
     beside: "a copy of the chip",
     at_most: 4.0,
     rounds: 15,
 };
 
-const TOUCHING: Aim = Aim {
+const TOUCHING: TargetedSectors = TargetedSectors {
     what: "a session that changes a byte",
     beside: "a copy of the chip",
     at_most: 4.0,
@@ -130,7 +130,7 @@ struct Writing {
 impl Work for Writing {
     fn run(&mut self) -> Result<u64, Fault> {
         let whole = Erase {
-            unit: EraseUnit::Chip,
+            unit: EraseBlock::Chip,
             sector: 0,
         };
         erase(&mut self.bus, whole)?;
@@ -150,7 +150,7 @@ struct Restoring<'a> {
 impl Work for Restoring<'_> {
     fn run(&mut self) -> Result<u64, Fault> {
         let whole = Erase {
-            unit: EraseUnit::Chip,
+            unit: EraseBlock::Chip,
             sector: 0,
         };
         erase(&mut self.bus, whole)?;

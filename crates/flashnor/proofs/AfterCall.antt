@@ -6,7 +6,7 @@ use Rattle.std.specs.Borrow.{Bor}
 use Rattle.std.proofs.lemmas.Bool.{cases_Bool}
 use Rattle.nor_chip.specs.Bus.{BusState}
 use Rattle.nor_probe.specs.declared.table.ChipName.{ChipName}
-use Rattle.nor_files.specs.Files.{FilesState, Stays, View, is_lawful}
+use Rattle.nor_files.specs.Files.{FilesState, KeepsFile, View, is_lawful}
 use Rattle.nor_journal.specs.Vault.{VaultState}
 use Rattle.nor_call.specs.declared.refusal.Refusal.{Refusal}
 use Rattle.nor_call.specs.declared.request.Request.{Request}
@@ -29,14 +29,14 @@ use Rattle.flashnor.specs.Run.{DoesJob, IsViewBut}
 use Rattle.nor_lines.specs.Stored.{AreTwo}
 use Rattle.flashnor.specs.Tasks.{journal_of, keeps_journal, puts_back}
 use Rattle.nor_lines.specs.declared.answers.Answer.{Answer}
-use Rattle.flashnor.proofs.Stays.{StayApart, lawful_after, not_that}
-use Rattle.flashnor.proofs.Stays.{settled_after}
+use Rattle.flashnor.proofs.KeepsFile.{StayApart, lawful_after, not_that}
+use Rattle.flashnor.proofs.KeepsFile.{settled_after}
 use Rattle.flashnor.proofs.Traced.{reads_before}
 
 -- ---- the chip and the journal after the call
 
 -- a journal in a file is kept while another file is written
-pub kept_after : {file : Text} {vault : VaultState} {s2 s3 : FilesState} → Stays file s2 s3 → IsKeptFile file vault s2
+pub kept_after : {file : Text} {vault : VaultState} {s2 s3 : FilesState} → KeepsFile file s2 s3 → IsKeptFile file vault s2
     → IsKeptFile file vault s3
 kept_after stays kept = record {
   telling = kept.telling;

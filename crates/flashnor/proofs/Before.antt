@@ -2,7 +2,7 @@
 use Rattle.std.proofs.Common.{◌≡◌, ◌∙◌, Option, None, Some, arith, false, inl, inr, refl, subst, sym, true, true≢false}
 use Rattle.std.specs.Borrow.{Bor}
 use Rattle.nor_files.specs.Calls.{LeaveNoMore, LeavesNoMore, LeavesOrEmpty}
-use Rattle.nor_files.specs.Files.{AreAtRest, FilesState, KnownStay, Name, Nature, Stays}
+use Rattle.nor_files.specs.Files.{AreAtRest, FilesState, KnownStay, Name, Nature, KeepsFile}
 use Rattle.nor_words.specs.Text.{Text}
 use Rattle.nor_words.specs.declared.job.ChipJob.{ChipJob}
 use Rattle.nor_words.specs.declared.job.JournalUse.{JournalUse}
@@ -14,7 +14,7 @@ use Rattle.flashnor.specs.Roles.{HasOwnTrace, HaveOneRole, named_by}
 use Rattle.flashnor.specs.Run.{KeepsChange, KeepsFiles, StayBut}
 use Rattle.nor_lines.specs.Stored.{AreTwo, IsNot, LeavesNoMoreOf, MakesNothing, StaysOf}
 use Rattle.flashnor.specs.Tasks.{journal_by, journal_of, keeps_journal, made_by, puts_back}
-use Rattle.flashnor.proofs.Stays.{StayApart, apart, known_after, known_at_rest, not_after, not_that, stays_same}
+use Rattle.flashnor.proofs.KeepsFile.{StayApart, apart, known_after, known_at_rest, not_after, not_that, stays_same}
 
 -- a promise about all files holds for the file that is named, if one is
 pub leaves_of : (old new : FilesState) (name : Option (Bor Text)) → LeaveNoMore old new → LeavesNoMoreOf name old new
@@ -74,9 +74,9 @@ module _ (programmer : Programmer) (old new : FilesState) (image : LeavesNoMoreO
       → LeavesNoMore any old new)
       → ((file : Bor Text) → journal_of kept ≡ Some file → LeavesOrEmpty file.now old new)
       → KeepsChange programmer kept old new
-  keeps_begun (uses.Journal file) still leave empty =
+  keeps_begun (uses.Journal file) unsent leave empty =
       inl (record { image = image; status = status; others = leave; empty = empty file refl })
-  keeps_begun (uses.Rehearse stops) still leave empty = still refl
+  keeps_begun (uses.Rehearse stops) unsent leave empty = unsent refl
 
   keeps_unmade : (done : Task) → (puts_back done ≡ false → StayBut programmer (made_by done) old new)
       → ((any : Name) → IsNot old.view.nature programmer.trace any → IsNot old.view.nature (made_by done) any
@@ -84,14 +84,14 @@ module _ (programmer : Programmer) (old new : FilesState) (image : LeavesNoMoreO
       → ((journal : Bor Text) → done ≡ task.Restore journal → LeavesNoMore journal.now old new)
       → ((file : Bor Text) → journal_by done ≡ Some file → LeavesOrEmpty file.now old new)
       → KeepsFiles programmer done old new
-  keeps_unmade (task.Change change) still leave source empty = keeps_begun change.journal_use still leave empty
-  keeps_unmade (task.Restore journal) still leave source empty = inl (record {
+  keeps_unmade (task.Change change) unsent leave source empty = keeps_begun change.journal_use unsent leave empty
+  keeps_unmade (task.Restore journal) unsent leave source empty = inl (record {
     image = image;
     status = status;
     journal = source journal refl;
     others = λ name not. leave name not tt;
   })
-  keeps_unmade _ still leave source empty = still refl
+  keeps_unmade _ unsent leave source empty = unsent refl
 
 -- a run that changed no file keeps what its task must keep of the files
 pub keeps_still : (files : FilesState) (programmer : Programmer) (done : Task) → KeepsFiles programmer done files files
@@ -112,7 +112,7 @@ puts_journal done file is = grind arith
 
 pub keeps_existing : (job : ChipJob) (old new : FilesState) (file : Bor Text) → journal_by job.task ≡ Some file
     → HasOwnTrace old.view.nature job
-    → ((any : Name) → IsNot old.view.nature job.programmer.trace any → Stays any old new)
+    → ((any : Name) → IsNot old.view.nature job.programmer.trace any → KeepsFile any old new)
     → KeepsFiles job.programmer job.task old new
 keeps_existing job old new file is own stay =
     let nature = old.view.nature in

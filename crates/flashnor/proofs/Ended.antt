@@ -3,7 +3,7 @@ use Rattle.std.proofs.Common.{◌≡◌, ◌≢◌, ℕ, List, Option, Result, O
 use Rattle.nor_call.specs.declared.refusal.Refusal.{Refusal}
 use Rattle.nor_words.specs.Text.{Text}
 use Rattle.clap.specs.Words.{IsAmong}
-use Rattle.nor_words.specs.Words.{IsJob, IsRefused, refusals_of}
+use Rattle.nor_words.specs.Words.{IsJob, IsRefusedSetting, refusals_of}
 use Rattle.nor_words.specs.declared.job.ChipJob.{ChipJob}
 use Rattle.nor_words.specs.declared.job.Job.TheVariants as job
 use Rattle.nor_words.specs.declared.words.UsageFault.{UsageFault}
@@ -11,7 +11,7 @@ use Rattle.nor_words.specs.declared.words.UsageFault.TheVariants as usage
 use Rattle.flashnor.specs.Endings.{HasPrinted, all_written}
 use Rattle.nor_lines.specs.Printing.{PrintsAnswer}
 use Rattle.nor_files.specs.Files.{AreAtRest, FilesState, View}
-use Rattle.flashnor.specs.Run.{EndsJob, FailsJob, AnswersWords, HoldsChange, HoldsResult, HoldsTask, IsCalled, IsToldAs, IsStatus, KeepsFiles, Succeeds}
+use Rattle.flashnor.specs.Run.{EndsJob, FailsJob, AnswersArguments, HoldsChange, HoldsResult, HoldsTask, IsCalled, IsReportedAs, IsStatus, KeepsFiles, RunSucceeds}
 use Rattle.flashnor.proofs.Stays.{stays_same}
 use Rattle.nor_lines.specs.declared.answers.Answer.{Answer}
 use Rattle.flashnor.specs.declared.holding.Unwritten.{Unwritten}
@@ -35,27 +35,27 @@ no_usage : (fault : UsageFault) (view : View) (on_chip : ChipJob) → FailsJob v
 no_usage fault view on_chip fails = grind arith
 
 module _ (files after : FilesState) (on_chip : ChipJob) (unwritten : Unwritten) where
-  pub ends_called : (outcome : Result Answer Refusal) (told : Result Answer Fault)
-      → IsCalled files after on_chip unwritten outcome → IsToldAs outcome told
-      → EndsJob files after on_chip unwritten told
-  ends_called (Ok found) told called tells = rw tells called
-  ends_called (Err refusal) told called tells = rw tells (inl called)
+  pub ends_called : (outcome : Result Answer Refusal) (returned : Result Answer Fault)
+      → IsCalled files after on_chip unwritten outcome → IsReportedAs outcome returned
+      → EndsJob files after on_chip unwritten returned
+  ends_called (Ok found) returned called errors = rw errors called
+  ends_called (Err refusal) returned called errors = rw errors (inl called)
 
   -- a fault from before the call ends the job
   fails_ends : (fault : Fault) → FailsJob files.view on_chip fault → EndsJob files after on_chip unwritten (Err fault)
   fails_ends (end.Refused refusal) fails = inr fails
   fails_ends _ fails = fails
 
-  pub answer_ended : (words : List Text) (told : Result Answer Fault) → IsJob words (job.Chip on_chip)
+  pub answer_ended : (words : List Text) (returned : Result Answer Fault) → IsJob words (job.Chip on_chip)
       → (AreAtRest files → KeepsFiles on_chip.programmer on_chip.task files after)
-      → (AreAtRest files → HoldsResult on_chip unwritten told files after)
-      → EndsJob files after on_chip unwritten told → AnswersWords files after words told unwritten
+      → (AreAtRest files → HoldsResult on_chip unwritten returned files after)
+      → EndsJob files after on_chip unwritten returned → AnswersArguments files after words returned unwritten
   answer_ended words (Err (end.Usage fault)) asks keeps holds ends = absurd (no_usage fault files.view on_chip ends)
   answer_ended words _ asks keeps holds ends = (job.Chip on_chip, asks, (ends, keeps, holds))
 
   pub answer_failed : (words : List Text) (fault : Fault) → IsJob words (job.Chip on_chip)
       → (AreAtRest files → KeepsFiles on_chip.programmer on_chip.task files after) → FailsJob files.view on_chip fault
-      → AnswersWords files after words (Err fault) unwritten
+      → AnswersArguments files after words (Err fault) unwritten
   answer_failed words fault asks keeps fails =
       answer_ended words (Err fault) asks keeps (λ rest. tt) (fails_ends fault fails)
 
@@ -63,62 +63,62 @@ module _ (files after : FilesState) (on_chip : ChipJob) (unwritten : Unwritten) 
 
 -- `HoldsResult` claims nothing for a call that returned an error
 pub holds_told : (on_chip : ChipJob) (unwritten : Unwritten) (outcome : Result Answer Refusal)
-    (told : Result Answer Fault) (old new : FilesState) → IsToldAs outcome told
+    (returned : Result Answer Fault) (old new : FilesState) → IsReportedAs outcome returned
     → ((found : Answer) → outcome ≡ Ok found → unwritten ≡ all_written
     → HoldsTask on_chip.programmer on_chip.named on_chip.task found old new)
-    → HoldsResult on_chip unwritten told old new
-holds_told on_chip unwritten (Ok found) told old new tells holds = rw tells (holds found refl)
-holds_told on_chip unwritten (Err refusal) told old new tells holds = rw tells tt
+    → HoldsResult on_chip unwritten returned old new
+holds_told on_chip unwritten (Ok found) returned old new errors holds = rw errors (holds found refl)
+holds_told on_chip unwritten (Err refusal) returned old new errors holds = rw errors tt
 
 -- `HoldsChange` claims nothing for a rehearsal
 looked_kept : (programmer : Programmer) (named : Option ChipName) (change : Change) (kept : JournalUse)
     (found : Answer) (old new : FilesState) → keeps_journal kept ≡ false
     → HoldsChange programmer named change kept found old new
-looked_kept programmer named change (uses.Journal file) found old new looks = absurd cc
-looked_kept programmer named change (uses.Rehearse stops) found old new looks = tt
+looked_kept programmer named change (uses.Journal file) found old new only_reads = absurd cc
+looked_kept programmer named change (uses.Rehearse stops) found old new only_reads = tt
 
 looked_task : (programmer : Programmer) (named : Option ChipName) (done : Task) (found : Answer) (old new : FilesState)
     → puts_back done ≡ false → HoldsTask programmer named done found old new
-looked_task programmer named (task.Change change) found old new looks =
-    looked_kept programmer named change change.journal_use found old new looks
-looked_task programmer named (task.Restore journal) found old new looks = absurd cc
-looked_task programmer named _ found old new looks = tt
+looked_task programmer named (task.Change change) found old new only_reads =
+    looked_kept programmer named change change.journal_use found old new only_reads
+looked_task programmer named (task.Restore journal) found old new only_reads = absurd cc
+looked_task programmer named _ found old new only_reads = tt
 
-looked_told : (on_chip : ChipJob) (unwritten : Unwritten) (told : Result Answer Fault) (old new : FilesState)
-    → puts_back on_chip.task ≡ false → HoldsResult on_chip unwritten told old new
-looked_told on_chip unwritten (Ok found) old new looks =
-    λ _. looked_task on_chip.programmer on_chip.named on_chip.task found old new looks
-looked_told on_chip unwritten (Err fault) old new looks = tt
+looked_told : (on_chip : ChipJob) (unwritten : Unwritten) (returned : Result Answer Fault) (old new : FilesState)
+    → puts_back on_chip.task ≡ false → HoldsResult on_chip unwritten returned old new
+looked_told on_chip unwritten (Ok found) old new only_reads =
+    λ _. looked_task on_chip.programmer on_chip.named on_chip.task found old new only_reads
+looked_told on_chip unwritten (Err fault) old new only_reads = tt
 
 pub holds_looked : (on_chip : ChipJob) (result : Result Work Fault) (old new : FilesState)
     → puts_back on_chip.task ≡ false
     → IfOk result (λ work. HoldsResult on_chip work.unwritten work.answer old new)
-holds_looked on_chip (Ok work) old new looks = looked_told on_chip work.unwritten work.answer old new looks
-holds_looked on_chip (Err fault) old new looks = tt
+holds_looked on_chip (Ok work) old new only_reads = looked_told on_chip work.unwritten work.answer old new only_reads
+holds_looked on_chip (Err fault) old new only_reads = tt
 
 -- ---- runs
 
 module _ (files after : FilesState) (words : List Text) where
   -- a run without a fault succeeds
   succeeds_by : (outcome : Result Answer Fault) (out out' : Option (List ℕ))
-      → AnswersWords files after words outcome all_written → PrintsAnswer outcome out out'
-      → Succeeds files after words out out'
+      → AnswersArguments files after words outcome all_written → PrintsAnswer outcome out out'
+      → RunSucceeds files after words out out'
   succeeds_by (Ok found) out out' answers prints = inr (found, answers, prints)
   succeeds_by (Err (end.Usage (usage.Words error))) out out' answers prints =
       inl (subst (λ k. IsAmong k (refusals_of words)) prints answers.0)
   succeeds_by _ out out' answers prints = absurd prints
 
   module _ (outcome : Result Answer Fault) (unwritten : Unwritten) (out out' err err' : Option (List ℕ))
-      (ending : Ending) (answers : AnswersWords files after words outcome unwritten)
+      (ending : Ending) (answers : AnswersArguments files after words outcome unwritten)
       (prints : HasPrinted outcome unwritten out out' err err' ending) where
-    succeeds : ending.status ≡ 0 → Succeeds files after words out out'
+    succeeds : ending.status ≡ 0 → RunSucceeds files after words out out'
     succeeds none =
         let well = prints.exact.0 none in
-        succeeds_by outcome out out' (subst (AnswersWords files after words outcome) well.1 answers)
+        succeeds_by outcome out out' (subst (AnswersArguments files after words outcome) well.1 answers)
         (prints.printed well.0)
 
     -- if the arguments ask for nothing, the run does not succeed
-    fails : IsRefused words → ending.status ≢ 0
+    fails : IsRefusedSetting words → ending.status ≢ 0
     fails refused none = elim (succeeds none) [
       | inl help ↦ refused.no_help help
       | inr done ↦ refused.no_job done.1.0 done.1.1

@@ -2,10 +2,10 @@
 use Rattle.std.proofs.Common.{◌≡◌, ◌+◌, ◌∙◌, ℕ, Bool, Option, None, Some, Ok, IsSomeAnd, ap, arith, false, inl, inr}
 use Rattle.std.proofs.Common.{is_some, option_map, refl, sym, take}
 use Rattle.std.specs.Borrow.{Bor}
-use Rattle.nor_files.specs.Calls.{Holds, IsPlaced, Reads}
-use Rattle.nor_files.specs.Files.{FilesState, Found, IsKnown, IsSettled, KnownStay, Name}
+use Rattle.nor_files.specs.Calls.{Holds, IsPlaced, ReadsFile}
+use Rattle.nor_files.specs.Files.{FilesState, Found, IsKnownFile, IsDurable, KnownStay, Name}
 use Rattle.nor_words.specs.Text.{Text}
-use Rattle.nor_lines.specs.Files.{IsHoldingFault}
+use Rattle.nor_lines.specs.Files.{IsLockingFault}
 use Rattle.nor_lines.specs.Stored.{IsFileFound}
 use Rattle.nor_lines.specs.declared.messages.Fault.{Fault}
 use Rattle.nor_lines.specs.declared.messages.Fault.TheVariants as end
@@ -18,8 +18,8 @@ missing : (found : Found) → is_some found ≡ false → found ≡ None
 missing found gone = grind arith
 
 pub missing_settled : {E : Type 0} {name : Name} {there : Bool} {old held new : FilesState} → there ≡ false
-    → IsKnown name old.view → Holds {E = E} name (Ok there) old held → IsPlaced name held new
-    → IsSettled name None new
+    → IsKnownFile name old.view → Holds {E = E} name (Ok there) old held → IsPlaced name held new
+    → IsDurable name None new
 missing_settled {name = name} {there = there} {old = old} gone known holds placed =
     let none = missing (old.view.seen name) (sym (holds.there there refl known) ∙ gone) in
     let seen = (holds.stay name).seen ∙ none in
@@ -32,7 +32,7 @@ missing_settled {name = name} {there = there} {old = old} gone known holds place
 
 -- if all known files stayed, a read afterwards returns what a read before would have returned
 reads_before : (name : Name) (most : ℕ) (found : Found) (a b : FilesState) → b.view.nature ≡ a.view.nature
-    → KnownStay a b → Reads name most found b.view → Reads name most found a.view
+    → KnownStay a b → ReadsFile name most found b.view → ReadsFile name most found a.view
 reads_before name most found a b same stay reads known =
     let stays = stay name known in
     reads (known_after same stays known) ∙ ap (option_map (take most)) stays.seen
@@ -45,8 +45,8 @@ found_before (Some name) len found a b same stay is = reads_before name.now (len
 
 pub faults_before : (name : Option (Bor Text)) (len : ℕ) (fault : Fault) (a b : FilesState)
     → b.view.nature ≡ a.view.nature → KnownStay a b
-    → IsSomeAnd name (λ given. IsHoldingFault b.view given.now len fault)
-    → IsSomeAnd name (λ given. IsHoldingFault a.view given.now len fault)
+    → IsSomeAnd name (λ given. IsLockingFault b.view given.now len fault)
+    → IsSomeAnd name (λ given. IsLockingFault a.view given.now len fault)
 faults_before None len fault a b same stay is = is
 faults_before (Some name) len (end.File file.Read of) a b same stay (is, inl reads) =
     (is, inl (reads_before name.now (len + 1) None a b same stay reads))

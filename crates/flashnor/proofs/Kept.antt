@@ -11,7 +11,7 @@ use Rattle.nor_chip.specs.Start.{status_of}
 use Rattle.nor_chip.proofs.Kept.{kept_told}
 use Rattle.nor_chip.specs.declared.config.Config.{Config}
 use Rattle.nor_probe.specs.declared.table.ChipName.{ChipName}
-use Rattle.nor_files.specs.Files.{AreAtRest, FilesState, Found, IsSettled, Stays, View, is_lawful}
+use Rattle.nor_files.specs.Files.{AreAtRest, FilesState, Found, IsDurable, KeepsFile, View, is_lawful}
 use Rattle.nor_journal.specs.Text.{text}
 use Rattle.nor_call.specs.declared.refusal.Refusal.{Refusal}
 use Rattle.nor_call.specs.declared.request.Request.{Request}
@@ -27,8 +27,8 @@ use Rattle.nor_words.specs.declared.job.Task.TheVariants as task
 use Rattle.flashnor.specs.Changes.{HasMadeChange, IsKeptFile}
 use Rattle.flashnor.specs.Chips.{ArePutBack, IsContentOf, OpensChip}
 use Rattle.flashnor.specs.Endings.{all_written}
-use Rattle.flashnor.specs.Holding.{AreAmid, AreHeld, AreReady, IsReady, Settles, StandsFor, was}
-use Rattle.flashnor.specs.Left.{IsNoFileOf, IsOpenedFrom, LeadsBack, LeavesAsLong, MayFind, Opened}
+use Rattle.flashnor.specs.Holding.{AreAmid, AreHeld, AreReady, IsReady, MakesDurable, StandsFor, was}
+use Rattle.flashnor.specs.Left.{IsNoFileOf, IsOpenedFrom, IsRestorableFrom, LeavesAsLong, MayFind, Opened}
 use Rattle.nor_lines.specs.Requests.{AreRangesOf, request_for}
 use Rattle.flashnor.specs.Requests.{IsBufferOf}
 use Rattle.flashnor.specs.Roles.{HaveOneRole, image_of, layout_of, named_by}
@@ -39,8 +39,8 @@ use Rattle.nor_lines.specs.declared.answers.Answer.{Answer}
 use Rattle.flashnor.specs.declared.holding.Held.{Held}
 use Rattle.flashnor.specs.declared.holding.Unwritten.{Unwritten}
 use Rattle.flashnor.proofs.Before.{image_made, status_made}
-use Rattle.flashnor.proofs.Stays.{StayApart, known_after, known_at_rest, lawful_after, not_after, not_that, rest_on}
-use Rattle.flashnor.proofs.Stays.{settled_after, stays_on}
+use Rattle.flashnor.proofs.KeepsFile.{StayApart, known_after, known_at_rest, lawful_after, not_after, not_that, rest_on}
+use Rattle.flashnor.proofs.KeepsFile.{settled_after, stays_on}
 use Rattle.flashnor.proofs.Traced.{missing_before, reads_before}
 use Rattle.flashnor.proofs.AfterCall.{buffer_before, kept_after, ranges_before}
 use Rattle.flashnor.proofs.Reopened.{as_long, as_many, found_either, of_gone, of_none, opened_many, opened_size}
@@ -50,12 +50,12 @@ use Rattle.flashnor.proofs.Reopened.{as_long, as_many, found_either, of_gone, of
 module _ (job : ChipJob) (held : Held) (s0 s1 s2 : FilesState) (bus bus' : BusState)
     (roles : HaveOneRole s0.view.nature job) (read : IsContentOf s0.view job.programmer held.content)
     (opens : OpensChip job.programmer held.content bus)
-    (rest : AreAtRest s0) (is_held : AreHeld job.programmer held s0 s1)
+    (rest : AreAtRest s0) (is_touched_protected : AreHeld job.programmer held s0 s1)
     (nature1 : s1.view.nature ≡ s0.view.nature) (nature2 : s2.view.nature ≡ s1.view.nature)
     (stay : is_lawful s1.view ≡ true → StayApart job.programmer.trace (made_by job.task) s1 s2)
     (setup : bus'.chip.config ≡ bus.chip.config) where
-  still : AreAtRest s1
-  still = rest_on nature1 rest is_held.stay
+  unsent : AreAtRest s1
+  unsent = rest_on nature1 rest is_touched_protected.stay
 
   abbrev first : Opened job.programmer s0
   first = record { content = held.content; read = read; bus = bus; opens = opens }
@@ -66,14 +66,14 @@ module _ (job : ChipJob) (held : Held) (s0 s1 s2 : FilesState) (bus bus' : BusSt
   -- a file that was locked and read is ready to be written, unless it is the trace or the file that the task creates
   ready : (name : Option (Bor Text)) (there : Bool) (had put : List ℕ)
       → AreTwo s0.view.nature name job.programmer.trace → AreTwo s0.view.nature name (made_by job.task)
-      → Settles name (was there had) s1 → length had ≡ length put
+      → MakesDurable name (was there had) s1 → length had ≡ length put
       → IsReady name there had put s2
   ready None there had put traced other settled many = tt
   ready (Some name) there had put traced other settled many =
-      let stays = stay still.lawful name.now (not_after job.programmer.trace name.now nature1 traced)
+      let stays = stay unsent.lawful name.now (not_after job.programmer.trace name.now nature1 traced)
       (not_after (made_by job.task) name.now nature1 other) in
       record {
-        known = known_after nature2 stays (known_at_rest still name.now);
+        known = known_after nature2 stays (known_at_rest unsent name.now);
         settled = settled_after stays settled;
         as_many = many;
       }
@@ -84,9 +84,9 @@ module _ (job : ChipJob) (held : Held) (s0 s1 s2 : FilesState) (bus bus' : BusSt
   ready_both = record {
     image = λ put are. ready job.programmer.image held.image_there _ put roles.image_trace
         (image_made s0.view.nature job roles)
-        is_held.image (opened_many first ∙ sym (ap (λ (c : Config). c.size) setup) ∙ sym are.len);
+        is_touched_protected.image (opened_many first ∙ sym (ap (λ (c : Config). c.size) setup) ∙ sym are.len);
     status = ready job.programmer.status held.status_there _ (status_of bus'.chip) roles.status_trace
-        (status_made s0.view.nature job roles) is_held.status status_many;
+        (status_made s0.view.nature job roles) is_touched_protected.status status_many;
   }
 
   -- ---- what may be left of both files
@@ -101,12 +101,12 @@ module _ (job : ChipJob) (held : Held) (s0 s1 s2 : FilesState) (bus bus' : BusSt
 
     image_whole : LeavesAsLong job.programmer.image s0 s3
     image_whole =
-        as_long job.programmer.image held.image_there _ _ s0 s1 s3 is_held.stay is_held.image
+        as_long job.programmer.image held.image_there _ _ s0 s1 s3 is_touched_protected.stay is_touched_protected.image
         (opened_many first ∙ sym put_len) is_amid.image
 
     status_whole : LeavesAsLong job.programmer.status s0 s3
     status_whole =
-        as_long job.programmer.status held.status_there _ _ s0 s1 s3 is_held.stay is_held.status status_many
+        as_long job.programmer.status held.status_there _ _ s0 s1 s3 is_touched_protected.stay is_touched_protected.status status_many
         is_amid.status
 
     -- each byte of a chip that is opened from what may be left is that of the old or the new chip
@@ -151,35 +151,35 @@ module _ (job : ChipJob) (held : Held) (s0 s1 s2 : FilesState) (bus bus' : BusSt
 
     -- the files stay from the locking of the chip's files to the end of the call
     call_stays : (made : Option (Bor Text)) → StayApart job.programmer.trace made s1 s2 → (name : Text)
-        → IsNot s0.view.nature job.programmer.trace name → IsNot s0.view.nature made name → Stays name s1 s2
+        → IsNot s0.view.nature job.programmer.trace name → IsNot s0.view.nature made name → KeepsFile name s1 s2
     call_stays made stay' name traced other =
         stay' name (not_after job.programmer.trace name nature1 traced) (not_after made name nature1 other)
 
     -- the files stay from the end of the call on
     last_stays : (name : Text) → IsNot s0.view.nature job.programmer.image name
-        → IsNot s0.view.nature job.programmer.status name → Stays name s2 s3
+        → IsNot s0.view.nature job.programmer.status name → KeepsFile name s2 s3
     last_stays name image status =
-        last (lawful_after nature2 still.lawful) name (not_after job.programmer.image name (nature2 ∙ nature1) image)
+        last (lawful_after nature2 unsent.lawful) name (not_after job.programmer.image name (nature2 ∙ nature1) image)
         (not_after job.programmer.status name (nature2 ∙ nature1) status)
 
     file_stays : (file : Bor Text) → AreTwo s0.view.nature job.programmer.image (Some file)
-        → AreTwo s0.view.nature job.programmer.status (Some file) → Stays file.now s2 s3
+        → AreTwo s0.view.nature job.programmer.status (Some file) → KeepsFile file.now s2 s3
     file_stays file one other =
         last_stays file.now (not_that s0.view.nature job.programmer.image file one)
         (not_that s0.view.nature job.programmer.status file other)
 
     -- a file stays if its name is apart from those of the programmer's files and of the file that the task creates
     others_stay : (made : Option (Bor Text)) → StayApart job.programmer.trace made s1 s2 → (name : Text)
-        → IsNoFileOf s0.view.nature job.programmer name → IsNot s0.view.nature made name → Stays name s0 s3
+        → IsNoFileOf s0.view.nature job.programmer name → IsNot s0.view.nature made name → KeepsFile name s0 s3
     others_stay made stay' name none other =
-        stays_on (is_held.stay name)
+        stays_on (is_touched_protected.stay name)
         (stays_on (call_stays made stay' name none.trace other) (last_stays name none.image none.status))
 
     -- a sealed journal can restore the original chip, and is durable in its file
     leads_kept : {request : Request} {image : List ℕ} {outcome : Result Answer Refusal} (file : Bor Text)
         → (made : HasMadeChange request image (uses.Journal file) bus bus' amid s2 outcome)
         → IsKeptFile file.now made.vault' s3 → made.vault'.sealed ≡ true
-        → (leads : LeadsBack file.now first s3) × IsSettled file.now (Some (text leads.journal)) s3
+        → (leads : IsRestorableFrom file.now first s3) × IsDurable file.now (Some (text leads.journal)) s3
     leads_kept file made in_file is =
         let saves = (made.done.undo is).journal in_file.telling in (
           record {
@@ -202,7 +202,7 @@ module _ (job : ChipJob) (held : Held) (s0 s1 s2 : FilesState) (bus bus' : BusSt
         → HasMadeChange request image kept bus bus' amid s2 outcome
         → KeepsChange job.programmer kept s0 s3
     keeps_change (uses.Journal file) keeps stay' one other traced made =
-        let in_file = kept_after (file_stays file one other) (made.kept_in (lawful_after nature2 still.lawful)) in
+        let in_file = kept_after (file_stays file one other) (made.kept_in (lawful_after nature2 unsent.lawful)) in
         let not = not_that s0.view.nature job.programmer.trace file traced in
         inr (record {
           missing = missing_before job.programmer.trace file s0.view amid not but made.missing (known_at_rest rest file.now);
@@ -234,7 +234,7 @@ module _ (job : ChipJob) (held : Held) (s0 s1 s2 : FilesState) (bus bus' : BusSt
           journal = does.journal;
           sound = does.sound;
           read = reads_before job.programmer.trace journal.now 16793662 _ s0.view amid not but does.read;
-          stays = stays_on (is_held.stay journal.now)
+          stays = stays_on (is_touched_protected.stay journal.now)
               (stays_on (call_stays None stay' journal.now not tt) (file_stays journal one other));
           back = λ chip can i s later left left_status from.
               does.restored.over chip later can (over i s later left left_status from);
@@ -258,7 +258,7 @@ module _ (job : ChipJob) (held : Held) (s0 s1 s2 : FilesState) (bus bus' : BusSt
           → HasMadeChange (request_for change named ranges) image kept bus bus' amid s2 (Ok found)
           → HoldsChange job.programmer named change kept found s0 s3
       holds_change change named found (uses.Journal file) keeps two_layout two_image one other ranges are image is made =
-          let in_file = kept_after (file_stays file one other) (made.kept_in (lawful_after nature2 still.lawful)) in
+          let in_file = kept_after (file_stays file one other) (made.kept_in (lawful_after nature2 unsent.lawful)) in
           let sealed = made.done.sealed refl in
           let leads = leads_kept file made in_file sealed in
           record {
@@ -269,7 +269,7 @@ module _ (job : ChipJob) (held : Held) (s0 s1 s2 : FilesState) (bus bus' : BusSt
             image = image;
             buffer = buffer_before job.programmer.trace s0.view amid job.programmer.chip change.wanted image two_image
                 but is;
-            target = made.done.told;
+            target = made.done.returned;
             held = put_all;
             leads = leads.0;
             settled = leads.1;
@@ -299,10 +299,10 @@ module _ (job : ChipJob) (held : Held) (s0 s1 s2 : FilesState) (bus bus' : BusSt
             read = reads_before job.programmer.trace journal.now 16793662 _ s0.view amid not but does.read;
             probed = does.restored.found;
             same = does.restored.same;
-            target = does.restored.told;
+            target = does.restored.returned;
             back = does.restored.back;
             held = put_all;
-            stays = stays_on (is_held.stay journal.now)
+            stays = stays_on (is_touched_protected.stay journal.now)
                 (stays_on (call_stays None stay' journal.now not tt) (file_stays journal one other));
           }
       holds_task _ named found puts stay' two_layout two_image one other traced does = absurd cc

@@ -5,9 +5,9 @@ use Rattle.std.proofs.lemmas.Bool.{false≢true}
 use Rattle.std.proofs.lemmas.List.{append-nil, length-append, length-drop, length-replicate, drop_all, take_all}
 use Rattle.std.proofs.lemmas.Option.{same_Some}
 use Rattle.std.proofs.Math.Seq.{take-append_seam, take-nil}
-use Rattle.nor_files.specs.Calls.{LeaveNoMore, Makes, Places, SetsLength, Syncs, WorksOn, WritesOver, with_length}
+use Rattle.nor_files.specs.Calls.{LeaveNoMore, Creates, Places, SetsLength, Syncs, WorksOn, WritesOver, with_length}
 use Rattle.nor_files.specs.Calls.{written_over}
-use Rattle.nor_files.specs.Files.{FilesState, Found, IsKnown, IsSettled, KnownStay, Name, OthersStay, is_lawful}
+use Rattle.nor_files.specs.Files.{FilesState, Found, IsKnownFile, IsDurable, KnownStay, Name, OthersStay, is_lawful}
 use Rattle.flashnor.specs.Holding.{IsReadyFile, LeavesFileAmid}
 use Rattle.flashnor.proofs.Stays.{apart_after, lawful_after, stays_on}
 
@@ -33,8 +33,8 @@ then_on one two = record {
       (two.others (lawful_after one.nature lawful) other (apart_after one.nature differ));
 }
 
-pub known_on : {name : Name} {old new : FilesState} → WorkOn name old new → IsKnown name old.view
-    → IsKnown name new.view
+pub known_on : {name : Name} {old new : FilesState} → WorkOn name old new → IsKnownFile name old.view
+    → IsKnownFile name new.view
 known_on work known = record {
   lawful = lawful_after work.nature known.lawful;
   in_store = work.out known.lawful ∙ known.in_store;
@@ -159,10 +159,10 @@ module _ {T E : Type 0} (F : Type 0) (name : Name) (result : Result T E) (old ne
   Alone = is_lawful old.view ≡ true → WorksOn name result old new
 
   abbrev Known : Type 0
-  Known = IsKnown name old.view
+  Known = IsKnownFile name old.view
 
   abbrev MakeCall : Type 0
-  MakeCall = record { nature : Keeps; alone : Alone; makes : Known → Makes name result old new; fails : F }
+  MakeCall = record { nature : Keeps; alone : Alone; makes : Known → Creates name result old new; fails : F }
 
   abbrev LengthCall : ℕ → Type 0
   LengthCall len =
@@ -277,15 +277,15 @@ module _ {T E F : Type 0} {name : Name} {bytes content : List ℕ} {one : T} {ol
 -- the directory of the file was synced, or the sync failed
 module _ {T E : Type 0} {name : Name} {bytes : List ℕ} {old mid : FilesState} (is : IsNew name bytes bytes old mid)
     (new : FilesState) (had : List ℕ) (ready : IsReadyFile name false had bytes old) where
-  pub amid_placed : (result : Result T E) → (IsKnown name mid.view → Places name result mid new)
+  pub amid_placed : (result : Result T E) → (IsKnownFile name mid.view → Places name result mid new)
       → LeavesFileAmid name false had bytes new
   amid_placed (Ok _) places left can =
       of_new is had ready left ((places (known_on is.work ready.known)).leaves left can).0
   amid_placed (Err _) places left can =
       of_new is had ready left ((places (known_on is.work ready.known)).leaves left can)
 
-  pub put_placed : (result : Result T E) → (IsKnown name mid.view → Places name result mid new)
-      → OnOk result (IsSettled name (Some bytes) new)
+  pub put_placed : (result : Result T E) → (IsKnownFile name mid.view → Places name result mid new)
+      → OnOk result (IsDurable name (Some bytes) new)
   put_placed (Ok _) places =
       let now = places (known_on is.work ready.known) in
       record {

@@ -5,7 +5,7 @@ use Rattle.std.specs.Fmt.{option_append}
 use Rattle.std.specs.Io.KnownBytes.{Appends}
 use Rattle.nor_words.specs.declared.words.UsageFault.TheVariants as usage
 use Rattle.nor_lines.proofs.Printed.{appends_then}
-use Rattle.flashnor.specs.Endings.{EndsBadly, EndsWell, HasPrinted, lines_told}
+use Rattle.flashnor.specs.Endings.{EndsBadly, EndsWell, HasPrinted, lines_printed}
 use Rattle.nor_lines.specs.Printing.{IsAnswered, PrintsAnswer}
 use Rattle.flashnor.specs.FaultLines.{lines_of_unwritten}
 use Rattle.nor_lines.specs.declared.answers.Answer.{Answer}
@@ -21,10 +21,10 @@ tells_both None a b c others one two = tt
 tells_both (Some first) a b c others one two = appends_then a b c first others one two
 
 tells_well : (outcome : Result Answer Fault) (unwritten : Unwritten) (err err' : Option (List ℕ)) → IsAnswered outcome
-    → Appends err err' (lines_of_unwritten unwritten) → IfSome (lines_told outcome unwritten) (Appends err err')
-tells_well (Ok found) unwritten err err' answered told = told
-tells_well (Err (end.Usage (usage.Words error))) unwritten err err' answered told = tt
-tells_well _ unwritten err err' answered told = absurd answered
+    → Appends err err' (lines_of_unwritten unwritten) → IfSome (lines_printed outcome unwritten) (Appends err err')
+tells_well (Ok found) unwritten err err' answered returned = returned
+tells_well (Err (end.Usage (usage.Words error))) unwritten err err' answered returned = tt
+tells_well _ unwritten err err' answered returned = absurd answered
 
 -- `HasPrinted` holds after a run with an answer or help
 pub printed_well : (outcome : Result Answer Fault) (unwritten : Unwritten) (out out' err err' : Option (List ℕ)) (ending : Ending)
@@ -34,7 +34,7 @@ printed_well outcome unwritten out out' err err' ending is_printed answered prin
   few = ends.few;
   exact = (λ none. let both = ends.exact.0 none in (ends.printed ∙ both.0, both.1), λ both. ends.exact.1 (sym ends.printed ∙ both.0, both.1));
   printed = λ is. prints (sym ends.printed ∙ is);
-  told = λ is. tells_well outcome unwritten err err' answered (ends.told is);
+  returned = λ is. tells_well outcome unwritten err err' answered (ends.returned is);
   no_output = λ none. absurd (none answered);
   silent = λ _ all. ends.silent all;
 }
@@ -47,7 +47,7 @@ printed_badly fault unwritten out err err' ending never ends = record {
   few = omega (arith, ends.status);
   exact = (λ none. absurd (omega (arith, ends.status, none)), λ both. absurd (never_both (sym ends.printed ∙ both.0)));
   printed = λ is. absurd (never_both (sym ends.printed ∙ is));
-  told = ends.told;
+  returned = ends.returned;
   no_output = λ _. refl;
   silent = λ answered _. absurd (never answered);
 }

@@ -2,10 +2,10 @@
 use Rattle.std.proofs.Common.{◌≡◌, ◌∙◌, ◌<◌, ℕ, Option, None, Some, Ok, arith, inr, is_none, refl, subst, sym, true}
 use Rattle.nor_chip.specs.Bus.{Allows, BusState}
 use Rattle.nor_chip.specs.Chip.{Chip, IsSame}
-use Rattle.nor_driver.specs.Looks.{IsCalm, Looks}
-use Rattle.nor_driver.proofs.LooksInTurn.{looks_more, looks_none as looks_at_none}
+use Rattle.nor_driver.specs.OnlyReads.{IsSteadyOrIdle, OnlyReads}
+use Rattle.nor_driver.proofs.ReadsInTurn.{looks_more, looks_none as looks_at_none}
 use Rattle.nor_probe.specs.Known.{IsModelled, shown_as}
-use Rattle.nor_probe.specs.Found.{Finds, IsWanted, Tells, part_in, most_probe}
+use Rattle.nor_probe.specs.Found.{Finds, IsWanted, ProbeErrors, part_in, most_probe}
 use Rattle.nor_probe.specs.declared.probes.Found.{Found}
 use Rattle.nor_probe.specs.declared.probes.ProbeFault.{ProbeFault}
 use Rattle.nor_probe.specs.declared.probes.ProbeFault.TheVariants as Probes
@@ -28,7 +28,7 @@ modelled_ready programmer bus ready = record {
   genuine = (known_with programmer.chip programmer.unique bus.chip.config ready.config).genuine;
 }
 
-pub calm_ready : (programmer : Programmer) (bus : BusState) → IsReady programmer bus → IsCalm bus
+pub calm_ready : (programmer : Programmer) (bus : BusState) → IsReady programmer bus → IsSteadyOrIdle bus
 calm_ready programmer bus ready = inr ready.idle
 
 -- the chip type that a ready bus shows is that of the emulated chip
@@ -48,16 +48,16 @@ finds_ready programmer named old new found ready name finds =
 
 -- on a ready bus an error of the identification is one that `FindRefuses` allows
 pub refuses_ready : (programmer : Programmer) (named : Option ChipName) (old new : BusState) (fault : ProbeFault)
-    → IsReady programmer old → Tells named old new fault → FindRefuses programmer named (of_probe fault)
-refuses_ready programmer named old new Probes.OtherName ready tells = λ has.
-    let other = tells.0 in
+    → IsReady programmer old → ProbeErrors named old new fault → FindRefuses programmer named (of_probe fault)
+refuses_ready programmer named old new Probes.OtherName ready errors = λ has.
+    let other = errors.0 in
     let part : emulated_part programmer.chip ≡ other.part = shows programmer old _ ready other.shown in
     other.other (rw (← part) has)
-refuses_ready programmer named old new Probes.Stopped ready tells =
-    subst (λ (n : ℕ). n < most_probe) ready.left tells.1
-refuses_ready programmer named old new Probes.Timeout ready tells = tells
-refuses_ready programmer named old new _ ready tells =
-    let bad = sym (shown_with programmer.chip programmer.unique old.chip.config ready.config) ∙ tells.0 in
+refuses_ready programmer named old new Probes.Stopped ready errors =
+    subst (λ (n : ℕ). n < most_probe) ready.left errors.1
+refuses_ready programmer named old new Probes.Timeout ready errors = errors
+refuses_ready programmer named old new _ ready errors =
+    let bad = sym (shown_with programmer.chip programmer.unique old.chip.config ready.config) ∙ errors.0 in
     cc
 
 -- the bus is ready after it got its contents, then the setting for power cuts, then its number of transactions
@@ -71,7 +71,7 @@ opens_held programmer content allowed first last held allowance allows = record 
     left = allows.left held.honest ∙ allowance;
     honest = allows.nature.honest ∙ held.honest;
     steady = allows.nature.steady;
-    still = rw allows.sent held.still;
+    unsent = rw allows.sent held.unsent;
   };
   holds = rw allows.chip
       (record { bytes = held.bytes; kept = held.kept; latch = held.latch });
@@ -79,9 +79,9 @@ opens_held programmer content allowed first last held allowance allows = record 
 
 -- ---- identification before a restore
 
-pub looked_same : (most : ℕ) (old new : BusState) → Looks most old new → old.honest ≡ true → IsCalm old
+pub looked_same : (most : ℕ) (old new : BusState) → OnlyReads most old new → old.honest ≡ true → IsSteadyOrIdle old
     → IsSame old.chip new.chip
-looked_same most old new looks honest calm = ((looks.looked honest).stays.calm calm)
+looked_same most old new only_reads honest steady_or_idle = ((only_reads.honest_reads honest).stays.steady_or_idle steady_or_idle)
 
 given_name : (named : Option ChipName) (chip : Chip) (part : Part) → shown_as chip.config ≡ Ok part
     → IsWanted named part.name → HasGivenName named chip
@@ -97,18 +97,18 @@ passes_probe named old new found modelled honest name finds = record {
     honest = honest ∙ modelled.honest;
     genuine = rw finds.rested.unchanged.same.config modelled.genuine;
   };
-  calm = inr finds.idle;
+  steady_or_idle = inr finds.idle;
   name = given_name named old.chip (part_in found) finds.part name;
 }
 
-pub passes_none : (bus : BusState) → IsModelled bus → IsCalm bus → Passes None bus bus
-passes_none bus modelled calm = record {
+pub passes_none : (bus : BusState) → IsModelled bus → IsSteadyOrIdle bus → Passes None bus bus
+passes_none bus modelled steady_or_idle = record {
   same = record { config = refl; bytes = λ a. refl; kept = refl };
   modelled = modelled;
-  calm = calm;
+  steady_or_idle = steady_or_idle;
   name = tt;
 }
 
 -- a bus to which nothing was sent was only read
-pub looks_none : (most : ℕ) (bus : BusState) → Looks most bus bus
+pub looks_none : (most : ℕ) (bus : BusState) → OnlyReads most bus bus
 looks_none most bus = looks_more 0 most bus bus (omega arith) (looks_at_none bus)

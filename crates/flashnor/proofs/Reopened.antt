@@ -9,7 +9,7 @@ use Rattle.nor_files.specs.Files.{AllStay, FilesState, Found, View}
 use Rattle.nor_words.specs.Text.{Text}
 use Rattle.nor_words.specs.declared.programmer.Programmer.{Programmer}
 use Rattle.flashnor.specs.Found.{emulated_part}
-use Rattle.flashnor.specs.Holding.{IsAmid, LeavesAmid, Settles, was}
+use Rattle.flashnor.specs.Holding.{IsAmid, LeavesAmid, MakesDurable, was}
 use Rattle.flashnor.specs.Left.{LeavesAsLong, MayFind, Opened}
 use Rattle.nor_lines.specs.Stored.{AreOfFile}
 use Rattle.flashnor.proofs.Shown.{size_with}
@@ -70,7 +70,7 @@ found_either had bytes missing (Some name) there files was' left stood unnamed m
 
 -- a file that existed keeps its length while it is overwritten
 pub as_long : (name : Option (Bor Text)) (there : Bool) (had put : List ℕ) (s0 s1 s3 : FilesState) → AllStay s0 s1
-    → Settles name (was there had) s1 → length had ≡ length put → LeavesAmid name there had put s3
+    → MakesDurable name (was there had) s1 → length had ≡ length put → LeavesAmid name there had put s3
     → LeavesAsLong name s0 s3
 as_long None there had put s0 s1 s3 stay settled many amid = tt
 as_long (Some name) true had put s0 s1 s3 stay settled many amid = λ all seen left can.

@@ -1,18 +1,18 @@
 -- Files that stay as they were, over several calls.
 use Rattle.std.proofs.Common.{◌≡◌, ◌∙◌, Option, None, Some, ap, inl, refl, subst, sym, true}
 use Rattle.std.specs.Borrow.{Bor}
-use Rattle.nor_files.specs.Calls.{Lends, TakesBack}
-use Rattle.nor_files.specs.Files.{AllStay, AreApart, AreAtRest, FilesState, Found, IsKnown, IsSettled, KnownStay, Name}
-use Rattle.nor_files.specs.Files.{Nature, Stays, is_lawful}
+use Rattle.nor_files.specs.Calls.{Borrows, TakesBack}
+use Rattle.nor_files.specs.Files.{AllStay, AreApart, AreAtRest, FilesState, Found, IsKnownFile, IsDurable, KnownStay, Name}
+use Rattle.nor_files.specs.Files.{Nature, KeepsFile, is_lawful}
 use Rattle.nor_journal.specs.Vault.{VaultState}
 use Rattle.nor_words.specs.Text.{Text}
 use Rattle.flashnor.specs.Changes.{IsKeptFile}
 use Rattle.nor_lines.specs.Stored.{AreTwo, IsNot, MakesNothing}
 
-pub stays_same : (name : Name) (files : FilesState) → Stays name files files
+pub stays_same : (name : Name) (files : FilesState) → KeepsFile name files files
 stays_same name files = record { out = refl; seen = refl; leaves = λ left can. can }
 
-pub stays_on : {name : Name} {old mid new : FilesState} → Stays name old mid → Stays name mid new → Stays name old new
+pub stays_on : {name : Name} {old mid new : FilesState} → KeepsFile name old mid → KeepsFile name mid new → KeepsFile name old new
 stays_on one other = record {
   out = other.out ∙ one.out;
   seen = other.seen ∙ one.seen;
@@ -42,7 +42,7 @@ not_that nature (Some one) file two = apart_swapped nature file.now one.now two
 -- Holds if each file stays whose name is apart from these two, if they are given.
 abbrev pub StayApart : (one other : Option (Bor Text)) → (old new : FilesState) → Type 0
 StayApart one other old new = (any : Name) → IsNot old.view.nature one any → IsNot old.view.nature other any
-    → Stays any old new
+    → KeepsFile any old new
 
 -- A property of `None` and of each file whose name is apart from two names holds for a name that is apart from both.
 pub apart : (nature : Nature) (Holds : Option (Bor Text) → Type 0) → Holds None
@@ -62,21 +62,21 @@ nothing_same (Some name) files = λ known left can. inl can
 pub lawful_after : {old new : Nature} → new ≡ old → old.lawful ≡ true → new.lawful ≡ true
 lawful_after same is = ap (λ (n : Nature). n.lawful) same ∙ is
 
-pub known_after : {name : Name} {old new : FilesState} → new.view.nature ≡ old.view.nature → Stays name old new
-    → IsKnown name old.view → IsKnown name new.view
+pub known_after : {name : Name} {old new : FilesState} → new.view.nature ≡ old.view.nature → KeepsFile name old new
+    → IsKnownFile name old.view → IsKnownFile name new.view
 known_after same stays known = record {
   lawful = lawful_after same known.lawful;
   in_store = stays.out ∙ known.in_store;
 }
 
-pub settled_after : {name : Name} {content : Found} {old new : FilesState} → Stays name old new
-    → IsSettled name content old → IsSettled name content new
+pub settled_after : {name : Name} {content : Found} {old new : FilesState} → KeepsFile name old new
+    → IsDurable name content old → IsDurable name content new
 settled_after stays is = record {
   seen = stays.seen ∙ is.seen;
   leaves = λ left can. is.leaves left (stays.leaves left can);
 }
 
-pub known_at_rest : {files : FilesState} → AreAtRest files → (name : Name) → IsKnown name files.view
+pub known_at_rest : {files : FilesState} → AreAtRest files → (name : Name) → IsKnownFile name files.view
 known_at_rest rest name = record { lawful = rest.lawful; in_store = rest.in_store name }
 
 pub known_stay_on : {old mid new : FilesState} → mid.view.nature ≡ old.view.nature → KnownStay old mid
@@ -93,16 +93,16 @@ rest_on same rest stay = record {
 
 -- a vault that was borrowed and taken back
 module _ (name : Name) (old mid new : FilesState) (vault : VaultState)
-    (made : mid.view.nature ≡ old.view.nature) (lends : is_lawful old.view ≡ true → Lends name old mid)
+    (made : mid.view.nature ≡ old.view.nature) (borrows : is_lawful old.view ≡ true → Borrows name old mid)
     (back : new.view.nature ≡ mid.view.nature)
-    (takes : is_lawful mid.view ≡ true → (n : Name) → mid.lent ≡ Some n → TakesBack n vault mid new) where
+    (takes : is_lawful mid.view ≡ true → (n : Name) → mid.borrowed ≡ Some n → TakesBack n vault mid new) where
   taken : is_lawful old.view ≡ true → TakesBack name vault mid new
-  taken is = takes (lawful_after made is) name (lends is).lent
+  taken is = takes (lawful_after made is) name (borrows is).borrowed
 
   pub kept_file : is_lawful new.view ≡ true → IsKeptFile name vault new
   kept_file is =
       let t = taken (lawful_after (sym (back ∙ made)) is) in
       record { telling = t.telling; seen = t.seen; settled = t.settled }
 
-  pub others_stay : is_lawful old.view ≡ true → (any : Name) → AreApart old.view.nature name any → Stays any old new
-  others_stay is any other = stays_on ((lends is).others any other) ((taken is).others any (apart_after made other))
+  pub others_stay : is_lawful old.view ≡ true → (any : Name) → AreApart old.view.nature name any → KeepsFile any old new
+  others_stay is any other = stays_on ((borrows is).others any other) ((taken is).others any (apart_after made other))

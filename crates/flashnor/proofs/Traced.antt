@@ -1,15 +1,15 @@
 -- The call of a job after its trace was created, in terms of the files from before that.
 use Rattle.std.proofs.Common.{◌≡◌, ◌∙◌, ℕ, Option, None, Some, IsSomeAnd, ap, arith, inl, inr, option_map, sym, take, true}
 use Rattle.std.specs.Borrow.{Bor}
-use Rattle.nor_files.specs.Calls.{Reads}
-use Rattle.nor_files.specs.Files.{FilesState, Found, KnownStay, Name, OthersStay, Stays, View, is_lawful}
+use Rattle.nor_files.specs.Calls.{ReadsFile}
+use Rattle.nor_files.specs.Files.{FilesState, Found, KnownStay, Name, OthersStay, KeepsFile, View, is_lawful}
 use Rattle.nor_words.specs.Text.{Text}
 use Rattle.nor_words.specs.declared.job.ChipJob.{ChipJob}
 use Rattle.nor_lines.specs.Files.{IsMaking}
 use Rattle.flashnor.specs.Run.{FailsTraced, IsViewBut}
 use Rattle.nor_lines.specs.declared.messages.Fault.{Fault}
 use Rattle.nor_lines.specs.Stored.{IsMissing, IsNot, MakesNothing}
-use Rattle.flashnor.proofs.Stays.{apart_swapped, known_after, lawful_after, not_after}
+use Rattle.flashnor.proofs.KeepsFile.{apart_swapped, known_after, lawful_after, not_after}
 
 pub view_but : (trace : Option (Bor Text)) (name : Bor Text) (old mid : FilesState) → trace ≡ Some name
     → mid.view.nature ≡ old.view.nature → (is_lawful old.view ≡ true → OthersStay name.now old mid)
@@ -21,7 +21,7 @@ view_but trace name old mid is nature others = record {
 
 -- if creating the trace keeps all other files, `IsViewBut` holds
 pub view_apart : (trace : Option (Bor Text)) (old mid : FilesState) → mid.view.nature ≡ old.view.nature
-    → (is_lawful old.view ≡ true → (name : Name) → IsNot old.view.nature trace name → Stays name old mid)
+    → (is_lawful old.view ≡ true → (name : Name) → IsNot old.view.nature trace name → KeepsFile name old mid)
     → IsViewBut trace old.view mid.view
 view_apart trace old mid nature others = record {
   nature = nature;
@@ -42,7 +42,7 @@ view_before trace old mid amid nature stay but = record {
 -- a read after the trace was created returns what a read before would have returned, if the file isn't the trace
 pub reads_before : (trace : Option (Bor Text)) (file : Text) (most : ℕ) (found : Found) (old amid : View)
     → IsNot old.nature trace file
-    → IsViewBut trace old amid → Reads file most found amid → Reads file most found old
+    → IsViewBut trace old amid → ReadsFile file most found amid → ReadsFile file most found old
 reads_before trace file most found old amid not but reads = λ known.
     let same = but.stays file not known in
     reads (record { lawful = lawful_after but.nature known.lawful; in_store = same.0 ∙ known.in_store })

@@ -11,7 +11,7 @@ use Rattle.std.proofs.lemmas.List.{append-nil, get_or_past, take-append-drop}
 use Rattle.nor_chip.specs.Bus.{BusState}
 use Rattle.nor_chip.specs.Chip.{Chip, IsSame, KeptBits, kept_in}
 use Rattle.nor_chip.specs.Makers.{HasParts}
-use Rattle.nor_chip.specs.Sim.{state_of}
+use Rattle.nor_chip.specs.Sim.{sim_state}
 use Rattle.nor_chip.specs.Size.{is_chip_size}
 use Rattle.nor_chip.specs.Start.{status_of}
 use Rattle.nor_chip.proofs.Kept.{kept_told}
@@ -21,7 +21,7 @@ use Rattle.nor_files.specs.Calls.{LeavesNoMore}
 use Rattle.nor_files.specs.Files.{AreAtRest, FilesState, Found, Name, is_lawful}
 use Rattle.nor_journal.specs.Text.{Content as Journal, IsContent, text}
 use Rattle.nor_journal.proofs.OneForm.{one_text}
-use Rattle.nor_session.specs.Headline.{CanGiveBack}
+use Rattle.nor_session.specs.Headline.{CanRestore}
 use Rattle.nor_words.specs.Programmer.{IsConfigOfEmulated}
 use Rattle.nor_words.specs.Text.{Text}
 use Rattle.nor_words.specs.declared.job.ChipJob.{ChipJob}
@@ -33,7 +33,7 @@ use Rattle.nor_words.specs.declared.programmer.Programmer.{Programmer}
 use Rattle.flashnor.specs.Chips.{ArePutBack, IsConfigWith}
 use Rattle.flashnor.specs.Endings.{all_written}
 use Rattle.flashnor.specs.Found.{emulated_part}
-use Rattle.flashnor.specs.Left.{IsOpenedFrom, KeepsRestorable, LeadsBack, LeavesRestorable, MayFind, Opened}
+use Rattle.flashnor.specs.Left.{IsOpenedFrom, KeepsRestorable, IsRestorableFrom, LeavesRestorable, MayFind, Opened}
 use Rattle.nor_lines.specs.Stored.{ArePut, IsRead, LeavesNoMoreOf}
 use Rattle.flashnor.specs.Undone.{HaveOneChip, LeavesFirst, NameOne, Restores, RestoresFirst}
 use Rattle.nor_lines.specs.declared.answers.Answer.{Answer}
@@ -127,7 +127,7 @@ module _ (programmer : Programmer) (file : Text) (start : FilesState) (first : O
       → MayFind programmer.image first.read.bytes.found found old)
       → ((found : Found) → MayFind programmer.status first.read.status.found found new
       → MayFind programmer.status first.read.status.found found old)
-      → LeadsBack file first old → LeadsBack file first new
+      → IsRestorableFrom file first old → IsRestorableFrom file first new
   leads_less old new journal image status leads = record {
     journal = leads.journal;
     sound = leads.sound;
@@ -145,14 +145,14 @@ module _ (programmer : Programmer) (file : Text) (start : FilesState) (first : O
   first_kept : first.read.status.found ≡ None → kept_in (0 ∷ 0 ∷ []) ≡ first.bus.chip.kept
   first_kept none = sym (first.opens.holds.kept ∙ ap kept_in (of_gone first.read.status none))
 
-  module _ (mid : FilesState) (rest : AreAtRest mid) (still : (name : Name) → mid.may_leave name (mid.view.seen name))
-      (leads : LeadsBack file first mid) where
+  module _ (mid : FilesState) (rest : AreAtRest mid) (unsent : (name : Name) → mid.may_leave name (mid.view.seen name))
+      (leads : IsRestorableFrom file first mid) where
     -- the journal that the run reads is the one that was left in the file
     one_journal : (journal : Journal) → IsContent journal → IsRead mid.view file 16793662 (text journal)
         → journal ≡ leads.journal
     one_journal journal is reads =
         same_journal leads.journal journal 16793662 leads.sound is (reads (known_at_rest rest file)
-        ∙ ap (option_map (take 16793662)) (leads.left (mid.view.seen file) (still file)))
+        ∙ ap (option_map (take 16793662)) (leads.left (mid.view.seen file) (unsent file)))
 
     -- the run opened this chip from files that may be left
     module _ (found : Opened other mid) where
@@ -176,16 +176,16 @@ module _ (programmer : Programmer) (file : Text) (start : FilesState) (first : O
 
       -- the journal can restore the original chip from the chip that the run opened
       can_back : (journal : Journal) → IsContent journal → IsRead mid.view file 16793662 (text journal)
-          → CanGiveBack journal first.bus.chip found.bus
+          → CanRestore journal first.bus.chip found.bus
       can_back journal is reads =
           rw (one_journal journal is reads) (leads.back found.read.bytes.found found.read.status.found found.bus
           (found_one programmer.image other.image _ _ mid same.image
-          (left_seen mid rest still other.image _ _ found.read.bytes.is_found found.read.bytes.whole _))
+          (left_seen mid rest unsent other.image _ _ found.read.bytes.is_found found.read.bytes.whole _))
           (found_one programmer.status other.status _ _ mid same.status
-          (left_seen mid rest still other.status _ _ found.read.status.is_found found.read.status.whole _)) from)
+          (left_seen mid rest unsent other.status _ _ found.read.status.is_found found.read.status.whole _)) from)
 
     -- contents of the files that may be found after a restore
-    module _ (new : FilesState) (still' : (name : Name) → new.may_leave name (new.view.seen name))
+    module _ (new : FilesState) (unsent' : (name : Name) → new.may_leave name (new.view.seen name))
         (kept : LeavesRestorable other file mid new) (image status : Found) (later : BusState)
         (can_image : MayFind programmer.image first.read.bytes.found image new)
         (can_status : MayFind programmer.status first.read.status.found status new)
@@ -205,13 +205,13 @@ module _ (programmer : Programmer) (file : Text) (start : FilesState) (first : O
 
       kept_image : Kept other.image first.read.bytes.found found.read.bytes.found image (emulated_part other.chip).size
       kept_image =
-          pick programmer.image other.image _ _ image _ mid new same.image rest still' found.read.bytes.is_found
+          pick programmer.image other.image _ _ image _ mid new same.image rest unsent' found.read.bytes.is_found
           found.read.bytes.whole kept.image can_image
           (subst (λ (n : ℕ). IfSome image (λ all. length all ≡ n)) size_of is.whole)
 
       kept_status : Kept other.status first.read.status.found found.read.status.found status 2
       kept_status =
-          pick programmer.status other.status _ _ status 2 mid new same.status rest still' found.read.status.is_found
+          pick programmer.status other.status _ _ status 2 mid new same.status rest unsent' found.read.status.is_found
           found.read.status.whole kept.status can_status is.two
 
       -- the bus that a later run would open if none of the files that the restore found were moved aside
@@ -223,9 +223,9 @@ module _ (programmer : Programmer) (file : Text) (start : FilesState) (first : O
         };
       }
 
-      can_state : CanGiveBack leads.journal first.bus.chip state
+      can_state : CanRestore leads.journal first.bus.chip state
       can_state =
-          subst (λ (j : Journal). CanGiveBack j first.bus.chip state)
+          subst (λ (j : Journal). CanRestore j first.bus.chip state)
           (one_journal kept.journal kept.sound kept.read) (kept.back first.bus.chip
           (can_back found kept.journal kept.sound kept.read) kept_image.0 kept_status.0 state kept_image.1 kept_status.1
           (record {
@@ -244,7 +244,7 @@ module _ (programmer : Programmer) (file : Text) (start : FilesState) (first : O
       abbrev bits_in : Found → KeptBits
       bits_in left = kept_in (unwrap_or left (0 ∷ 0 ∷ []))
 
-      can_later : CanGiveBack leads.journal first.bus.chip later
+      can_later : CanRestore leads.journal first.bus.chip later
       can_later =
           mixed_back leads.journal first.bus.chip state later can_state is.config
           (λ a. elim kept_image.3 [
@@ -258,17 +258,17 @@ module _ (programmer : Programmer) (file : Text) (start : FilesState) (first : O
           ])
           is.idle
 
-    -- `LeadsBack` holds at every exit of a restore
+    -- `IsRestorableFrom` holds at every exit of a restore
     leads_restored : (new : FilesState) → ((name : Name) → new.may_leave name (new.view.seen name))
-        → KeepsRestorable other file mid new → LeadsBack file first new
-    leads_restored new still' (inl none) =
+        → KeepsRestorable other file mid new → IsRestorableFrom file first new
+    leads_restored new unsent' (inl none) =
         leads_less mid new none.journal (λ i. less_of programmer.image other.image _ i mid new same.image none.image)
         (λ s. less_of programmer.status other.status _ s mid new same.status none.status) leads
-    leads_restored new still' (inr kept) = record {
+    leads_restored new unsent' (inr kept) = record {
       journal = leads.journal;
       sound = leads.sound;
       left = λ left may. leads.left left (kept.stays.leaves left may);
-      back = can_later new still' kept;
+      back = can_later new unsent' kept;
     }
 
   -- ---- at the end
@@ -316,20 +316,20 @@ module _ (programmer : Programmer) (file : Text) (start : FilesState) (first : O
 -- ---- runs
 
 module _ (programmer : Programmer) (file : Text) (start : FilesState) (first : Opened programmer start) (on_chip : ChipJob)
-    (old mid new : FilesState) (still : (name : Name) → mid.may_leave name (mid.view.seen name))
-    (still' : (name : Name) → new.may_leave name (new.view.seen name)) where
-  leads_mid : (unwritten : Unwritten) (told : Result Answer Fault)
-      → RestoresFirst file first on_chip unwritten told old mid new → LeadsBack file first mid
-  leads_mid unwritten told ran =
+    (old mid new : FilesState) (unsent : (name : Name) → mid.may_leave name (mid.view.seen name))
+    (unsent' : (name : Name) → new.may_leave name (new.view.seen name)) where
+  leads_mid : (unwritten : Unwritten) (returned : Result Answer Fault)
+      → RestoresFirst file first on_chip unwritten returned old mid new → IsRestorableFrom file first mid
+  leads_mid unwritten returned ran =
       leads_less programmer file start first on_chip.programmer ran.same old mid ran.follows.journal ran.follows.image
       ran.follows.status ran.leads
 
-  pub leads_on : (unwritten : Unwritten) (told : Result Answer Fault)
-      → RestoresFirst file first on_chip unwritten told old mid new → LeadsBack file first new
-  leads_on unwritten told ran =
+  pub leads_on : (unwritten : Unwritten) (returned : Result Answer Fault)
+      → RestoresFirst file first on_chip unwritten returned old mid new → IsRestorableFrom file first new
+  leads_on unwritten returned ran =
       let (journal, task', named) = restores file on_chip.task ran.restores in
-      leads_restored programmer file start first on_chip.programmer ran.same mid ran.follows.rest still
-      (leads_mid unwritten told ran) new still' (rw (task', named) at (ran.answers.1 ran.follows.rest))
+      leads_restored programmer file start first on_chip.programmer ran.same mid ran.follows.rest unsent
+      (leads_mid unwritten returned ran) new unsent' (rw (task', named) at (ran.answers.1 ran.follows.rest))
 
   pub given_back : (answer : Answer) → RestoresFirst file first on_chip all_written (Ok answer) old mid new
       → LeavesFirst first new
@@ -341,9 +341,9 @@ module _ (programmer : Programmer) (file : Text) (start : FilesState) (first : O
       let apart = rw named at (not_that mid.view.nature on_chip.programmer.trace journal
       (rw task' at called.roles.trace_journal)) in
       let reads = reads_before on_chip.programmer.trace file 16793662 _ mid.view amid apart but does.read in
-      let can = can_back programmer file start first on_chip.programmer ran.same mid ran.follows.rest still
+      let can = can_back programmer file start first on_chip.programmer ran.same mid ran.follows.rest unsent
       (leads_mid all_written (Ok answer) ran)
-      (record { content = called.content; read = called.read; bus = state_of called.bus; opens = called.started.opens })
+      (record { content = called.content; read = called.read; bus = sim_state called.bus; opens = called.started.opens })
       does.journal does.sound reads in
       leaves_first programmer file start first on_chip.programmer ran.same called.new.chip new
       (lawful_after called.nature ran.follows.rest.lawful) (does.restored.back first.bus.chip can)

@@ -3,18 +3,18 @@ use Rattle.std.proofs.Common.{◌≡◌, ◌∙◌, ℕ, Bool, List, Option, Non
 use Rattle.std.specs.Borrow.{Bor}
 use Rattle.nor_chip.specs.Chip.{Chip}
 use Rattle.nor_chip.specs.Start.{AreChipBytes, status_of}
-use Rattle.nor_files.specs.Files.{FilesState, Name, Stays, View, is_lawful}
+use Rattle.nor_files.specs.Files.{FilesState, Name, KeepsFile, View, is_lawful}
 use Rattle.nor_files.specs.Files.Failure.{Unwritten}
 use Rattle.nor_words.specs.Text.{Text}
 use Rattle.nor_words.specs.declared.programmer.Programmer.{Programmer}
 use Rattle.flashnor.specs.Chips.{ArePutBack}
-use Rattle.flashnor.specs.Holding.{AreAmid, AreReady, IsReady, LeavesAmid, Settles}
-use Rattle.nor_lines.specs.Stored.{ArePut, AreTwo, Happens, IsNot, IsToldOf}
-use Rattle.flashnor.proofs.Stays.{known_after, lawful_after, not_after, not_that, settled_after}
+use Rattle.flashnor.specs.Holding.{AreAmid, AreReady, IsReady, LeavesAmid, MakesDurable}
+use Rattle.nor_lines.specs.Stored.{ArePut, AreTwo, Happens, IsNot, IsReportedOf}
+use Rattle.flashnor.proofs.KeepsFile.{known_after, lawful_after, not_after, not_that, settled_after}
 
 -- Holds if each file stays whose name is apart from the given one.
 abbrev OthersOf : Option (Bor Text) → (old new : FilesState) → Type 0
-OthersOf name old new = is_lawful old.view ≡ true → (any : Name) → IsNot old.view.nature name any → Stays any old new
+OthersOf name old new = is_lawful old.view ≡ true → (any : Name) → IsNot old.view.nature name any → KeepsFile any old new
 
 -- Holds after a file was written, if one is named, or could not be written.
 abbrev PutsBack : Option (Bor Text) → (there : Bool) → (bytes : List ℕ) → (failed : Option (Bor Text))
@@ -23,7 +23,7 @@ PutsBack name there bytes failed old new = record {
   nature : new.view.nature ≡ old.view.nature;
   others : OthersOf name old new;
   fails : IfSome failed (λ of. (name ≡ Some of) × Happens old.view (Unwritten of.now));
-  put : failed ≡ None → (had : List ℕ) → IsReady name there had bytes old → Settles name (Some bytes) new;
+  put : failed ≡ None → (had : List ℕ) → IsReady name there had bytes old → MakesDurable name (Some bytes) new;
   amid : (had : List ℕ) → IsReady name there had bytes old → LeavesAmid name there had bytes new;
 }
 
@@ -43,13 +43,13 @@ ready_still one (Some name) there had bytes a b two same others ready =
     }
 
 -- a write to the other file keeps the contents of this file, and the contents that may be left of it
-still : (there : Bool) (had bytes : List ℕ) (a b c : FilesState) (one other : Option (Bor Text))
+unsent : (there : Bool) (had bytes : List ℕ) (a b c : FilesState) (one other : Option (Bor Text))
     → AreTwo a.view.nature one other → b.view.nature ≡ a.view.nature → OthersOf other b c
     → IsReady one there had bytes a
-    → (Settles one (Some bytes) b → Settles one (Some bytes) c)
+    → (MakesDurable one (Some bytes) b → MakesDurable one (Some bytes) c)
     × (LeavesAmid one there had bytes b → LeavesAmid one there had bytes c)
-still there had bytes a b c None other two same others ready = (λ _. tt, λ _. tt)
-still there had bytes a b c (Some name) other two same others ready =
+unsent there had bytes a b c None other two same others ready = (λ _. tt, λ _. tt)
+unsent there had bytes a b c (Some name) other two same others ready =
     let stays = others (lawful_after same ready.known.lawful) name.now (not_after other name.now same two) in
     (settled_after stays, λ amid left can. amid left (stays.leaves left can))
 
@@ -57,18 +57,18 @@ still there had bytes a b c (Some name) other two same others ready =
 
 are_put : (name : Option (Bor Text)) (bytes : List ℕ) (failed : Option (Bor Text)) (old new : FilesState)
     → new.view.nature ≡ old.view.nature → IfSome failed (λ of. (name ≡ Some of) × Happens old.view (Unwritten of.now))
-    → (failed ≡ None → Settles name (Some bytes) new) → ArePut name bytes failed new
+    → (failed ≡ None → MakesDurable name (Some bytes) new) → ArePut name bytes failed new
 are_put None bytes None old new same fails put = tt
 are_put (Some name) bytes None old new same fails put = λ _. put refl
 are_put name bytes (Some of) old new same fails put = (fails.0, rw same fails.1)
 
-pub told_of : (name failed : Option (Bor Text)) (view : View)
-    → IfSome failed (λ is. (name ≡ Some is) × Happens view (Unwritten is.now)) → IsToldOf name failed view
-told_of name failed view is = grind arith
+pub reply_digits : (name failed : Option (Bor Text)) (view : View)
+    → IfSome failed (λ is. (name ≡ Some is) × Happens view (Unwritten is.now)) → IsReportedOf name failed view
+reply_digits name failed view is = grind arith
 
 pub told_before : (name failed : Option (Bor Text)) (old mid : View) → mid.nature ≡ old.nature
-    → IsToldOf name failed mid
-    → IsToldOf name failed old
+    → IsReportedOf name failed mid
+    → IsReportedOf name failed old
 told_before name failed old mid same is = grind arith
 
 -- ---- both files
@@ -92,7 +92,7 @@ module _ {programmer : Programmer} {image_there status_there : Bool} {had bits :
     bytes = bytes;
     are = are;
     image_put = are_put programmer.image bytes image a c (second.nature ∙ first.nature) first.fails
-        (λ none. (still image_there had bytes a b c programmer.image programmer.status two first.nature second.others
+        (λ none. (unsent image_there had bytes a b c programmer.image programmer.status two first.nature second.others
         (ready.image bytes are)).0 (first.put none had (ready.image bytes are)));
     status_put = are_put programmer.status (status_of chip) status b c second.nature second.fails
         (λ none. second.put none bits ready_status);
@@ -102,7 +102,7 @@ module _ {programmer : Programmer} {image_there status_there : Bool} {had bits :
   both_amid = record {
     put = bytes;
     are = are;
-    image = (still image_there had bytes a b c programmer.image programmer.status two first.nature second.others
+    image = (unsent image_there had bytes a b c programmer.image programmer.status two first.nature second.others
         (ready.image bytes are)).1 (first.amid had (ready.image bytes are));
     status = second.amid bits ready_status;
   }

@@ -3,33 +3,33 @@ use Rattle.std.specs.Prelude.{◌≡◌, ◌≤◌, ◌/◌, ◌⊎◌, ℕ, Lis
 use Rattle.std.specs.Prelude.{IsOk, MatchResult, OnOk, ⊤}
 use Rattle.nor_chip.specs.Bus.{BusState}
 use Rattle.nor_chip.specs.Chip.{Chip, IsSame}
-use Rattle.nor_driver.specs.Looks.{IsCalm, Looks}
+use Rattle.nor_driver.specs.OnlyReads.{IsSteadyOrIdle, OnlyReads}
 use Rattle.nor_journal.specs.Saved.{JournalSaves}
 use Rattle.nor_journal.specs.Text.{Content as Journal, IsContent, text}
 use Rattle.nor_journal.specs.Vault.{IsFresh, VaultState}
 use Rattle.nor_count.specs.Counts.{sector_count}
 use Rattle.nor_call.specs.Request.{wanted}
 use Rattle.nor_plan.specs.Content.{is_touched}
-use Rattle.nor_probe.specs.Found.{Tells, most_probe}
+use Rattle.nor_probe.specs.Found.{ProbeErrors, most_probe}
 use Rattle.nor_probe.specs.declared.probes.ProbeFault.{ProbeFault}
 use Rattle.nor_probe.specs.declared.table.ChipName.{ChipName}
-use Rattle.nor_call.specs.Refusal.{number_of, of_probe}
-use Rattle.nor_save.specs.Saving.{head_of}
+use Rattle.nor_call.specs.Refusal.{refusal_number, of_probe}
+use Rattle.nor_save.specs.Saving.{header_of}
 use Rattle.nor_call.specs.declared.request.Request.{Request}
 use Rattle.nor_call.specs.declared.refusal.Refusal.{Refusal}
 use Rattle.nor_probe.specs.Known.{IsModelled}
 use Rattle.nor_session.specs.Bounds.{most_of}
 use Rattle.nor_save.specs.Verdict.{IsAccepted, IsNamed}
-use Rattle.nor_session.specs.Session.{CanBeUndone, IsDone, SessionTells}
-use Rattle.nor_session.specs.Headline.{CanGiveBack}
-use Rattle.nor_session.specs.Restore.{IsRestored, RestoreTells, IsJudgedFirst}
+use Rattle.nor_session.specs.Session.{CanBeUndone, IsDone, SessionErrors}
+use Rattle.nor_session.specs.Headline.{CanRestore}
+use Rattle.nor_session.specs.Restore.{IsRestored, RestoreErrors, IsCheckedFirst}
 use Rattle.nor_session.specs.WrittenOver.{IsWrittenOver}
-use Rattle.nor_session.specs.Rehearsal.{AreRestores, CanEnd, IsRehearsal, RehearsalTells, SealFits, first_allowance}
+use Rattle.nor_session.specs.Rehearsal.{AreRestores, CanEnd, IsRehearsal, RehearsalErrors, SealFits, first_allowance}
 use Rattle.nor_session.specs.declared.rehearsals.Rehearsal.{Rehearsal}
 use Rattle.nor_words.specs.Text.{Text}
 use Rattle.nor_words.specs.declared.job.JournalUse.{JournalUse}
 use Rattle.nor_words.specs.declared.job.JournalUse.TheVariants as uses
-use Rattle.nor_files.specs.Files.{FilesState, IsSettled, View, is_lawful}
+use Rattle.nor_files.specs.Files.{FilesState, IsDurable, View, is_lawful}
 use Rattle.nor_lines.specs.Stored.{IsMissing}
 use Rattle.flashnor.specs.Tasks.{journal_of}
 use Rattle.nor_lines.specs.declared.answers.Answer.{Answer}
@@ -38,31 +38,31 @@ use Rattle.nor_lines.specs.declared.answers.Answer.TheVariants as answer
 -- ---- sessions
 
 -- Holds if the session succeeded, and the chip is the one that the request asks for.
-abbrev pub TellsDone : Request → List ℕ → (old new : BusState) → Answer → Type 0
-TellsDone request image old new (answer.Done report) = IsDone request image old new report
-TellsDone request image old new _ = ⊥
+abbrev pub ReportsChange : Request → List ℕ → (old new : BusState) → Answer → Type 0
+ReportsChange request image old new (answer.Done report) = IsDone request image old new report
+ReportsChange request image old new _ = ⊥
 
 -- Holds after a session returned an error. After errors 1 to 11 the chip is as before, after errors 1 to 8 the vault is
 -- too.
-pub record GivesUp (request : Request) (image : List ℕ) (old new : BusState)
+pub record FailsSession (request : Request) (image : List ℕ) (old new : BusState)
     (vault vault' : VaultState) (refusal : Refusal) : Type 0 where
-  pub refuses : SessionTells request image old new vault vault' refusal
-  pub same : number_of refusal ≤ 11 → IsSame old.chip new.chip
-  pub unused : number_of refusal ≤ 8 → vault' ≡ vault
+  pub refuses : SessionErrors request image old new vault vault' refusal
+  pub same : refusal_number refusal ≤ 11 → IsSame old.chip new.chip
+  pub unused : refusal_number refusal ≤ 8 → vault' ≡ vault
 
 -- Holds for a chip that a later run opens. If the vault isn't sealed, it is the original chip. If the vault is sealed
 -- and faithful (`telling`), a journal whose encoding is the vault's bytes can restore the original chip from it.
 pub record IsSafe (old opened : BusState) (vault : VaultState) : Type 0 where
   pub same : vault.sealed ≡ false → IsSame old.chip opened.chip
   pub back : vault.sealed ≡ true → vault.telling ≡ true
-      → (journal : Journal) → IsContent journal → vault.bytes ≡ text journal → CanGiveBack journal old.chip opened
+      → (journal : Journal) → IsContent journal → vault.bytes ≡ text journal → CanRestore journal old.chip opened
 
 -- Holds for a session, with its journal in a vault, at every exit. Until the vault is sealed the chip is as before;
 -- after that the session can be undone. `over`: both hold for each chip that may be left if writing the new chip to the
 -- old chip's files is interrupted.
 pub record HasKeptChange (request : Request) (image : List ℕ) (old new : BusState) (vault vault' : VaultState)
     (outcome : Result Answer Refusal) : Type 0 where
-  pub told : MatchResult outcome (TellsDone request image old new) (GivesUp request image old new vault vault')
+  pub returned : MatchResult outcome (ReportsChange request image old new) (FailsSession request image old new vault vault')
   pub sealed : IsOk outcome → vault'.sealed ≡ true
   pub same : vault'.sealed ≡ false → IsSame old.chip new.chip
   pub undo : vault'.sealed ≡ true → CanBeUndone request image old new vault'
@@ -83,28 +83,28 @@ pub record IsRehearsed (request : Request) (image stops : List ℕ) (chip : Chip
   pub fits : SealFits request (first_allowance stops) chip rehearsal.sealed
   pub accepted : rehearsal.sealed ≡ true → IsAccepted request image chip
   pub saves : rehearsal.sealed ≡ true
-      → JournalSaves (head_of chip) chip.bytes (is_touched chip.bytes (wanted request image chip)) vault.bytes
+      → JournalSaves (header_of chip) chip.bytes (is_touched chip.bytes (wanted request image chip)) vault.bytes
   -- The restores were run with the remaining stops in turn.
   pub restores : rehearsal.sealed ≡ true
       → AreRestores (sector_count (is_touched chip.bytes (wanted request image chip))) (drop 1 stops) rehearsal.restores
 
-abbrev pub TellsRehearsed : Request → (image stops : List ℕ) → Chip → VaultState → Answer → Type 0
-TellsRehearsed request image stops chip vault (answer.Rehearsed rehearsal) =
+abbrev pub ReportsRehearsal : Request → (image stops : List ℕ) → Chip → VaultState → Answer → Type 0
+ReportsRehearsal request image stops chip vault (answer.Rehearsed rehearsal) =
     IsRehearsed request image stops chip vault rehearsal
-TellsRehearsed request image stops chip vault _ = ⊥
+ReportsRehearsal request image stops chip vault _ = ⊥
 
 -- Holds for a rehearsal at every exit: the chip is as before.
 pub record HasRehearsed (request : Request) (image stops : List ℕ) (old new : BusState) (vault vault' : VaultState)
     (outcome : Result Answer Refusal) : Type 0 where
   pub same : IsSame old.chip new.chip
-  pub told : MatchResult outcome (TellsRehearsed request image stops old.chip vault')
-      (RehearsalTells request image old.chip vault vault')
+  pub returned : MatchResult outcome (ReportsRehearsal request image stops old.chip vault')
+      (RehearsalErrors request image old.chip vault vault')
 
 -- The file has exactly the bytes of the vault. If the vault is sealed, these are durable.
 pub record IsKeptFile (name : Text) (vault : VaultState) (files : FilesState) : Type 0 where
   pub telling : vault.telling ≡ true
   pub seen : files.view.seen name ≡ Some vault.bytes
-  pub settled : vault.sealed ≡ true → IsSettled name (Some vault.bytes) files
+  pub settled : vault.sealed ≡ true → IsDurable name (Some vault.bytes) files
 
 -- Holds if the journal is in the file, provided that the files obey their contract; or, in a rehearsal, if it is in
 -- memory, in a faithful vault.
@@ -135,19 +135,19 @@ pub record HasMadeChange (request : Request) (image : List ℕ) (kept : JournalU
 -- ---- restores
 
 -- Holds if the restore succeeded, and the chip is the one that the journal saves.
-abbrev pub TellsRestored : Journal → (old new : BusState) → Answer → Type 0
-TellsRestored journal old new (answer.Done report) = IsRestored journal old new report
-TellsRestored journal old new _ = ⊥
+abbrev pub ReportsRestore : Journal → (old new : BusState) → Answer → Type 0
+ReportsRestore journal old new (answer.Done report) = IsRestored journal old new report
+ReportsRestore journal old new _ = ⊥
 
 -- Holds if the identification returned this error, for the name or for another reason.
 abbrev pub ProbeRefuses : Option ChipName → (old new : BusState) → Refusal → Type 0
 ProbeRefuses named old new refusal =
-    (fault : ProbeFault) × (refusal ≡ of_probe fault) × Tells named old new fault
+    (fault : ProbeFault) × (refusal ≡ of_probe fault) × ProbeErrors named old new fault
 
 -- Holds after a restore returned an error: it does not accept the chip, which is then as before, or the bus stopped.
 pub record RestoreRefuses (journal : Journal) (old new : BusState) (refusal : Refusal) : Type 0 where
-  pub refuses : RestoreTells journal old new refusal
-  pub same : IsJudgedFirst refusal → IsSame old.chip new.chip
+  pub refuses : RestoreErrors journal old new refusal
+  pub same : IsCheckedFirst refusal → IsSame old.chip new.chip
 
 -- Holds if the chip has the given name, if one is given.
 abbrev pub HasGivenName : Option ChipName → Chip → Type 0
@@ -159,7 +159,7 @@ HasGivenName (Some name) chip = IsNamed (Some name) chip.config
 pub record Passes (named : Option ChipName) (old new : BusState) : Type 0 where
   pub same : IsSame old.chip new.chip
   pub modelled : IsModelled new
-  pub calm : IsCalm new
+  pub steady_or_idle : IsSteadyOrIdle new
   pub name : HasGivenName named old.chip
 
 -- Describes the result of a restore, which identifies the chip first if a name is given. Take an original chip that the
@@ -169,12 +169,12 @@ pub record HasRestored (journal : Journal) (named : Option ChipName) (old new : 
     (outcome : Result Answer Refusal) : Type 0 where
   -- the bus after the identification for the name, if one is given
   pub found : BusState
-  pub looks : Looks most_probe old found
+  pub only_reads : OnlyReads most_probe old found
   pub same : IsSame old.chip found.chip
   pub config : new.chip.config ≡ old.chip.config
   pub name : OnOk outcome (HasGivenName named old.chip)
-  pub told : MatchResult outcome (TellsRestored journal found new)
+  pub returned : MatchResult outcome (ReportsRestore journal found new)
       (λ refusal. RestoreRefuses journal found new refusal ⊎ ProbeRefuses named old new refusal)
-  pub over : (first : Chip) (opened : BusState) → CanGiveBack journal first old
-      → IsWrittenOver old.chip new.chip opened.chip → CanGiveBack journal first opened
-  pub back : OnOk outcome ((first : Chip) → CanGiveBack journal first old → IsSame first new.chip)
+  pub over : (first : Chip) (opened : BusState) → CanRestore journal first old
+      → IsWrittenOver old.chip new.chip opened.chip → CanRestore journal first opened
+  pub back : OnOk outcome ((first : Chip) → CanRestore journal first old → IsSame first new.chip)

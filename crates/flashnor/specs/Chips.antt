@@ -5,7 +5,7 @@ use Rattle.std.specs.Borrow.{Bor}
 use Rattle.nor_chip.specs.Bus.{BusState}
 use Rattle.nor_chip.specs.Sent.{IsNothing}
 use Rattle.nor_chip.specs.Chip.{Chip, kept_in}
-use Rattle.nor_chip.specs.Sim.{fill_of, pace_of, state_of}
+use Rattle.nor_chip.specs.Sim.{fill_of, pace_of, sim_state}
 use Rattle.nor_chip.specs.Start.{AreChipBytes, status_of}
 use Rattle.nor_chip.specs.declared.config.Config.{Config}
 use Rattle.nor_chip.specs.declared.sim.SimBus.{SimBus}
@@ -16,7 +16,7 @@ use Rattle.nor_words.specs.declared.programmer.Programmer.{Programmer}
 use Rattle.nor_words.specs.Text.{Text}
 use Rattle.nor_files.specs.Files.{FilesState, View}
 use Rattle.nor_lines.specs.Stored.{AreOfFile, ArePut}
-use Rattle.nor_lines.specs.Files.{IsHoldingFault, IsOpeningFault}
+use Rattle.nor_lines.specs.Files.{IsLockingFault, IsOpeningFault}
 use Rattle.flashnor.specs.Found.{emulated_part}
 use Rattle.flashnor.specs.declared.chips.Content.{Content}
 use Rattle.nor_lines.specs.declared.messages.Fault.{Fault}
@@ -41,7 +41,7 @@ pub record IsReady (programmer : Programmer) (bus : BusState) : Type 0 where
   pub left : bus.left ≡ allowance_of programmer
   pub honest : bus.honest ≡ true
   pub steady : bus.steady ≡ is_none programmer.power
-  pub still : IsNothing bus.sent
+  pub unsent : IsNothing bus.sent
 
 -- Holds for the contents of the chip's files. FFh stands for a missing or unnamed image, clear status bytes for a
 -- missing or unnamed status file.
@@ -66,7 +66,7 @@ pub record HoldsFiles (programmer : Programmer) (content : Content) (bus : BusSt
   pub config : IsConfigWith programmer.chip programmer.unique bus.chip.config
   pub idle : bus.chip.busy ≡ 0
   pub honest : bus.honest ≡ true
-  pub still : IsNothing bus.sent
+  pub unsent : IsNothing bus.sent
   pub bytes : (a : ℕ) → bus.chip.bytes a ≡ slice_index content.bytes.items a
   pub kept : bus.chip.kept ≡ kept_in content.status
   pub latch : bus.chip.latch ≡ (slice_index content.status 0 / 2 % 2 == 1)
@@ -74,7 +74,7 @@ pub record HoldsFiles (programmer : Programmer) (content : Content) (bus : BusSt
 -- Holds for a simulated bus that opens the chip. After each operation the chip is busy for the number of polls that
 -- `busy=` gives, or none without it; a power cut leaves bytes of the value of `power=`.
 pub record StartsBus (programmer : Programmer) (content : Content) (bus : SimBus) : Type 0 where
-  pub opens : OpensChip programmer content (state_of bus)
+  pub opens : OpensChip programmer content (sim_state bus)
   pub pace : pace_of bus ≡ unwrap_or programmer.busy 0
   pub fill : fill_of bus ≡ programmer.power
 
@@ -87,8 +87,8 @@ FailsToOpen view programmer fault = (fault ≡ end.Refused Memory)
 -- Holds for the faults of locking and reading the chip's files, and for out of memory.
 abbrev pub FailsToHold : View → Programmer → Fault → Type 0
 FailsToHold view programmer fault = (fault ≡ end.Refused Memory)
-    ⊎ (IsSomeAnd programmer.image (λ name. IsHoldingFault view name.now (emulated_part programmer.chip).size fault)
-    ⊎ IsSomeAnd programmer.status (λ name. IsHoldingFault view name.now 2 fault))
+    ⊎ (IsSomeAnd programmer.image (λ name. IsLockingFault view name.now (emulated_part programmer.chip).size fault)
+    ⊎ IsSomeAnd programmer.status (λ name. IsLockingFault view name.now 2 fault))
 
 -- Holds for the chip's files after the chip was written back. If the files obey their contract, a file that is named
 -- and was written has durably the chip's bytes or status bytes. A file whose name is given as `image` or `status` could

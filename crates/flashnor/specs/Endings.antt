@@ -6,7 +6,7 @@ use Rattle.std.specs.Io.KnownBytes.{Appends}
 use Rattle.std.specs.declared.io.Error.{Error}
 use Rattle.nor_words.specs.Text.{Text}
 use Rattle.nor_lines.specs.FaultLines.{line_of}
-use Rattle.nor_lines.specs.Messages.{IsOfWords}
+use Rattle.nor_lines.specs.Messages.{IsOfArguments}
 use Rattle.nor_lines.specs.Printing.{IsAnswered, PrintsAnswer}
 use Rattle.flashnor.specs.FaultLines.{lines_of_unwritten}
 use Rattle.nor_lines.specs.declared.answers.Answer.{Answer}
@@ -22,9 +22,9 @@ all_written = record { image = None; status = None; trace = None }
 
 -- the lines of the run's fault, if there is one, followed by those of files that could not be written; `None` if the
 -- fault's line isn't known
-abbrev pub lines_told : Result Answer Fault → Unwritten → Option (List ℕ)
-lines_told (Ok found) unwritten = Some (lines_of_unwritten unwritten)
-lines_told (Err fault) unwritten = option_append (line_of fault) (Some (lines_of_unwritten unwritten))
+abbrev pub lines_printed : Result Answer Fault → Unwritten → Option (List ℕ)
+lines_printed (Ok found) unwritten = Some (lines_of_unwritten unwritten)
+lines_printed (Err fault) unwritten = option_append (line_of fault) (Some (lines_of_unwritten unwritten))
 
 -- The end of a run without a fault of its own, after its answer or help was printed or could not be printed. Standard
 -- error gets only the lines of files that could not be written. The status is 0 if and only if the answer or help was
@@ -34,7 +34,7 @@ pub record EndsWell (is_printed : Bool) (unwritten : Unwritten) (err err' : Opti
   pub few : ending.status ≤ 1
   pub exact : (ending.status ≡ 0) ↔ ((is_printed ≡ true) × (unwritten ≡ all_written))
   pub printed : ending.printed ≡ is_printed
-  pub told : ending.told ≡ true → Appends err err' (lines_of_unwritten unwritten)
+  pub returned : ending.returned ≡ true → Appends err err' (lines_of_unwritten unwritten)
   pub silent : unwritten ≡ all_written → err' ≡ err
 
 -- The end of a run with a fault: the lines of the fault and of files that could not be written. The status is 1.
@@ -42,7 +42,7 @@ pub record EndsBadly (fault : Fault) (unwritten : Unwritten) (err err' : Option 
     (ending : Ending) : Type 0 where
   pub status : ending.status ≡ 1
   pub printed : ending.printed ≡ false
-  pub told : ending.told ≡ true → IfSome (lines_told (Err fault) unwritten) (Appends err err')
+  pub returned : ending.returned ≡ true → IfSome (lines_printed (Err fault) unwritten) (Appends err err')
 
 -- The output of a run with this result to standard output and standard error, and its exit status.
 pub record HasPrinted (outcome : Result Answer Fault) (unwritten : Unwritten) (out out' err err' : Option (List ℕ))
@@ -52,7 +52,7 @@ pub record HasPrinted (outcome : Result Answer Fault) (unwritten : Unwritten) (o
   pub exact : (ending.status ≡ 0) ↔ ((ending.printed ≡ true) × (unwritten ≡ all_written))
   -- if printing succeeded, the lines of the answer, and those of the faults, were appended
   pub printed : ending.printed ≡ true → PrintsAnswer outcome out out'
-  pub told : ending.told ≡ true → IfSome (lines_told outcome unwritten) (Appends err err')
+  pub returned : ending.returned ≡ true → IfSome (lines_printed outcome unwritten) (Appends err err')
   -- a run without an answer or help prints nothing to standard output, and one without a fault nothing to standard
   -- error
   pub no_output : (IsAnswered outcome → ⊥) → out' ≡ out
@@ -65,7 +65,7 @@ EndsWith IsEnding status = (ending : Ending) × IsEnding ending × (status ≡ e
 -- The end of a run whose arguments could not be collected.
 pub record IsUnread (error : Error) (out out' err err' : Option (List ℕ)) (ending : Ending) : Type 0 where
   pub fault : Fault
-  pub of_words : IsOfWords error fault
+  pub of_words : IsOfArguments error fault
   pub prints : HasPrinted (Err fault) all_written out out' err err' ending
 
 -- The end of a run that could not keep the descriptors of the standard streams in use: it has the fault of a file that

@@ -4,22 +4,22 @@ use Rattle.std.specs.Borrow.{Bor}
 use Rattle.nor_files.specs.Calls.{IsMixed}
 use Rattle.nor_chip.specs.Chip.{Chip}
 use Rattle.nor_chip.specs.Start.{AreChipBytes, status_of}
-use Rattle.nor_files.specs.Files.{AllStay, FilesState, Found, IsKnown, IsSettled}
+use Rattle.nor_files.specs.Files.{AllStay, FilesState, Found, IsKnownFile, IsDurable}
 use Rattle.nor_words.specs.declared.programmer.Programmer.{Programmer}
 use Rattle.nor_words.specs.Text.{Text}
 use Rattle.flashnor.specs.Found.{emulated_part}
 use Rattle.flashnor.specs.declared.holding.Held.{Held}
 
 -- Holds if no file is named, or if the named file durably has these contents.
-abbrev pub Settles : Option (Bor Text) → Found → FilesState → Type 0
-Settles None content files = ⊤
-Settles (Some name) content files = IsSettled name.now content files
+abbrev pub MakesDurable : Option (Bor Text) → Found → FilesState → Type 0
+MakesDurable None content files = ⊤
+MakesDurable (Some name) content files = IsDurable name.now content files
 
 -- Holds after a file of the chip was read, if one is named. No file has changed, and the contents that were read are
 -- durable.
 pub record IsHeld (name : Option (Bor Text)) (found : Found) (old new : FilesState) : Type 0 where
   pub stay : AllStay old new
-  pub settled : Settles name found new
+  pub settled : MakesDurable name found new
 
 -- the contents of a file that exists if `there` is set, and else is missing
 abbrev pub was : (there : Bool) → List ℕ → Found
@@ -30,8 +30,8 @@ was false bytes = None
 -- absence of a missing file.
 pub record AreHeld (programmer : Programmer) (held : Held) (old new : FilesState) : Type 0 where
   pub stay : AllStay old new
-  pub image : Settles programmer.image (was held.image_there held.content.bytes.items) new
-  pub status : Settles programmer.status (was held.status_there held.content.status) new
+  pub image : MakesDurable programmer.image (was held.image_there held.content.bytes.items) new
+  pub status : MakesDurable programmer.status (was held.status_there held.content.status) new
 
 -- Holds if the right contents stand for missing files: FFh, and clear status bytes.
 pub record StandsFor (programmer : Programmer) (held : Held) : Type 0 where
@@ -56,8 +56,8 @@ LeavesAmid (Some name) there had bytes files = LeavesFileAmid name.now there had
 
 -- Holds if a file durably has the contents that were read from it, and is to get the same number of bytes.
 pub record IsReadyFile (name : Text) (there : Bool) (had bytes : List ℕ) (files : FilesState) : Type 0 where
-  pub known : IsKnown name files.view
-  pub settled : IsSettled name (was there had) files
+  pub known : IsKnownFile name files.view
+  pub settled : IsDurable name (was there had) files
   pub as_many : length had ≡ length bytes
 
 -- Holds if no file is named, or if the named file is ready to be written (`IsReadyFile`).

@@ -7,9 +7,9 @@ use Rattle.nor_chip.specs.Bus.{BusState}
 use Rattle.nor_chip.specs.Chip.{Chip, IsSame, kept_in}
 use Rattle.nor_chip.specs.declared.config.Config.{Config}
 use Rattle.nor_files.specs.Calls.{LeavesNoMore, LeavesOrEmpty}
-use Rattle.nor_files.specs.Files.{AreApart, FilesState, Found, Nature, Stays}
+use Rattle.nor_files.specs.Files.{AreApart, FilesState, Found, Nature, KeepsFile}
 use Rattle.nor_journal.specs.Text.{Content as Journal, IsContent, text}
-use Rattle.nor_session.specs.Headline.{CanGiveBack}
+use Rattle.nor_session.specs.Headline.{CanRestore}
 use Rattle.nor_words.specs.declared.programmer.Programmer.{Programmer}
 use Rattle.nor_words.specs.Text.{Text}
 use Rattle.flashnor.specs.Chips.{IsContentOf, OpensChip}
@@ -33,8 +33,8 @@ pub record IsOpenedFrom (image status : Found) (setup : Config) (chip : Chip) : 
   pub idle : chip.busy ≡ 0
 
 -- Holds if a host crash may leave only this journal in the file of that name.
-abbrev pub LeavesJournal : (file : Text) → Journal → FilesState → Type 0
-LeavesJournal file journal files = (left : Found) → files.may_leave file left → left ≡ Some (text journal)
+abbrev pub LeavesOneJournal : (file : Text) → Journal → FilesState → Type 0
+LeavesOneJournal file journal files = (left : Found) → files.may_leave file left → left ≡ Some (text journal)
 
 -- The contents of the chip's files before a run, and the bus to the chip that the run opened from them.
 pub record Opened (programmer : Programmer) (files : FilesState) : Type 0 where
@@ -54,12 +54,12 @@ LeavesOnly {programmer} first Is files = (image status : Found) (opened : BusSta
 
 -- Holds if a host crash may leave only one journal in the file of that name, and that journal can restore the original
 -- chip from each chip that a later run may open. A file of the chip that was missing at first may be moved aside.
-pub record LeadsBack {programmer : Programmer} {old : FilesState} (file : Text) (first : Opened programmer old)
+pub record IsRestorableFrom {programmer : Programmer} {old : FilesState} (file : Text) (first : Opened programmer old)
     (files : FilesState) : Type 0 where
   pub journal : Journal
   pub sound : IsContent journal
-  pub left : LeavesJournal file journal files
-  pub back : LeavesOnly first (CanGiveBack journal first.bus.chip) files
+  pub left : LeavesOneJournal file journal files
+  pub back : LeavesOnly first (CanRestore journal first.bus.chip) files
 
 -- Holds if the name is apart from those of the programmer's image, status file and trace.
 pub record IsNoFileOf (nature : Nature) (programmer : Programmer) (name : Text) : Type 0 where
@@ -78,16 +78,16 @@ LeavesAsLong (Some name) old new = (had : List ℕ) → old.view.seen name.now �
 -- original chip. `back`: a host crash leaves the journal's file as one journal, which can restore the original chip. A
 -- missing file of the chip may be moved aside. A file of the chip that existed keeps its length. Every other file stays,
 -- if its name is apart from those of the trace, the chip's files and the journal.
-pub record LeavesWayBack (programmer : Programmer) (file : Text) (old new : FilesState) : Type 0 where
+pub record LeavesOriginalRestorable (programmer : Programmer) (file : Text) (old new : FilesState) : Type 0 where
   pub missing : old.view.seen file ≡ None
   pub others : (name : Text) → IsNoFileOf old.view.nature programmer name → AreApart old.view.nature file name
-      → Stays name old new
+      → KeepsFile name old new
   pub image : LeavesAsLong programmer.image old new
   pub status : LeavesAsLong programmer.status old new
   pub first : Opened programmer old
   pub sealed : Bool
   pub same : sealed ≡ false → LeavesOnly first (λ opened. IsSame first.bus.chip opened.chip) new
-  pub back : sealed ≡ true → LeadsBack file first new
+  pub back : sealed ≡ true → IsRestorableFrom file first new
 
 -- Holds if nothing was changed, and nothing was created except the trace and, if its file was missing, an empty file
 -- for the journal. If the trace has the name of one of the chip's files, that file was not created either.
@@ -100,9 +100,9 @@ pub record LeavesAll (programmer : Programmer) (file : Text) (old new : FilesSta
 
 -- Holds for a run that changes a chip if it was interrupted before anything was changed, or if the original chip can be
 -- restored.
-abbrev pub KeepsFirst : Programmer → (file : Text) → (old new : FilesState) → Type 0
-KeepsFirst programmer file old new =
-    LeavesAll programmer file old new ⊎ LeavesWayBack programmer file old new
+abbrev pub KeepsOriginalFiles : Programmer → (file : Text) → (old new : FilesState) → Type 0
+KeepsOriginalFiles programmer file old new =
+    LeavesAll programmer file old new ⊎ LeavesOriginalRestorable programmer file old new
 
 -- Holds if nothing was changed, and nothing was created except the trace. If the trace has the name of another file of
 -- the run, that file was not created either.
@@ -117,15 +117,15 @@ pub record LeavesSources (programmer : Programmer) (file : Text) (old new : File
 -- journal can still restore it. A file of the chip that was missing may be moved aside. A file that existed keeps its
 -- length. The journal stays, and so does each file whose name is apart from those of the trace and the chip's files.
 pub record LeavesRestorable (programmer : Programmer) (file : Text) (old new : FilesState) : Type 0 where
-  pub others : (name : Text) → IsNoFileOf old.view.nature programmer name → Stays name old new
+  pub others : (name : Text) → IsNoFileOf old.view.nature programmer name → KeepsFile name old new
   pub image : LeavesAsLong programmer.image old new
   pub status : LeavesAsLong programmer.status old new
   pub found : Opened programmer old
   pub journal : Journal
   pub sound : IsContent journal
   pub read : IsRead old.view file 16793662 (text journal)
-  pub stays : Stays file old new
-  pub back : (first : Chip) → CanGiveBack journal first found.bus → LeavesOnly found (CanGiveBack journal first) new
+  pub stays : KeepsFile file old new
+  pub back : (first : Chip) → CanRestore journal first found.bus → LeavesOnly found (CanRestore journal first) new
 
 -- Holds for a restore if it was interrupted before anything was changed, or if the original chip can still be restored.
 abbrev pub KeepsRestorable : Programmer → (file : Text) → (old new : FilesState) → Type 0

@@ -2,7 +2,7 @@
 use Rattle.std.specs.Prelude.{◌≡◌, ◌<◌, ℕ, true, List, Option, Some, Result, Ok, Err, MatchResult}
 use Rattle.nor_chip.specs.Bus.{BusState}
 use Rattle.nor_chip.specs.Offered.{IsStart}
-use Rattle.nor_driver.specs.Looks.{Looks}
+use Rattle.nor_driver.specs.OnlyReads.{OnlyReads}
 use Rattle.nor_journal.specs.Vault.{IsFresh, VaultState}
 use Rattle.nor_layout.specs.declared.ranges.Span.{Span}
 use Rattle.nor_probe.specs.Known.{IsModelled}
@@ -31,26 +31,26 @@ FindRefuses programmer named Stopped = allowance_of programmer < most_probe
 FindRefuses programmer named _ = ⊥
 
 -- Holds if the answer is the chip, which has the given name.
-abbrev pub TellsFound : Programmer → Option ChipName → Answer → Type 0
-TellsFound programmer named (answer.Found found) = IsEmulatedFound named programmer.chip found
-TellsFound programmer named _ = ⊥
+abbrev pub ReportsFound : Programmer → Option ChipName → Answer → Type 0
+ReportsFound programmer named (answer.Found found) = IsEmulatedFound named programmer.chip found
+ReportsFound programmer named _ = ⊥
 
 -- Holds if the answer is the size of the chip, which has the given name.
-abbrev pub TellsSize : Programmer → Option ChipName → Answer → Type 0
-TellsSize programmer named (answer.Size size) =
+abbrev pub ReportsSize : Programmer → Option ChipName → Answer → Type 0
+ReportsSize programmer named (answer.Size size) =
     HasName named programmer.chip × (size ≡ (emulated_part programmer.chip).size)
-TellsSize programmer named _ = ⊥
+ReportsSize programmer named _ = ⊥
 
 -- the job returns the answer for the result of its call, or passes the error on
 abbrev pub AnswersCall : {T : Type 0} → (T → Answer → Type 0) → Result T Refusal → Result Answer Refusal → Type 0
-AnswersCall tells (Ok told) (Ok answer) = tells told answer
-AnswersCall tells (Err refusal) (Err passed) = passed ≡ refusal
-AnswersCall tells _ _ = ⊥
+AnswersCall errors (Ok returned) (Ok answer) = errors returned answer
+AnswersCall errors (Err refusal) (Err passed) = passed ≡ refusal
+AnswersCall errors _ _ = ⊥
 
 -- the answer is the chip's protection
-abbrev pub TellsGuarded : Protection → Answer → Type 0
-TellsGuarded protection (answer.Protection told) = told ≡ protection
-TellsGuarded protection _ = ⊥
+abbrev pub ReportsProtection : Protection → Answer → Type 0
+ReportsProtection protection (answer.Protection returned) = returned ≡ protection
+ReportsProtection protection _ = ⊥
 
 -- the answer is an iterator over all ranges that can be protected on a chip of this size
 abbrev pub ListsRanges : Protection → Answer → Type 0
@@ -58,29 +58,29 @@ ListsRanges protection (answer.Ranges ranges) = IsStart protection.size ranges
 ListsRanges protection _ = ⊥
 
 -- the answer is the report of a chip that was read out
-abbrev pub TellsRead : Report → Answer → Type 0
-TellsRead report (answer.Read told) = told ≡ report
-TellsRead report _ = ⊥
+abbrev pub ReportsReadOut : Report → Answer → Type 0
+ReportsReadOut report (answer.Read returned) = returned ≡ report
+ReportsReadOut report _ = ⊥
 
 -- the answer is the report of a chip that was verified
-abbrev pub TellsVerified : Report → Answer → Type 0
-TellsVerified report (answer.Verified told) = told ≡ report
-TellsVerified report _ = ⊥
+abbrev pub ReportsVerified : Report → Answer → Type 0
+ReportsVerified report (answer.Verified returned) = returned ≡ report
+ReportsVerified report _ = ⊥
 
 -- The chip's protection was requested, and reported or refused.
-pub record HasTold (tells : Protection → Answer → Type 0) (named : Option ChipName) (old new : BusState)
+pub record HasReported (errors : Protection → Answer → Type 0) (named : Option ChipName) (old new : BusState)
     (outcome : Result Answer Refusal) : Type 0 where
   pub result : Result Protection Refusal
   pub always : ProtectionAlways old new result
   pub honest : old.honest ≡ true → ProtectionHonest named old new result
   pub modelled : IsModelled old → ProtectionModelled named old result
-  pub told : AnswersCall tells result outcome
+  pub returned : AnswersCall errors result outcome
 
 -- Holds after the identification of the chip, which sends no modifying command: the chip was found or refused.
-pub record HasLookedUp (tells : Answer → Type 0) (programmer : Programmer) (named : Option ChipName)
+pub record HasLookedUp (errors : Answer → Type 0) (programmer : Programmer) (named : Option ChipName)
     (old new : BusState) (outcome : Result Answer Refusal) : Type 0 where
-  pub looks : Looks most_probe old new
-  pub told : MatchResult outcome tells (FindRefuses programmer named)
+  pub only_reads : OnlyReads most_probe old new
+  pub returned : MatchResult outcome errors (FindRefuses programmer named)
 
 -- The chip was read out into a vault, in the given ranges, or the reading failed.
 pub record HasReadInto (named : Option ChipName) (ranges : Option (List Span)) (old new : BusState)
@@ -89,7 +89,7 @@ pub record HasReadInto (named : Option ChipName) (ranges : Option (List Span)) (
   pub always : ReadOutAlways named ranges old new empty filled result
   pub honest : old.honest ≡ true → ReadOutHonest named ranges old new result
   pub modelled : IsModelled old → ReadOutModelled named ranges old new empty filled result
-  pub told : AnswersCall TellsRead result outcome
+  pub returned : AnswersCall ReportsReadOut result outcome
 
 -- The chip was read out into a file. If the files obey their contract, the file has exactly the bytes that were put
 -- into its vault.
@@ -108,4 +108,4 @@ pub record HasVerified (named : Option ChipName) (ranges : Option (List Span)) (
   pub always : VerifyAlways named ranges image old new result
   pub honest : old.honest ≡ true → VerifyHonest named ranges old new result
   pub modelled : IsModelled old → VerifyModelled named ranges image old new result
-  pub told : AnswersCall TellsVerified result outcome
+  pub returned : AnswersCall ReportsVerified result outcome

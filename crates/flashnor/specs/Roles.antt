@@ -78,24 +78,24 @@ pub record HasOwnTrace (nature : Nature) (job : ChipJob) : Type 0 where
 -- ---- the fault of a file with two roles
 
 -- the file that a job has in a role, if it names one
-abbrev pub file_in : ChipJob → Role → Option (Bor Text)
-file_in job role.Image = job.programmer.image
-file_in job role.Status = job.programmer.status
-file_in job role.Trace = job.programmer.trace
-file_in job role.Layout = (named_by job.task).layout
-file_in job role.Wanted = (named_by job.task).wanted
-file_in job role.Output = (named_by job.task).output
-file_in job role.Journal = (named_by job.task).journal
+abbrev pub file_with_role : ChipJob → Role → Option (Bor Text)
+file_with_role job role.Image = job.programmer.image
+file_with_role job role.Status = job.programmer.status
+file_with_role job role.Trace = job.programmer.trace
+file_with_role job role.Layout = (named_by job.task).layout
+file_with_role job role.Wanted = (named_by job.task).wanted
+file_with_role job role.Output = (named_by job.task).output
+file_with_role job role.Journal = (named_by job.task).journal
 
 -- the order of roles: a fault names the file of the later of two
-abbrev pub place_of : Role → ℕ
-place_of role.Image = 0
-place_of role.Status = 1
-place_of role.Trace = 2
-place_of role.Layout = 3
-place_of role.Wanted = 4
-place_of role.Output = 5
-place_of role.Journal = 6
+abbrev pub order_of : Role → ℕ
+order_of role.Image = 0
+order_of role.Status = 1
+order_of role.Trace = 2
+order_of role.Layout = 3
+order_of role.Wanted = 4
+order_of role.Output = 5
+order_of role.Journal = 6
 
 -- True if the file in that role is written. A journal counts as written, even in a restore: no other file may have its
 -- role.
@@ -111,7 +111,7 @@ is_written job _ = true
 abbrev pub must_differ : ChipJob → (earlier later : Role) → Bool
 must_differ job role.Image role.Wanted = false
 must_differ job earlier later =
-    nat_lt (place_of earlier) (place_of later) && (is_written job earlier || is_written job later)
+    nat_lt (order_of earlier) (order_of later) && (is_written job earlier || is_written job later)
 
 -- the fault names the later of the two files, which is one file with the earlier
 abbrev pub IsShared : Nature → (earlier later : Option (Bor Text)) → Fault → Type 0
@@ -122,7 +122,7 @@ IsShared nature earlier later _ = ⊥
 -- Holds if the fault is that two roles have one file, but need different files.
 abbrev pub IsTwice : Nature → ChipJob → Fault → Type 0
 IsTwice nature job fault = (earlier later : Role) × (must_differ job earlier later ≡ true)
-    × IsShared nature (file_in job earlier) (file_in job later) fault
+    × IsShared nature (file_with_role job earlier) (file_with_role job later) fault
 
 -- the fault names this file, to which the program prints
 abbrev pub IsPrintedTo : Nature → Option (Bor Text) → Fault → Type 0
@@ -133,7 +133,7 @@ IsPrintedTo nature named _ = ⊥
 -- Holds if the fault is that the program prints to a file of the job that is written.
 abbrev pub IsStream : Nature → ChipJob → Fault → Type 0
 IsStream nature job fault = (written : Role) × (is_written job written ≡ true)
-    × IsPrintedTo nature (file_in job written) fault
+    × IsPrintedTo nature (file_with_role job written) fault
 
 -- the fault names this file, which can't be looked up
 abbrev pub IsUnseenFile : Nature → Option (Bor Text) → Fault → Type 0
@@ -143,7 +143,7 @@ IsUnseenFile nature named _ = ⊥
 
 -- Holds if the fault is that a file of the job can't be looked up.
 abbrev pub IsUnseen : Nature → ChipJob → Fault → Type 0
-IsUnseen nature job fault = (role : Role) × IsUnseenFile nature (file_in job role) fault
+IsUnseen nature job fault = (role : Role) × IsUnseenFile nature (file_with_role job role) fault
 
 -- Holds for the faults of comparing a job's files.
 abbrev pub FailsRoles : Nature → ChipJob → Fault → Type 0

@@ -8,8 +8,8 @@ use Rattle.std.specs.declared.string.String.{String}
 use Rattle.std.specs.declared.vec.IntoIter.{IntoIter}
 use Rattle.nor_chip.specs.Bus.{BusState}
 use Rattle.nor_chip.specs.Chip.{Chip, IsSame}
-use Rattle.nor_session.specs.Headline.{CanGiveBack}
-use Rattle.nor_chip.specs.Sim.{state_of}
+use Rattle.nor_session.specs.Headline.{CanRestore}
+use Rattle.nor_chip.specs.Sim.{sim_state}
 use Rattle.nor_chip.specs.declared.sim.SimBus.{SimBus}
 use Rattle.nor_journal.specs.Fault.{HasFault}
 use Rattle.nor_journal.specs.Text.{Content as Journal, IsContent, text}
@@ -20,7 +20,7 @@ use Rattle.nor_call.specs.declared.refusal.Refusal.TheVariants.{Memory, BadJourn
 use Rattle.nor_words.specs.Text.{Text}
 use Rattle.clap.specs.Words.{IsAmong}
 use Rattle.clap.specs.declared.error.kind.ErrorKind.TheVariants as kind
-use Rattle.nor_words.specs.Words.{IsJob, IsFault, IsRefused, refusals_of}
+use Rattle.nor_words.specs.Words.{IsJob, IsFault, IsRefusedSetting, refusals_of}
 use Rattle.nor_words.specs.declared.job.Change.{Change}
 use Rattle.nor_words.specs.declared.job.ChipJob.{ChipJob}
 use Rattle.nor_words.specs.declared.job.Job.{Job}
@@ -35,17 +35,17 @@ use Rattle.nor_words.specs.declared.job.Wanted.TheVariants as wanted
 use Rattle.nor_words.specs.declared.programmer.Emulated.{Emulated}
 use Rattle.nor_words.specs.declared.programmer.Programmer.{Programmer}
 use Rattle.nor_lines.specs.AnswerLines.{AreLines}
-use Rattle.flashnor.specs.Changes.{HasMadeChange, HasRestored, TellsDone, TellsRestored}
+use Rattle.flashnor.specs.Changes.{HasMadeChange, HasRestored, ReportsChange, ReportsRestore}
 use Rattle.flashnor.specs.Chips.{ArePutBack, FailsToHold, FailsToOpen, IsContentOf, StartsBus}
 use Rattle.flashnor.specs.Endings.{HasPrinted, all_written}
 use Rattle.nor_lines.specs.Printing.{Prints}
-use Rattle.nor_lines.specs.Stored.{IsNot, IsRead, IsToldOf, StaysOf}
-use Rattle.flashnor.specs.Left.{KeepsFirst, KeepsRestorable, LeadsBack, Opened}
+use Rattle.nor_lines.specs.Stored.{IsNot, IsRead, IsReportedOf, StaysOf}
+use Rattle.flashnor.specs.Left.{KeepsOriginalFiles, KeepsRestorable, IsRestorableFrom, Opened}
 use Rattle.flashnor.specs.Roles.{FailsRoles, HaveOneRole}
 use Rattle.flashnor.specs.Tasks.{made_by, puts_back}
-use Rattle.nor_files.specs.Files.{AllStay, AreAtRest, FilesState, IsKnown, IsSettled, Name, Stays, View}
+use Rattle.nor_files.specs.Files.{AllStay, AreAtRest, FilesState, IsKnownFile, IsDurable, Name, KeepsFile, View}
 use Rattle.nor_lines.specs.Files.{IsMaking, IsReadingFault, IsSharingFault}
-use Rattle.flashnor.specs.Readings.{HasLookedUp, HasReadOut, HasTold, HasVerified, ListsRanges, TellsFound, TellsGuarded, TellsSize}
+use Rattle.flashnor.specs.Readings.{HasLookedUp, HasReadOut, HasReported, HasVerified, ListsRanges, ReportsFound, ReportsProtection, ReportsSize}
 use Rattle.nor_lines.specs.Requests.{AreRangesOf, FailsToInclude, request_for}
 use Rattle.flashnor.specs.Requests.{IsBufferOf}
 use Rattle.nor_lines.specs.declared.answers.Answer.{Answer}
@@ -97,12 +97,12 @@ pub record DoesRestore (view : View) (named : Option ChipName) (file : Text) (ol
 abbrev pub DoesJob : View → FilesState → Programmer → Option ChipName → Task → (old new : BusState)
     → Result Answer Refusal → Type 0
 DoesJob view after programmer named task.Probe old new outcome =
-    HasLookedUp (TellsFound programmer named) programmer named old new outcome
+    HasLookedUp (ReportsFound programmer named) programmer named old new outcome
 DoesJob view after programmer named task.FlashSize old new outcome =
-    HasLookedUp (TellsSize programmer named) programmer named old new outcome
+    HasLookedUp (ReportsSize programmer named) programmer named old new outcome
 DoesJob view after programmer named task.WpStatus old new outcome =
-    HasTold TellsGuarded named old new outcome
-DoesJob view after programmer named task.WpList old new outcome = HasTold ListsRanges named old new outcome
+    HasReported ReportsProtection named old new outcome
+DoesJob view after programmer named task.WpList old new outcome = HasReported ListsRanges named old new outcome
 DoesJob view after programmer named (task.Read file regions) old new outcome =
     DoesRead view after.view named file.now regions old new outcome
 DoesJob view after programmer named (task.Verify file regions) old new outcome =
@@ -114,16 +114,16 @@ DoesJob view after programmer named (task.Restore journal) old new outcome =
 
 -- Holds if the names are those of the chip's files that could not be written. No name is given if the task does not
 -- change the chip, since its files are not written then.
-abbrev pub AreTold : Bool → Programmer → Unwritten → View → Type 0
-AreTold true programmer unwritten view =
-    IsToldOf programmer.image unwritten.image view × IsToldOf programmer.status unwritten.status view
-AreTold false programmer unwritten view = (unwritten.image ≡ None) × (unwritten.status ≡ None)
+abbrev pub AreReported : Bool → Programmer → Unwritten → View → Type 0
+AreReported true programmer unwritten view =
+    IsReportedOf programmer.image unwritten.image view × IsReportedOf programmer.status unwritten.status view
+AreReported false programmer unwritten view = (unwritten.image ≡ None) × (unwritten.status ≡ None)
 
 -- Holds for the view after the trace was created, if one is named: each known file whose name is apart from the trace's
 -- is as before.
 pub record IsViewBut (trace : Option (Bor Text)) (old amid : View) : Type 0 where
   pub nature : amid.nature ≡ old.nature
-  pub stays : (name : Name) → IsNot old.nature trace name → IsKnown name old
+  pub stays : (name : Name) → IsNot old.nature trace name → IsKnownFile name old
       → (amid.out name ≡ old.out name) × (amid.seen name ≡ old.seen name)
 
 -- Holds if the call was made after the trace was created; the other files of the job were read after that.
@@ -143,8 +143,8 @@ pub record IsCalled (files after : FilesState) (job : ChipJob) (unwritten : Unwr
   pub bus : SimBus
   pub started : StartsBus job.programmer content bus
   pub new : BusState
-  pub does : DoesTraced files after job (state_of bus) new outcome
-  pub told_of : AreTold (puts_back job.task) job.programmer unwritten files.view
+  pub does : DoesTraced files after job (sim_state bus) new outcome
+  pub reply_digits : AreReported (puts_back job.task) job.programmer unwritten files.view
   pub left : AreAtRest files → puts_back job.task ≡ true
       → ArePutBack job.programmer new.chip unwritten.image unwritten.status after
   pub traced : OnSome unwritten.trace (unwritten.trace ≡ job.programmer.trace)
@@ -207,12 +207,12 @@ pub record StayBut (programmer : Programmer) (made : Option (Bor Text)) (old new
   pub image : StaysOf programmer.image old new
   pub status : StaysOf programmer.status old new
   pub others : (name : Name) → IsNot old.view.nature programmer.trace name → IsNot old.view.nature made name
-      → Stays name old new
+      → KeepsFile name old new
 
 -- Holds for a change: with a journal in a file, the original chip can still be restored; a rehearsal leaves the files
 -- as they were, except the trace.
 abbrev pub KeepsChange : Programmer → JournalUse → (old new : FilesState) → Type 0
-KeepsChange programmer (uses.Journal file) old new = KeepsFirst programmer file.now old new
+KeepsChange programmer (uses.Journal file) old new = KeepsOriginalFiles programmer file.now old new
 KeepsChange programmer (uses.Rehearse stops) old new = StayBut programmer None old new
 
 -- The promise of each task about the files, at every exit.
@@ -234,11 +234,11 @@ pub record HoldsTarget (programmer : Programmer) (named : Option ChipName) (chan
   pub included : AreRangesOf old.view change.regions ranges
   pub image : List ℕ
   pub buffer : IsBufferOf old.view programmer.chip change.wanted image
-  pub target : TellsDone (request_for change named ranges) image first.bus last found
+  pub target : ReportsChange (request_for change named ranges) image first.bus last found
   -- the files hold the requested chip and the journal
   pub held : ArePutBack programmer last.chip None None new
-  pub leads : LeadsBack file first new
-  pub settled : IsSettled file (Some (text leads.journal)) new
+  pub leads : IsRestorableFrom file first new
+  pub settled : IsDurable file (Some (text leads.journal)) new
 
 -- Holds after a restore ended with this answer, and all files were written. The chip's files hold the chip that the
 -- journal restores, and a host crash does not lose it. The journal's file is as it was.
@@ -251,11 +251,11 @@ pub record HoldsRestored (programmer : Programmer) (file : Text) (found : Answer
   -- after the identification for the name, if one is given, the chip was made what the journal saves
   pub probed : BusState
   pub same : IsSame opened.bus.chip probed.chip
-  pub target : TellsRestored journal probed last found
-  pub back : (first : Chip) → CanGiveBack journal first opened.bus → IsSame first last.chip
+  pub target : ReportsRestore journal probed last found
+  pub back : (first : Chip) → CanRestore journal first opened.bus → IsSame first last.chip
   -- the files hold the restored chip and the journal
   pub held : ArePutBack programmer last.chip None None new
-  pub stays : Stays file old new
+  pub stays : KeepsFile file old new
 
 -- The result of a change with a journal in a file. Nothing is claimed for a rehearsal.
 abbrev pub HoldsChange : Programmer → Option ChipName → Change → JournalUse → Answer → (old new : FilesState) → Type 0
@@ -280,9 +280,9 @@ HoldsResult job unwritten (Err fault) old new = ⊤
 -- ---- runs
 
 -- an error of a call is a fault of the run
-abbrev pub IsToldAs : Result Answer Refusal → Result Answer Fault → Type 0
-IsToldAs (Ok found) outcome = outcome ≡ Ok found
-IsToldAs (Err refusal) outcome = outcome ≡ Err (end.Refused refusal)
+abbrev pub IsReportedAs : Result Answer Refusal → Result Answer Fault → Type 0
+IsReportedAs (Ok found) outcome = outcome ≡ Ok found
+IsReportedAs (Err refusal) outcome = outcome ≡ Err (end.Refused refusal)
 
 -- Holds if a job on a chip ends with the result of its call, or with a fault from before the call.
 abbrev pub EndsJob : (files after : FilesState) → ChipJob → Unwritten → Result Answer Fault → Type 0
@@ -301,31 +301,31 @@ AnswersJob files after (job.Chip on_chip) unwritten outcome = EndsJob files afte
 
 -- Holds if the arguments lead to this result. A usage fault is one that the arguments have, and no file is changed.
 -- Every other result is that of the job given by the arguments, with the names of the files that could not be written.
-abbrev pub AnswersWords : (files after : FilesState) → List Text → Result Answer Fault → Unwritten → Type 0
-AnswersWords files after words (Err (end.Usage fault)) unwritten =
+abbrev pub AnswersArguments : (files after : FilesState) → List Text → Result Answer Fault → Unwritten → Type 0
+AnswersArguments files after words (Err (end.Usage fault)) unwritten =
     IsFault words fault × (unwritten ≡ all_written) × AllStay files after
-AnswersWords files after words outcome unwritten =
+AnswersArguments files after words outcome unwritten =
     (asked : Job) × IsJob words asked × AnswersJob files after asked unwritten outcome
 
 -- Holds for a run without a fault. The arguments ask for help, or for a job that was done; then each file was written,
 -- and exactly the lines of the answer went to standard output.
-abbrev pub Succeeds : (files after : FilesState) → List Text → (out out' : Option (List ℕ)) → Type 0
-Succeeds files after words out out' = IsAmong kind.DisplayHelp (refusals_of words)
-    ⊎ ((found : Answer) × AnswersWords files after words (Ok found) all_written × Prints (AreLines found) out out')
+abbrev pub RunSucceeds : (files after : FilesState) → List Text → (out out' : Option (List ℕ)) → Type 0
+RunSucceeds files after words out out' = IsAmong kind.DisplayHelp (refusals_of words)
+    ⊎ ((found : Answer) × AnswersArguments files after words (Ok found) all_written × Prints (AreLines found) out out')
 
 -- the arguments of a run: all that the system provides after the program's name
-abbrev pub words_of : IntoIter (String Global) Global → List Text
-words_of args = map string_bytes (drop 1 (into_iter_items args))
+abbrev pub arguments_of : IntoIter (String Global) Global → List Text
+arguments_of args = map string_bytes (drop 1 (into_iter_items args))
 
 -- Describes how a run ended, and what the streams hold before and after, if known. The status is 0 or 1. It is 1 if the
 -- arguments ask for nothing, and 0 only if the run succeeds.
 pub record IsStatus (files after : FilesState) (words : List Text) (out out' err err' : Option (List ℕ))
     (ending : Ending) : Type 0 where
   pub few : ending.status ≤ 1
-  pub refused : IsRefused words → ending.status ≡ 1
-  pub succeeds : ending.status ≡ 0 → Succeeds files after words out out'
+  pub refused : IsRefusedSetting words → ending.status ≡ 1
+  pub succeeds : ending.status ≡ 0 → RunSucceeds files after words out out'
   -- the result of the run, and what was printed about it
   pub outcome : Result Answer Fault
   pub unwritten : Unwritten
-  pub answers : AnswersWords files after words outcome unwritten
+  pub answers : AnswersArguments files after words outcome unwritten
   pub prints : HasPrinted outcome unwritten out out' err err' ending

@@ -10,7 +10,7 @@ use Rattle.nor_words.specs.declared.job.Job.TheVariants as job
 use Rattle.nor_words.specs.declared.job.Task.{Task}
 use Rattle.nor_words.specs.declared.job.Task.TheVariants as task
 use Rattle.nor_words.specs.declared.programmer.Programmer.{Programmer}
-use Rattle.flashnor.specs.Left.{LeadsBack, LeavesOnly, MayFind, Opened}
+use Rattle.flashnor.specs.Left.{IsRestorableFrom, LeavesOnly, MayFind, Opened}
 use Rattle.flashnor.specs.Run.{AnswersJob}
 use Rattle.nor_lines.specs.declared.answers.Answer.{Answer}
 use Rattle.flashnor.specs.declared.holding.Unwritten.{Unwritten}
@@ -48,13 +48,13 @@ Restores file _ = ⊥
 
 -- Holds if a run restores from a journal that can restore the original chip, with this result.
 pub record RestoresFirst {programmer : Programmer} {start : FilesState} (file : Text)
-    (first : Opened programmer start) (on_chip : ChipJob) (unwritten : Unwritten) (told : Result Answer Fault)
+    (first : Opened programmer start) (on_chip : ChipJob) (unwritten : Unwritten) (returned : Result Answer Fault)
     (old mid new : FilesState) : Type 0 where
-  pub leads : LeadsBack file first old
+  pub leads : IsRestorableFrom file first old
   pub follows : Follows file first old mid
   pub same : HaveOneChip programmer on_chip.programmer
   pub restores : Restores file on_chip.task
-  pub answers : AnswersJob mid new (job.Chip on_chip) unwritten told
+  pub answers : AnswersJob mid new (job.Chip on_chip) unwritten returned
 
 -- Holds if a later run that opens the chip's files opens the original chip, even if the host crashes before it.
 abbrev pub LeavesFirst : {programmer : Programmer} {start : FilesState} → Opened programmer start → FilesState → Type 0

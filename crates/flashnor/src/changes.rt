@@ -1,8 +1,8 @@
 //! The jobs that change a chip: sessions and restores; and rehearsals of sessions.
 ghost use Rattle.std.specs.Prelude.{◌≡◌, ◌≤◌, ◌⊎◌, true, IfOk, IfErr, OnErr, OnOk, length};
-ghost use Rattle.nor_files.specs.Files.{AreUntouched, Name, Stays, is_lawful};
+ghost use Rattle.nor_files.specs.Files.{AreUntouched, Name, KeepsFile, is_lawful};
 ghost use Rattle.nor_chip.specs.Chip.{IsSame};
-ghost use Rattle.nor_driver.specs.Looks.{IsCalm, Looks};
+ghost use Rattle.nor_driver.specs.OnlyReads.{IsSteadyOrIdle, OnlyReads};
 ghost use Rattle.nor_journal.specs.Vault.{IsFresh};
 ghost use Rattle.nor_probe.specs.Found.{most_probe};
 ghost use Rattle.nor_probe.specs.Known.{IsModelled};
@@ -38,10 +38,10 @@ pub fn change_chip<'a, R: Store, B: Meter>(
     ensures nature { (R.state rt.new).view.nature ≡ (R.state rt.old).view.nature }
     ensures others { is_lawful (R.state rt.old).view ≡ true → (name : Name)
         → IsNot (R.state rt.old).view.nature (journal_of change.now.journal_use) name
-        → Stays name (R.state rt.old) (R.state rt.new) }
+        → KeepsFile name (R.state rt.old) (R.state rt.new) }
     ensures unmade { is_lawful (R.state rt.old).view ≡ true
         → OnErr result (MakesNothing (journal_of change.now.journal_use) (R.state rt.old) (R.state rt.new)) }
-    ensures ok { IsModelled (B.state bus.old) → IsCalm (B.state bus.old)
+    ensures ok { IsModelled (B.state bus.old) → IsSteadyOrIdle (B.state bus.old)
         → IfOk result (ChangesChip (R.state rt.old).view (R.state rt.new) chip named change.now
         (B.state bus.old) (B.state bus.new)) }
     ensures err { IfErr result (λ fault. FailsToInclude (R.state rt.old).view change.now.regions fault
@@ -82,10 +82,10 @@ fn change_with<'a, R: Store, B: Meter>(
     ensures nature { (R.state rt.new).view.nature ≡ (R.state rt.old).view.nature }
     ensures others { is_lawful (R.state rt.old).view ≡ true → (name : Name)
         → IsNot (R.state rt.old).view.nature (journal_of journal_use.now) name
-        → Stays name (R.state rt.old) (R.state rt.new) }
+        → KeepsFile name (R.state rt.old) (R.state rt.new) }
     ensures unmade { is_lawful (R.state rt.old).view ≡ true
         → OnErr result (MakesNothing (journal_of journal_use.now) (R.state rt.old) (R.state rt.new)) }
-    ensures ok { IsModelled (B.state bus.old) → IsCalm (B.state bus.old)
+    ensures ok { IsModelled (B.state bus.old) → IsSteadyOrIdle (B.state bus.old)
         → IfOk result (HasMadeChange request.now image.old journal_use.now (B.state bus.old) (B.state bus.new)
         (R.state rt.old).view (R.state rt.new)) }
     ensures err { IfErr result (FailsToKeep (R.state rt.old).view journal_use.now) }
@@ -112,7 +112,7 @@ fn change_with_journal<B: Bus, V: Vault>(
     request: &Request,
 ) -> Outcome
     requires { IsFresh (V.state vault.old) }
-    ensures { IsModelled (B.state bus.old) → IsCalm (B.state bus.old)
+    ensures { IsModelled (B.state bus.old) → IsSteadyOrIdle (B.state bus.old)
         → HasKeptChange request.now image.old (B.state bus.old) (B.state bus.new)
         (V.state vault.old) (V.state vault.new) result }
 {
@@ -130,7 +130,7 @@ fn rehearse_change<B: Meter>(
 ) -> Outcome
     requires few { length stops.now ≤ 64 }
     requires fresh { IsFresh (⟦<MemVault as Vault>⟧.state vault.old) }
-    ensures { IsModelled (B.state bus.old) → IsCalm (B.state bus.old)
+    ensures { IsModelled (B.state bus.old) → IsSteadyOrIdle (B.state bus.old)
         → HasRehearsed request.now image.old stops.now (B.state bus.old) (B.state bus.new)
         (⟦<MemVault as Vault>⟧.state vault.old) (⟦<MemVault as Vault>⟧.state vault.new) result }
 {
@@ -147,7 +147,7 @@ pub fn restore_chip<'a, R: Store, B: Bus>(
     journal: &'a str,
 ) -> Result<Outcome, Fault<'a>>
     ensures same { AreUntouched (R.state rt.old) (R.state rt.new) }
-    ensures ok { IsModelled (B.state bus.old) → IsCalm (B.state bus.old)
+    ensures ok { IsModelled (B.state bus.old) → IsSteadyOrIdle (B.state bus.old)
         → IfOk result (DoesRestore (R.state rt.old).view named journal.now (B.state bus.old) (B.state bus.new)) }
     ensures err { IfErr result (FailsToRestore (R.state rt.old).view journal.now) }
 {
@@ -160,7 +160,7 @@ pub fn restore_chip<'a, R: Store, B: Bus>(
 
 // Restores the chip from a journal. If `named` is given, the chip must have that name.
 fn restore_named<B: Bus>(bus: &mut B, named: Option<ChipName>, journal: &Journal<'_>) -> Outcome
-    ensures { IsModelled (B.state bus.old) → IsCalm (B.state bus.old)
+    ensures { IsModelled (B.state bus.old) → IsSteadyOrIdle (B.state bus.old)
         → HasRestored journal.now named (B.state bus.old) (B.state bus.new) result }
 {
     find_named(bus, named)?;
@@ -171,10 +171,10 @@ fn restore_named<B: Bus>(bus: &mut B, named: Option<ChipName>, journal: &Journal
 // If `named` is given, identifies the chip and checks that it has that name. If not, sends nothing.
 #[tactic(auto, using(crate::proofs::Ready::passes_probe, crate::proofs::Ready::passes_none, crate::proofs::Ready::looked_same, crate::proofs::Ready::looks_none))]
 fn find_named<B: Bus>(bus: &mut B, named: Option<ChipName>) -> Result<(), Refusal>
-    ensures looks { Looks most_probe (B.state bus.old) (B.state bus.new) }
-    ensures passes { IsModelled (B.state bus.old) → IsCalm (B.state bus.old)
+    ensures only_reads { OnlyReads most_probe (B.state bus.old) (B.state bus.new) }
+    ensures passes { IsModelled (B.state bus.old) → IsSteadyOrIdle (B.state bus.old)
         → OnOk result (Passes named (B.state bus.old) (B.state bus.new)) }
-    ensures same { IsModelled (B.state bus.old) → IsCalm (B.state bus.old)
+    ensures same { IsModelled (B.state bus.old) → IsSteadyOrIdle (B.state bus.old)
         → IsSame (B.state bus.old).chip (B.state bus.new).chip }
     ensures refuses { IsModelled (B.state bus.old)
         → IfErr result (ProbeRefuses named (B.state bus.old) (B.state bus.new)) }

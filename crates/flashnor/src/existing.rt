@@ -1,6 +1,6 @@
 //! Sessions whose journal already exists: the run ends with a fault, before any call, and the journal stays as it is.
 ghost use Rattle.std.specs.Prelude.{◌≡◌, IfErr, IfSome, IsSome, IsSomeAnd, Some, true};
-ghost use Rattle.nor_files.specs.Files.{AreAtRest, Name, Stays, is_lawful};
+ghost use Rattle.nor_files.specs.Files.{AreAtRest, Name, KeepsFile, is_lawful};
 ghost use Rattle.nor_files.specs.Files.Failure.{There};
 ghost use Rattle.flashnor.specs.Roles.{HasOwnTrace};
 ghost use Rattle.nor_lines.specs.Files.{IsMaking};
@@ -62,7 +62,7 @@ fn read_all<'a, R: Store>(rt: &mut R, job: &ChipJob<'a>) -> Result<(), Fault<'a>
     ensures fails { IfErr result (FailsJob (R.state rt.old).view job.now) }
     ensures others { is_lawful (R.state rt.old).view ≡ true → (name : Name)
         → IsNot (R.state rt.old).view.nature job.now.programmer.trace name
-        → Stays name (R.state rt.old) (R.state rt.new) }
+        → KeepsFile name (R.state rt.old) (R.state rt.new) }
 {
     let _content = read_content(rt, &job.programmer)?;
     make_trace(rt, job.programmer.trace)?;
@@ -74,7 +74,7 @@ fn read_all<'a, R: Store>(rt: &mut R, job: &ChipJob<'a>) -> Result<(), Fault<'a>
 fn make_trace<'a, R: Store>(rt: &mut R, trace: Option<&'a str>) -> Result<(), Fault<'a>>
     ensures nature { (R.state rt.new).view.nature ≡ (R.state rt.old).view.nature }
     ensures others { is_lawful (R.state rt.old).view ≡ true → (name : Name)
-        → IsNot (R.state rt.old).view.nature trace.entry name → Stays name (R.state rt.old) (R.state rt.new) }
+        → IsNot (R.state rt.old).view.nature trace.entry name → KeepsFile name (R.state rt.old) (R.state rt.new) }
     ensures err { IfErr result (λ fault. IsSomeAnd trace.entry (λ name. IsMaking (R.state rt.old).view name.now fault)) }
 {
     let Some(name) = trace else {

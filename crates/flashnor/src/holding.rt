@@ -2,18 +2,18 @@
 ghost use Rattle.std.specs.Prelude.{◌≡◌, ◌+◌, true, false, List, ℕ, None, Some, IfErr, IfOk, IfSome, IsSomeAnd, OnErr, OnOk};
 ghost use Rattle.std.specs.Prelude.{option_map, vec_len};
 ghost use Rattle.nor_files.specs.Calls.{LeaveNoMore};
-ghost use Rattle.nor_files.specs.Files.{AreAtRest, IsSettled, KnownStay, Name, OthersStay, Stays, is_lawful};
+ghost use Rattle.nor_files.specs.Files.{AreAtRest, IsDurable, KnownStay, Name, OthersStay, KeepsFile, is_lawful};
 ghost use Rattle.nor_files.specs.Files.Failure.{Unwritten as FailsWrite};
 ghost use Rattle.flashnor.specs.Chips.{ArePutBack, FailsToHold, IsContentOf};
-ghost use Rattle.nor_lines.specs.Files.{IsHoldingFault};
+ghost use Rattle.nor_lines.specs.Files.{IsLockingFault};
 ghost use Rattle.flashnor.specs.Found.{emulated_part};
 ghost use Rattle.flashnor.specs.Holding.{AreAmid, AreHeld, AreReady, IsHeld, IsReady, IsReadyFile};
-ghost use Rattle.flashnor.specs.Holding.{LeavesAmid, LeavesFileAmid, Settles, StandsFor};
-ghost use Rattle.nor_lines.specs.Stored.{AreTwo, Happens, IsFileFound, IsNot, IsRead, IsToldOf};
+ghost use Rattle.flashnor.specs.Holding.{LeavesAmid, LeavesFileAmid, MakesDurable, StandsFor};
+ghost use Rattle.nor_lines.specs.Stored.{AreTwo, Happens, IsFileFound, IsNot, IsRead, IsReportedOf};
 
 use crate::chips::{Content, content_of, read_whole};
 use nor_chip::{Bus, SimBus};
-use nor_files::{HoldFault, Store};
+use nor_files::{LockFault, Store};
 use nor_lines::{Fault, FileFault, reading, taken, unheld, unmade, unread};
 use nor_words::Programmer;
 use std::io;
@@ -73,7 +73,7 @@ fn hold_whole<'a, R: Store>(
         IsHeld name.entry (option_map (λ bytes. bytes.items) found) (R.state rt.old) (R.state rt.new)) }
     ensures no_more { AreAtRest (R.state rt.old) → LeaveNoMore (R.state rt.old) (R.state rt.new) }
     ensures err { IfErr result (λ fault.
-        IsSomeAnd name.entry (λ given. IsHoldingFault (R.state rt.old).view given.now len fault)) }
+        IsSomeAnd name.entry (λ given. IsLockingFault (R.state rt.old).view given.now len fault)) }
 {
     let Some(name) = name else {
         return Ok(None);
@@ -96,9 +96,9 @@ fn read_held<'a, R: Store>(rt: &mut R, name: &'a str, len: u32) -> Result<Vec<u8
     ensures ok { IfOk result (λ bytes. IsRead (R.state rt.old).view name.now (len + 1) bytes.items) }
     ensures stay { OnOk result (KnownStay (R.state rt.old) (R.state rt.new)) }
     ensures held { AreAtRest (R.state rt.old) → IfOk result (λ bytes.
-        IsSettled name.now (Some bytes.items) (R.state rt.new)) }
+        IsDurable name.now (Some bytes.items) (R.state rt.new)) }
     ensures no_more { AreAtRest (R.state rt.old) → LeaveNoMore (R.state rt.old) (R.state rt.new) }
-    ensures err { IfErr result (IsHoldingFault (R.state rt.old).view name.now len) }
+    ensures err { IfErr result (IsLockingFault (R.state rt.old).view name.now len) }
 {
     let Some(bytes) = read_whole(rt, Some(name), len)? else {
         return Err(unread(name));
@@ -134,9 +134,9 @@ pub fn write_back<'a, R: Store>(
     ensures others { is_lawful (R.state rt.old).view ≡ true → (any : Name)
         → IsNot (R.state rt.old).view.nature programmer.now.image any
         → IsNot (R.state rt.old).view.nature programmer.now.status any
-        → Stays any (R.state rt.old) (R.state rt.new) }
-    ensures fails { IsToldOf programmer.now.image result.0 (R.state rt.old).view
-        × IsToldOf programmer.now.status result.1 (R.state rt.old).view }
+        → KeepsFile any (R.state rt.old) (R.state rt.new) }
+    ensures fails { IsReportedOf programmer.now.image result.0 (R.state rt.old).view
+        × IsReportedOf programmer.now.status result.1 (R.state rt.old).view }
     ensures put { AreTwo (R.state rt.old).view.nature programmer.now.image programmer.now.status
         → (bytes bits : List ℕ) → AreReady programmer.now image_there status_there bytes bits
         (⟦<SimBus as Bus>⟧.state bus.now).chip (R.state rt.old)
@@ -161,11 +161,11 @@ fn put_back<'a, R: Store>(
 ) -> Option<&'a str>
     ensures nature { (R.state rt.new).view.nature ≡ (R.state rt.old).view.nature }
     ensures others { is_lawful (R.state rt.old).view ≡ true → (any : Name)
-        → IsNot (R.state rt.old).view.nature name.entry any → Stays any (R.state rt.old) (R.state rt.new) }
+        → IsNot (R.state rt.old).view.nature name.entry any → KeepsFile any (R.state rt.old) (R.state rt.new) }
     ensures fails { IfSome result (λ failed. (name.entry ≡ Some failed)
         × Happens (R.state rt.old).view (FailsWrite failed.now)) }
     ensures put { result ≡ None → (had : List ℕ) → IsReady name.entry there had bytes.now (R.state rt.old)
-        → Settles name.entry (Some bytes.now) (R.state rt.new) }
+        → MakesDurable name.entry (Some bytes.now) (R.state rt.new) }
     ensures amid { (had : List ℕ) → IsReady name.entry there had bytes.now (R.state rt.old)
         → LeavesAmid name.entry there had bytes.now (R.state rt.new) }
 {
@@ -187,7 +187,7 @@ fn write_over<R: Store>(rt: &mut R, name: &str, bytes: &[u8]) -> io::Result<()>
     ensures others { is_lawful (R.state rt.old).view ≡ true → OthersStay name.now (R.state rt.old) (R.state rt.new) }
     ensures fails { OnErr result (Happens (R.state rt.old).view (FailsWrite name.now)) }
     ensures put { (had : List ℕ) → IsReadyFile name.now true had bytes.now (R.state rt.old)
-        → OnOk result (IsSettled name.now (Some bytes.now) (R.state rt.new)) }
+        → OnOk result (IsDurable name.now (Some bytes.now) (R.state rt.new)) }
     ensures amid { (had : List ℕ) → IsReadyFile name.now true had bytes.now (R.state rt.old)
         → LeavesFileAmid name.now true had bytes.now (R.state rt.new) }
 {
@@ -203,7 +203,7 @@ fn make_with<R: Store>(rt: &mut R, name: &str, bytes: &[u8]) -> io::Result<()>
     ensures others { is_lawful (R.state rt.old).view ≡ true → OthersStay name.now (R.state rt.old) (R.state rt.new) }
     ensures fails { OnErr result (Happens (R.state rt.old).view (FailsWrite name.now)) }
     ensures put { (had : List ℕ) → IsReadyFile name.now false had bytes.now (R.state rt.old)
-        → OnOk result (IsSettled name.now (Some bytes.now) (R.state rt.new)) }
+        → OnOk result (IsDurable name.now (Some bytes.now) (R.state rt.new)) }
     ensures amid { (had : List ℕ) → IsReadyFile name.now false had bytes.now (R.state rt.old)
         → LeavesFileAmid name.now false had bytes.now (R.state rt.new) }
 {

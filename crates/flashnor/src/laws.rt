@@ -4,7 +4,7 @@ ghost use Rattle.nor_words.specs.Text.{Text};
 ghost use Rattle.nor_words.specs.declared.job.ChipJob.{ChipJob};
 ghost use Rattle.nor_words.specs.declared.programmer.Programmer.{Programmer};
 ghost use Rattle.flashnor.specs.Endings.{all_written};
-ghost use Rattle.flashnor.specs.Left.{LeadsBack, Opened};
+ghost use Rattle.flashnor.specs.Left.{IsRestorableFrom, Opened};
 ghost use Rattle.flashnor.specs.Undone.{LeavesFirst, RestoresFirst};
 ghost use Rattle.nor_lines.specs.declared.answers.Answer.{Answer};
 ghost use Rattle.flashnor.specs.declared.holding.Unwritten.{Unwritten};
@@ -21,12 +21,12 @@ use nor_files::Store;
 ///
 /// The contract of `run_over` supplies the premise: on files at rest, an interrupted change leaves files from which the
 /// journal restores the original chip, or files that open to the original chip.
-pub fn runs_lead_back<R: Store>()
+pub fn runs_restore_original<R: Store>()
     ensures leads { (programmer : Programmer) (file : Text) (start old mid new : R)
         (first : Opened programmer (R.state start)) (on_chip : ChipJob)
-        (unwritten : Unwritten) (told : Result Answer Fault)
-        → RestoresFirst file first on_chip unwritten told (R.state old) (R.state mid) (R.state new)
-        → LeadsBack file first (R.state new) }
+        (unwritten : Unwritten) (returned : Result Answer Fault)
+        → RestoresFirst file first on_chip unwritten returned (R.state old) (R.state mid) (R.state new)
+        → IsRestorableFrom file first (R.state new) }
     ensures ends { (programmer : Programmer) (file : Text) (start old mid new : R)
         (first : Opened programmer (R.state start)) (on_chip : ChipJob) (answer : Answer)
         → RestoresFirst file first on_chip all_written (Ok answer) (R.state old) (R.state mid) (R.state new)

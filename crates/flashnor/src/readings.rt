@@ -1,14 +1,14 @@
 //! The jobs that leave a chip as it is.
 ghost use Rattle.std.specs.Prelude.{◌≡◌, ◌⊎◌, IfOk, IfErr, MatchResult, false, option_copied, true};
 ghost use Rattle.nor_files.specs.Files.{OthersStay, is_lawful};
-ghost use Rattle.nor_driver.specs.Looks.{Looks};
+ghost use Rattle.nor_driver.specs.OnlyReads.{OnlyReads};
 ghost use Rattle.nor_probe.specs.Found.{Finds, IsWanted, most_probe};
 ghost use Rattle.nor_words.specs.declared.programmer.Programmer.{Programmer};
 ghost use Rattle.flashnor.specs.Changes.{ProbeRefuses};
 ghost use Rattle.flashnor.specs.Chips.{IsReady};
 ghost use Rattle.nor_lines.specs.Files.{IsMaking, IsReadingFault};
 ghost use Rattle.flashnor.specs.Found.{IsEmulatedFound};
-ghost use Rattle.flashnor.specs.Readings.{FindRefuses, HasLookedUp, HasReadInto, HasTold, ListsRanges, TellsFound, TellsGuarded, TellsSize};
+ghost use Rattle.flashnor.specs.Readings.{FindRefuses, HasLookedUp, HasReadInto, HasReported, ListsRanges, ReportsFound, ReportsProtection, ReportsSize};
 ghost use Rattle.nor_lines.specs.Requests.{FailsToInclude};
 ghost use Rattle.flashnor.specs.Run.{DoesRead, DoesVerify};
 
@@ -25,7 +25,7 @@ use nor_words::Regions;
 /// Identifies the chip.
 pub fn find_chip<B: Bus>(bus: &mut B, named: Option<ChipName>) -> Outcome
     ensures { (programmer : Programmer) → IsReady programmer (B.state bus.old)
-        → HasLookedUp (TellsFound programmer named) programmer named
+        → HasLookedUp (ReportsFound programmer named) programmer named
         (B.state bus.old) (B.state bus.new) result }
 {
     let found = find(bus, named)?;
@@ -33,9 +33,9 @@ pub fn find_chip<B: Bus>(bus: &mut B, named: Option<ChipName>) -> Outcome
 }
 
 /// Returns the chip's size in bytes.
-pub fn tell_size<B: Bus>(bus: &mut B, named: Option<ChipName>) -> Outcome
+pub fn report_size<B: Bus>(bus: &mut B, named: Option<ChipName>) -> Outcome
     ensures { (programmer : Programmer) → IsReady programmer (B.state bus.old)
-        → HasLookedUp (TellsSize programmer named) programmer named
+        → HasLookedUp (ReportsSize programmer named) programmer named
         (B.state bus.old) (B.state bus.new) result }
 {
     let found = find(bus, named)?;
@@ -45,7 +45,7 @@ pub fn tell_size<B: Bus>(bus: &mut B, named: Option<ChipName>) -> Outcome
 /// Identifies the chip. Returns error 3 if `named` is given and the chip has another name.
 #[tactic(auto, using(crate::proofs::Ready::finds_ready))]
 pub fn find<B: Bus>(bus: &mut B, named: Option<ChipName>) -> Result<Found, Refusal>
-    ensures looks { Looks most_probe (B.state bus.old) (B.state bus.new) }
+    ensures only_reads { OnlyReads most_probe (B.state bus.old) (B.state bus.new) }
     ensures wanted { IfOk result (λ found. IsWanted named found.name) }
     ensures finds { (B.state bus.old).honest ≡ true → IfOk result (Finds (B.state bus.old) (B.state bus.new)) }
     ensures refuses { (B.state bus.old).honest ≡ true
@@ -57,8 +57,8 @@ pub fn find<B: Bus>(bus: &mut B, named: Option<ChipName>) -> Result<Found, Refus
 }
 
 /// Returns the chip's protected range, and whether its status is locked.
-pub fn tell_protection<B: Bus>(bus: &mut B, named: Option<ChipName>) -> Outcome
-    ensures { HasTold TellsGuarded named (B.state bus.old) (B.state bus.new) result }
+pub fn report_protection<B: Bus>(bus: &mut B, named: Option<ChipName>) -> Outcome
+    ensures { HasReported ReportsProtection named (B.state bus.old) (B.state bus.new) result }
 {
     let protection = wp_status(bus, named)?;
     Ok(Answer::Protection(protection))
@@ -66,7 +66,7 @@ pub fn tell_protection<B: Bus>(bus: &mut B, named: Option<ChipName>) -> Outcome
 
 /// Returns the ranges of the chip that can be protected.
 pub fn list_ranges<B: Bus>(bus: &mut B, named: Option<ChipName>) -> Outcome
-    ensures { HasTold ListsRanges named (B.state bus.old) (B.state bus.new) result }
+    ensures { HasReported ListsRanges named (B.state bus.old) (B.state bus.new) result }
 {
     let protection = wp_status(bus, named)?;
     Ok(Answer::Ranges(offered(protection.size)))

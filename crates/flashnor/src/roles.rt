@@ -1,6 +1,6 @@
 //! Checks that each file has one role in a run.
 ghost use Rattle.std.specs.Prelude.{◌≡◌, true, IfErr, OnOk};
-ghost use Rattle.flashnor.specs.Roles.{FailsRoles, HasOwnTrace, HaveOneRole, file_in, image_of, is_written, layout_of};
+ghost use Rattle.flashnor.specs.Roles.{FailsRoles, HasOwnTrace, HaveOneRole, file_with_role, image_of, is_written, layout_of};
 ghost use Rattle.flashnor.specs.Roles.{must_differ, named_by};
 ghost use Rattle.flashnor.specs.Tasks.{journal_of};
 ghost use Rattle.nor_lines.specs.Stored.{AreTwo};
@@ -101,8 +101,8 @@ fn are_unprinted<'a, R: Store>(rt: &R, job: &ChipJob<'a>) -> Result<(), Fault<'a
 }
 
 // Returns the file that a job has in this role, if it names one.
-fn file_in<'a>(job: &ChipJob<'a>, role: Role) -> Option<&'a str>
-    ensures { result ≡ file_in job.now role }
+fn file_with_role<'a>(job: &ChipJob<'a>, role: Role) -> Option<&'a str>
+    ensures { result ≡ file_with_role job.now role }
 {
     let Named {
         layout,
@@ -194,10 +194,10 @@ fn apart<'a, R: Store>(
 ) -> Result<(), Fault<'a>>
     requires { must_differ job.now earlier later ≡ true }
     ensures ok { OnOk result
-        (AreTwo (R.state rt.now).view.nature (file_in job.now earlier) (file_in job.now later)) }
+        (AreTwo (R.state rt.now).view.nature (file_with_role job.now earlier) (file_with_role job.now later)) }
     ensures err { IfErr result (FailsRoles (R.state rt.now).view.nature job.now) }
 {
-    match (file_in(job, earlier), file_in(job, later)) {
+    match (file_with_role(job, earlier), file_with_role(job, later)) {
         (Some(one), Some(other)) => match rt.is_one_file(one, other) {
             Ok(false) => Ok(()),
             Ok(true) => Err(taken(other)),
@@ -212,7 +212,7 @@ fn unprinted<'a, R: Store>(rt: &R, job: &ChipJob<'a>, role: Role) -> Result<(), 
     requires { is_written job.now role ≡ true }
     ensures { IfErr result (FailsRoles (R.state rt.now).view.nature job.now) }
 {
-    let Some(name) = file_in(job, role) else {
+    let Some(name) = file_with_role(job, role) else {
         return Ok(());
     };
     match rt.is_stream(name) {

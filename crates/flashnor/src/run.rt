@@ -3,21 +3,21 @@ ghost use Rattle.std.specs.Prelude.{◌≡◌, false, true, Err, IfOk, IfErr, On
 ghost use Rattle.nor_chip.specs.Trace.{has_lost};
 ghost use Rattle.flashnor.specs.Chips.{IsReady};
 ghost use Rattle.nor_files.specs.Disk.{unknown};
-ghost use Rattle.nor_files.specs.Files.{AreAtRest, Name, Stays, is_lawful};
+ghost use Rattle.nor_files.specs.Files.{AreAtRest, Name, KeepsFile, is_lawful};
 ghost use Rattle.nor_lines.specs.Stored.{AreTwo, IsNot, MakesNothing};
 ghost use Rattle.flashnor.specs.Endings.{EndsWith, HasPrinted, IsUnread, IsWithoutStreams, all_written};
-ghost use Rattle.flashnor.specs.Run.{AnswersWords, DoesJob, DoesTraced, EndsJob, FailsBefore, FailsJob, FailsTraced, IsStatus};
+ghost use Rattle.flashnor.specs.Run.{AnswersArguments, DoesJob, DoesTraced, EndsJob, FailsBefore, FailsJob, FailsTraced, IsStatus};
 ghost use Rattle.flashnor.specs.Roles.{HaveOneRole};
-ghost use Rattle.flashnor.specs.Run.{HoldsResult, IsToldAs, KeepsFiles, StayBut, words_of};
+ghost use Rattle.flashnor.specs.Run.{HoldsResult, IsReportedAs, KeepsFiles, StayBut, arguments_of};
 ghost use Rattle.flashnor.specs.Tasks.{journal_by, made_by, puts_back};
 
 use crate::changes::{change_chip, restore_chip};
 use crate::chips::{read_content, start};
 use crate::existing::{existing_journal, fault_before};
 use crate::holding::{Held, Unwritten, hold_content, write_back};
-use crate::laws::runs_lead_back;
+use crate::laws::runs_restore_original;
 use crate::printing::{Ending, print_end};
-use crate::readings::{find_chip, list_ranges, read_chip, tell_protection, tell_size, verify_chip};
+use crate::readings::{find_chip, list_ranges, read_chip, report_protection, report_size, verify_chip};
 use crate::roles::have_one_role;
 use nor_chip::{Bus, Meter, SimBus, TraceBus};
 use nor_files::{Disk, LockFile, Store};
@@ -42,7 +42,7 @@ pub fn run_words<R: Files + AllocGlobal, O: Write, E: Write>(
 ) -> u8
 where
     R::File: LockFile,
-    ensures words { IfOk given (λ args. EndsWith (IsStatus unknown unknown (words_of args)
+    ensures words { IfOk given (λ args. EndsWith (IsStatus unknown unknown (arguments_of args)
         (O.contents output.old) (O.contents output.new) (E.contents errors.old) (E.contents errors.new)) result) }
     ensures unread { IfErr given (λ error. EndsWith (IsUnread error
         (O.contents output.old) (O.contents output.new) (E.contents errors.old) (E.contents errors.new)) result) }
@@ -54,7 +54,7 @@ where
     ending.status
 }
 
-/// Ends a run that could not keep the descriptors of the standard streams in use. Opens no file, prints the fault, and
+/// Ends a run that could not keep the descriptors of the standard streams in use. ReadsIdentity no file, prints the fault, and
 /// returns the exit status, which is 1.
 pub fn end_without_streams<O: Write, E: Write>(output: &mut O, errors: &mut E) -> u8
     ensures { EndsWith (IsWithoutStreams (O.contents output.old) (O.contents output.new)
@@ -72,18 +72,18 @@ fn run_given<R: Store, O: Write, E: Write>(
     output: &mut O,
     errors: &mut E,
 ) -> Ending
-    ensures { IsStatus (R.state rt.old) (R.state rt.new) (words_of args)
+    ensures { IsStatus (R.state rt.old) (R.state rt.new) (arguments_of args)
         (O.contents output.old) (O.contents output.new) (E.contents errors.old) (E.contents errors.new) result }
 {
-    match words_behind_name(rt.alloc(), args) {
+    match arguments_after_name(rt.alloc(), args) {
         Ok(words) => run_over(rt, words.as_slice(), output, errors),
         Err(_) => end_before(Fault::Usage(UsageFault::Memory), output, errors),
     }
 }
 
 // Returns the arguments that follow the program's name.
-fn words_behind_name(alloc: Global, args: Args) -> Result<Vec<String>, AllocError>
-    ensures { IfOk result (λ words. map string_bytes words.items ≡ words_of args) }
+fn arguments_after_name(alloc: Global, args: Args) -> Result<Vec<String>, AllocError>
+    ensures { IfOk result (λ words. map string_bytes words.items ≡ arguments_of args) }
 {
     args.skip(1).collect(alloc)
 }
@@ -109,7 +109,7 @@ pub fn run_over<R: Store, O: Write, E: Write>(
         (O.contents output.old) (O.contents output.new) (E.contents errors.old) (E.contents errors.new) result }
 {
     // The call does nothing at run time. A law is only checked in a program that calls it.
-    runs_lead_back::<R>();
+    runs_restore_original::<R>();
     let Work { answer, unwritten } = run(rt, words);
     print_end(output, errors, answer, unwritten)
 }
@@ -138,7 +138,7 @@ impl<'a> Work<'a> {
 
 // Performs the job given by the arguments. Returns its result, which isn't printed yet.
 fn run<'a, R: Store>(rt: &mut R, words: &'a [String]) -> Work<'a>
-    ensures { AnswersWords (R.state rt.old) (R.state rt.new) (map string_bytes words.now) result.answer
+    ensures { AnswersArguments (R.state rt.old) (R.state rt.new) (map string_bytes words.now) result.answer
         result.unwritten }
 {
     match request_of(rt.alloc(), words) {
@@ -175,7 +175,7 @@ fn work_on_chip<'a, R: Store>(rt: &mut R, job: &ChipJob<'a>) -> Result<Work<'a>,
 
 // Reads the chip's files and performs a task that leaves them as they are.
 fn look_at_files<'a, R: Store>(rt: &mut R, job: &ChipJob<'a>) -> Result<Work<'a>, Fault<'a>>
-    requires looks { puts_back job.now.task ≡ false }
+    requires only_reads { puts_back job.now.task ≡ false }
     requires roles { HaveOneRole (R.state rt.old).view.nature job.now }
     ensures ok { IfOk result (λ work.
         EndsJob (R.state rt.old) (R.state rt.new) job.now work.unwritten work.answer) }
@@ -192,7 +192,7 @@ fn look_at_files<'a, R: Store>(rt: &mut R, job: &ChipJob<'a>) -> Result<Work<'a>
         status: None,
         trace: lost,
     };
-    let answer = told(outcome);
+    let answer = returned(outcome);
     Ok(Work { answer, unwritten })
 }
 
@@ -223,13 +223,13 @@ fn change_files<'a, R: Store>(rt: &mut R, job: &ChipJob<'a>) -> Result<Work<'a>,
         status,
         trace: lost,
     };
-    let answer = told(outcome);
+    let answer = returned(outcome);
     Ok(Work { answer, unwritten })
 }
 
 // Returns the result of a call as a run reports it: an error of the call is a fault of the run.
-fn told<'a>(outcome: Outcome) -> Result<Answer, Fault<'a>>
-    ensures { IsToldAs outcome result }
+fn returned<'a>(outcome: Outcome) -> Result<Answer, Fault<'a>>
+    ensures { IsReportedAs outcome result }
 {
     match outcome {
         Ok(answer) => Ok(answer),
@@ -256,7 +256,7 @@ impl<'a> Called<'a> {
         ensures bus { ⟦<SimBus as Bus>⟧.state result.bus ≡ ⟦<TraceBus<SimBus, L> as Bus>⟧.state traced }
         ensures came { result.outcome ≡ outcome }
         ensures lost { has_lost traced ≡ true → result.lost ≡ Some name.entry }
-        ensures told { OnSome result.lost (result.lost ≡ Some name.entry) }
+        ensures returned { OnSome result.lost (result.lost ≡ Some name.entry) }
     {
         traced.flush();
         let lost = if traced.lost() { Some(name) } else { None };
@@ -275,7 +275,7 @@ fn call_on<'a, R: Store>(
     ensures others { is_lawful (R.state rt.old).view ≡ true → (name : Name)
         → IsNot (R.state rt.old).view.nature job.now.programmer.trace name
         → IsNot (R.state rt.old).view.nature (made_by job.now.task) name
-        → Stays name (R.state rt.old) (R.state rt.new) }
+        → KeepsFile name (R.state rt.old) (R.state rt.new) }
     ensures unmade { is_lawful (R.state rt.old).view ≡ true
         → AreTwo (R.state rt.old).view.nature job.now.programmer.trace (journal_by job.now.task)
         → OnErr result (MakesNothing (journal_by job.now.task) (R.state rt.old) (R.state rt.new)) }
@@ -310,7 +310,7 @@ fn do_task<'a, R: Store, B: Meter>(
     ensures nature { (R.state rt.new).view.nature ≡ (R.state rt.old).view.nature }
     ensures others { is_lawful (R.state rt.old).view ≡ true → (name : Name)
         → IsNot (R.state rt.old).view.nature (made_by job.now.task) name
-        → Stays name (R.state rt.old) (R.state rt.new) }
+        → KeepsFile name (R.state rt.old) (R.state rt.new) }
     ensures unmade { is_lawful (R.state rt.old).view ≡ true
         → OnErr result (MakesNothing (journal_by job.now.task) (R.state rt.old) (R.state rt.new)) }
     ensures ok { IsReady job.now.programmer (B.state bus.old)
@@ -321,8 +321,8 @@ fn do_task<'a, R: Store, B: Meter>(
     let named = job.named;
     match &job.task {
         Task::Probe => Ok(find_chip(bus, named)),
-        Task::FlashSize => Ok(tell_size(bus, named)),
-        Task::WpStatus => Ok(tell_protection(bus, named)),
+        Task::FlashSize => Ok(report_size(bus, named)),
+        Task::WpStatus => Ok(report_protection(bus, named)),
         Task::WpList => Ok(list_ranges(bus, named)),
         Task::Read { file, regions } => read_chip(rt, bus, named, *file, *regions),
         Task::Verify { file, regions } => verify_chip(rt, bus, named, *file, *regions),

@@ -10,20 +10,20 @@ use Rattle.nor_words.specs.Text.{Text}
 use Rattle.nor_words.specs.declared.job.JournalUse.TheVariants as uses
 use Rattle.nor_words.specs.declared.job.Wanted.{Wanted}
 use Rattle.nor_words.specs.declared.job.Wanted.TheVariants as wanted
-use Rattle.nor_lines.specs.Messages.{IsToldAs}
+use Rattle.nor_lines.specs.Messages.{IsReportedAs}
 use Rattle.nor_lines.specs.declared.messages.Fault.{Fault}
 use Rattle.flashnor_serprog.specs.Jobs.{FailsToChange, FailsToFill, FailsToFind, HasIdentified}
 
 module _ (named : Option ChipName) (old new : BusState) where
   pub found_first : (outcome : Result Found Refusal) (result : Result Found Fault) → HasIdentified named old new outcome
-      → IsToldAs outcome result → IfOk result (λ found. HasIdentified named old new (Ok found))
-  found_first (Ok found) result is told = rw told is
-  found_first (Err refusal) result is told = rw told tt
+      → IsReportedAs outcome result → IfOk result (λ found. HasIdentified named old new (Ok found))
+  found_first (Ok found) result is returned = rw returned is
+  found_first (Err refusal) result is returned = rw returned tt
 
   pub fails_first : (outcome : Result Found Refusal) (result : Result Found Fault) → HasIdentified named old new outcome
-      → IsToldAs outcome result → IfErr result (FailsToFind named old new)
-  fails_first (Ok found) result is told = rw told tt
-  fails_first (Err refusal) result is told = rw told (refusal, is, refl)
+      → IsReportedAs outcome result → IfErr result (FailsToFind named old new)
+  fails_first (Ok found) result is returned = rw returned tt
+  fails_first (Err refusal) result is returned = rw returned (refusal, is, refl)
 
   -- the fault of an erase whose buffer could not be made
   pub fill_fails : (target : Wanted) (file : Bor Text) (view : View) (fault : Fault) → FailsToFill named target old new fault

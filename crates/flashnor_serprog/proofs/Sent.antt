@@ -18,7 +18,7 @@ use Rattle.nor_words.specs.declared.job.Task.{Task}
 use Rattle.nor_words.specs.declared.job.Task.TheVariants as task
 use Rattle.nor_words.specs.declared.job.Wanted.{Wanted}
 use Rattle.nor_words.specs.declared.job.Wanted.TheVariants as wanted
-use Rattle.nor_lines.specs.Messages.{IsToldAs}
+use Rattle.nor_lines.specs.Messages.{IsReportedAs}
 use Rattle.nor_lines.specs.Requests.{what_of}
 use Rattle.nor_lines.specs.Sessions.{HasRunInFile}
 use Rattle.nor_lines.specs.declared.answers.Answer.{Answer}
@@ -26,32 +26,32 @@ use Rattle.nor_lines.specs.declared.messages.Fault.{Fault}
 use Rattle.nor_lines.specs.declared.messages.Fault.TheVariants as end
 use Rattle.flashnor_serprog.specs.Jobs.{DoesTask, FailsBefore, FailsToChange, HasChangedBy, IsBufferOf, IsNamedFirst}
 use Rattle.flashnor_serprog.specs.Run.{EndsJob}
-use Rattle.flashnor_serprog.specs.Sends.{OnlyReads, SendsChange, SendsJournalled, SendsOnly}
+use Rattle.flashnor_serprog.specs.Sends.{KeepsSent, SendsChange, SendsJournalled, SendsOnly}
 
-reads_on : (old mid new : BusState) → OnlyReads old mid → OnlyReads mid new → OnlyReads old new
+reads_on : (old mid new : BusState) → KeepsSent old mid → KeepsSent mid new → KeepsSent old new
 reads_on old mid new one other = other ∙ one
 
-unsent : (old new : BusState) → new ≡ old → OnlyReads old new
+unsent : (old new : BusState) → new ≡ old → KeepsSent old new
 unsent old new same = ap (λ (bus : BusState). bus.sent) same
 
 -- what a call sent, it sent since an earlier state, if it was only read in between
-sends_after : (IsCode : ℕ → Type 0) (journal : Journal) (old mid new : BusState) → OnlyReads old mid
+sends_after : (IsCode : ℕ → Type 0) (journal : Journal) (old mid new : BusState) → KeepsSent old mid
     → SendsSaved IsCode 1 journal mid new → SendsSaved IsCode 1 journal old new
 sends_after IsCode journal old mid new same sends = record {
-  aimed = λ s. rw same at (sends.aimed s);
+  targeted = λ s. rw same at (sends.targeted s);
   written = λ one two. rw same at (sends.written one two);
   erases = rw same at sends.erases;
   programs = rw same at sends.programs;
-  strange = rw same at sends.strange;
+  unknown = rw same at sends.unknown;
 }
 
 -- a session, which sends no modifying command before its journal is sealed
 module _ (request : Request) (image : List ℕ) (file : Text) (before : View) (after : FilesState)
     (old found new : BusState) (outcome : Result Answer Refusal)
-    (ran : HasRunInFile request image file before after found new outcome) (same : OnlyReads old found) where
+    (ran : HasRunInFile request image file before after found new outcome) (same : KeepsSent old found) where
   by_seal : (sealed : Bool) → ran.vault'.sealed ≡ sealed
-      → OnlyReads old new ⊎ (is_lawful after.view ≡ true → SendsJournalled request.what file old new after)
-  by_seal false is = inl (reads_on old found new same (ran.ran.keeps.still is))
+      → KeepsSent old new ⊎ (is_lawful after.view ≡ true → SendsJournalled request.what file old new after)
+  by_seal false is = inl (reads_on old found new same (ran.ran.keeps.unsent is))
   by_seal true is = inr (λ lawful.
       let kept = ran.kept_in lawful in
       let sends = ran.ran.always.sends is kept.telling in
@@ -62,12 +62,12 @@ module _ (request : Request) (image : List ℕ) (file : Text) (before : View) (a
         sends = sends_after _ _ old found new same sends.1;
       })
 
-  session_sends : OnlyReads old new ⊎ (is_lawful after.view ≡ true → SendsJournalled request.what file old new after)
+  session_sends : KeepsSent old new ⊎ (is_lawful after.view ≡ true → SendsJournalled request.what file old new after)
   session_sends = by_seal ran.vault'.sealed refl
 
 buffer_reads : (named : Option ChipName) (target : Wanted) (bytes : List ℕ) (old new : BusState) (image : List ℕ)
-    → IsBufferOf named target bytes old new image → OnlyReads old new
-buffer_reads named wanted.Erase bytes old new image is = is.1.always.looks.sent
+    → IsBufferOf named target bytes old new image → KeepsSent old new
+buffer_reads named wanted.Erase bytes old new image is = is.1.always.only_reads.sent
 buffer_reads named _ bytes old new image is = unsent old new is.0
 
 change_sends : (named : Option ChipName) (change : Change) (ranges : Option (List Span)) (bytes : List ℕ)
@@ -79,20 +79,20 @@ change_sends named change ranges bytes (uses.Journal file) before after old new 
     (buffer_reads named change.wanted bytes old does.found does.image does.buffer)
 change_sends named change ranges bytes (uses.Rehearse stops) before after old new outcome does = absurd does
 
-named_reads : (named : Option ChipName) (old new : BusState) → IsNamedFirst named old new → OnlyReads old new
+named_reads : (named : Option ChipName) (old new : BusState) → IsNamedFirst named old new → KeepsSent old new
 named_reads None old new same = unsent old new same
-named_reads (Some name) old new found = found.1.always.looks.sent
+named_reads (Some name) old new found = found.1.always.only_reads.sent
 
 task_sends : (named : Option ChipName) (job : Task) (ranges : Option (List Span)) (bytes : List ℕ) (before : View)
     (after : FilesState) (old new : BusState) (outcome : Result Answer Refusal)
     → DoesTask named job ranges bytes before after old new outcome → SendsOnly job bytes old new after
-task_sends named task.Probe ranges bytes before after old new outcome does = does.identified.always.looks.sent
-task_sends named task.FlashSize ranges bytes before after old new outcome does = does.identified.always.looks.sent
-task_sends named task.WpStatus ranges bytes before after old new outcome does = does.always.looks.sent
-task_sends named task.WpList ranges bytes before after old new outcome does = does.always.looks.sent
+task_sends named task.Probe ranges bytes before after old new outcome does = does.identified.always.only_reads.sent
+task_sends named task.FlashSize ranges bytes before after old new outcome does = does.identified.always.only_reads.sent
+task_sends named task.WpStatus ranges bytes before after old new outcome does = does.always.only_reads.sent
+task_sends named task.WpList ranges bytes before after old new outcome does = does.always.only_reads.sent
 task_sends named (task.Read file regions) ranges bytes before after old new outcome does =
-    reads_on old does.found new does.identified.always.looks.sent does.read.read.always.looks.sent
-task_sends named (task.Verify file regions) ranges bytes before after old new outcome does = does.always.looks.sent
+    reads_on old does.found new does.identified.always.only_reads.sent does.read.read.always.only_reads.sent
+task_sends named (task.Verify file regions) ranges bytes before after old new outcome does = does.always.only_reads.sent
 task_sends named (task.Change change) ranges bytes before after old new outcome does =
     change_sends named change ranges bytes change.journal_use before after old new outcome does
 task_sends named (task.Restore journal) ranges bytes before after old new outcome does = inr (record {
@@ -102,13 +102,13 @@ task_sends named (task.Restore journal) ranges bytes before after old new outcom
 
 -- before a change's session no modifying command is sent
 fails_change : (named : Option ChipName) (target : Wanted) (kept : JournalUse) (view : View) (old new : BusState)
-    (fault : Fault) → FailsToChange named target kept view old new fault → OnlyReads old new
+    (fault : Fault) → FailsToChange named target kept view old new fault → KeepsSent old new
 fails_change named target (uses.Rehearse stops) view old new fault fails = unsent old new fails.0
-fails_change named wanted.Erase (uses.Journal file) view old new fault (inl found) = found.1.always.looks.sent
-fails_change named wanted.Erase (uses.Journal file) view old new fault (inr made) = made.1.always.looks.sent
+fails_change named wanted.Erase (uses.Journal file) view old new fault (inl found) = found.1.always.only_reads.sent
+fails_change named wanted.Erase (uses.Journal file) view old new fault (inr made) = made.1.always.only_reads.sent
 fails_change named _ (uses.Journal file) view old new fault fails = unsent old new fails.0
 
-sends_none : (what : What) (kept : JournalUse) (old new : BusState) (after : FilesState) → OnlyReads old new
+sends_none : (what : What) (kept : JournalUse) (old new : BusState) (after : FilesState) → KeepsSent old new
     → SendsChange what kept old new after
 sends_none what (uses.Journal file) old new after reads = inl reads
 sends_none what (uses.Rehearse stops) old new after reads = reads
@@ -116,12 +116,12 @@ sends_none what (uses.Rehearse stops) old new after reads = reads
 fails_sends : (named : Option ChipName) (job : Task) (bytes : List ℕ) (view : View) (after : FilesState)
     (old new : BusState) (fault : Fault) → FailsBefore named job bytes view old new fault
     → SendsOnly job bytes old new after
-fails_sends named (task.Read file regions) bytes view after old new fault (inl found) = found.1.always.looks.sent
-fails_sends named (task.Read file regions) bytes view after old new fault (inr made) = made.1.always.looks.sent
+fails_sends named (task.Read file regions) bytes view after old new fault (inl found) = found.1.always.only_reads.sent
+fails_sends named (task.Read file regions) bytes view after old new fault (inr made) = made.1.always.only_reads.sent
 fails_sends named (task.Change change) bytes view after old new fault fails =
     sends_none _ change.journal_use old new after
     (fails_change named change.wanted change.journal_use view old new fault fails)
-fails_sends named (task.Restore journal) bytes view after old new fault (inl found) = inl found.1.always.looks.sent
+fails_sends named (task.Restore journal) bytes view after old new fault (inl found) = inl found.1.always.only_reads.sent
 fails_sends named (task.Restore journal) bytes view after old new fault (inr none) = inl (unsent old new none.0)
 fails_sends named _ bytes view after old new fault fails = absurd fails
 
@@ -134,11 +134,11 @@ module _ (operation : Operation) (ranges : Option (List Span)) (bytes : List ℕ
   fails_ends (end.Refused refusal) fails = inr fails
   fails_ends _ fails = fails
 
-  pub does_ends : (outcome : Result Answer Refusal) (result : Result Answer Fault) → IsToldAs outcome result
+  pub does_ends : (outcome : Result Answer Refusal) (result : Result Answer Fault) → IsReportedAs outcome result
       → DoesTask operation.named operation.task ranges bytes before after old new outcome
       → EndsJob operation ranges bytes before after old new result
-  does_ends (Ok found) result told does = rw told does
-  does_ends (Err refusal) result told does = rw told (inl does)
+  does_ends (Ok found) result returned does = rw returned does
+  does_ends (Err refusal) result returned does = rw returned (inl does)
 
   pub ends_sends : (result : Result Answer Fault) → EndsJob operation ranges bytes before after old new result
       → SendsOnly operation.task bytes old new after

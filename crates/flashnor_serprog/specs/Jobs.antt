@@ -15,7 +15,7 @@ use Rattle.nor_call.specs.Refusal.{of_probe}
 use Rattle.nor_call.specs.declared.refusal.Refusal.{Refusal}
 use Rattle.nor_call.specs.declared.refusal.Refusal.TheVariants.{BadJournal, Memory}
 use Rattle.nor_call.specs.declared.report.Report.{Report}
-use Rattle.nor_session.specs.Headline.{GivesBack}
+use Rattle.nor_session.specs.Headline.{RestoresOriginal}
 use Rattle.nor_session.specs.Restore.{RestoreAlways, RestoreHonest, RestoreModelled}
 use Rattle.nor_words.specs.Text.{Text}
 use Rattle.nor_words.specs.declared.job.Change.{Change}
@@ -27,7 +27,7 @@ use Rattle.nor_words.specs.declared.job.Wanted.{Wanted}
 use Rattle.nor_words.specs.declared.job.Wanted.TheVariants as wanted
 use Rattle.nor_words.specs.declared.words.UsageFault.TheVariants as usage
 use Rattle.nor_lines.specs.Files.{IsMaking}
-use Rattle.nor_lines.specs.Readings.{AnswersCall, HasReadOut, HasTold, HasVerified, ListsRanges, TellsGuarded}
+use Rattle.nor_lines.specs.Readings.{AnswersCall, HasReadOut, HasReported, HasVerified, ListsRanges, ReportsProtection}
 use Rattle.nor_lines.specs.Requests.{request_for}
 use Rattle.nor_lines.specs.Sessions.{HasRunInFile, TellsReport}
 use Rattle.nor_lines.specs.declared.answers.Answer.{Answer}
@@ -48,24 +48,24 @@ pub record HasIdentified (named : Option ChipName) (old new : BusState) (result 
   pub always : ProbeAlways named old new probed
   pub honest : old.honest ≡ true → ProbeHonest named old new probed
   pub modelled : IsModelled old → IfOk probed (IsConfigOf old.chip.config)
-  pub told : IsProbed probed result
+  pub returned : IsProbed probed result
 
 -- the answer is the chip that was found
-abbrev pub TellsFound : Found → Answer → Type 0
-TellsFound found (answer.Found told) = told ≡ found
-TellsFound found _ = ⊥
+abbrev pub ReportsFound : Found → Answer → Type 0
+ReportsFound found (answer.Found returned) = returned ≡ found
+ReportsFound found _ = ⊥
 
 -- the answer is the size of the chip that was found
-abbrev pub TellsSize : Found → Answer → Type 0
-TellsSize found (answer.Size size) = size ≡ found.size
-TellsSize found _ = ⊥
+abbrev pub ReportsSize : Found → Answer → Type 0
+ReportsSize found (answer.Size size) = size ≡ found.size
+ReportsSize found _ = ⊥
 
 -- The chip was identified, and the answer is about it; or the error of the identification was passed on.
-pub record HasLookedUp (tells : Found → Answer → Type 0) (named : Option ChipName) (old new : BusState)
+pub record HasLookedUp (errors : Found → Answer → Type 0) (named : Option ChipName) (old new : BusState)
     (outcome : Result Answer Refusal) : Type 0 where
   pub result : Result Found Refusal
   pub identified : HasIdentified named old new result
-  pub told : AnswersCall tells result outcome
+  pub returned : AnswersCall errors result outcome
 
 -- the identification before a call returned an error, which is the fault of the run; nothing else was sent
 abbrev pub FailsToFind : Option ChipName → (old new : BusState) → Fault → Type 0
@@ -136,11 +136,11 @@ FailsToChange named _ (uses.Journal file) view old new fault = (new ≡ old) × 
 -- A restore ended or returned an error. It kept all promises of `restore`.
 pub record HasRunRestore (journal : Journal) (old new : BusState) (outcome : Result Answer Refusal) : Type 0 where
   pub result : Result Report Refusal
-  pub gives_back : IsModelled old → GivesBack journal old new result
+  pub restores_original : IsModelled old → RestoresOriginal journal old new result
   pub always : RestoreAlways journal old new result
   pub honest : old.honest ≡ true → RestoreHonest journal old new result
   pub modelled : IsModelled old → RestoreModelled journal old new result
-  pub told : AnswersCall TellsReport result outcome
+  pub returned : AnswersCall TellsReport result outcome
 
 -- the chip was identified and has the name, if one is given; otherwise nothing was sent
 abbrev pub IsNamedFirst : Option ChipName → (old new : BusState) → Type 0
@@ -167,10 +167,10 @@ IsNoJournal bytes old new fault = (new ≡ old)
 -- The call of each task, with the given ranges and the bytes of its image or journal.
 abbrev pub DoesTask : Option ChipName → Task → (ranges : Option (List Span)) → (bytes : List ℕ) → (before : View)
     → (after : FilesState) → (old new : BusState) → Result Answer Refusal → Type 0
-DoesTask named task.Probe ranges bytes before after old new outcome = HasLookedUp TellsFound named old new outcome
-DoesTask named task.FlashSize ranges bytes before after old new outcome = HasLookedUp TellsSize named old new outcome
-DoesTask named task.WpStatus ranges bytes before after old new outcome = HasTold TellsGuarded named old new outcome
-DoesTask named task.WpList ranges bytes before after old new outcome = HasTold ListsRanges named old new outcome
+DoesTask named task.Probe ranges bytes before after old new outcome = HasLookedUp ReportsFound named old new outcome
+DoesTask named task.FlashSize ranges bytes before after old new outcome = HasLookedUp ReportsSize named old new outcome
+DoesTask named task.WpStatus ranges bytes before after old new outcome = HasReported ReportsProtection named old new outcome
+DoesTask named task.WpList ranges bytes before after old new outcome = HasReported ListsRanges named old new outcome
 DoesTask named (task.Read file regions) ranges bytes before after old new outcome =
     HasReadChip named file.now ranges after.view old new outcome
 DoesTask named (task.Verify file regions) ranges bytes before after old new outcome =

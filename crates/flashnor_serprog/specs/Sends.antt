@@ -1,7 +1,7 @@
 -- What a job may send to the chip, on every bus.
 use Rattle.std.specs.Prelude.{◌≡◌, ◌⊎◌, ℕ, Bool, true, false, List, Some}
 use Rattle.nor_chip.specs.Bus.{BusState}
-use Rattle.nor_files.specs.Files.{FilesState, IsSettled, is_lawful}
+use Rattle.nor_files.specs.Files.{FilesState, IsDurable, is_lawful}
 use Rattle.nor_call.specs.declared.request.What.{What}
 use Rattle.nor_save.specs.SavedScan.{IsJournal}
 use Rattle.nor_session.specs.Session.{IsSavedCode, IsWrittenCode, SendsSaved}
@@ -19,22 +19,22 @@ changes (task.Restore journal) = true
 changes _ = false
 
 -- No modifying command was sent: the record of modifying commands is as it was.
-abbrev pub OnlyReads : (old new : BusState) → Type 0
-OnlyReads old new = new.sent ≡ old.sent
+abbrev pub KeepsSent : (old new : BusState) → Type 0
+KeepsSent old new = new.sent ≡ old.sent
 
 -- The file is durably one journal, even if the host then crashes. What was sent erases and programs only sectors that
 -- the journal saves, or past the end of a chip that it saves as a whole, and writes only status bits that it allows.
 pub record SendsJournalled (what : What) (file : Text) (old new : BusState) (after : FilesState) : Type 0 where
   pub bytes : List ℕ
   pub journal : IsJournal bytes
-  pub settled : IsSettled file (Some bytes) after
+  pub settled : IsDurable file (Some bytes) after
   pub sends : SendsSaved (IsWrittenCode what journal.content) 1 journal.content old new
 
 -- a change sends no modifying command until its journal is durable, if the files obey the contract of `Store`
 abbrev pub SendsChange : What → JournalUse → (old new : BusState) → FilesState → Type 0
 SendsChange what (uses.Journal file) old new after =
-    OnlyReads old new ⊎ (is_lawful after.view ≡ true → SendsJournalled what file.now old new after)
-SendsChange what (uses.Rehearse stops) old new after = OnlyReads old new
+    KeepsSent old new ⊎ (is_lawful after.view ≡ true → SendsJournalled what file.now old new after)
+SendsChange what (uses.Rehearse stops) old new after = KeepsSent old new
 
 -- The bytes are a journal. What was sent erases and programs only sectors that it saves, or past the end of a chip that
 -- it saves as a whole, and writes only status bits that it saves.
@@ -46,5 +46,5 @@ pub record SendsRestore (bytes : List ℕ) (old new : BusState) : Type 0 where
 abbrev pub SendsOnly : Task → (bytes : List ℕ) → (old new : BusState) → FilesState → Type 0
 SendsOnly (task.Change change) bytes old new after =
     SendsChange (what_of change.wanted) change.journal_use old new after
-SendsOnly (task.Restore journal) bytes old new after = OnlyReads old new ⊎ SendsRestore bytes old new
-SendsOnly _ bytes old new after = OnlyReads old new
+SendsOnly (task.Restore journal) bytes old new after = KeepsSent old new ⊎ SendsRestore bytes old new
+SendsOnly _ bytes old new after = KeepsSent old new

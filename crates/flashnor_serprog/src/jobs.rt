@@ -1,12 +1,12 @@
 //! Performs a job on a chip, over any bus.
 ghost use Rattle.std.specs.Prelude.{◌≡◌, ◌⊎◌, IfErr, IfOk, Ok, OnOk, option_copied, true};
-ghost use Rattle.nor_files.specs.Files.{Name, OthersStay, Stays, is_lawful};
+ghost use Rattle.nor_files.specs.Files.{Name, OthersStay, KeepsFile, is_lawful};
 ghost use Rattle.nor_lines.specs.Tasks.{journal_of, made_by};
 ghost use Rattle.nor_lines.specs.Readings.{HasVerified};
 ghost use Rattle.nor_lines.specs.Stored.{IsNot};
 ghost use Rattle.flashnor_serprog.specs.Jobs.{DoesTask, FailsBefore, FailsToChange, FailsToFill, FailsToFind, FailsToRead};
 ghost use Rattle.flashnor_serprog.specs.Jobs.{HasChangedBy, HasIdentified, HasLookedUp, HasReadChip, HasRestored};
-ghost use Rattle.flashnor_serprog.specs.Jobs.{HasRunRestore, IsBufferOf, IsNamedFirst, IsNoJournal, TellsFound, TellsSize};
+ghost use Rattle.flashnor_serprog.specs.Jobs.{HasRunRestore, IsBufferOf, IsNamedFirst, IsNoJournal, ReportsFound, ReportsSize};
 
 use crate::sources::Sources;
 use nor_chip::Bus;
@@ -15,7 +15,7 @@ use nor_journal::Journal;
 use nor_layout::Ranges;
 use nor_lines::{
     Answer, Fault, Outcome, erased, list_ranges, or_fault, read_to_file, request_for,
-    session_in_file, tell_protection, verify_image,
+    session_in_file, report_protection, verify_image,
 };
 use nor_probe::{ChipName, Found, probe};
 use nor_session::{Refusal, restore};
@@ -42,13 +42,13 @@ pub fn perform<'a, R: Store, B: Bus>(
         (R.state rt.old).view (B.state bus.old) (B.state bus.new)) }
     ensures others { is_lawful (R.state rt.old).view ≡ true → (name : Name)
         → IsNot (R.state rt.old).view.nature (made_by operation.now.task) name
-        → Stays name (R.state rt.old) (R.state rt.new) }
+        → KeepsFile name (R.state rt.old) (R.state rt.new) }
 {
     let named = operation.named;
     match &operation.task {
         Task::Probe => Ok(find_chip(bus, named)),
-        Task::FlashSize => Ok(tell_size(bus, named)),
-        Task::WpStatus => Ok(tell_protection(bus, named)),
+        Task::FlashSize => Ok(report_size(bus, named)),
+        Task::WpStatus => Ok(report_protection(bus, named)),
         Task::WpList => Ok(list_ranges(bus, named)),
         Task::Read { file, .. } => read_chip(rt, bus, named, *file, sources.included.as_ref()),
         Task::Verify { .. } => Ok(verify_chip(bus, named, sources)),
@@ -59,15 +59,15 @@ pub fn perform<'a, R: Store, B: Bus>(
 
 // Identifies the chip.
 fn find_chip<B: Bus>(bus: &mut B, named: Option<ChipName>) -> Outcome
-    ensures { HasLookedUp TellsFound named (B.state bus.old) (B.state bus.new) result }
+    ensures { HasLookedUp ReportsFound named (B.state bus.old) (B.state bus.new) result }
 {
     let found = find(bus, named)?;
     Ok(Answer::Found(found))
 }
 
 // Returns the chip's size in bytes.
-fn tell_size<B: Bus>(bus: &mut B, named: Option<ChipName>) -> Outcome
-    ensures { HasLookedUp TellsSize named (B.state bus.old) (B.state bus.new) result }
+fn report_size<B: Bus>(bus: &mut B, named: Option<ChipName>) -> Outcome
+    ensures { HasLookedUp ReportsSize named (B.state bus.old) (B.state bus.new) result }
 {
     let found = find(bus, named)?;
     Ok(Answer::Size(found.size))
@@ -128,7 +128,7 @@ fn change_chip<'a, R: Store, B: Bus>(
         (R.state rt.old).view (B.state bus.old) (B.state bus.new)) }
     ensures others { is_lawful (R.state rt.old).view ≡ true → (name : Name)
         → IsNot (R.state rt.old).view.nature (journal_of change.now.journal_use) name
-        → Stays name (R.state rt.old) (R.state rt.new) }
+        → KeepsFile name (R.state rt.old) (R.state rt.new) }
 {
     let JournalUse::Journal { file } = &change.journal_use else {
         return Err(Fault::Usage(UsageFault::Journal));

@@ -41,7 +41,7 @@ pub fn run_words<O: Write, E: Write>(
     ensures done { result ≡ 0 → HasSucceeded unknown unknown (O.contents output.old) (O.contents output.new) }
 {
     match given {
-        Ok(args) => match words_behind_name(rt.alloc(), args) {
+        Ok(args) => match arguments_after_name(rt.alloc(), args) {
             Ok(words) => run_over(rt, &mut Disk::new(rt), words.as_slice(), output, errors),
             Err(_) => end_badly(errors, &Fault::Usage(UsageFault::Memory)),
         },
@@ -49,7 +49,7 @@ pub fn run_words<O: Write, E: Write>(
     }
 }
 
-/// Ends a run that could not keep descriptors 0, 1 and 2 open. Opens no file, prints the fault, and returns the exit
+/// Ends a run that could not keep descriptors 0, 1 and 2 open. ReadsIdentity no file, prints the fault, and returns the exit
 /// status, which is 1.
 pub fn end_without_streams<E: Write>(errors: &mut E) -> u8
     ensures { result ≡ 1 }
@@ -58,7 +58,7 @@ pub fn end_without_streams<E: Write>(errors: &mut E) -> u8
 }
 
 // Returns the arguments that follow the program's name.
-fn words_behind_name(alloc: Global, args: Args) -> Result<Vec<String>, AllocError> {
+fn arguments_after_name(alloc: Global, args: Args) -> Result<Vec<String>, AllocError> {
     args.skip(1).collect(alloc)
 }
 

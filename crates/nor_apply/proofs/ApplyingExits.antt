@@ -6,9 +6,9 @@ use Rattle.nor_count.specs.Below.{count_below}
 use Rattle.nor_count.specs.Counts.{sector_count}
 use Rattle.nor_count.proofs.Counting.{count_below-most}
 use Rattle.nor_chip.specs.Bus.{BusState}
-use Rattle.nor_driver.specs.declared.waits.Halt.{Halt}
-use Rattle.nor_driver.specs.Waits.{Halts}
-use Rattle.nor_driver.specs.StatusWrites.{has_code}
+use Rattle.nor_driver.specs.declared.waits.OperationError.{OperationError}
+use Rattle.nor_driver.specs.Waits.{OperationFails}
+use Rattle.nor_driver.specs.StatusWrites.{is_status_with_code}
 use Rattle.nor_driver.specs.Limits.{Limits, erasing, programming, writing, SendsWithin, SendsExactly}
 use Rattle.nor_driver.specs.Operations.{most_operation}
 use Rattle.nor_driver.proofs.Limits.{AreParts, IsSum, sends_more, sends_exactly}
@@ -19,13 +19,13 @@ use Rattle.nor_apply.specs.declared.changes.Work.{Work}
 use Rattle.nor_apply.specs.declared.tally.Tally.{Tally}
 use Rattle.nor_apply.specs.Within.{is_writable}
 use Rattle.nor_apply.specs.Change.{MayChange}
-use Rattle.nor_apply.specs.Spending.{Spends, Tallies, may_aim_at, NamesTimeoutIn}
-use Rattle.nor_apply.specs.Protecting.{LeavesCode, DoesCode, HaltsWriting}
+use Rattle.nor_apply.specs.Spending.{Spends, Tallies, may_target, NamesTimeoutIn}
+use Rattle.nor_apply.specs.Protecting.{LeavesCode, DoesCode, FailsWriting}
 use Rattle.nor_apply.specs.Erasing.{LeavesErases, DoesErases}
 use Rattle.nor_apply.specs.Programming.{LeavesPrograms, DoesPrograms, most_sector}
 use Rattle.nor_apply.specs.Applying.{touched_in, raised_in, writes_code, status_writes, is_status_asked, sending, most_sent, most_applied, CanApply, LeavesApply, DoesApply, NamesChange}
 use Rattle.nor_apply.proofs.InTurn.{Ran, ran_none, ran_after, sends_after, spends_ended, spends_after, halts_after}
-use Rattle.nor_apply.proofs.Aiming.{aim_here, aim_wider}
+use Rattle.nor_apply.proofs.Targeting.{aim_here, aim_wider}
 use Rattle.nor_apply.proofs.Changing.{change_as, change_then, same_change}
 use Rattle.nor_apply.proofs.ApplyingSteps.{code_read, code_once, Stands, stands_first, stands_changed, code_change, stands_code, can_erase_all, can_program_all, applied}
 
@@ -52,7 +52,7 @@ write_most b = grind arith
 -- the limits of a status write that is sent only if it is needed
 abbrev pub code_limits : Changes → (needed : Bool) → (code : ℕ) → Limits
 code_limits changes needed code =
-    writing (λ one two. needed && has_code changes.status code one two) (if needed then 1 else 0)
+    writing (λ one two. needed && is_status_with_code changes.status code one two) (if needed then 1 else 0)
 
 -- ---- some of the changes, after others
 
@@ -84,9 +84,9 @@ pub record Leaves (changes : Changes) (wanted : ℕ → ℕ) (most : ℕ) (limit
         → MayChange (touched_in changes) (raised_in changes) wanted mid new
 
 -- Holds if all changes end with this error because one part returned it.
-abbrev pub Halted : (changes : Changes) (wanted : ℕ → ℕ) (old new : BusState) → Halt → Type 0
+abbrev pub Halted : (changes : Changes) (wanted : ℕ → ℕ) (old new : BusState) → OperationError → Type 0
 Halted changes wanted old new halt =
-    LeavesApply changes wanted old new × Halts (most_applied (sector_count (touched_in changes))) old new halt
+    LeavesApply changes wanted old new × OperationFails (most_applied (sector_count (touched_in changes))) old new halt
     × NamesChange changes halt
 
 module _ {changes : Changes} {wanted bytes : ℕ → ℕ} {worn : ℕ → Bool} {code : ℕ} {numbers : Numbers}
@@ -100,16 +100,16 @@ module _ {changes : Changes} {wanted bytes : ℕ → ℕ} {worn : ℕ → Bool} 
         → MayChange (touched_in changes) (raised_in changes) wanted old new
     may_on honest can = change_then so.ran.nature.steady (so.may honest can) (leaves.may honest can)
 
-    halted : {halt : Halt} → AreParts (sending_these changes numbers) limits (most_sent changes)
-        → spent + most ≤ most_applied (sector_count (touched_in changes)) → Halts most mid new halt
+    halted : {halt : OperationError} → AreParts (sending_these changes numbers) limits (most_sent changes)
+        → spent + most ≤ most_applied (sector_count (touched_in changes)) → OperationFails most mid new halt
         → NamesChange changes halt → Halted changes wanted old new halt
-    halted parts fits halts names = (
+    halted parts fits fails names = (
       record {
         spends = spends_after so.ran leaves.spends (omega (arith, so.few));
         sends = sends_after so.ran parts leaves.sends;
         reached = may_on;
       },
-      halts_after so.ran halts (omega (arith, so.few)),
+      halts_after so.ran fails (omega (arith, so.few)),
       names,
     )
 
@@ -154,24 +154,24 @@ module _ {changes : Changes} {wanted bytes : ℕ → ℕ} {worn : ℕ → Bool} 
     code_written {sent} does sum count transactions fits =
         let idle : mid.honest ≡ true → mid.chip.busy ≡ 0 → new.chip.busy ≡ 0 = λ honest idle. elim (cases_Bool needed) [
           | inl writes ↦ does.idle writes honest
-          | inr spared ↦ rw (leaves.still spared) idle
+          | inr spared ↦ rw (leaves.unsent spared) idle
         ] in
         let tallies : Tallies 0 mid new (record { count = if needed then 1 else 0; transactions = sent }) =
-        grind (arith, does.heard, does.count, idle) in
+        grind (arith, does.polled_ready, does.count, idle) in
         goes_on code_leaves tallies sum does.exactly (omega arith) count transactions
         (omega (arith, so.few, does.few, write_most needed))
         (λ honest can.
         stands_code can (λ writes. writable writes can) (so.stands honest can) (now_honest honest) leaves does)
 
 -- a timeout names 0 for a status write, or an address in a touched sector
-names_writing : (changes : Changes) (needed : Bool) (halt : Halt) → (needed ≡ true → 1 ≤ status_writes changes)
-    → HaltsWriting needed halt → NamesChange changes halt
-names_writing changes needed halt counts told = grind arith
+names_writing : (changes : Changes) (needed : Bool) (halt : OperationError) → (needed ≡ true → 1 ≤ status_writes changes)
+    → FailsWriting needed halt → NamesChange changes halt
+names_writing changes needed halt counts returned = grind arith
 
-names_sectors : (changes : Changes) (sectors : ℕ → Bool) (halt : Halt)
+names_sectors : (changes : Changes) (sectors : ℕ → Bool) (halt : OperationError)
     → ((s : ℕ) → sectors s ≡ true → touched_in changes s ≡ true) → NamesTimeoutIn sectors halt
     → NamesChange changes halt
-names_sectors changes sectors halt inside told = grind (arith, inside)
+names_sectors changes sectors halt inside returned = grind (arith, inside)
 
 -- ---- the four parts
 
@@ -189,7 +189,7 @@ abbrev pub Lifted : Changes → (ℕ → ℕ) → (old now : BusState) → Tally
 Lifted changes wanted old now tally =
     SoFar changes wanted old.chip.bytes old.worn (code_once changes) (lifting changes) 0 most_operation old now tally
 
-pub names_lifting : (changes : Changes) (halt : Halt) → HaltsWriting changes.unlock halt → NamesChange changes halt
+pub names_lifting : (changes : Changes) (halt : OperationError) → FailsWriting changes.unlock halt → NamesChange changes halt
 names_lifting changes halt = names_writing changes changes.unlock halt (λ lifts. rw lifts (omega arith))
 
 pub lifted : (changes : Changes) {old new : BusState} {sent : ℕ} (wanted : ℕ → ℕ)
@@ -205,8 +205,8 @@ lifted changes {old} wanted leaves does =
       stands = λ honest can. stands_first can;
     } in
     code_written nothing (λ lifts can. can.writable (rw lifts refl)) leaves does (record {
-      sectors = λ s aimed. aimed;
-      sectors' = λ s aimed. absurd (true≢false (sym aimed));
+      sectors = λ s targeted. targeted;
+      sectors' = λ s targeted. absurd (true≢false (sym targeted));
       status = λ one two written. written;
       status' = λ one two written. or_left _ _ written;
       erases = refl;
@@ -227,7 +227,7 @@ module _ {changes : Changes} {wanted : ℕ → ℕ} {old mid new : BusState} {do
     (inside : (s : ℕ) → raised_in changes s ≡ true → touched_in changes s ≡ true)
     (leaves : LeavesErases (raised_in changes) changes.kinds changes.size mid new) where
   erase_leaves : Leaves changes wanted (most_operation * sector_count (raised_in changes))
-      (erasing (may_aim_at (raised_in changes) changes.size) (sector_count (raised_in changes))) old mid new
+      (erasing (may_target (raised_in changes) changes.size) (sector_count (raised_in changes))) old mid new
   erase_leaves = record {
     spends = leaves.spends;
     sends = leaves.sends;
@@ -236,14 +236,14 @@ module _ {changes : Changes} {wanted : ℕ → ℕ} {old mid new : BusState} {do
         (leaves.reached (now_honest so honest) (can_erase_all can (so.stands honest can)));
   }
 
-  aims_raised : (s : ℕ) → may_aim_at (raised_in changes) changes.size s ≡ true
-      → may_aim_at (touched_in changes) changes.size s ≡ true
+  aims_raised : (s : ℕ) → may_target (raised_in changes) changes.size s ≡ true
+      → may_target (touched_in changes) changes.size s ≡ true
   aims_raised s = aim_wider _ _ changes.size s inside
 
-  erase_parts : AreParts (sending_these changes (lifting changes)) (erasing (may_aim_at (raised_in changes) changes.size)
+  erase_parts : AreParts (sending_these changes (lifting changes)) (erasing (may_target (raised_in changes) changes.size)
       (sector_count (raised_in changes))) (most_sent changes)
   erase_parts = record {
-    sectors = λ s aimed. aimed;
+    sectors = λ s targeted. targeted;
     sectors' = aims_raised;
     status = λ one two written. written;
     status' = λ one two written. absurd (true≢false (sym written));
@@ -253,9 +253,9 @@ module _ {changes : Changes} {wanted : ℕ → ℕ} {old mid new : BusState} {do
   }
 
   erase_sum : (n : ℕ) → IsSum (sending_these changes (lifting changes))
-      (erasing (may_aim_at (raised_in changes) changes.size) n) (sending_these changes (and_more (lifting changes) n 0))
+      (erasing (may_target (raised_in changes) changes.size) n) (sending_these changes (and_more (lifting changes) n 0))
   erase_sum n = record {
-    sectors = λ s aimed. aimed;
+    sectors = λ s targeted. targeted;
     sectors' = aims_raised;
     status = λ one two written. written;
     status' = λ one two written. absurd (true≢false (sym written));
@@ -264,10 +264,10 @@ module _ {changes : Changes} {wanted : ℕ → ℕ} {old mid new : BusState} {do
     status_writes = omega arith;
   }
 
-  pub erases_halted : {halt : Halt} → Halts (most_operation * sector_count (raised_in changes)) mid new halt
+  pub erases_halted : {halt : OperationError} → OperationFails (most_operation * sector_count (raised_in changes)) mid new halt
       → NamesTimeoutIn (raised_in changes) halt → Halted changes wanted old new halt
-  erases_halted {halt} halts names =
-      halted so erase_leaves erase_parts (omega (arith, raised_few changes inside)) halts
+  erases_halted {halt} fails names =
+      halted so erase_leaves erase_parts (omega (arith, raised_few changes inside)) fails
       (names_sectors changes (raised_in changes) halt inside names)
 
   pub erased : {more : Tally} → DoesErases (raised_in changes) changes.kinds changes.size mid new more
@@ -275,7 +275,7 @@ module _ {changes : Changes} {wanted : ℕ → ℕ} {old mid new : BusState} {do
       (record { count = done.count + more.count; transactions = done.transactions + more.transactions })
   erased {more} does =
       let leaves : Leaves changes wanted (most_operation * sector_count (raised_in changes))
-      (erasing (may_aim_at (raised_in changes) changes.size) more.count) old mid new = record {
+      (erasing (may_target (raised_in changes) changes.size) more.count) old mid new = record {
         spends = erase_leaves.spends;
         sends = sends_exactly erase_leaves.sends does.exactly;
         may = erase_leaves.may;
@@ -312,7 +312,7 @@ module _ {changes : Changes} {wanted : ℕ → ℕ} (erases : ℕ) {old mid new 
       → AreParts (sending_these changes (and_more (lifting changes) erases 0))
       (programming (touched_in changes) (16 * sector_count (touched_in changes))) (most_sent changes)
   program_parts fits = record {
-    sectors = λ s aimed. aimed;
+    sectors = λ s targeted. targeted;
     sectors' = λ s touched. aim_here (touched_in changes) changes.size s touched;
     status = λ one two written. written;
     status' = λ one two written. absurd (true≢false (sym written));
@@ -324,7 +324,7 @@ module _ {changes : Changes} {wanted : ℕ → ℕ} (erases : ℕ) {old mid new 
   program_sum : (n : ℕ) → IsSum (sending_these changes (and_more (lifting changes) erases 0))
       (programming (touched_in changes) n) (sending_these changes (and_more (and_more (lifting changes) erases 0) 0 n))
   program_sum n = record {
-    sectors = λ s aimed. aimed;
+    sectors = λ s targeted. targeted;
     sectors' = λ s touched. aim_here (touched_in changes) changes.size s touched;
     status = λ one two written. written;
     status' = λ one two written. absurd (true≢false (sym written));
@@ -333,11 +333,11 @@ module _ {changes : Changes} {wanted : ℕ → ℕ} (erases : ℕ) {old mid new 
     status_writes = omega arith;
   }
 
-  pub programs_halted : {halt : Halt} → erases ≤ sector_count (raised_in changes)
-      → Halts (most_sector * sector_count (touched_in changes)) mid new halt
+  pub programs_halted : {halt : OperationError} → erases ≤ sector_count (raised_in changes)
+      → OperationFails (most_sector * sector_count (touched_in changes)) mid new halt
       → NamesTimeoutIn (touched_in changes) halt → Halted changes wanted old new halt
-  programs_halted {halt} fits halts names =
-      halted so program_leaves (program_parts fits) (omega arith) halts
+  programs_halted {halt} fits fails names =
+      halted so program_leaves (program_parts fits) (omega arith) fails
       (names_sectors changes (touched_in changes) halt (λ s is. is) names)
 
   pub programmed : {more : Tally} → DoesPrograms (touched_in changes) (raised_in changes) wanted mid new more
@@ -390,17 +390,17 @@ module _ {changes : Changes} {wanted : ℕ → ℕ} {old free mid made : BusStat
     last_writable : needed ≡ true → CanApply changes wanted old.chip → is_writable old.chip ≡ true
     last_writable writes can = can.writable (or_right changes.unlock (writes_code changes) (sym is ∙ writes))
 
-    last_asked : (one two : ℕ) → (needed && has_code changes.status changes.code one two) ≡ true
+    last_asked : (one two : ℕ) → (needed && is_status_with_code changes.status changes.code one two) ≡ true
         → is_status_asked changes one two ≡ true
     last_asked one two written =
-        or_right (changes.unlock && has_code changes.status 0 one two)
-        (writes_code changes && has_code changes.status changes.code one two) (rw (sym is) written)
+        or_right (changes.unlock && is_status_with_code changes.status 0 one two)
+        (writes_code changes && is_status_with_code changes.status changes.code one two) (rw (sym is) written)
 
     last_parts : AreParts (sending_these changes (and_more (and_more (lifting changes) erases.count 0) 0 programs.count))
         (code_limits changes needed changes.code) (most_sent changes)
     last_parts = record {
-      sectors = λ s aimed. aimed;
-      sectors' = λ s aimed. absurd (true≢false (sym aimed));
+      sectors = λ s targeted. targeted;
+      sectors' = λ s targeted. absurd (true≢false (sym targeted));
       status = λ one two written. written;
       status' = last_asked;
       erases = omega (arith, parts.erase.fewer);
@@ -408,10 +408,10 @@ module _ {changes : Changes} {wanted : ℕ → ℕ} {old free mid made : BusStat
       status_writes = rw is (omega arith);
     }
 
-    pub last_halted : {halt : Halt} → Halts most_operation made new halt → HaltsWriting needed halt
+    pub last_halted : {halt : OperationError} → OperationFails most_operation made new halt → FailsWriting needed halt
         → Halted changes wanted old new halt
-    last_halted {halt} halts names =
-        halted third (code_leaves third last_writable leaves) last_parts (omega arith) halts
+    last_halted {halt} fails names =
+        halted third (code_leaves third last_writable leaves) last_parts (omega arith) fails
         (names_writing changes needed halt (λ writes. rw (sym is ∙ writes) (omega arith)) names)
 
     pub does_applied : {last : ℕ} {work : Work} → DoesCode changes.status changes.code needed made new last
@@ -426,8 +426,8 @@ module _ {changes : Changes} {wanted : ℕ → ℕ} {old free mid made : BusStat
         (sector_count (touched_in changes)) (most_applied (sector_count (touched_in changes)))
         old new all =
         code_written third last_writable leaves does (record {
-          sectors = λ s aimed. aimed;
-          sectors' = λ s aimed. absurd (true≢false (sym aimed));
+          sectors = λ s targeted. targeted;
+          sectors' = λ s targeted. absurd (true≢false (sym targeted));
           status = λ one two written. written;
           status' = last_asked;
           erases = omega (arith, erase_count);
@@ -438,7 +438,7 @@ module _ {changes : Changes} {wanted : ℕ → ℕ} {old free mid made : BusStat
           record {
             spends = spends_ended fourth.ran fourth.few;
             sends = sends_more _ _ old new (record {
-              sectors = λ s aimed. aimed;
+              sectors = λ s targeted. targeted;
               status = λ one two written. written;
               erases = omega (arith, erase_count, parts.erase.fewer);
               programs = omega (arith, program_count, parts.program.fewer);
@@ -453,17 +453,17 @@ module _ {changes : Changes} {wanted : ℕ → ℕ} {old free mid made : BusStat
             few = fourth.ran.tallies.few;
             least = fourth.ran.tallies.least;
             exactly = fourth.ran.exactly;
-            heard = fourth.ran.tallies.heard;
+            polled_ready = fourth.ran.tallies.polled_ready;
             idle = fourth.ran.tallies.idle;
             sent = fourth.ran.tallies.sent;
-            still = λ nothing.
+            unsent = λ nothing.
                 let few = raised_few changes parts.inside in
                 let shut = not_set changes.unlock (omega (arith, nothing)) in
                 let plain = is ∙ not_set (writes_code changes) (omega (arith, nothing)) in
-                ap (λ (state : BusState). state.sent) (leaves.still plain)
-                ∙ parts.program.still (omega (arith, nothing))
-                ∙ parts.erase.still (omega (arith, nothing, few, parts.erase.fewer))
-                ∙ ap (λ (state : BusState). state.sent) (parts.lift_leaves.still shut);
+                ap (λ (state : BusState). state.sent) (leaves.unsent plain)
+                ∙ parts.program.unsent (omega (arith, nothing))
+                ∙ parts.erase.unsent (omega (arith, nothing, few, parts.erase.fewer))
+                ∙ ap (λ (state : BusState). state.sent) (parts.lift_leaves.unsent shut);
             done = λ honest can. applied can (sym is) (fourth.stands honest can);
             programs = λ honest can.
                 let is = second.stands honest can in

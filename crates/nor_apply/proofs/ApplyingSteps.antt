@@ -7,9 +7,9 @@ use Rattle.std.proofs.lemmas.Bool.Decides.{nat_tests}
 use Rattle.std.proofs.Math.Bool.{or-false}
 use Rattle.nor_chip.specs.Status.{bytes_of}
 use Rattle.nor_chip.specs.Chip.{Chip, kept_in}
-use Rattle.nor_chip.specs.Guard.{is_guarded, code_of}
+use Rattle.nor_chip.specs.Guard.{is_protected, code_of}
 use Rattle.nor_chip.specs.Bus.{BusState}
-use Rattle.nor_chip.proofs.Guarded.{is_guarded-zero, is_guarded-same}
+use Rattle.nor_chip.proofs.Guarded.{is_protected-zero, is_protected-same}
 use Rattle.nor_driver.specs.StatusWrites.{fixed_of, with_code, CanWriteStatus}
 use Rattle.nor_apply.specs.declared.changes.Changes.{Changes}
 use Rattle.nor_plan.specs.Content.{once_erased}
@@ -84,13 +84,13 @@ module _ {changes : Changes} {wanted : ℕ → ℕ} {old : BusState} (can : CanA
           status_change (writable_same old.chip mid.chip is.config fixed ∙ writable writes)
           (leaves.reached writes honest (can_write writes))
       | inr spared ↦
-          rw (leaves.still spared) (same_change (search) is.idle (λ s. refl))
+          rw (leaves.unsent spared) (same_change (search) is.idle (λ s. refl))
     ]
 
     pub stands_code : {sent : ℕ} → DoesCode changes.status new_code needed mid new sent
         → Stands bytes worn (if needed then new_code else code) old new
     stands_code does = elim (cases_Bool needed) [
-      | inr spared ↦ rw (leaves.still spared, spared) is
+      | inr spared ↦ rw (leaves.unsent spared, spared) is
       | inl writes ↦
           let has = does.done writes honest (can_write writes) in
           let again : with_code new_code mid.chip.kept ≡ with_code new_code old.chip.kept =
@@ -103,10 +103,10 @@ module _ {changes : Changes} {wanted : ℕ → ℕ} {old : BusState} (can : CanA
 
   module _ {bytes : ℕ → ℕ} {worn : ℕ → Bool} {mid : BusState} (is : Stands bytes worn (code_once changes) old mid) where
     -- after the unlock, if it was requested, no touched address is protected
-    free : (a : ℕ) → touched_in changes (a / 4096) ≡ true → is_guarded mid.chip a ≡ false
+    free : (a : ℕ) → touched_in changes (a / 4096) ≡ true → is_protected mid.chip a ≡ false
     free a touched =
         let before = kept_read can in let cleared = code_cleared old.chip.kept in
-        grind (arith, is_guarded-zero mid.chip a, is_guarded-same old.chip mid.chip is.config, can.free)
+        grind (arith, is_protected-zero mid.chip a, is_protected-same old.chip mid.chip is.config, can.free)
 
     can_touched : CanChange (touched_in changes) mid.chip
     can_touched = record { idle = is.idle; inside = λ s touched. rw is.config (can.inside s touched); free = free }

@@ -5,9 +5,9 @@ use Rattle.std.proofs.lemmas.Bool.{false_from_ne_true}
 use Rattle.std.proofs.Math.Bool.{or-false, or_assoc}
 use Rattle.nor_chip.specs.Chip.{Chip, IsSame}
 use Rattle.nor_chip.specs.Bus.{BusState}
-use Rattle.nor_chip.proofs.Guarded.{is_guarded-same}
+use Rattle.nor_chip.proofs.Guarded.{is_protected-same}
 use Rattle.nor_driver.specs.StatusWrites.{MayWriteStatus, fixed_of}
-use Rattle.nor_apply.specs.Within.{is_writable, IsWithin, places_of}
+use Rattle.nor_apply.specs.Within.{is_writable, IsWithin, addresses_of}
 use Rattle.nor_apply.specs.Change.{CanChange, MayChange, HasChanged}
 use Rattle.nor_apply.proofs.Kept.{fixed_coded, writable_same}
 
@@ -28,8 +28,8 @@ within_then p first mid new before after =
             known = runs.known;
             inside = runs.inside;
             status = λ one two is.
-                let told = runs.status one two is in
-                (sym writable ∙ told.0, told.1 ∙ before.fixed);
+                let returned = runs.status one two is in
+                (sym writable ∙ returned.0, returned.1 ∙ before.fixed);
           };
     }
 
@@ -66,7 +66,7 @@ same_within p first state same idle = idle_within same.config (λ a out. same.by
 pub can_after : {t t' : ℕ → Bool} {old : Chip} (new : Chip) → ((s : ℕ) → t' s ≡ true → t s ≡ true) → CanChange t old
     → new.config ≡ old.config → new.kept ≡ old.kept → new.busy ≡ 0 → CanChange t' new
 can_after {old} new within can config kept idle =
-    grind (arith, within, can.inside, can.free, is_guarded-same old new config kept)
+    grind (arith, within, can.inside, can.free, is_protected-same old new config kept)
 
 -- ---- every exit
 
@@ -74,13 +74,13 @@ can_after {old} new within can config kept idle =
 pub same_change : {t r : ℕ → Bool} {w : ℕ → ℕ} {old new : BusState} → IsSame old.chip new.chip → new.chip.busy ≡ 0
     → ((s : ℕ) → new.worn s ≡ old.worn s) → MayChange t r w old new
 same_change {t} {old} {new} same idle worn =
-    search (same_within (places_of t) old.chip new same idle, same.bytes, inl)
+    search (same_within (addresses_of t) old.chip new same idle, same.bytes, inl)
 
 -- if `MayChange` holds for each of two successive parts, it holds for both together
 pub change_then : {t r : ℕ → Bool} {w : ℕ → ℕ} {old mid new : BusState} → mid.steady ≡ old.steady
     → MayChange t r w old mid → MayChange t r w mid new → MayChange t r w old new
 change_then {t} {old} {mid} {new} steadily before after =
-    let within = within_then (places_of t) old.chip mid new before.within after.within in
+    let within = within_then (addresses_of t) old.chip mid new before.within after.within in
     grind (arith, within, before.gentle, after.gentle, before.worn, after.worn)
 
 -- a change of some sectors is a change of a larger set, if the target bytes agree at touched addresses outside the
@@ -89,7 +89,7 @@ pub change_as : {t r t' r' : ℕ → Bool} {w w' : ℕ → ℕ} {old new : BusSt
     → ((s : ℕ) → r s ≡ true → r' s ≡ true) → ((a : ℕ) → r' (a / 4096) ≡ false → t (a / 4096) ≡ true → w a ≡ w' a)
     → MayChange t r w old new → MayChange t' r' w' old new
 change_as {t} {t' = t'} {old} {new} more raised wanted change =
-    let within = within_wider (places_of t) (places_of t') old.chip new (λ a. more (a / 4096)) change.within in
+    let within = within_wider (addresses_of t) (addresses_of t') old.chip new (λ a. more (a / 4096)) change.within in
     grind (arith, within, raised, wanted, change.gentle, change.within.bytes, change.worn)
 
 -- `MayChange` holds for a status write, even if it was interrupted, to a chip whose status can be written
@@ -112,10 +112,10 @@ pub record HasMade (places : ℕ → Bool) (wanted : ℕ → ℕ) (erased : ℕ 
 
 -- a completed change of sectors is one of all addresses in them
 pub made_of : {t e : ℕ → Bool} {w : ℕ → ℕ} {old new : BusState} → HasChanged t w e old new
-    → HasMade (places_of t) w e old new
+    → HasMade (addresses_of t) w e old new
 made_of has = assumption
 
-pub changed_of : {t e : ℕ → Bool} {w : ℕ → ℕ} {old new : BusState} → HasMade (places_of t) w e old new
+pub changed_of : {t e : ℕ → Bool} {w : ℕ → ℕ} {old new : BusState} → HasMade (addresses_of t) w e old new
     → HasChanged t w e old new
 changed_of has = assumption
 

@@ -6,13 +6,13 @@ use Rattle.nor_count.specs.Counts.{sector_count}
 use Rattle.nor_count.proofs.Counting.{count_below-zero, count_below-with, count_below-without}
 use Rattle.nor_chip.specs.Bus.{BusState}
 use Rattle.nor_chip.proofs.Nature.{nature_then}
-use Rattle.nor_driver.specs.Looks.{Looks, RanOutIfHonest}
+use Rattle.nor_driver.specs.OnlyReads.{OnlyReads, RanOutIfHonest}
 use Rattle.nor_driver.specs.Ready.{StaysReady}
 use Rattle.nor_driver.specs.Reads.{IsSectorOf, ReadsSector}
 use Rattle.nor_driver.proofs.RestsInTurn.{HasLooked, has_looked-none, looks_after, runs_out, rested_then}
 use Rattle.nor_plan.specs.Bytes.{AllAgree, IsFirstDifference}
 use Rattle.nor_apply.specs.Change.{only, byte_of}
-use Rattle.nor_apply.specs.Checking.{CanCheck, DoesChecks, CheckTells, NamesDifference}
+use Rattle.nor_apply.specs.Checking.{CanCheck, DoesChecks, CheckErrors, NamesDifference}
 use Rattle.nor_apply.specs.declared.checks.CheckFault.{CheckFault}
 use Rattle.nor_apply.specs.declared.checks.CheckFault.TheVariants.{Stopped, Mismatch}
 use Rattle.nor_apply.proofs.Alone.{count_below-next, only-here, only-is, sector_count-only, shown_byte, old_byte}
@@ -20,26 +20,26 @@ use Rattle.nor_apply.proofs.Alone.{count_below-next, only-here, only-is, sector_
 -- ---- a sector
 
 pub stops : {sector : ℕ} (wanted : List ℕ) {old new : BusState} → sector < 4096 → RanOutIfHonest 1 old new
-    → CheckTells (only sector) (byte_of sector wanted) old new Stopped
+    → CheckErrors (only sector) (byte_of sector wanted) old new Stopped
 stops {sector} wanted below out = λ honest. rw (sector_count-only sector below) (out honest)
 
 module _ {sector : ℕ} {bytes : List ℕ} {old new : BusState} (long : length bytes ≡ 4096)
     (reads : ReadsSector sector old new bytes) where
   -- on a well-behaved bus the bytes that were read are the chip's, if the sector can be checked (`CanCheck`)
-  told : old.honest ≡ true → CanCheck (only sector) old.chip → IsSectorOf old.chip.bytes sector bytes
-  told honest can = let inside = can.inside sector (only-here refl) in reads.told honest can.idle (omega arith)
+  returned : old.honest ≡ true → CanCheck (only sector) old.chip → IsSectorOf old.chip.bytes sector bytes
+  returned honest can = let inside = can.inside sector (only-here refl) in reads.returned honest can.idle (omega arith)
 
   read_at : old.honest ≡ true → CanCheck (only sector) old.chip → (a : ℕ) → only sector (a / 4096) ≡ true
       → old.chip.bytes a ≡ slice_index bytes (a - 4096 * sector)
-  read_at honest can a is = old_byte sector bytes old.chip.bytes a (only-is is) (told honest can)
+  read_at honest can a is = old_byte sector bytes old.chip.bytes a (only-is is) (returned honest can)
 
   pub agrees : (wanted : List ℕ) → sector < 4096 → StaysReady old new → AllAgree bytes wanted
       → DoesChecks (only sector) (byte_of sector wanted) old new 1
-  agrees wanted below heard agree =
-      grind (arith, sector_count-only sector below, heard, reads.read, read_at, agree, nat_tests)
+  agrees wanted below polled_ready agree =
+      grind (arith, sector_count-only sector below, polled_ready, reads.read, read_at, agree, nat_tests)
 
   pub differs : (wanted : List ℕ) {first : ℕ} → IsFirstDifference bytes wanted first
-      → CheckTells (only sector) (byte_of sector wanted) old new (Mismatch (4096 * sector + first))
+      → CheckErrors (only sector) (byte_of sector wanted) old new (Mismatch (4096 * sector + first))
   differs wanted {first} difference = λ honest can.
       let within = difference.within in
       let at : 4096 * sector + first - 4096 * sector ≡ first = omega arith in
@@ -49,7 +49,7 @@ module _ {sector : ℕ} {bytes : List ℕ} {old new : BusState} (long : length b
 
 -- Holds if the sectors of the set that are below `n` were verified.
 pub record HasChecked (sectors : ℕ → Bool) (wanted : ℕ → ℕ) (n : ℕ) (old new : BusState) (sent : ℕ) : Type 0 where
-  pub looked : HasLooked sent old new
+  pub honest_reads : HasLooked sent old new
   pub few : sent ≤ n
   pub counted : sent ≡ count_below n sectors
   pub same : old.honest ≡ true → CanCheck sectors old.chip
@@ -57,7 +57,7 @@ pub record HasChecked (sectors : ℕ → Bool) (wanted : ℕ → ℕ) (n : ℕ) 
 
 pub checked_none : {t : ℕ → Bool} {w : ℕ → ℕ} (state : BusState) → HasChecked t w 0 state state 0
 checked_none {t} state = record {
-  looked = has_looked-none state;
+  honest_reads = has_looked-none state;
   few = omega arith;
   counted = sym (count_below-zero t);
   same = λ honest can a below is. absurd (omega arith);
@@ -72,15 +72,15 @@ module _ {t : ℕ → Bool} {w : ℕ → ℕ} {n sent : ℕ} {old mid : BusState
       (are : (i : ℕ) → i < 4096 → slice_index bytes i ≡ w (4096 * n + i)) where
     -- if all sectors could be checked at the start, the next one can be checked after the reads so far
     can_one : (honest : old.honest ≡ true) → CanCheck t old.chip → CanCheck (only n) mid.chip
-    can_one honest can = grind (arith, has.looked.rested honest, can.inside, nat_tests)
+    can_one honest can = grind (arith, has.honest_reads.rested honest, can.inside, nat_tests)
 
     wanted_at : (a : ℕ) → a / 4096 ≡ n → byte_of n bytes a ≡ w a
     wanted_at a here = shown_byte n a bytes w here are
 
-    pub checked_with : {new : BusState} → Looks 1 mid new → DoesChecks (only n) (byte_of n bytes) mid new 1
+    pub checked_with : {new : BusState} → OnlyReads 1 mid new → DoesChecks (only n) (byte_of n bytes) mid new 1
         → HasChecked t w (n + 1) old new (sent + 1)
-    checked_with {new} looks does =
-        let nature = nature_then old mid new looks.nature has.looked.nature in
+    checked_with {new} only_reads does =
+        let nature = nature_then old mid new only_reads.nature has.honest_reads.nature in
         let rested = rested_then old mid new in
         grind (arith, nature, rested, count_below-with n t is, does.same, can_one, wanted_at, has.same, nat_tests)
 
@@ -89,24 +89,24 @@ module _ {t : ℕ → Bool} {w : ℕ → ℕ} {n sent : ℕ} {old mid : BusState
       fewer : sent + 1 ≤ sector_count t
       fewer = omega (arith, count_below-next 4096 n t below is, has.counted)
 
-      failed_tells : (new : BusState) (fault : CheckFault) → CheckTells (only n) (byte_of n bytes) mid new fault
-          → CheckTells t w old new fault
-      failed_tells new Stopped tells =
-          runs_out sent (sector_count t) old mid new (omega (arith, fewer)) has.looked
-          (λ honest. rw (sector_count-only n below) at (tells honest))
-      failed_tells new (Mismatch address) tells = λ honest can.
-          let same = (has.looked.rested honest).unchanged.same in
-          let first = tells (has.looked.nature.honest ∙ honest) (can_one honest can) in
+      failed_tells : (new : BusState) (fault : CheckFault) → CheckErrors (only n) (byte_of n bytes) mid new fault
+          → CheckErrors t w old new fault
+      failed_tells new Stopped errors =
+          runs_out sent (sector_count t) old mid new (omega (arith, fewer)) has.honest_reads
+          (λ honest. rw (sector_count-only n below) at (errors honest))
+      failed_tells new (Mismatch address) errors = λ honest can.
+          let same = (has.honest_reads.rested honest).unchanged.same in
+          let first = errors (has.honest_reads.nature.honest ∙ honest) (can_one honest can) in
           grind (arith, same.bytes, first.differs, first.before, wanted_at, has.same honest can, nat_tests)
 
       failed_names : (fault : CheckFault) → NamesDifference (only n) fault → NamesDifference t fault
-      failed_names fault told = grind (arith, only-is)
+      failed_names fault returned = grind (arith, only-is)
 
-      pub failed : {new : BusState} (fault : CheckFault) → Looks 1 mid new
-          → CheckTells (only n) (byte_of n bytes) mid new fault → NamesDifference (only n) fault
-          → Looks (sector_count t) old new × CheckTells t w old new fault × NamesDifference t fault
-      failed {new} fault looks tells names = (
-        looks_after sent 1 (sector_count t) old mid new fewer has.looked looks,
-        failed_tells new fault tells,
+      pub failed : {new : BusState} (fault : CheckFault) → OnlyReads 1 mid new
+          → CheckErrors (only n) (byte_of n bytes) mid new fault → NamesDifference (only n) fault
+          → OnlyReads (sector_count t) old new × CheckErrors t w old new fault × NamesDifference t fault
+      failed {new} fault only_reads errors names = (
+        looks_after sent 1 (sector_count t) old mid new fewer has.honest_reads only_reads,
+        failed_tells new fault errors,
         failed_names fault names,
       )

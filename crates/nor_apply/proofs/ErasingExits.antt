@@ -8,28 +8,28 @@ use Rattle.nor_count.specs.Counts.{sector_count}
 use Rattle.nor_count.proofs.Counting.{count_below-none, count_below-most}
 use Rattle.nor_chip.specs.declared.config.Kinds.{Kinds}
 use Rattle.nor_chip.specs.Chip.{Chip}
-use Rattle.nor_chip.specs.Guard.{is_guarded, is_unit_guarded}
+use Rattle.nor_chip.specs.Guard.{is_protected, is_block_protected}
 use Rattle.nor_chip.specs.Bus.{BusState}
 use Rattle.nor_driver.specs.declared.units.Erase.{Erase}
-use Rattle.nor_driver.specs.declared.units.EraseUnit.{EraseUnit}
-use Rattle.nor_driver.specs.declared.waits.Halt.{Halt}
+use Rattle.nor_driver.specs.declared.units.EraseBlock.{EraseBlock}
+use Rattle.nor_driver.specs.declared.waits.OperationError.{OperationError}
 use Rattle.nor_driver.specs.Units.{sectors_in, erases_sector}
-use Rattle.nor_driver.specs.Waits.{Halts, NamesTimeout}
+use Rattle.nor_driver.specs.Waits.{OperationFails, NamesTimeout}
 use Rattle.nor_driver.specs.Limits.{erasing}
 use Rattle.nor_driver.specs.Operations.{most_operation}
 use Rattle.nor_driver.specs.StatusWrites.{fixed_of}
-use Rattle.nor_driver.specs.Erases.{sectors_of, is_sector_in_unit, CanErase, MayErase, HasErased, is_sector_named, LeavesErase, Erases}
+use Rattle.nor_driver.specs.Erases.{sectors_of, is_sector_in_block, CanErase, MayErase, HasErased, is_sector_named, LeavesErase, Erases}
 use Rattle.nor_driver.proofs.Limits.{IsPartOf, AreParts, IsSum, sends_more}
 use Rattle.nor_plan.specs.Erase.{IsErase, Covers, erased_by}
 use Rattle.nor_plan.specs.Planned.{planned}
 use Rattle.nor_apply.specs.declared.tally.Tally.{Tally}
-use Rattle.nor_apply.specs.Within.{places_of}
+use Rattle.nor_apply.specs.Within.{addresses_of}
 use Rattle.nor_apply.specs.Change.{MayChange, blank}
-use Rattle.nor_apply.specs.Spending.{may_aim_at, NamesTimeoutIn}
+use Rattle.nor_apply.specs.Spending.{may_target, NamesTimeoutIn}
 use Rattle.nor_apply.specs.Erasing.{CanEraseAll, LeavesErases, DoesErases}
 use Rattle.nor_apply.proofs.InTurn.{Listed, listed_none, listed_halted, listed_more, come_all, come_before, come_next, come_fewer, spends_ended}
 use Rattle.nor_apply.proofs.Changing.{can_after, change_then, HasMade, changed_of, made_may, made_none, made_same, made_then}
-use Rattle.nor_apply.proofs.Aiming.{unit_aims}
+use Rattle.nor_apply.proofs.Targeting.{unit_aims}
 
 -- Holds for an erase of the plan: it lies in the set of sectors and covers at least one of them, on a chip of `total`
 -- sectors.
@@ -40,13 +40,13 @@ record IsOfPlan (kinds : Kinds) (total : ℕ) (set : ℕ → Bool) (unit : Erase
 
 -- ---- what an erase needs
 
-some_sectors : (total : ℕ) (unit : EraseUnit) → 1 ≤ total → 1 ≤ sectors_in total unit
+some_sectors : (total : ℕ) (unit : EraseBlock) → 1 ≤ total → 1 ≤ sectors_in total unit
 some_sectors total unit some = grind arith
 
 -- an erase block has no protected address if none of its sectors has one
 free_unit : (chip : Chip) (from n : ℕ) → 1 ≤ n
-    → ((a : ℕ) → from ≤ a / 4096 → a / 4096 < from + n → is_guarded chip a ≡ false)
-    → is_unit_guarded chip (4096 * from) (4096 * n) ≡ false
+    → ((a : ℕ) → from ≤ a / 4096 → a / 4096 < from + n → is_protected chip a ≡ false)
+    → is_block_protected chip (4096 * from) (4096 * n) ≡ false
 free_unit chip from n some free =
     rw (
       free (4096 * from) (omega arith) (omega arith),
@@ -59,7 +59,7 @@ in_unit total s unit low high = and_from _ _ (le-leb _ _ low) (lt-ltb _ _ high)
 
 module _ {kinds : Kinds} {size : ℕ} {set done : ℕ → Bool} {unit : Erase} {old mid : BusState}
     (plan : IsOfPlan kinds (size / 4096) set unit) (can : CanEraseAll set kinds size old.chip)
-    (has : HasMade (places_of done) blank done old mid) where
+    (has : HasMade (addresses_of done) blank done old mid) where
   sectors_same : sectors_of mid.chip ≡ size / 4096
   sectors_same = rw (has.config, can.sized.same) refl
 
@@ -76,7 +76,7 @@ module _ {kinds : Kinds} {size : ℕ} {set done : ℕ → Bool} {unit : Erase} {
 
   -- ---- the effect of one erase, at every exit and on success
 
-  erases_of_plan : (s : ℕ) → is_sector_in_unit unit mid.chip s ≡ true → set s ≡ true
+  erases_of_plan : (s : ℕ) → is_sector_in_block unit mid.chip s ≡ true → set s ≡ true
   erases_of_plan s erased = plan.inside s (rw sectors_same at erased)
 
   erase_change : {new : BusState} → MayErase unit mid new → MayChange set set blank mid new
@@ -96,10 +96,10 @@ pub record ErasesSoFar (kinds : Kinds) (size : ℕ) (set : ℕ → Bool) (units 
   pub below : (s : ℕ) → set s ≡ true → s < size / 4096
   pub covers : Covers kinds (size / 4096) (planned kinds (size / 4096) set) set
   pub few : length (planned kinds (size / 4096) set) ≤ sector_count set
-  pub listed : Listed (planned kinds (size / 4096) set) units left (erasing (may_aim_at set size)) old new tally
-  pub still : tally.count ≡ 0 → new.sent ≡ old.sent
+  pub listed : Listed (planned kinds (size / 4096) set) units left (erasing (may_target set size)) old new tally
+  pub unsent : tally.count ≡ 0 → new.sent ≡ old.sent
   pub done : old.honest ≡ true → CanEraseAll set kinds size old.chip
-      → HasMade (places_of (erased_by (size / 4096) units)) blank (erased_by (size / 4096) units) old new
+      → HasMade (addresses_of (erased_by (size / 4096) units)) blank (erased_by (size / 4096) units) old new
 
 pub none_so_far : {kinds : Kinds} {size : ℕ} {set : ℕ → Bool} {list left : List Erase} (state : BusState)
     → ((s : ℕ) → set s ≡ true → s < size / 4096) → list ≡ planned kinds (size / 4096) set
@@ -110,7 +110,7 @@ none_so_far state below same covers few all = record {
   covers = rw (← same) covers;
   few = rw (← same) few;
   listed = listed_none state (refl, refl, refl) (all ∙ same);
-  still = λ none. refl;
+  unsent = λ none. refl;
   done = λ honest can. made_none state (λ a. refl) (λ s. refl) can.can.idle;
 }
 
@@ -124,9 +124,9 @@ module _ {kinds : Kinds} {size : ℕ} {set : ℕ → Bool} {units left : List Er
 
   -- limits of `n` erases are part of the limits of one erase per sector, if `n` is at most the number of sectors
   within_count : {n : ℕ} → n ≤ sector_count set
-      → IsPartOf (erasing (may_aim_at set size) n) (erasing (may_aim_at set size) (sector_count set))
+      → IsPartOf (erasing (may_target set size) n) (erasing (may_target set size) (sector_count set))
   within_count few = record {
-    sectors = λ s aimed. aimed;
+    sectors = λ s targeted. targeted;
     status = λ one two written. written;
     erases = few;
     programs = omega arith;
@@ -141,7 +141,7 @@ module _ {kinds : Kinds} {size : ℕ} {set : ℕ → Bool} {units left : List Er
         let same : (s : ℕ) → erased_by (size / 4096) units s ≡ set s = λ s. rw all (so.covers.union s) in
         record {
           count = so.listed.count ∙ ap length all;
-          still = so.still;
+          unsent = so.unsent;
           fewer = omega (arith, so.few, so.listed.count, ap length all);
           exactly = so.listed.ran.exactly;
           tallies = so.listed.ran.tallies;
@@ -180,23 +180,23 @@ module _ {kinds : Kinds} {size : ℕ} {set : ℕ → Bool} {units left : List Er
               sym (so.covers.union s) ∙ rw (← come_before so.listed next, parts s, erased) (or-true _);
         }
 
-    aims_next : (s : ℕ) → is_sector_named unit s ≡ true → may_aim_at set size s ≡ true
+    aims_next : (s : ℕ) → is_sector_named unit s ≡ true → may_target set size s ≡ true
     aims_next s =
         unit_aims unit.unit unit.sector size set s of_plan.is.aligned
         (λ k low high. of_plan.inside k (in_unit (size / 4096) k unit low high))
 
     -- a timeout names the block's first address, which is in the set
-    names_unit : (halt : Halt) → NamesTimeout (4096 * unit.sector) halt → NamesTimeoutIn set halt
-    names_unit halt told =
+    names_unit : (halt : OperationError) → NamesTimeout (4096 * unit.sector) halt → NamesTimeoutIn set halt
+    names_unit halt returned =
         let inside = of_plan.inside unit.sector in
         let some = of_plan.some in
         grind (arith, nat_tests)
 
     -- the limits of `n` erases and of the next one add up to those of `n + 1` erases
     one_more : (n more : ℕ) → more ≡ n + 1
-        → IsSum (erasing (may_aim_at set size) n) (erasing (is_sector_named unit) 1) (erasing (may_aim_at set size) more)
+        → IsSum (erasing (may_target set size) n) (erasing (is_sector_named unit) 1) (erasing (may_target set size) more)
     one_more n more is = record {
-      sectors = λ s aimed. aimed;
+      sectors = λ s targeted. targeted;
       sectors' = aims_next;
       status = λ one two written. written;
       status' = λ one two written. written;
@@ -205,8 +205,8 @@ module _ {kinds : Kinds} {size : ℕ} {set : ℕ → Bool} {units left : List Er
       status_writes = refl;
     }
 
-    in_all : AreParts (erasing (may_aim_at set size) tally.count) (erasing (is_sector_named unit) 1)
-        (erasing (may_aim_at set size) (length (planned kinds (size / 4096) set)))
+    in_all : AreParts (erasing (may_target set size) tally.count) (erasing (is_sector_named unit) 1)
+        (erasing (may_target set size) (length (planned kinds (size / 4096) set)))
     in_all =
         let sum = one_more tally.count (tally.count + 1) refl in
         record {
@@ -220,12 +220,12 @@ module _ {kinds : Kinds} {size : ℕ} {set : ℕ → Bool} {units left : List Er
         }
 
     module _ {new : BusState} (leaves : LeavesErase unit mid new) where
-      pub erases_halted : {halt : Halt} → Halts most_operation mid new halt → NamesTimeout (4096 * unit.sector) halt
-          → LeavesErases set kinds size old new × Halts (most_operation * sector_count set) old new halt
+      pub erases_halted : {halt : OperationError} → OperationFails most_operation mid new halt → NamesTimeout (4096 * unit.sector) halt
+          → LeavesErases set kinds size old new × OperationFails (most_operation * sector_count set) old new halt
           × NamesTimeoutIn set halt
-      erases_halted {halt} halts names =
+      erases_halted {halt} fails names =
           let exit = listed_halted so.listed next leaves.stirs (most_operation * sector_count set) in_all
-          leaves.falls halts (omega (arith, so.few)) in (
+          leaves.falls fails (omega (arith, so.few)) in (
             record {
               spends = exit.0;
               sends = sends_more _ _ old new (within_count so.few) exit.1;
@@ -254,7 +254,7 @@ module _ {kinds : Kinds} {size : ℕ} {set : ℕ → Bool} {units left : List Er
             few = so.few;
             listed = listed_more so.listed next leaves.stirs (one_more _ _ count) erases.sends erases.ends count
                 transactions;
-            still = λ none. absurd (omega arith);
+            unsent = λ none. absurd (omega arith);
             done = λ honest can.
                 let has = so.done honest can in
                 let now = so.listed.ran.nature.honest ∙ honest in

@@ -5,9 +5,9 @@ use Rattle.std.specs.List.{All}
 use Rattle.std.proofs.lemmas.List.Elements.{All-head, All-tail}
 use Rattle.nor_chip.specs.Bus.{BusState, KeepsNature}
 use Rattle.nor_chip.proofs.Nature.{nature_refl, nature_then}
-use Rattle.nor_driver.specs.declared.waits.Halt.{Halt}
-use Rattle.nor_driver.specs.Looks.{Falls}
-use Rattle.nor_driver.specs.Waits.{Halts}
+use Rattle.nor_driver.specs.declared.waits.OperationError.{OperationError}
+use Rattle.nor_driver.specs.OnlyReads.{Falls}
+use Rattle.nor_driver.specs.Waits.{OperationFails}
 use Rattle.nor_driver.specs.Limits.{Limits, SendsWithin, SendsExactly, Stirs}
 use Rattle.nor_driver.specs.Operations.{EndsWaiting, most_operation}
 use Rattle.nor_driver.proofs.Limits.{AreParts, IsSum, sum_parts, sends_none, sends_then, exactly_none, exactly_then}
@@ -80,10 +80,10 @@ module _ {limits : Limits} {r : ℕ} {old mid : BusState} {done : Tally} (ran : 
       let nature = nature_then old mid new spends.nature ran.nature in
       grind (arith, nature, ran.nature.honest, ran.tallies.sent, spends.falls)
 
-  pub halts_after : {most all : ℕ} {new : BusState} {halt : Halt} → Halts most mid new halt
+  pub halts_after : {most all : ℕ} {new : BusState} {halt : OperationError} → OperationFails most mid new halt
       → done.transactions + most ≤ all
-      → Halts all old new halt
-  halts_after halts fits = grind (arith, ran.nature.honest, ran.tallies.sent, halts.stopped, halts.ran_out)
+      → OperationFails all old new halt
+  halts_after fails fits = grind (arith, ran.nature.honest, ran.tallies.sent, fails.stopped, fails.ran_out)
 
 -- ---- an operation for each of a list
 
@@ -119,14 +119,14 @@ module _ {A : Type 0} {all done left : List A} {limits : ℕ → Limits} {old mi
 
     module _ {one : Limits} {new : BusState} (stirs : Stirs one mid new) where
       -- the next operation returned an error
-      pub listed_halted : {halt : Halt} (most : ℕ) → AreParts (limits tally.count) one (limits (length all))
+      pub listed_halted : {halt : OperationError} (most : ℕ) → AreParts (limits tally.count) one (limits (length all))
           → (mid.honest ≡ true → Falls most_operation mid new)
-          → Halts most_operation mid new halt → most_operation * length all ≤ most
-          → Spends most old new × SendsWithin (limits (length all)) old new × Halts most old new halt
-      listed_halted most parts falls halts fits = (
+          → OperationFails most_operation mid new halt → most_operation * length all ≤ most
+          → Spends most old new × SendsWithin (limits (length all)) old new × OperationFails most old new halt
+      listed_halted most parts falls fails fits = (
         spends_after listed.ran (record { nature = stirs.nature; falls = falls }) (omega (arith, come_fewer)),
         sends_after listed.ran parts stirs.sends,
-        halts_after listed.ran halts (omega (arith, come_fewer)),
+        halts_after listed.ran fails (omega (arith, come_fewer)),
       )
 
       -- the next operation succeeded

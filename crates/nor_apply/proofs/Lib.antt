@@ -2,7 +2,7 @@ pub mod Kept
 pub mod Changing
 pub mod InTurn
 pub mod Alone
-pub mod Aiming
+pub mod Targeting
 pub mod ErasingExits
 pub mod ProgrammingSpans
 pub mod ProgrammingWhole

@@ -23,8 +23,8 @@ use Rattle.std.specs.List.{list_any, range_with_len}
 use Rattle.nor_count.specs.Below.{any_below, count_below}
 use Rattle.nor_count.proofs.Counting.{any_below-zero, any_below-more, any_below-same, count_below-zero, count_below-more, count_below-most, count_below-same}
 use Rattle.nor_count.proofs.CountedRanges.{count_by-range}
-use Rattle.nor_driver.specs.declared.waits.Halt.{Halt}
-use Rattle.nor_driver.specs.Waits.{Halts, NamesTimeout}
+use Rattle.nor_driver.specs.declared.waits.OperationError.{OperationError}
+use Rattle.nor_driver.specs.Waits.{OperationFails, NamesTimeout}
 use Rattle.nor_driver.specs.Limits.{programming}
 use Rattle.nor_driver.specs.Operations.{most_operation}
 use Rattle.nor_driver.proofs.Limits.{IsPartOf, AreParts, IsSum, sends_more}
@@ -33,7 +33,7 @@ use Rattle.nor_plan.specs.Span.{page_differs, pages_changed, page_count, spans_o
 use Rattle.nor_apply.specs.declared.tally.Tally.{Tally}
 use Rattle.nor_apply.specs.Spending.{NamesTimeoutIn}
 use Rattle.nor_apply.proofs.InTurn.{Listed, listed_none, listed_halted, listed_more, come_all, come_next, come_fewer, spends_ended}
-use Rattle.nor_apply.proofs.Aiming.{named_in}
+use Rattle.nor_apply.proofs.Targeting.{named_in}
 
 -- true at the addresses of these spans of the sector
 abbrev pub in_spans : ℕ → List PageSpan → ℕ → Bool
@@ -255,7 +255,7 @@ module _ {sector : ℕ} {old wanted : List ℕ} {spans left : List PageSpan} {fi
   -- the limits of 16 page programs include those of fewer
   sixteen : (n : ℕ) → n ≤ 16 → IsPartOf (programming (only sector) n) (programming (only sector) 16)
   sixteen n few = record {
-    sectors = λ s aimed. aimed;
+    sectors = λ s targeted. targeted;
     status = λ one two written. written;
     erases = omega arith;
     programs = few;
@@ -308,7 +308,7 @@ module _ {sector : ℕ} {old wanted : List ℕ} {spans left : List PageSpan} {fi
         → IsSum (programming (only sector) n) (programming (is_sector_of (4096 * sector + span.first)) 1)
         (programming (only sector) more)
     one_more n more is = record {
-      sectors = λ s aimed. aimed;
+      sectors = λ s targeted. targeted;
       sectors' = aims_next;
       status = λ one two written. written;
       status' = λ one two written. written;
@@ -333,20 +333,20 @@ module _ {sector : ℕ} {old wanted : List ℕ} {spans left : List PageSpan} {fi
         }
 
     -- a timeout names an address in the sector
-    names_place : (halt : Halt) → NamesTimeout (4096 * sector + span.first) halt → NamesTimeoutIn (only sector) halt
-    names_place halt told =
+    names_place : (halt : OperationError) → NamesTimeout (4096 * sector + span.first) halt → NamesTimeoutIn (only sector) halt
+    names_place halt returned =
         let last = below_end spanned in
         let order = spanned.is.order in
         grind (arith, nat_tests)
 
     module _ {new : BusState} (leaves : LeavesProgram (4096 * sector + span.first) (part wanted span) now new) where
-      pub spans_halted : {halt : Halt} → Halts most_operation now new halt
+      pub spans_halted : {halt : OperationError} → OperationFails most_operation now new halt
           → NamesTimeout (4096 * sector + span.first) halt
-          → LeavesSpans sector old wanted first new × Halts most_pages first new halt
+          → LeavesSpans sector old wanted first new × OperationFails most_pages first new halt
           × NamesTimeoutIn (only sector) halt
-      spans_halted {halt} halts names =
+      spans_halted {halt} fails names =
           let few = pages_most old wanted so.whole in
-          let exit = listed_halted so.listed next leaves.stirs most_pages in_all leaves.falls halts
+          let exit = listed_halted so.listed next leaves.stirs most_pages in_all leaves.falls fails
           (omega (arith, so.are.count, few)) in (
             record {
               spends = exit.0;
@@ -372,7 +372,7 @@ module _ {sector : ℕ} {old wanted : List ℕ} {spans left : List PageSpan} {fi
             transactions;
         done = λ honest can.
             let filled = so.done honest can in
-            let still = so.listed.ran.nature.honest ∙ honest in
-            span_filled spanned spans can filled (programs.done still (can_span spanned spans can filled))
-            (programs.ends.idle still);
+            let unsent = so.listed.ran.nature.honest ∙ honest in
+            span_filled spanned spans can filled (programs.done unsent (can_span spanned spans can filled))
+            (programs.ends.idle unsent);
       }

@@ -10,15 +10,15 @@ use Rattle.nor_count.specs.Counts.{sector_count}
 use Rattle.nor_count.proofs.Counting.{any_below-same, count_below-same, count_below-zero, count_below-with, count_below-without, count_below-add, count_below-none, count_below-most}
 use Rattle.nor_chip.specs.Bus.{BusState}
 use Rattle.nor_chip.proofs.Sizes.{sized_bounds}
-use Rattle.nor_driver.specs.declared.waits.Halt.{Halt}
+use Rattle.nor_driver.specs.declared.waits.OperationError.{OperationError}
 use Rattle.nor_driver.specs.Reads.{IsSectorOf}
-use Rattle.nor_driver.specs.Waits.{Halts}
+use Rattle.nor_driver.specs.Waits.{OperationFails}
 use Rattle.nor_driver.specs.Limits.{programming}
 use Rattle.nor_driver.proofs.Limits.{IsPartOf, AreParts, IsSum, sum_parts, sends_none, sends_more, exactly_none, sends_exactly}
 use Rattle.nor_plan.specs.Content.{is_other, is_page_other, is_programmed}
 use Rattle.nor_plan.specs.SectorSet.{none}
 use Rattle.nor_apply.specs.declared.tally.Tally.{Tally}
-use Rattle.nor_apply.specs.Within.{places_of}
+use Rattle.nor_apply.specs.Within.{addresses_of}
 use Rattle.nor_apply.specs.Change.{only, byte_of}
 use Rattle.nor_apply.specs.Spending.{NamesTimeoutIn}
 use Rattle.nor_apply.specs.Programming.{CanProgramSpans, LeavesSpans, DoesSpans, CanProgramSector, Loads, LeavesSector, DoesSector, CanProgramAll, LeavesPrograms, DoesPrograms, most_sector}
@@ -35,18 +35,18 @@ module _ {sector : ℕ} {erased : Bool} {bytes bytes' : List ℕ} {reads : ℕ} 
   loads_ran =
       let ends = loads.ends in
       record {
-        nature = loads.looks.nature;
-        sends = sends_none (programming (only sector) 0) first mid loads.looks.sent;
-        exactly = exactly_none first mid loads.looks.sent;
-        tallies = grind (arith, ends.reads_once, ends.heard, ends.kept, ends.read);
+        nature = loads.only_reads.nature;
+        sends = sends_none (programming (only sector) 0) first mid loads.only_reads.sent;
+        exactly = exactly_none first mid loads.only_reads.sent;
+        tallies = grind (arith, ends.reads_once, ends.polled_ready, ends.kept, ends.read);
       }
 
   -- a read adds nothing to the limits of `n` page programs
   then_programs : (n : ℕ)
       → IsSum (programming (only sector) 0) (programming (only sector) n) (programming (only sector) n)
   then_programs n = record {
-    sectors = λ s aimed. aimed;
-    sectors' = λ s aimed. aimed;
+    sectors = λ s targeted. targeted;
+    sectors' = λ s targeted. targeted;
     status = λ one two written. written;
     status' = λ one two written. written;
     erases = refl;
@@ -72,7 +72,7 @@ module _ {sector : ℕ} {erased : Bool} {bytes bytes' : List ℕ} {reads : ℕ} 
           let inside = can.can.inside sector (only-here refl) in
           let read = loads.ends.read is honest in
           let unchanged = read.rested.unchanged in
-          let of = loads.ends.told is honest can.can.idle (omega arith) in
+          let of = loads.ends.returned is honest can.can.idle (omega arith) in
           let worn = λ (s : ℕ). unchanged.worn s ∙ sym (or-false (first.worn s)) in
           let idle : mid.chip.busy ≡ 0 = read.busy ∙ can.can.idle in
           (assumption, record { byte = λ i small. of.byte i small ∙ sym (unchanged.same.bytes (4096 * sector + i)) })
@@ -91,9 +91,9 @@ module _ {sector : ℕ} {erased : Bool} {bytes bytes' : List ℕ} {reads : ℕ} 
       spends = spends_after loads_ran leaves.spends (omega (arith, loads_ran.tallies.few));
       sends = sends_after loads_ran (sum_parts _ _ _ (then_programs 16)) leaves.sends;
       reached = λ honest can.
-          change_then loads.looks.nature.steady
+          change_then loads.only_reads.nature.steady
           (made_may (λ a no. absurd (true≢false (sym no))) (λ s no. no) (has_loaded blank honest can).0)
-          (leaves.reached (loads.looks.nature.honest ∙ honest) (can_spans blank honest can));
+          (leaves.reached (loads.only_reads.nature.honest ∙ honest) (can_spans blank honest can));
     }
 
     pub sector_does : {tally all : Tally} → DoesSpans sector bytes' wanted mid new tally → all.count ≡ tally.count
@@ -113,11 +113,11 @@ module _ {sector : ℕ} {erased : Bool} {bytes bytes' : List ℕ} {reads : ℕ} 
           tallies = ran.tallies;
           done = λ honest can.
               changed_of (made_then (λ a. refl) (λ s. refl) (λ a is. refl) (has_loaded blank honest can).0
-              (made_of (does.done (loads.looks.nature.honest ∙ honest) (can_spans blank honest can))));
+              (made_of (does.done (loads.only_reads.nature.honest ∙ honest) (can_spans blank honest can))));
           counted = λ honest can.
               let bytes : mid.chip.bytes ≡ first.chip.bytes = λ i a. (has_loaded blank honest can).0.bytes a i in
               let pages = λ (x : ℕ → ℕ) (page : ℕ). is_page_other x (byte_of sector wanted) (16 * sector + page) in
-              count ∙ does.counted (loads.looks.nature.honest ∙ honest) (can_spans blank honest can)
+              count ∙ does.counted (loads.only_reads.nature.honest ∙ honest) (can_spans blank honest can)
               ∙ ap (λ (x : ℕ → ℕ). count_below 16 (pages x)) bytes;
         }
 
@@ -139,9 +139,9 @@ pub record SectorsSoFar (touched raised : ℕ → Bool) (wanted : ℕ → ℕ) (
     (tally : Tally) : Type 0 where
   pub ran : Ran (programming touched tally.count) (count_below n touched) first now tally
   pub fewer : tally.count ≤ 16 * count_below n touched
-  pub still : count_below n touched ≡ 0 → now.sent ≡ first.sent
+  pub unsent : count_below n touched ≡ 0 → now.sent ≡ first.sent
   pub done : first.honest ≡ true → CanProgramAll touched raised wanted first.chip
-      → HasMade (places_of (before touched n)) wanted none first now
+      → HasMade (addresses_of (before touched n)) wanted none first now
   pub counted : first.honest ≡ true → CanProgramAll touched raised wanted first.chip
       → tally.count ≡ count_below (16 * n) (is_programmed touched first.chip.bytes wanted)
 
@@ -150,7 +150,7 @@ pub sectors_none : {touched raised : ℕ → Bool} {wanted : ℕ → ℕ} (state
 sectors_none {touched} {wanted = wanted} state = record {
   ran = ran_none state (refl, refl, refl);
   fewer = omega arith;
-  still = λ none. refl;
+  unsent = λ none. refl;
   done = λ honest can. made_none state (λ a. grind (arith, nat_tests)) (λ s. refl) can.can.idle;
   counted = λ honest can. sym (count_below-zero (is_programmed touched state.chip.bytes wanted));
 }
@@ -200,7 +200,7 @@ module _ {touched raised : ℕ → Bool} {wanted : ℕ → ℕ} {n : ℕ} {first
       record {
         ran = rw count so.ran;
         fewer = rw count so.fewer;
-        still = rw count so.still;
+        unsent = rw count so.unsent;
         done = λ honest can.
             made_same (λ a. before_skip touched n free (a / 4096)) (λ s. refl) (so.done honest can);
         counted = λ honest can.
@@ -215,8 +215,8 @@ module _ {touched raised : ℕ → Bool} {wanted : ℕ → ℕ} {n : ℕ} {first
     wanted_byte : (a : ℕ) → only n (a / 4096) ≡ true → byte_of n bytes a ≡ wanted a
     wanted_byte a here = shown_byte n a bytes wanted (only-is here) is.shows
 
-    names_member : (halt : Halt) → NamesTimeoutIn (only n) halt → NamesTimeoutIn touched halt
-    names_member halt told = grind (arith, only_touched)
+    names_member : (halt : OperationError) → NamesTimeoutIn (only n) halt → NamesTimeoutIn touched halt
+    names_member halt returned = grind (arith, only_touched)
 
     module _ {erased : Bool} {new : BusState} (erased_is : erased ≡ raised n)
         (leaves : LeavesSector n bytes erased now new) where
@@ -237,7 +237,7 @@ module _ {touched raised : ℕ → Bool} {wanted : ℕ → ℕ} {n : ℕ} {first
       pages_after : (n' more all : ℕ) → all ≡ n' + more
           → IsSum (programming touched n') (programming (only n) more) (programming touched all)
       pages_after n' more all is = record {
-        sectors = λ s aimed. aimed;
+        sectors = λ s targeted. targeted;
         sectors' = only_touched;
         status = λ one two written. written;
         status' = λ one two written. written;
@@ -260,10 +260,10 @@ module _ {touched raised : ℕ → Bool} {wanted : ℕ → ℕ} {n : ℕ} {first
             status_writes = omega arith;
           }
 
-      pub sectors_halted : {halt : Halt} → Halts most_sector now new halt → NamesTimeoutIn (only n) halt
+      pub sectors_halted : {halt : OperationError} → OperationFails most_sector now new halt → NamesTimeoutIn (only n) halt
           → LeavesPrograms touched raised wanted first new
-          × Halts (most_sector * sector_count touched) first new halt × NamesTimeoutIn touched halt
-      sectors_halted {halt} halts names =
+          × OperationFails (most_sector * sector_count touched) first new halt × NamesTimeoutIn touched halt
+      sectors_halted {halt} fails names =
           let fits : tally.transactions + most_sector ≤ most_sector * sector_count touched =
           omega (arith, so.fewer, room touched n is.below is.is) in (
             record {
@@ -275,7 +275,7 @@ module _ {touched raised : ℕ → Bool} {wanted : ℕ → ℕ} {n : ℕ} {first
                   (made_may (λ a here. (and_parts _ _ here).0) (λ s no. no) (so.done honest can))
                   (change_as only_touched (λ s no. no) (λ a plain here. wanted_byte a here) may);
             },
-            halts_after so.ran halts fits,
+            halts_after so.ran fails fits,
             names_member halt names,
           )
 
@@ -294,7 +294,7 @@ module _ {touched raised : ℕ → Bool} {wanted : ℕ → ℕ} {n : ℕ} {first
           record {
             ran = ran_after so.ran (pages_after _ _ _ count) sector (omega arith) count transactions;
             fewer = omega (arith, so.fewer, does.fewer);
-            still = λ none. absurd (omega arith);
+            unsent = λ none. absurd (omega arith);
             done = λ honest can.
                 made_then (λ a. before_more touched n is.is (a / 4096)) (λ s. refl) wanted_byte
                 (so.done honest can)
@@ -324,7 +324,7 @@ module _ {touched raised : ℕ → Bool} {wanted : ℕ → ℕ} {n : ℕ} {first
       record {
         fewer = so.fewer;
         exactly = so.ran.exactly;
-        still = so.still;
+        unsent = so.unsent;
         tallies = so.ran.tallies;
         done = λ honest can.
             let small = (sized_bounds first.chip.config).small in
@@ -339,7 +339,7 @@ module _ {touched raised : ℕ → Bool} {wanted : ℕ → ℕ} {n : ℕ} {first
   all_pages : (m : ℕ) → m ≤ 16 * sector_count touched
       → IsPartOf (programming touched m) (programming touched (16 * sector_count touched))
   all_pages m few = record {
-    sectors = λ s aimed. aimed;
+    sectors = λ s targeted. targeted;
     status = λ one two written. written;
     erases = omega arith;
     programs = few;

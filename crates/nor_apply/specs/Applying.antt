@@ -2,11 +2,11 @@
 use Rattle.std.specs.Prelude.{◌≡◌, ◌≤◌, ◌<◌, ◌+◌, ◌*◌, ◌/◌, ◌&&◌, ◌||◌, ◌⊎◌, ◌==◌, ℕ, Bool, true, false, not, length, bit_and, if◌then◌else◌, ⊤}
 use Rattle.nor_chip.specs.Status.{bytes_of}
 use Rattle.nor_chip.specs.Chip.{Chip, kept_in}
-use Rattle.nor_chip.specs.Guard.{is_guarded, code_of}
+use Rattle.nor_chip.specs.Guard.{is_protected, code_of}
 use Rattle.nor_chip.specs.Bus.{BusState}
-use Rattle.nor_driver.specs.declared.waits.Halt.{Halt}
-use Rattle.nor_driver.specs.declared.waits.Halt.TheVariants.{Stopped, Timeout}
-use Rattle.nor_driver.specs.StatusWrites.{has_code, with_code}
+use Rattle.nor_driver.specs.declared.waits.OperationError.{OperationError}
+use Rattle.nor_driver.specs.declared.waits.OperationError.TheVariants.{Stopped, Timeout}
+use Rattle.nor_driver.specs.StatusWrites.{is_status_with_code, with_code}
 use Rattle.nor_driver.specs.Ready.{StaysReady}
 use Rattle.nor_driver.specs.Limits.{Limits, SendsWithin, SendsExactly}
 use Rattle.nor_driver.specs.Operations.{most_operation}
@@ -19,7 +19,7 @@ use Rattle.nor_count.specs.Counts.{sector_count}
 use Rattle.nor_plan.specs.Content.{once_erased, is_programmed}
 use Rattle.nor_apply.specs.Within.{is_writable}
 use Rattle.nor_apply.specs.Change.{IsSized, MayChange}
-use Rattle.nor_apply.specs.Spending.{Spends, may_aim_at}
+use Rattle.nor_apply.specs.Spending.{Spends, may_target}
 
 -- the sectors that the changes touch (`touched_in`), and those that they raise (`raised_in`), as Boolean functions
 abbrev pub touched_in : Changes → ℕ → Bool
@@ -42,14 +42,14 @@ status_writes changes = (if changes.unlock then 1 else 0) + (if writes_code chan
 -- these are written at the end.
 abbrev pub is_status_asked : Changes → (one two : ℕ) → Bool
 is_status_asked changes one two =
-    (changes.unlock && has_code changes.status 0 one two)
-    || (writes_code changes && has_code changes.status changes.code one two)
+    (changes.unlock && is_status_with_code changes.status 0 one two)
+    || (writes_code changes && is_status_with_code changes.status changes.code one two)
 
--- limits of these changes: targets are only the touched sectors (`may_aim_at`), status writes only those for which the
+-- limits of these changes: targets are only the touched sectors (`may_target`), status writes only those for which the
 -- changes ask, and the numbers of erases, page programs and status writes at most these
 abbrev pub sending : Changes → (erases programs status_writes : ℕ) → Limits
 sending changes erases programs status_writes = record {
-  sectors = may_aim_at (touched_in changes) changes.size;
+  sectors = may_target (touched_in changes) changes.size;
   status = is_status_asked changes;
   erases = erases;
   programs = programs;
@@ -71,7 +71,7 @@ pub record CanApply (changes : Changes) (wanted : ℕ → ℕ) (chip : Chip) : T
   pub sized : IsSized changes.size changes.kinds chip
   pub kept : chip.kept ≡ kept_in (bytes_of changes.status)
   pub inside : (s : ℕ) → touched_in changes s ≡ true → 4096 * s + 4096 ≤ chip.config.size
-  pub free : changes.unlock ≡ false → (a : ℕ) → touched_in changes (a / 4096) ≡ true → is_guarded chip a ≡ false
+  pub free : changes.unlock ≡ false → (a : ℕ) → touched_in changes (a / 4096) ≡ true → is_protected chip a ≡ false
   pub writable : (changes.unlock || writes_code changes) ≡ true → is_writable chip ≡ true
   pub raised : (s : ℕ) → raised_in changes s ≡ true → touched_in changes s ≡ true
   pub bytes : (a : ℕ) → touched_in changes (a / 4096) ≡ true → wanted a < 256
@@ -115,10 +115,10 @@ pub record DoesApply (changes : Changes) (wanted : ℕ → ℕ) (old new : BusSt
       ≤ sector_count (touched_in changes) + most_operation * (work.erases + work.programs + status_writes changes)
   pub least : 3 * (work.erases + work.programs + status_writes changes) ≤ work.transactions
   pub exactly : SendsExactly work.erases work.programs (status_writes changes) old new
-  pub heard : StaysReady old new
+  pub polled_ready : StaysReady old new
   pub idle : old.honest ≡ true → old.chip.busy ≡ 0 → new.chip.busy ≡ 0
   pub sent : old.honest ≡ true → old.left ≡ new.left + work.transactions
-  pub still : sector_count (touched_in changes) + status_writes changes ≡ 0 → new.sent ≡ old.sent
+  pub unsent : sector_count (touched_in changes) + status_writes changes ≡ 0 → new.sent ≡ old.sent
   pub done : old.honest ≡ true → CanApply changes wanted old.chip → HasApplied changes wanted old new
   pub programs : old.honest ≡ true → CanApply changes wanted old.chip
       → work.programs ≡ count_below 65536
@@ -126,7 +126,7 @@ pub record DoesApply (changes : Changes) (wanted : ℕ → ℕ) (old new : BusSt
 
 -- Holds for every stop. Holds for a timeout that names an address in a touched sector, or names 0 if a status write was
 -- needed.
-abbrev pub NamesChange : Changes → Halt → Type 0
+abbrev pub NamesChange : Changes → OperationError → Type 0
 NamesChange changes Stopped = ⊤
 NamesChange changes (Timeout address) =
     ((1 ≤ status_writes changes) × (address ≡ 0)) ⊎ (touched_in changes (address / 4096) ≡ true)

@@ -2,16 +2,16 @@
 -- sector number. Bytes may change only in touched sectors, and the raised sectors are those that are erased.
 use Rattle.std.specs.Prelude.{◌≡◌, ◌≤◌, ◌+◌, ◌-◌, ◌*◌, ◌/◌, ◌==◌, ◌||◌, ◌⊎◌, ℕ, Bool, true, false, List, slice_index, bit_and, if◌then◌else◌}
 use Rattle.nor_chip.specs.Chip.{Chip}
-use Rattle.nor_chip.specs.Guard.{is_guarded}
+use Rattle.nor_chip.specs.Guard.{is_protected}
 use Rattle.nor_chip.specs.Bus.{BusState}
 use Rattle.nor_chip.specs.declared.config.Kinds.{Kinds}
-use Rattle.nor_apply.specs.Within.{IsWithin, places_of}
+use Rattle.nor_apply.specs.Within.{IsWithin, addresses_of}
 
 -- Holds if the sectors can be changed: the chip is idle, and they lie on it and have no protected address.
 pub record CanChange (sectors : ℕ → Bool) (chip : Chip) : Type 0 where
   pub idle : chip.busy ≡ 0
   pub inside : (s : ℕ) → sectors s ≡ true → 4096 * s + 4096 ≤ chip.config.size
-  pub free : (a : ℕ) → sectors (a / 4096) ≡ true → is_guarded chip a ≡ false
+  pub free : (a : ℕ) → sectors (a / 4096) ≡ true → is_protected chip a ≡ false
 
 -- Holds if the chip has this size and these erase types.
 pub record IsSized (size : ℕ) (kinds : Kinds) (chip : Chip) : Type 0 where
@@ -26,7 +26,7 @@ OnlyFalls sectors wanted content = (a : ℕ) → sectors (a / 4096) ≡ true →
 -- were; so are the protection bits, if they can't be written. On a steady bus each byte of a sector that isn't raised
 -- is the old or the target one. Only raised sectors were erased.
 pub record MayChange (touched raised : ℕ → Bool) (wanted : ℕ → ℕ) (old new : BusState) : Type 0 where
-  pub within : IsWithin (places_of touched) old.chip new
+  pub within : IsWithin (addresses_of touched) old.chip new
   pub gentle : old.steady ≡ true → (a : ℕ) → raised (a / 4096) ≡ false
       → (new.chip.bytes a ≡ old.chip.bytes a) ⊎ (new.chip.bytes a ≡ wanted a)
   pub worn : (s : ℕ) → raised s ≡ false → new.worn s ≡ old.worn s

@@ -2,7 +2,7 @@
 use Rattle.std.specs.Prelude.{◌≡◌, ◌≢◌, ◌≤◌, ◌<◌, ◌+◌, ◌*◌, ◌/◌, ℕ, Bool, true, ⊤}
 use Rattle.nor_chip.specs.Chip.{Chip}
 use Rattle.nor_chip.specs.Bus.{BusState}
-use Rattle.nor_driver.specs.Looks.{Rested, RanOutIfHonest}
+use Rattle.nor_driver.specs.OnlyReads.{Rested, RanOutIfHonest}
 use Rattle.nor_driver.specs.Ready.{StaysReady}
 use Rattle.nor_call.specs.declared.refusal.Refusal.{Refusal}
 use Rattle.nor_call.specs.declared.refusal.Refusal.TheVariants as Refusals
@@ -26,7 +26,7 @@ pub record IsFirstMismatch (sectors : ℕ → Bool) (wanted content : ℕ → �
 -- one.
 pub record DoesChecks (sectors : ℕ → Bool) (wanted : ℕ → ℕ) (old new : BusState) (sent : ℕ) : Type 0 where
   pub reads : sent ≡ sector_count sectors
-  pub heard : StaysReady old new
+  pub polled_ready : StaysReady old new
   pub count : old.honest ≡ true → old.left ≡ new.left + sent
   pub rested : old.honest ≡ true → Rested old new
   pub same : old.honest ≡ true → CanCheck sectors old.chip
@@ -35,9 +35,9 @@ pub record DoesChecks (sectors : ℕ → Bool) (wanted : ℕ → ℕ) (old new :
 -- Holds if the verification may return this error. `Stopped`, on a well-behaved bus: fewer transactions were left than
 -- there are sectors in the set, and all of them were used. `Mismatch`, on a well-behaved bus and if `CanCheck` holds:
 -- its address is the first at which the chip differs from the target.
-abbrev pub CheckTells : (ℕ → Bool) → (ℕ → ℕ) → (old new : BusState) → CheckFault → Type 0
-CheckTells sectors wanted old new Stopped = RanOutIfHonest (sector_count sectors) old new
-CheckTells sectors wanted old new (Mismatch address) =
+abbrev pub CheckErrors : (ℕ → Bool) → (ℕ → ℕ) → (old new : BusState) → CheckFault → Type 0
+CheckErrors sectors wanted old new Stopped = RanOutIfHonest (sector_count sectors) old new
+CheckErrors sectors wanted old new (Mismatch address) =
     old.honest ≡ true → CanCheck sectors old.chip → IsFirstMismatch sectors wanted old.chip.bytes address
 
 -- Holds on every bus: the address of a mismatch is in one of these sectors.

@@ -9,7 +9,7 @@ use Rattle.nor_plan.specs.Planned.{planned}
 use Rattle.nor_apply.specs.declared.tally.Tally.{Tally}
 use Rattle.nor_count.specs.Counts.{sector_count}
 use Rattle.nor_apply.specs.Change.{CanChange, IsSized, MayChange, HasChanged, blank}
-use Rattle.nor_apply.specs.Spending.{Spends, Tallies, may_aim_at}
+use Rattle.nor_apply.specs.Spending.{Spends, Tallies, may_target}
 
 -- Holds if the sectors can be changed, and the chip has this size and these erase types.
 pub record CanEraseAll (sectors : ℕ → Bool) (kinds : Kinds) (size : ℕ) (chip : Chip) : Type 0 where
@@ -21,7 +21,7 @@ pub record CanEraseAll (sectors : ℕ → Bool) (kinds : Kinds) (size : ℕ) (ch
 -- allows: the bytes of these sectors may have any value.
 pub record LeavesErases (sectors : ℕ → Bool) (kinds : Kinds) (size : ℕ) (old new : BusState) : Type 0 where
   pub spends : Spends (most_operation * sector_count sectors) old new
-  pub sends : SendsWithin (erasing (may_aim_at sectors size) (sector_count sectors)) old new
+  pub sends : SendsWithin (erasing (may_target sectors size) (sector_count sectors)) old new
   pub reached : old.honest ≡ true → CanEraseAll sectors kinds size old.chip → MayChange sectors sectors blank old new
 
 -- Holds after the erases succeeded. Their number is the length of the planned list, which is the shortest that covers
@@ -30,7 +30,7 @@ pub record LeavesErases (sectors : ℕ → Bool) (kinds : Kinds) (size : ℕ) (o
 pub record DoesErases (sectors : ℕ → Bool) (kinds : Kinds) (size : ℕ) (old new : BusState)
     (tally : Tally) : Type 0 where
   pub count : tally.count ≡ length (planned kinds (size / 4096) sectors)
-  pub still : tally.count ≡ 0 → new.sent ≡ old.sent
+  pub unsent : tally.count ≡ 0 → new.sent ≡ old.sent
   pub fewer : tally.count ≤ sector_count sectors
   pub exactly : SendsExactly tally.count 0 0 old new
   pub tallies : Tallies 0 old new tally

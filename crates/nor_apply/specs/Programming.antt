@@ -3,7 +3,7 @@ use Rattle.std.specs.Prelude.{◌≡◌, ◌≤◌, ◌<◌, ◌+◌, ◌*◌, �
 use Rattle.nor_chip.specs.declared.bus.Stopped.{Stopped}
 use Rattle.nor_chip.specs.Chip.{Chip}
 use Rattle.nor_chip.specs.Bus.{BusState}
-use Rattle.nor_driver.specs.Looks.{Looks, RanOutIfHonest}
+use Rattle.nor_driver.specs.OnlyReads.{OnlyReads, RanOutIfHonest}
 use Rattle.nor_driver.specs.Reads.{IsSectorOf, HasRead}
 use Rattle.nor_driver.specs.Limits.{programming, SendsWithin, SendsExactly}
 use Rattle.nor_apply.specs.declared.tally.Tally.{Tally}
@@ -59,10 +59,10 @@ pub record CanProgramSector (sector : ℕ) (wanted : List ℕ) (erased : Bool) (
 -- the bytes are as they were.
 pub record LoadsOk (sector : ℕ) (erased : Bool) (bytes bytes' : List ℕ) (reads : ℕ) (old new : BusState) : Type 0 where
   pub reads_once : reads ≡ (if erased then 0 else 1)
-  pub heard : new.heard ≡ old.heard
+  pub polled_ready : new.polled_ready ≡ old.polled_ready
   pub kept : erased ≡ true → (bytes' ≡ bytes) × (new ≡ old)
   pub read : erased ≡ false → old.honest ≡ true → HasRead old new
-  pub told : erased ≡ false → old.honest ≡ true → old.chip.busy ≡ 0 → 4096 * (sector + 1) ≤ old.chip.config.size
+  pub returned : erased ≡ false → old.honest ≡ true → old.chip.busy ≡ 0 → 4096 * (sector + 1) ≤ old.chip.config.size
       → IsSectorOf old.chip.bytes sector bytes'
 
 abbrev pub LoadEnds : ℕ → Bool → (bytes bytes' : List ℕ) → Result ℕ Stopped → (old new : BusState) → Type 0
@@ -71,7 +71,7 @@ LoadEnds sector erased bytes bytes' (Err stopped) old new = RanOutIfHonest 1 old
 
 pub record Loads (sector : ℕ) (erased : Bool) (bytes bytes' : List ℕ) (outcome : Result ℕ Stopped)
     (old new : BusState) : Type 0 where
-  pub looks : Looks 1 old new
+  pub only_reads : OnlyReads 1 old new
   pub ends : LoadEnds sector erased bytes bytes' outcome old new
 
 pub record LeavesSector (sector : ℕ) (wanted : List ℕ) (erased : Bool) (old new : BusState) : Type 0 where
@@ -111,7 +111,7 @@ pub record LeavesPrograms (touched raised : ℕ → Bool) (wanted : ℕ → ℕ)
 pub record DoesPrograms (touched raised : ℕ → Bool) (wanted : ℕ → ℕ) (old new : BusState) (tally : Tally) : Type 0 where
   pub fewer : tally.count ≤ 16 * sector_count touched
   pub exactly : SendsExactly 0 tally.count 0 old new
-  pub still : sector_count touched ≡ 0 → new.sent ≡ old.sent
+  pub unsent : sector_count touched ≡ 0 → new.sent ≡ old.sent
   pub tallies : Tallies (sector_count touched) old new tally
   pub done : old.honest ≡ true → CanProgramAll touched raised wanted old.chip → HasChanged touched wanted none old new
   pub counted : old.honest ≡ true → CanProgramAll touched raised wanted old.chip

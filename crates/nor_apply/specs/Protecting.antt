@@ -2,30 +2,30 @@
 use Rattle.std.specs.Prelude.{◌≡◌, ◌≤◌, ◌+◌, ◌&&◌, ℕ, Bool, true, false, if◌then◌else◌}
 use Rattle.nor_chip.specs.declared.status.Status.{Status}
 use Rattle.nor_chip.specs.Bus.{BusState}
-use Rattle.nor_driver.specs.declared.waits.Halt.{Halt}
+use Rattle.nor_driver.specs.declared.waits.OperationError.{OperationError}
 use Rattle.nor_driver.specs.Waits.{NamesTimeout}
 use Rattle.nor_driver.specs.Ready.{StaysReady}
-use Rattle.nor_driver.specs.StatusWrites.{has_code, CanWriteStatus, MayWriteStatus, HasWrittenStatus}
+use Rattle.nor_driver.specs.StatusWrites.{is_status_with_code, CanWriteStatus, MayWriteStatus, HasWrittenStatus}
 use Rattle.nor_driver.specs.Limits.{writing, SendsWithin, SendsExactly}
 use Rattle.nor_driver.specs.Operations.{most_operation}
 use Rattle.nor_apply.specs.Spending.{Spends}
 
 pub record LeavesCode (status : Status) (code : ℕ) (needed : Bool) (old new : BusState) : Type 0 where
   pub spends : Spends (if needed then most_operation else 0) old new
-  pub sends : SendsWithin (writing (λ one two. needed && has_code status code one two) (if needed then 1 else 0)) old new
-  pub still : needed ≡ false → new ≡ old
+  pub sends : SendsWithin (writing (λ one two. needed && is_status_with_code status code one two) (if needed then 1 else 0)) old new
+  pub unsent : needed ≡ false → new ≡ old
   pub reached : needed ≡ true → old.honest ≡ true → CanWriteStatus status old.chip → MayWriteStatus code old new
 
 pub record DoesCode (status : Status) (code : ℕ) (needed : Bool) (old new : BusState) (sent : ℕ) : Type 0 where
   pub few : sent ≤ (if needed then most_operation else 0)
   pub least : (if needed then 3 else 0) ≤ sent
   pub exactly : SendsExactly 0 0 (if needed then 1 else 0) old new
-  pub heard : StaysReady old new
+  pub polled_ready : StaysReady old new
   pub count : old.honest ≡ true → old.left ≡ new.left + sent
   pub idle : needed ≡ true → old.honest ≡ true → new.chip.busy ≡ 0
   pub done : needed ≡ true → old.honest ≡ true → CanWriteStatus status old.chip → HasWrittenStatus code old new
 
 -- Holds on every bus: an error occurs only if the status write is needed, and a timeout names address 0.
-pub record HaltsWriting (needed : Bool) (halt : Halt) : Type 0 where
+pub record FailsWriting (needed : Bool) (halt : OperationError) : Type 0 where
   pub is : needed ≡ true
   pub names : NamesTimeout 0 halt

@@ -2,9 +2,9 @@
 -- address that its timeout names.
 use Rattle.std.specs.Prelude.{◌≡◌, ◌≤◌, ◌+◌, ◌*◌, ◌/◌, ◌&&◌, ◌||◌, ℕ, Bool, true, nat_le, ⊤}
 use Rattle.nor_chip.specs.Bus.{BusState, KeepsNature}
-use Rattle.nor_driver.specs.declared.waits.Halt.{Halt}
-use Rattle.nor_driver.specs.declared.waits.Halt.TheVariants.{Stopped, Timeout}
-use Rattle.nor_driver.specs.Looks.{Falls}
+use Rattle.nor_driver.specs.declared.waits.OperationError.{OperationError}
+use Rattle.nor_driver.specs.declared.waits.OperationError.TheVariants.{Stopped, Timeout}
+use Rattle.nor_driver.specs.OnlyReads.{Falls}
 use Rattle.nor_driver.specs.Ready.{StaysReady}
 use Rattle.nor_driver.specs.Operations.{most_operation}
 use Rattle.nor_plan.specs.Planned.{holds_run}
@@ -19,11 +19,11 @@ pub record Spends (most : ℕ) (old new : BusState) : Type 0 where
 -- True if the erases and programs of these sectors, on a chip of this size, may target the sector `s`. Either `s` is
 -- one of them; or they are the whole chip and `s` is past its end, since the command that erases the chip has no
 -- address.
-abbrev pub may_aim_at : (sectors : ℕ → Bool) → (size s : ℕ) → Bool
-may_aim_at sectors size s = sectors s || (nat_le (size / 4096) s && holds_run sectors 0 (size / 4096))
+abbrev pub may_target : (sectors : ℕ → Bool) → (size s : ℕ) → Bool
+may_target sectors size s = sectors s || (nat_le (size / 4096) s && holds_run sectors 0 (size / 4096))
 
 -- Holds on every bus: a timeout names an address in one of these sectors.
-abbrev pub NamesTimeoutIn : (ℕ → Bool) → Halt → Type 0
+abbrev pub NamesTimeoutIn : (ℕ → Bool) → OperationError → Type 0
 NamesTimeoutIn sectors Stopped = ⊤
 NamesTimeoutIn sectors (Timeout address) = sectors (address / 4096) ≡ true
 
@@ -33,6 +33,6 @@ NamesTimeoutIn sectors (Timeout address) = sectors (address / 4096) ≡ true
 pub record Tallies (readings : ℕ) (old new : BusState) (tally : Tally) : Type 0 where
   pub least : 3 * tally.count ≤ tally.transactions
   pub few : tally.transactions ≤ readings + most_operation * tally.count
-  pub heard : StaysReady old new
+  pub polled_ready : StaysReady old new
   pub idle : old.honest ≡ true → old.chip.busy ≡ 0 → new.chip.busy ≡ 0
   pub sent : old.honest ≡ true → old.left ≡ new.left + tally.transactions

@@ -31,5 +31,5 @@ pub record IsWithin (places : ℕ → Bool) (first : Chip) (state : BusState) : 
   pub runs : state.steady ≡ false → state.chip.busy ≢ 0 → WorksIn places first state.chip.running
 
 -- true if the address lies in one of these sectors
-abbrev pub places_of : (sectors : ℕ → Bool) → (a : ℕ) → Bool
-places_of sectors a = sectors (a / 4096)
+abbrev pub addresses_of : (sectors : ℕ → Bool) → (a : ℕ) → Bool
+addresses_of sectors a = sectors (a / 4096)

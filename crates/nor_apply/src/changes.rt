@@ -2,7 +2,7 @@
 ghost use Rattle.std.specs.Prelude.{◌≡◌, ◌<◌, ◌≤◌, ◌/◌, ℕ, true, IfOk, IfErr};
 ghost use Rattle.nor_plan.specs.SectorSet.{has, LiesBelow};
 ghost use Rattle.nor_count.specs.Counts.{sector_count};
-ghost use Rattle.nor_driver.specs.Waits.{Halts};
+ghost use Rattle.nor_driver.specs.Waits.{OperationFails};
 ghost use Rattle.nor_apply.specs.Applying.{LeavesApply, DoesApply, NamesChange, writes_code, touched_in, most_applied};
 
 use crate::Source;
@@ -10,7 +10,7 @@ use crate::erases::erase_all;
 use crate::programs::program_all;
 use crate::protection::write_code;
 use nor_chip::{Bus, Status};
-use nor_driver::Halt;
+use nor_driver::OperationError;
 use nor_plan::SectorSet;
 use nor_probe::Kinds;
 
@@ -65,7 +65,7 @@ pub struct Work {
 ///
 /// Returns `Stopped` if the bus stopped. Returns `Timeout` with an address in a touched sector, or 0 for a status
 /// write, if the chip stayed busy for 65,536 polls. On a well-behaved bus there is no timeout.
-pub fn apply<B: Bus, S: Source>(bus: &mut B, source: &S, changes: &Changes) -> Result<Work, Halt>
+pub fn apply<B: Bus, S: Source>(bus: &mut B, source: &S, changes: &Changes) -> Result<Work, OperationError>
     requires inside { LiesBelow changes.now.touched (changes.now.size / 4096) }
     requires raised { (s : ℕ) → has changes.now.raised s ≡ true → has changes.now.touched s ≡ true }
     requires small { changes.now.size ≤ 16777216 }
@@ -73,8 +73,8 @@ pub fn apply<B: Bus, S: Source>(bus: &mut B, source: &S, changes: &Changes) -> R
     requires sourced { (s : ℕ) → has changes.now.touched s ≡ true → S.has source.now s ≡ true }
     ensures leaves { LeavesApply changes.now (S.wanted source.now) (B.state bus.old) (B.state bus.new) }
     ensures does { IfOk result (DoesApply changes.now (S.wanted source.now) (B.state bus.old) (B.state bus.new)) }
-    ensures halts { IfErr result
-        (Halts (most_applied (sector_count (touched_in changes.now))) (B.state bus.old) (B.state bus.new)) }
+    ensures fails { IfErr result
+        (OperationFails (most_applied (sector_count (touched_in changes.now))) (B.state bus.old) (B.state bus.new)) }
     ensures names { IfErr result (NamesChange changes.now) }
 {
     let lifted = write_code(bus, changes.status, 0, changes.unlock)?;

@@ -1,10 +1,10 @@
 //! Verifies the changed sectors at the end of a session or restore.
 ghost use Rattle.std.specs.Prelude.{◌≡◌, ◌<◌, ℕ, true, length, IfOk, IfErr, OnOk};
-ghost use Rattle.nor_driver.specs.Looks.{Looks};
+ghost use Rattle.nor_driver.specs.OnlyReads.{OnlyReads};
 ghost use Rattle.nor_plan.specs.SectorSet.{has};
 ghost use Rattle.nor_apply.specs.declared.checks.CheckFault.TheVariants as Faults;
 ghost use Rattle.nor_count.specs.Counts.{sector_count};
-ghost use Rattle.nor_apply.specs.Checking.{DoesChecks, CheckTells, NamesDifference, of_check};
+ghost use Rattle.nor_apply.specs.Checking.{DoesChecks, CheckErrors, NamesDifference, of_check};
 ghost use Rattle.nor_apply.specs.Change.{only, byte_of};
 
 use crate::Source;
@@ -56,11 +56,11 @@ pub fn check_all<B: Bus, S: Source>(
     touched: &SectorSet,
 ) -> Result<u64, CheckFault>
     requires sourced { (s : ℕ) → has touched.now s ≡ true → S.has source.now s ≡ true }
-    ensures leaves { Looks (sector_count (has touched.now)) (B.state bus.old) (B.state bus.new) }
+    ensures leaves { OnlyReads (sector_count (has touched.now)) (B.state bus.old) (B.state bus.new) }
     ensures does { IfOk result
         (DoesChecks (has touched.now) (S.wanted source.now) (B.state bus.old) (B.state bus.new)) }
-    ensures tells { IfErr result
-        (CheckTells (has touched.now) (S.wanted source.now) (B.state bus.old) (B.state bus.new)) }
+    ensures errors { IfErr result
+        (CheckErrors (has touched.now) (S.wanted source.now) (B.state bus.old) (B.state bus.new)) }
     ensures names { IfErr result (NamesDifference (has touched.now)) }
 {
     let mut sent = 0;
@@ -83,11 +83,11 @@ fn check_sector<B: Bus>(
 ) -> Result<(), CheckFault>
     requires reachable { sector < 4096 }
     requires whole { length wanted.now ≡ 4096 }
-    ensures leaves { Looks 1 (B.state bus.old) (B.state bus.new) }
+    ensures leaves { OnlyReads 1 (B.state bus.old) (B.state bus.new) }
     ensures does { OnOk result
         (DoesChecks (only sector) (byte_of sector wanted.now) (B.state bus.old) (B.state bus.new) 1) }
-    ensures tells { IfErr result
-        (CheckTells (only sector) (byte_of sector wanted.now) (B.state bus.old) (B.state bus.new)) }
+    ensures errors { IfErr result
+        (CheckErrors (only sector) (byte_of sector wanted.now) (B.state bus.old) (B.state bus.new)) }
     ensures names { IfErr result (NamesDifference (only sector)) }
 {
     read_sector(bus, sector, &mut *bytes)?;

@@ -3,13 +3,13 @@ ghost use Rattle.std.specs.Prelude.{◌≤◌, ◌*◌, ◌/◌, IfOk, IfErr};
 ghost use Rattle.nor_driver.specs.Operations.{most_operation};
 ghost use Rattle.nor_plan.specs.SectorSet.{has, LiesBelow};
 ghost use Rattle.nor_count.specs.Counts.{sector_count};
-ghost use Rattle.nor_driver.specs.Waits.{Halts};
+ghost use Rattle.nor_driver.specs.Waits.{OperationFails};
 ghost use Rattle.nor_apply.specs.Spending.{NamesTimeoutIn};
 ghost use Rattle.nor_apply.specs.Erasing.{LeavesErases, DoesErases};
 
 use crate::tally::Tally;
 use nor_chip::Bus;
-use nor_driver::{Halt, erase};
+use nor_driver::{OperationError, erase};
 use nor_plan::{SectorSet, erases};
 use nor_probe::Kinds;
 
@@ -24,13 +24,13 @@ pub fn erase_all<B: Bus>(
     raised: &SectorSet,
     kinds: Kinds,
     size: u32,
-) -> Result<Tally, Halt>
+) -> Result<Tally, OperationError>
     requires inside { LiesBelow raised.now (size / 4096) }
     requires small { size ≤ 16777216 }
     ensures leaves { LeavesErases (has raised.now) kinds size (B.state bus.old) (B.state bus.new) }
     ensures does { IfOk result (DoesErases (has raised.now) kinds size (B.state bus.old) (B.state bus.new)) }
-    ensures halts { IfErr result
-        (Halts (most_operation * sector_count (has raised.now)) (B.state bus.old) (B.state bus.new)) }
+    ensures fails { IfErr result
+        (OperationFails (most_operation * sector_count (has raised.now)) (B.state bus.old) (B.state bus.new)) }
     ensures names { IfErr result (NamesTimeoutIn (has raised.now)) }
 {
     let mut tally = Tally::NONE;

@@ -2,7 +2,7 @@
 ghost use Rattle.std.specs.Prelude.{◌≡◌, ◌<◌, ◌*◌, ℕ, true, length, IfOk, IfErr};
 ghost use Rattle.nor_plan.specs.SectorSet.{has};
 ghost use Rattle.nor_count.specs.Counts.{sector_count};
-ghost use Rattle.nor_driver.specs.Waits.{Halts};
+ghost use Rattle.nor_driver.specs.Waits.{OperationFails};
 ghost use Rattle.nor_apply.specs.Spending.{NamesTimeoutIn};
 ghost use Rattle.nor_apply.specs.Change.{only};
 ghost use Rattle.nor_apply.specs.Programming.{LeavesSpans, DoesSpans, LeavesSector, DoesSector, LeavesPrograms, DoesPrograms, Loads, most_pages, most_sector};
@@ -10,7 +10,7 @@ ghost use Rattle.nor_apply.specs.Programming.{LeavesSpans, DoesSpans, LeavesSect
 use crate::Source;
 use crate::tally::Tally;
 use nor_chip::{Bus, MOST_SECTORS, SECTOR_LEN, Stopped};
-use nor_driver::{Halt, program_page, read_sector};
+use nor_driver::{OperationError, program_page, read_sector};
 use nor_plan::{SectorSet, spans};
 
 /// Programs the touched sectors, in ascending order, with the bytes of `source`, which must have every touched sector.
@@ -24,14 +24,14 @@ pub fn program_all<B: Bus, S: Source>(
     source: &S,
     touched: &SectorSet,
     raised: &SectorSet,
-) -> Result<Tally, Halt>
+) -> Result<Tally, OperationError>
     requires sourced { (s : ℕ) → has touched.now s ≡ true → S.has source.now s ≡ true }
     ensures leaves { LeavesPrograms (has touched.now) (has raised.now) (S.wanted source.now)
         (B.state bus.old) (B.state bus.new) }
     ensures does { IfOk result
         (DoesPrograms (has touched.now) (has raised.now) (S.wanted source.now) (B.state bus.old) (B.state bus.new)) }
-    ensures halts { IfErr result
-        (Halts (most_sector * sector_count (has touched.now)) (B.state bus.old) (B.state bus.new)) }
+    ensures fails { IfErr result
+        (OperationFails (most_sector * sector_count (has touched.now)) (B.state bus.old) (B.state bus.new)) }
     ensures names { IfErr result (NamesTimeoutIn (has touched.now)) }
 {
     let mut tally = Tally::NONE;
@@ -53,12 +53,12 @@ fn program_sector<B: Bus>(
     sector: u32,
     wanted: &[u8],
     erased: bool,
-) -> Result<Tally, Halt>
+) -> Result<Tally, OperationError>
     requires reachable { sector < 4096 }
     requires whole { length wanted.now ≡ 4096 }
     ensures leaves { LeavesSector sector wanted.now erased (B.state bus.old) (B.state bus.new) }
     ensures does { IfOk result (DoesSector sector wanted.now erased (B.state bus.old) (B.state bus.new)) }
-    ensures halts { IfErr result (Halts most_sector (B.state bus.old) (B.state bus.new)) }
+    ensures fails { IfErr result (OperationFails most_sector (B.state bus.old) (B.state bus.new)) }
     ensures names { IfErr result (NamesTimeoutIn (only sector)) }
 {
     let mut old = [0xFF; SECTOR_LEN as usize];
@@ -84,13 +84,13 @@ fn load<B: Bus>(bus: &mut B, sector: u32, erased: bool, bytes: &mut [u8]) -> Res
 }
 
 // Programs one span per page in which the bytes `old` of a sector differ from the target bytes.
-fn program_spans<B: Bus>(bus: &mut B, sector: u32, old: &[u8], wanted: &[u8]) -> Result<Tally, Halt>
+fn program_spans<B: Bus>(bus: &mut B, sector: u32, old: &[u8], wanted: &[u8]) -> Result<Tally, OperationError>
     requires reachable { sector < 4096 }
     requires whole { length old.now ≡ 4096 }
     requires wanted_whole { length wanted.now ≡ 4096 }
     ensures leaves { LeavesSpans sector old.now wanted.now (B.state bus.old) (B.state bus.new) }
     ensures does { IfOk result (DoesSpans sector old.now wanted.now (B.state bus.old) (B.state bus.new)) }
-    ensures halts { IfErr result (Halts most_pages (B.state bus.old) (B.state bus.new)) }
+    ensures fails { IfErr result (OperationFails most_pages (B.state bus.old) (B.state bus.new)) }
     ensures names { IfErr result (NamesTimeoutIn (only sector)) }
 {
     let mut tally = Tally::NONE;

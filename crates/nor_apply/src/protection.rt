@@ -1,23 +1,23 @@
 //! Status writes that change the protection bits.
 ghost use Rattle.std.specs.Prelude.{◌<◌, IfOk, IfErr};
 ghost use Rattle.nor_driver.specs.Operations.{most_operation};
-ghost use Rattle.nor_apply.specs.Protecting.{LeavesCode, DoesCode, HaltsWriting};
-ghost use Rattle.nor_driver.specs.Waits.{Halts};
+ghost use Rattle.nor_apply.specs.Protecting.{LeavesCode, DoesCode, FailsWriting};
+ghost use Rattle.nor_driver.specs.Waits.{OperationFails};
 
 use nor_chip::{Bus, Status};
-use nor_driver::{Halt, write_status};
+use nor_driver::{OperationError, write_status};
 
 /// Writes the protection bits of `code`, which must be below 64, if `needed` is set. The other non-volatile bits are
 /// sent as in `status`. Returns the number of transactions, 0 if `needed` is not set.
 ///
 /// Returns `Stopped` if the bus stopped, and `Timeout` with address 0 if the chip stayed busy for 65,536 polls. On a
 /// well-behaved bus there is no timeout.
-pub fn write_code<B: Bus>(bus: &mut B, status: Status, code: u8, needed: bool) -> Result<u64, Halt>
+pub fn write_code<B: Bus>(bus: &mut B, status: Status, code: u8, needed: bool) -> Result<u64, OperationError>
     requires { code < 64 }
     ensures leaves { LeavesCode status code needed (B.state bus.old) (B.state bus.new) }
     ensures does { IfOk result (DoesCode status code needed (B.state bus.old) (B.state bus.new)) }
-    ensures halts { IfErr result (Halts most_operation (B.state bus.old) (B.state bus.new)) }
-    ensures names { IfErr result (HaltsWriting needed) }
+    ensures fails { IfErr result (OperationFails most_operation (B.state bus.old) (B.state bus.new)) }
+    ensures names { IfErr result (FailsWriting needed) }
 {
     if !needed {
         return Ok(0);

@@ -1,34 +1,34 @@
 -- The numbers of errors, and the error of a call for each fault of the crates below.
 use Rattle.std.specs.Prelude.{ℕ}
-use Rattle.nor_driver.specs.declared.waits.Halt.{Halt}
-use Rattle.nor_driver.specs.declared.waits.Halt.TheVariants as Halts
+use Rattle.nor_driver.specs.declared.waits.OperationError.{OperationError}
+use Rattle.nor_driver.specs.declared.waits.OperationError.TheVariants as OperationFails
 use Rattle.nor_probe.specs.declared.probes.ProbeFault.{ProbeFault}
 use Rattle.nor_probe.specs.declared.probes.ProbeFault.TheVariants as Probes
 use Rattle.nor_call.specs.declared.refusal.Refusal.{Refusal}
 use Rattle.nor_call.specs.declared.refusal.Refusal.TheVariants.{NoChip, UnknownChip, OtherName, ImageSize, RegionOutside, NoProtection, UndefinedProtection, RangeNotOffered, StatusLocked, Protected, Vault, Stopped, Timeout, Mismatch, BadJournal, OtherChip, StatusDiffers, Memory, Output, OtherUnit}
 
 -- the number that messages show for an error
-abbrev pub number_of : Refusal → ℕ
-number_of NoChip = 1
-number_of (UnknownChip fault) = 2
-number_of OtherName = 3
-number_of (ImageSize chip image) = 4
-number_of RegionOutside = 5
-number_of NoProtection = 6
-number_of UndefinedProtection = 7
-number_of RangeNotOffered = 8
-number_of StatusLocked = 9
-number_of (Protected address) = 10
-number_of Vault = 11
-number_of Stopped = 12
-number_of (Timeout address) = 13
-number_of (Mismatch address) = 14
-number_of (BadJournal fault) = 15
-number_of OtherChip = 16
-number_of StatusDiffers = 17
-number_of Memory = 18
-number_of (Output written) = 19
-number_of OtherUnit = 20
+abbrev pub refusal_number : Refusal → ℕ
+refusal_number NoChip = 1
+refusal_number (UnknownChip fault) = 2
+refusal_number OtherName = 3
+refusal_number (ImageSize chip image) = 4
+refusal_number RegionOutside = 5
+refusal_number NoProtection = 6
+refusal_number UndefinedProtection = 7
+refusal_number RangeNotOffered = 8
+refusal_number StatusLocked = 9
+refusal_number (Protected address) = 10
+refusal_number Vault = 11
+refusal_number Stopped = 12
+refusal_number (Timeout address) = 13
+refusal_number (Mismatch address) = 14
+refusal_number (BadJournal fault) = 15
+refusal_number OtherChip = 16
+refusal_number StatusDiffers = 17
+refusal_number Memory = 18
+refusal_number (Output written) = 19
+refusal_number OtherUnit = 20
 
 -- the error of a call for a probe's fault; the address of a timeout is 0, because no command was sent before the wait
 abbrev pub of_probe : ProbeFault → Refusal
@@ -39,6 +39,6 @@ of_probe Probes.Stopped = Stopped
 of_probe Probes.Timeout = Timeout 0
 
 -- the error of a call for a wait that failed
-abbrev pub of_halt : Halt → Refusal
-of_halt Halts.Stopped = Stopped
-of_halt (Halts.Timeout address) = Timeout address
+abbrev pub of_operation : OperationError → Refusal
+of_operation OperationFails.Stopped = Stopped
+of_operation (OperationFails.Timeout address) = Timeout address

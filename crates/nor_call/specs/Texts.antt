@@ -2,8 +2,8 @@
 use Rattle.std.specs.Prelude.{ℕ, ◌-◌, false, List, [], ◌∷◌, ◌++◌, codes, decimal, length, replicate}
 use Rattle.std.specs.Fmt.{digits}
 use Rattle.std.specs.List.{concat}
-use Rattle.nor_journal.specs.Fault.{number_of_fault as journal_number}
-use Rattle.nor_probe.specs.Sfdp.{number_of_sfdp_fault as sfdp_number}
+use Rattle.nor_journal.specs.Fault.{journal_fault_number as journal_number}
+use Rattle.nor_probe.specs.Sfdp.{sfdp_fault_number as sfdp_number}
 use Rattle.nor_call.specs.declared.refusal.Refusal.{Refusal}
 use Rattle.nor_call.specs.declared.refusal.Refusal.TheVariants.{NoChip, UnknownChip, OtherName, ImageSize, RegionOutside, NoProtection, UndefinedProtection, RangeNotOffered, StatusLocked, Protected, Vault, Stopped, Timeout, Mismatch, BadJournal, OtherChip, StatusDiffers, Memory, Output, OtherUnit}
 

@@ -1,10 +1,10 @@
 //! The errors of calls.
 ghost use Rattle.std.specs.Prelude.{◌≡◌, ◌↔◌, IsTrue, Some};
 ghost use Rattle.nor_call.specs.declared.refusal.Refusal.TheVariants as Refusals;
-ghost use Rattle.nor_call.specs.Refusal.{of_probe, of_halt};
+ghost use Rattle.nor_call.specs.Refusal.{of_probe, of_operation};
 
 use nor_chip::Stopped;
-use nor_driver::Halt;
+use nor_driver::OperationError;
 use nor_journal::{JournalFault, VaultFault};
 use nor_probe::{ProbeFault, SfdpFault};
 use std::error::Error;
@@ -59,11 +59,11 @@ pub enum Refusal {
 }
 
 impl Refusal {
-    ghost use Rattle.nor_call.specs.Refusal.{number_of};
+    ghost use Rattle.nor_call.specs.Refusal.{refusal_number};
 
     /// Returns the error's number, which messages show: 1 to 20.
     pub fn number(self) -> u8
-        ensures { result ≡ number_of self }
+        ensures { result ≡ refusal_number self }
     {
         match self {
             Refusal::NoChip => 1,
@@ -148,13 +148,13 @@ impl From<ProbeFault> for Refusal {
     }
 }
 
-impl From<Halt> for Refusal {
-    ghost from_gives = { λ halt refusal. refusal ≡ of_halt halt };
+impl From<OperationError> for Refusal {
+    ghost from_gives = { λ halt refusal. refusal ≡ of_operation halt };
 
-    fn from(halt: Halt) -> Refusal {
+    fn from(halt: OperationError) -> Refusal {
         match halt {
-            Halt::Stopped => Refusal::Stopped,
-            Halt::Timeout { address } => Refusal::Timeout { address },
+            OperationError::Stopped => Refusal::Stopped,
+            OperationError::Timeout { address } => Refusal::Timeout { address },
         }
     }
 }

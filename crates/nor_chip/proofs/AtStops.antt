@@ -28,7 +28,7 @@ stops_at None None out old new reached steady torn lost worn = record {
   chip = inl (lost ∙ torn);
   worn = λ s. worn s ∙ sym (or-false (old.worn s));
   none = λ is. refl;
-  still = λ is. lost ∙ torn;
+  unsent = λ is. lost ∙ torn;
 }
 stops_at None (Some fill) out old new reached steady torn lost worn = record {
   count = 0;
@@ -38,7 +38,7 @@ stops_at None (Some fill) out old new reached steady torn lost worn = record {
   chip = inr (power_lost fill old.chip new.chip (subst (λ (c : Chip). PowerLostWith fill c new.chip) torn lost));
   worn = λ s. worn s ∙ sym (or-false (old.worn s));
   none = λ is. refl;
-  still = λ is. absurd (true≢false (sym is ∙ steady));
+  unsent = λ is. absurd (true≢false (sym is ∙ steady));
 }
 stops_at (Some count) None out old new reached steady torn lost worn = record {
   count = count;
@@ -48,7 +48,7 @@ stops_at (Some count) None out old new reached steady torn lost worn = record {
   chip = inl lost;
   worn = worn;
   none = λ is. absurd (true≢false (sym is ∙ steady));
-  still = λ is. absurd (true≢false (sym is ∙ steady));
+  unsent = λ is. absurd (true≢false (sym is ∙ steady));
 }
 stops_at (Some count) (Some fill) out old new reached steady torn lost worn = record {
   count = count;
@@ -58,7 +58,7 @@ stops_at (Some count) (Some fill) out old new reached steady torn lost worn = re
   chip = inr (power_lost fill reached new.chip lost);
   worn = worn;
   none = λ is. absurd (true≢false (sym is ∙ steady));
-  still = λ is. absurd (true≢false (sym is ∙ steady));
+  unsent = λ is. absurd (true≢false (sym is ∙ steady));
 }
 
 -- the record of what was sent does not affect a stop
@@ -72,5 +72,5 @@ stops_as out old new sent stop = record {
   chip = stop.chip;
   worn = stop.worn;
   none = stop.none;
-  still = stop.still;
+  unsent = stop.unsent;
 }

@@ -4,7 +4,7 @@ use Rattle.std.specs.Prelude.{Option, None, Some, IfSome, IfNone, Bool, not, ◌
 use Rattle.std.proofs.lemmas.Bool.{cases_order}
 use Rattle.std.proofs.lemmas.Bool.Decides.{nat_tests}
 use mathlib.Core.Bool.{beq}
-use Rattle.nor_chip.specs.Offer.{GuardsExactly, IsLeastCode, IsNotOffered}
+use Rattle.nor_chip.specs.Offer.{ProtectsExactly, IsLeastCode, IsNotOffered}
 
 -- two ranges have the same length and, unless they are empty, the same start
 pub record AreAlike (start len start' len' : ℕ) : Type 0 where
@@ -12,24 +12,24 @@ pub record AreAlike (start len start' len' : ℕ) : Type 0 where
   pub alike : (len' ≡ 0) ⊎ (start ≡ start')
 
 -- a code that protects exactly one range protects exactly another if and only if the two are alike
-pub guards-alike : (size code start len start' len' : ℕ) → GuardsExactly size code start len
-    → AreAlike start len start' len' → GuardsExactly size code start' len'
-guards-alike size code start len start' len' guards alike a =
-    (λ guarded. let here = (guards a).0 guarded in omega arith, λ within. (guards a).1 (omega arith))
+pub protects-alike : (size code start len start' len' : ℕ) → ProtectsExactly size code start len
+    → AreAlike start len start' len' → ProtectsExactly size code start' len'
+protects-alike size code start len start' len' protects alike a =
+    (λ guarded. let here = (protects a).0 guarded in omega arith, λ within. (protects a).1 (omega arith))
 
-pub alike-guards : (size code start len start' len' : ℕ) → GuardsExactly size code start len
-    → GuardsExactly size code start' len' → AreAlike start len start' len'
-alike-guards size code start len start' len' guards guards' =
-    let first = guards start in let first' = guards' start in
-    let last = guards (start + len - 1) in let last' = guards' (start + len - 1) in
-    let begin = guards start' in let begin' = guards' start' in
-    let end = guards (start' + len' - 1) in let end' = guards' (start' + len' - 1) in
+pub alike-protects : (size code start len start' len' : ℕ) → ProtectsExactly size code start len
+    → ProtectsExactly size code start' len' → AreAlike start len start' len'
+alike-protects size code start len start' len' protects protects' =
+    let first = protects start in let first' = protects' start in
+    let last = protects (start + len - 1) in let last' = protects' (start + len - 1) in
+    let begin = protects start' in let begin' = protects' start' in
+    let end = protects (start' + len' - 1) in let end' = protects' (start' + len' - 1) in
     grind (arith, first, first', last, last', begin, begin', end, end')
 
 -- If `code` protects a range and is the least code of some range, a search for the least code of the protected range
 -- finds `code`.
 pub least_found : (size code start len start' len' : ℕ) (found : Option ℕ) → IfSome found (IsLeastCode size start' len')
-    → IfNone found (IsNotOffered size start' len') → GuardsExactly size code start' len'
+    → IfNone found (IsNotOffered size start' len') → ProtectsExactly size code start' len'
     → IsLeastCode size start len code
     → found ≡ Some code
 least_found size code start len start' len' None least none there is_least = absurd (none code is_least.defined there)
@@ -37,8 +37,8 @@ least_found size code start len start' len' (Some other) least none there is_lea
     elim (cases_order other code) [
       | inl same ↦ ap Some same
       | inr (inl lower) ↦ absurd (is_least.least other lower least.defined
-          (guards-alike size other start' len' start len least.guards
-          (alike-guards size code start' len' start len there is_least.guards)))
+          (protects-alike size other start' len' start len least.protects
+          (alike-protects size code start' len' start len there is_least.protects)))
       | inr (inr above) ↦ absurd (least.least code above is_least.defined there)
     ]
 

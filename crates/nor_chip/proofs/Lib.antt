@@ -1,6 +1,6 @@
 pub mod AtStops
 pub mod Guarded
-pub mod GuardedPlaces
+pub mod ProtectedAddresses
 pub mod Kept
 pub mod LeastCodes
 pub mod Lines

@@ -6,7 +6,7 @@ use Rattle.nor_chip.specs.Chip.{Chip}
 use Rattle.nor_chip.specs.Power.{PowerLost}
 use Rattle.nor_chip.specs.declared.sent.Sent.{Sent}
 use Rattle.nor_chip.specs.Sent.{Notes}
-use Rattle.nor_chip.specs.Heard.{heard_after}
+use Rattle.nor_chip.specs.PolledReady.{polled_ready_after}
 use Rattle.nor_chip.specs.declared.bus.Stopped.{Stopped}
 use Rattle.nor_chip.specs.Step.{Step, done_of, wears}
 
@@ -26,7 +26,7 @@ pub record BusState : Type 0 where
   -- the bus takes transactions of any length
   pub unlimited : Bool
   -- the last poll that received a reply showed that the chip is ready
-  pub heard : Bool
+  pub polled_ready : Bool
 
 -- A bus is honest, steady or unlimited after a call if and only if it was so before the call. On an honest bus the
 -- chip's configuration stays the same: its ID, size, SFDP and all else that no command changes.
@@ -48,10 +48,10 @@ pub record Sends (out : List ℕ) (old new : BusState) : Type 0 where
   pub nature : KeepsNature old new
   pub sent : Notes out old.sent new.sent
 
--- The effect of a transaction on `heard`, on every bus. If the bus stopped, `heard` stays as it was.
-pub record Hears (out answer : List ℕ) (outcome : Result Unit Stopped) (old new : BusState) : Type 0 where
-  pub told : OnOk outcome (new.heard ≡ heard_after out answer old.heard)
-  pub stopped : OnErr outcome (new.heard ≡ old.heard)
+-- The effect of a transaction on `polled_ready`, on every bus. If the bus stopped, `polled_ready` stays as it was.
+pub record RecordsPoll (out answer : List ℕ) (outcome : Result Unit Stopped) (old new : BusState) : Type 0 where
+  pub returned : OnOk outcome (new.polled_ready ≡ polled_ready_after out answer old.polled_ready)
+  pub stopped : OnErr outcome (new.polled_ready ≡ old.polled_ready)
 
 -- The effect of a stop. The first `count` bytes of the transaction were sent (none, some or all). The bytes `read` of
 -- the reply were read and are lost: none, some or all, and the definition also allows more than were asked for. The
@@ -65,7 +65,7 @@ pub record AtStop (out : List ℕ) (old new : BusState) : Type 0 where
   pub chip : (new.chip ≡ reached) ⊎ PowerLost reached new.chip
   pub worn : (s : ℕ) → new.worn s ≡ (old.worn s || wears (done_of old.chip (take count out) (length read)) s)
   pub none : old.steady ≡ true → count ≡ 0
-  pub still : old.steady ≡ true → new.chip ≡ old.chip
+  pub unsent : old.steady ≡ true → new.chip ≡ old.chip
 
 -- The bus stopped, because it had no transaction left to carry out, and the chip is as a stop may leave it.
 pub record Stops (out : List ℕ) (old new : BusState) : Type 0 where
@@ -86,7 +86,7 @@ pub record Allows (n : ℕ) (old new : BusState) : Type 0 where
   pub left : old.honest ≡ true → new.left ≡ n
   pub nature : KeepsNature old new
   pub sent : new.sent ≡ old.sent
-  pub heard : new.heard ≡ old.heard
+  pub polled_ready : new.polled_ready ≡ old.polled_ready
   pub worn : (s : ℕ) → new.worn s ≡ old.worn s
 
 -- An arbitrary chip, for a bus about whose chip nothing is promised.
@@ -111,7 +111,7 @@ unknown_chip = record {
 -- The state of a bus to a chip outside the model: only the record of what was sent and the last poll are known. The bus
 -- isn't honest, so nothing is claimed about its chip.
 abbrev pub unknown_bus : Sent → Bool → BusState
-unknown_bus sent heard = record {
+unknown_bus sent polled_ready = record {
   chip = unknown_chip;
   left = 0;
   honest = false;
@@ -119,5 +119,5 @@ unknown_bus sent heard = record {
   worn = λ s. false;
   steady = false;
   unlimited = false;
-  heard = heard;
+  polled_ready = polled_ready;
 }

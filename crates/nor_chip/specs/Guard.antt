@@ -41,23 +41,23 @@ named_length size code =
     else 32768
 
 -- the address `a` is in the selected range, at the start of the chip or at its end
-abbrev pub is_place_named : (size code a : ℕ) → Bool
-is_place_named size code a =
+abbrev pub is_address_named : (size code a : ℕ) → Bool
+is_address_named size code a =
     if is_bottom code then nat_lt a (named_length size code) else nat_le (size - named_length size code) a
 
 -- True if the code protects the address `a` of a chip of this size: an address of the selected range, or with CMP any
 -- other address of the chip. An undefined code protects all addresses of the chip.
-unfoldable pub guarded_by : (size code a : ℕ) → Bool
-guarded_by size code a =
+unfoldable pub protected_by : (size code a : ℕ) → Bool
+protected_by size code a =
     nat_lt a size
     && (is_undefined code
-    || (if is_complement code then not (is_place_named size code a) else is_place_named size code a))
+    || (if is_complement code then not (is_address_named size code a) else is_address_named size code a))
 
 -- the address `a` of this chip is protected; on a chip without block protection none is
-abbrev pub is_guarded : Chip → (a : ℕ) → Bool
-is_guarded chip a = chip.config.scheme && guarded_by chip.config.size (code_of chip.kept) a
+abbrev pub is_protected : Chip → (a : ℕ) → Bool
+is_protected chip a = chip.config.scheme && protected_by chip.config.size (code_of chip.kept) a
 
 -- An address from `start` to `start + len - 1` is protected. Only the first and the last address are tested, because
 -- the protected addresses are at one end of the chip.
-abbrev pub is_unit_guarded : Chip → (start len : ℕ) → Bool
-is_unit_guarded chip start len = is_guarded chip start || is_guarded chip (start + len - 1)
+abbrev pub is_block_protected : Chip → (start len : ℕ) → Bool
+is_block_protected chip start len = is_protected chip start || is_protected chip (start + len - 1)

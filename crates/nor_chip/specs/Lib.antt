@@ -6,10 +6,10 @@ pub mod Guard
 pub mod Command
 pub mod Step
 pub mod Sent
-pub mod Heard
+pub mod PolledReady
 pub mod Bus
 pub mod Cells
-pub mod Aim
+pub mod TargetedSectors
 pub mod Flash
 pub mod Sim
 pub mod Start

@@ -13,7 +13,7 @@ next_code walk = walk.next
 
 -- The next range, with its least code. From the iterator's position up to that code, no other code is the least code of
 -- a range.
-pub record IsNextSet (old : Offered) (start len : ℕ) (new : Offered) : Type 0 where
+pub record IsNextRange (old : Offered) (start len : ℕ) (new : Offered) : Type 0 where
   pub code : ℕ
   pub not_passed : next_code old ≤ code
   pub least : IsLeastCode (size_of old) start len code
@@ -31,9 +31,9 @@ pub record IsAtEnd (old new : Offered) : Type 0 where
 
 -- The result of one call of `next`: the range of the first code, from the iterator's position on, that is the least
 -- code of a range; or `None` if no such code is left.
-abbrev pub GivesNextSet : Offered → Option (ℕ × ℕ) → Offered → Type 0
-GivesNextSet old (Some (start, len)) new = IsNextSet old start len new
-GivesNextSet old None new = IsAtEnd old new
+abbrev pub ReturnsNextRange : Offered → Option (ℕ × ℕ) → Offered → Type 0
+ReturnsNextRange old (Some (start, len)) new = IsNextRange old start len new
+ReturnsNextRange old None new = IsAtEnd old new
 
 -- the iterator at its start, for a chip of this size
 pub record IsStart (chip_size : ℕ) (walk : Offered) : Type 0 where

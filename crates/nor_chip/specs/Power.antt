@@ -44,8 +44,8 @@ pub record PowerLost (old new : Chip) : Type 0 where
   pub idle : old.busy ≡ 0 → IsSame old new
 
 -- a known operation is in progress, and works on the address `a`
-abbrev pub is_cut : Chip → ℕ → Bool
-is_cut chip a = not (chip.busy == 0) && is_known_running chip.running && is_in_work chip.running a
+abbrev pub is_interrupted : Chip → ℕ → Bool
+is_interrupted chip a = not (chip.busy == 0) && is_known_running chip.running && is_in_work chip.running a
 
 -- the non-volatile status bits: those from before the status write if `running` is one, otherwise the chip's
 abbrev pub kept_before : Chip → KeptBits
@@ -58,5 +58,5 @@ pub record PowerLostWith (fill : ℕ) (old new : Chip) : Type 0 where
   pub config : new.config ≡ old.config
   pub latch : new.latch ≡ false
   pub busy : new.busy ≡ 0
-  pub bytes : (a : ℕ) → new.bytes a ≡ (if is_cut old a then fill else old.bytes a)
+  pub bytes : (a : ℕ) → new.bytes a ≡ (if is_interrupted old a then fill else old.bytes a)
   pub kept : new.kept ≡ (if not (old.busy == 0) && fill % 2 == 0 then kept_before old else old.kept)

@@ -1,49 +1,49 @@
 -- The record of the transactions over a bus that may modify a chip. A transaction is recorded by the bytes that it
 -- sends, even if the chip ignores it. (W25Q64FV datasheet, instruction set table.)
 use Rattle.std.specs.Prelude.{◌≡◌, ◌+◌, ◌*◌, ◌/◌, ◌-◌, ◌^◌, ◌==◌, ◌&&◌, ◌||◌, not, ℕ, Bool, true, false, List, [], ◌∷◌, min, nat_le, nat_lt, slice_index_or, if◌then◌else◌}
-use Rattle.nor_chip.specs.declared.sent.Aim.{Aim}
+use Rattle.nor_chip.specs.declared.sent.TargetedSectors.{TargetedSectors}
 use Rattle.nor_chip.specs.declared.sent.Sent.{Sent}
 use Rattle.nor_chip.specs.Command.{begins_change, begins_quiet, is_change, is_erase_opcode}
 
--- all 4,096 sectors that a 24-bit address can lie in (`aim_all`), and no sector (`aim_none`)
-abbrev pub aim_all : Aim
-aim_all = record { first = 0; count = 4096 }
+-- all 4,096 sectors that a 24-bit address can lie in (`all_targeted`), and no sector (`none_targeted`)
+abbrev pub all_targeted : TargetedSectors
+all_targeted = record { first = 0; count = 4096 }
 
-abbrev pub aim_none : Aim
-aim_none = record { first = 0; count = 0 }
+abbrev pub none_targeted : TargetedSectors
+none_targeted = record { first = 0; count = 0 }
 
 -- the aligned block of `count` sectors that contains this sector
-abbrev pub aim_unit : (count sector : ℕ) → Aim
-aim_unit count sector = record { first = sector / count * count; count = count }
+abbrev pub block_targeted : (count sector : ℕ) → TargetedSectors
+block_targeted count sector = record { first = sector / count * count; count = count }
 
 -- the sectors that an opcode targets if it is sent without an address: all for C7h (chip erase), none for any other
 -- opcode
-abbrev pub bare_aim : (opcode : ℕ) → Aim
-bare_aim opcode = if opcode == 0xC7 then aim_all else aim_none
+abbrev pub bare_targeted : (opcode : ℕ) → TargetedSectors
+bare_targeted opcode = if opcode == 0xC7 then all_targeted else none_targeted
 
 -- the sectors that an opcode targets if it is sent with an address in this sector
-abbrev pub addressed_aim : (opcode sector : ℕ) → Aim
-addressed_aim opcode sector =
-    if opcode == 0x02 || opcode == 0x20 then aim_unit 1 sector
-    else if opcode == 0x52 then aim_unit 8 sector
-    else if opcode == 0xD8 then aim_unit 16 sector
-    else bare_aim opcode
+abbrev pub addressed_targeted : (opcode sector : ℕ) → TargetedSectors
+addressed_targeted opcode sector =
+    if opcode == 0x02 || opcode == 0x20 then block_targeted 1 sector
+    else if opcode == 0x52 then block_targeted 8 sector
+    else if opcode == 0xD8 then block_targeted 16 sector
+    else bare_targeted opcode
 
 -- the sectors that a transaction targets with an erase or a program, by the bytes `out` that it sends
-abbrev pub aim_of : (out : List ℕ) → Aim
-aim_of [] = aim_none
-aim_of (opcode ∷ []) = bare_aim opcode
-aim_of (opcode ∷ x ∷ []) = bare_aim opcode
-aim_of (opcode ∷ x ∷ y ∷ []) = bare_aim opcode
-aim_of (opcode ∷ x ∷ y ∷ z ∷ rest) = addressed_aim opcode ((65536 * x + 256 * y + z) / 4096)
+abbrev pub targeted_by : (out : List ℕ) → TargetedSectors
+targeted_by [] = none_targeted
+targeted_by (opcode ∷ []) = bare_targeted opcode
+targeted_by (opcode ∷ x ∷ []) = bare_targeted opcode
+targeted_by (opcode ∷ x ∷ y ∷ []) = bare_targeted opcode
+targeted_by (opcode ∷ x ∷ y ∷ z ∷ rest) = addressed_targeted opcode ((65536 * x + 256 * y + z) / 4096)
 
 -- true if the sector is one of these consecutive sectors
-abbrev pub is_in_aim : Aim → ℕ → Bool
-is_in_aim aim s = nat_le aim.first s && nat_lt s (aim.first + aim.count)
+abbrev pub is_in_targeted : TargetedSectors → ℕ → Bool
+is_in_targeted target_sectors s = nat_le target_sectors.first s && nat_lt s (target_sectors.first + target_sectors.count)
 
 -- true if a transaction that sends `out` targets the sector
-abbrev pub aims : (out : List ℕ) → ℕ → Bool
-aims out s = is_in_aim (aim_of out) s
+abbrev pub targets : (out : List ℕ) → ℕ → Bool
+targets out s = is_in_targeted (targeted_by out) s
 
 -- true if the transaction begins with the opcode of an erase (`begins_erase`), of a page program (`begins_program`), of
 -- a status write (`begins_status_write`)
@@ -67,8 +67,8 @@ writes_status _ one two = false
 -- True if the model does not know the transaction. The model knows each transaction with a quiet opcode, and each that
 -- has the form of a modifying command. A real chip may carry out others: 60h erases the chip, 31h writes status 2, and
 -- 01h with one byte clears status 2.
-abbrev pub is_strange_to_model : (out : List ℕ) → Bool
-is_strange_to_model out = not (begins_quiet out || is_change out)
+abbrev pub is_unknown_to_model : (out : List ℕ) → Bool
+is_unknown_to_model out = not (begins_quiet out || is_change out)
 
 -- ---- the record of these transactions
 
@@ -77,12 +77,12 @@ abbrev pub is_stirred : Sent → Bool
 is_stirred sent = sent.stirred
 
 -- true if a transaction was sent that the model does not know
-abbrev pub is_strange : Sent → Bool
-is_strange sent = sent.strange
+abbrev pub has_unknown : Sent → Bool
+has_unknown sent = sent.unknown
 
 -- true if the sector was targeted
-abbrev pub is_aimed_at : Sent → ℕ → Bool
-is_aimed_at sent s = slice_index_or sent.aimed s false
+abbrev pub is_targeted : Sent → ℕ → Bool
+is_targeted sent s = slice_index_or sent.targeted s false
 
 -- true if a status write with these two bytes was sent
 abbrev pub has_written : Sent → (one two : ℕ) → Bool
@@ -102,25 +102,25 @@ status_writes_of sent = sent.status_writes
 -- Nothing was sent that may modify a chip.
 pub record IsNothing (sent : Sent) : Type 0 where
   pub stirred : is_stirred sent ≡ false
-  pub strange : is_strange sent ≡ false
-  pub aimed : (s : ℕ) → is_aimed_at sent s ≡ false
+  pub unknown : has_unknown sent ≡ false
+  pub targeted : (s : ℕ) → is_targeted sent s ≡ false
   pub written : (one two : ℕ) → has_written sent one two ≡ false
   pub erases : erases_of sent ≡ 0
   pub programs : programs_of sent ≡ 0
   pub status_writes : status_writes_of sent ≡ 0
 
 -- `before`, plus one if `is` is true, but at most the greatest u64
-abbrev pub one_more : (is : Bool) → (before : ℕ) → ℕ
-one_more is before = if is then min (before + 1) (2 ^ 64 - 1) else before
+abbrev pub counted_once : (is : Bool) → (before : ℕ) → ℕ
+counted_once is before = if is then min (before + 1) (2 ^ 64 - 1) else before
 
 -- The effect on the record of a transaction that the bus sent, or was asked to send. If it sends nothing, or begins
 -- with a quiet opcode, the record stays as it was. Any other transaction is added to the record, by its bytes.
 pub record Notes (out : List ℕ) (old new : Sent) : Type 0 where
   pub quiet : begins_quiet out ≡ true → new ≡ old
   pub stirred : is_stirred new ≡ (is_stirred old || begins_change out)
-  pub strange : is_strange new ≡ (is_strange old || is_strange_to_model out)
-  pub aimed : (s : ℕ) → is_aimed_at new s ≡ (is_aimed_at old s || aims out s)
+  pub unknown : has_unknown new ≡ (has_unknown old || is_unknown_to_model out)
+  pub targeted : (s : ℕ) → is_targeted new s ≡ (is_targeted old s || targets out s)
   pub written : (one two : ℕ) → has_written new one two ≡ (has_written old one two || writes_status out one two)
-  pub erases : erases_of new ≡ one_more (begins_erase out) (erases_of old)
-  pub programs : programs_of new ≡ one_more (begins_program out) (programs_of old)
-  pub status_writes : status_writes_of new ≡ one_more (begins_status_write out) (status_writes_of old)
+  pub erases : erases_of new ≡ counted_once (begins_erase out) (erases_of old)
+  pub programs : programs_of new ≡ counted_once (begins_program out) (programs_of old)
+  pub status_writes : status_writes_of new ≡ counted_once (begins_status_write out) (status_writes_of old)

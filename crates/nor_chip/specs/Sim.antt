@@ -11,8 +11,8 @@ use Rattle.nor_chip.specs.Bus.{BusState}
 
 -- The state of a simulated bus. It is always honest, and takes transactions of any length. It is steady if neither
 -- `lose` nor `tear` set an effect of a stop.
-abbrev pub state_of : SimBus → BusState
-state_of bus = record {
+abbrev pub sim_state : SimBus → BusState
+sim_state bus = record {
   chip = chip_of bus.flash;
   left = bus.left;
   honest = true;
@@ -20,7 +20,7 @@ state_of bus = record {
   worn = λ s. slice_index_or bus.worn s false;
   steady = is_none bus.fill && is_none bus.torn;
   unlimited = true;
-  heard = bus.heard;
+  polled_ready = bus.polled_ready;
 }
 
 -- the fill that `lose` set: the effect of a power failure at a stop
@@ -53,7 +53,7 @@ pub record KeepsBus (old new : SimBus) : Type 0 where
   pub pace : pace_of new ≡ pace_of old
   pub left : new.left ≡ old.left
   pub sent : new.sent ≡ old.sent
-  pub heard : new.heard ≡ old.heard
+  pub polled_ready : new.polled_ready ≡ old.polled_ready
 
 -- the sectors that are recorded as erased after a stop
 abbrev pub WornTo : (torn : Option ℕ) → (out : List ℕ) → Chip → (old new : ℕ → Bool) → Type 0

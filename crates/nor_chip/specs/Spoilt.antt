@@ -5,23 +5,23 @@ use Rattle.nor_chip.specs.declared.spoilt.Spoil.{Spoil}
 use Rattle.nor_chip.specs.declared.spoilt.Spoil.TheVariants.{Fill, BusyFrom, Drop, Low}
 use Rattle.nor_chip.specs.declared.bus.Stopped.{Stopped}
 use Rattle.nor_chip.specs.declared.sent.Sent.{Sent}
-use Rattle.nor_chip.specs.Heard.{is_poll}
+use Rattle.nor_chip.specs.PolledReady.{is_poll}
 use Rattle.nor_chip.specs.Bus.{BusState, IsHonestFor, Stops, Carries}
 
--- the bus inside (`inner_of`), and the way in which the faulty bus fails (`spoil_of`)
-abbrev pub inner_of : {B : Type 0} → SpoiltBus B → B
-inner_of bus = bus.bus
+-- the bus inside (`bus_in`), and the way in which the faulty bus fails (`spoil_of`)
+abbrev pub bus_in : {B : Type 0} → SpoiltBus B → B
+bus_in bus = bus.bus
 
 abbrev pub spoil_of : {B : Type 0} → SpoiltBus B → Spoil
 spoil_of bus = bus.spoil
 
 -- the record of what was sent over the faulty bus (`noted_of`), and the number of transactions that succeeded
--- (`sent_of`)
+-- (`succeeded_of`)
 abbrev pub noted_of : {B : Type 0} → SpoiltBus B → Sent
 noted_of bus = bus.noted
 
-abbrev pub sent_of : {B : Type 0} → SpoiltBus B → ℕ
-sent_of bus = bus.sent
+abbrev pub succeeded_of : {B : Type 0} → SpoiltBus B → ℕ
+succeeded_of bus = bus.sent
 
 -- The state of a faulty bus. It isn't honest. It records each transaction that it is asked to send, even one that it
 -- drops, and the last poll by its own replies. All else is the state of the bus inside.
@@ -29,7 +29,7 @@ abbrev pub spoilt_state : {B : Type 0} → (B → BusState) → SpoiltBus B → 
 spoilt_state state bus = record (state bus.bus) {
   honest = false;
   sent = bus.noted;
-  heard = bus.heard;
+  polled_ready = bus.polled_ready;
 }
 
 -- If the bus drops the transaction that follows the first `sent` ones, the value of each of its reply bytes; otherwise
@@ -41,7 +41,7 @@ withheld (Drop number) sent = if sent + 1 == number then Some 255 else None
 withheld (Low bit) sent = None
 
 abbrev pub withheld_of : {B : Type 0} → SpoiltBus B → Option ℕ
-withheld_of bus = withheld (spoil_of bus) (sent_of bus)
+withheld_of bus = withheld (spoil_of bus) (succeeded_of bus)
 
 -- the reply byte that the bus returns in place of `byte`, in the transaction that follows the first `sent` ones
 abbrev pub spoilt_byte : Spoil → ℕ → List ℕ → ℕ → ℕ
@@ -76,9 +76,9 @@ GoesThrough byte_for out asked answer (Err stopped) old new =
 pub record Spoils {B : Type 0} (state : B → BusState) (out asked answer : List ℕ) (outcome : Result Unit Stopped)
     (old new : SpoiltBus B) : Type 0 where
   pub spoil : spoil_of new ≡ spoil_of old
-  pub counted : OnOk outcome (sent_of new ≡ min (sent_of old + 1) (2 ^ 64 - 1))
-  pub uncounted : OnErr outcome (sent_of new ≡ sent_of old)
-  pub withheld : IfSome (withheld_of old) (λ byte. IsWithheld byte asked answer outcome (inner_of old) (inner_of new))
+  pub counted : OnOk outcome (succeeded_of new ≡ min (succeeded_of old + 1) (2 ^ 64 - 1))
+  pub uncounted : OnErr outcome (succeeded_of new ≡ succeeded_of old)
+  pub withheld : IfSome (withheld_of old) (λ byte. IsWithheld byte asked answer outcome (bus_in old) (bus_in new))
   pub passed_on : IfNone (withheld_of old)
-      (GoesThrough (spoilt_byte (spoil_of old) (sent_of old) out) out asked answer outcome
-      (state (inner_of old)) (state (inner_of new)))
+      (GoesThrough (spoilt_byte (spoil_of old) (succeeded_of old) out) out asked answer outcome
+      (state (bus_in old)) (state (bus_in new)))

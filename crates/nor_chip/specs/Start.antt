@@ -23,7 +23,7 @@ pub record Starts (setup : Config) (image flags : List ℕ) (delays : Delays) (s
   pub sent : IsNothing state.sent
   pub worn : (s : ℕ) → state.worn s ≡ false
   pub steady : state.steady ≡ true
-  pub heard : state.heard ≡ false
+  pub polled_ready : state.polled_ready ≡ false
 
 -- the list has the bytes of the chip
 pub record AreChipBytes (chip : Chip) (bytes : List ℕ) : Type 0 where

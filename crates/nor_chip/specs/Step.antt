@@ -7,7 +7,7 @@ use Rattle.nor_chip.specs.declared.command.Command.TheVariants.{WriteEnable, Wri
 use Rattle.nor_chip.specs.declared.running.Running.{Running}
 use Rattle.nor_chip.specs.declared.running.Running.TheVariants as Runs
 use Rattle.nor_chip.specs.Chip.{Chip, KeptBits, status1_of, status2_of, is_locked, sfdp_byte}
-use Rattle.nor_chip.specs.Guard.{is_guarded, is_unit_guarded}
+use Rattle.nor_chip.specs.Guard.{is_protected, is_block_protected}
 use Rattle.nor_chip.specs.Command.{command_of}
 
 -- no operation is running
@@ -22,8 +22,8 @@ abbrev pub is_carried_out : Chip → Command → Bool
 is_carried_out chip Poll = true
 is_carried_out chip ReadStatus2 = true
 is_carried_out chip (WriteStatus one two) = is_idle chip && chip.latch && not (is_locked chip.kept)
-is_carried_out chip (Program at) = is_idle chip && chip.latch && not (is_guarded chip at)
-is_carried_out chip (Erase start len) = is_idle chip && chip.latch && not (is_unit_guarded chip start len)
+is_carried_out chip (Program at) = is_idle chip && chip.latch && not (is_protected chip at)
+is_carried_out chip (Erase start len) = is_idle chip && chip.latch && not (is_block_protected chip start len)
 is_carried_out chip Ignored = false
 is_carried_out chip _ = is_idle chip
 

@@ -16,15 +16,15 @@ abbrev pub has_lost : {B L : Type 0} → TraceBus B L → Bool
 has_lost traced = traced.lost
 
 -- the end of a line, for the bytes received: their hexadecimal digits, or their number if there are more than three
-abbrev pub told_of : List ℕ → List ℕ
-told_of answer =
+abbrev pub reply_digits : List ℕ → List ℕ
+reply_digits answer =
     if length answer == 0 then []
     else if nat_lt 3 (length answer) then codes " > " ++ decimal (length answer) ++ codes " bytes"
     else codes " > " ++ encode_lower answer
 
 -- the line of a transaction: the digits of the bytes sent, then the end for the bytes received
 abbrev pub traced_line : (out answer : List ℕ) → List ℕ
-traced_line out answer = encode_lower out ++ told_of answer ++ codes "\n"
+traced_line out answer = encode_lower out ++ reply_digits answer ++ codes "\n"
 
 -- The effect of a transaction on the log. At a stop the log is as it was. If the bus inside carried the transaction out
 -- and no line is lost, its line was appended to the log's contents, if these are known. A lost line stays recorded.

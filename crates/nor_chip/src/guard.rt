@@ -3,10 +3,10 @@
 ghost use Rattle.std.specs.Prelude.{◌≡◌, ◌≤◌, ◌<◌, ◌+◌, ◌-◌, ◌*◌, ◌/◌, ◌%◌, ◌==◌, ◌||◌, ◌↔◌, ℕ, true, false, if◌then◌else◌, IsTrue, IfSome, IfNone, MatchOption};
 ghost use Rattle.nor_chip.specs.Chip.{kept_in};
 ghost use Rattle.nor_chip.specs.Size.{is_chip_size};
-ghost use Rattle.nor_chip.specs.Guard.{guarded_by, is_place_named, named_length, is_bottom, names_sectors, is_complement, is_undefined, code_of};
+ghost use Rattle.nor_chip.specs.Guard.{protected_by, is_address_named, named_length, is_bottom, names_sectors, is_complement, is_undefined, code_of};
 ghost use Rattle.nor_chip.specs.Status.{bytes_of};
 ghost use Rattle.nor_chip.specs.Units.{LieAtAnEnd, HoldsSomewhere};
-ghost use Rattle.nor_chip.specs.Offer.{GuardsExactly, IsRangeOf, IsLeastCode, IsNotOffered};
+ghost use Rattle.nor_chip.specs.Offer.{ProtectsExactly, IsRangeOf, IsLeastCode, IsNotOffered};
 ghost use Rattle.nor_chip.specs.Offered.{IsStart};
 
 use crate::Status;
@@ -72,7 +72,7 @@ fn named_length(size: u32, code: u8) -> u32
 // True if the address is in the range that the code selects.
 fn is_named(size: u32, code: u8, at: u32) -> bool
     requires { 65536 ≤ size }
-    ensures { result ≡ is_place_named size code at }
+    ensures { result ≡ is_address_named size code at }
 {
     let length = named_length(size, code);
     if is_bottom(code) {
@@ -84,10 +84,10 @@ fn is_named(size: u32, code: u8, at: u32) -> bool
 
 // True if the code protects this address of a chip of this size. A code that the datasheets don't define protects every
 // address.
-#[tactic(auto, unfolding(crate::specs::Guard::guarded_by))]
-pub(crate) fn is_guarded(size: u32, code: u8, at: u32) -> bool
+#[tactic(auto, unfolding(crate::specs::Guard::protected_by))]
+pub(crate) fn is_protected(size: u32, code: u8, at: u32) -> bool
     requires { 65536 ≤ size }
-    ensures { result ≡ guarded_by size code at }
+    ensures { result ≡ protected_by size code at }
 {
     at < size && (is_undefined(code) || is_named(size, code, at) != is_complement(code))
 }
@@ -99,12 +99,12 @@ pub(crate) fn is_guarded(size: u32, code: u8, at: u32) -> bool
 /// ignores a program that begins there.
 pub fn protected(status: [u8; 2], size: u32, at: u32) -> bool
     requires { IsTrue (is_chip_size size) }
-    ensures value { result ≡ guarded_by size (code_of (kept_in status)) at }
-    ensures ends { LieAtAnEnd size (guarded_by size (code_of (kept_in status))) }
+    ensures value { result ≡ protected_by size (code_of (kept_in status)) at }
+    ensures ends { LieAtAnEnd size (protected_by size (code_of (kept_in status))) }
     ensures page { at < size
-        → (IsTrue result ↔ HoldsSomewhere (guarded_by size (code_of (kept_in status))) (at / 256 * 256) 256) }
+        → (IsTrue result ↔ HoldsSomewhere (protected_by size (code_of (kept_in status))) (at / 256 * 256) 256) }
 {
-    is_guarded(size, Status::of(status).code(), at)
+    is_protected(size, Status::of(status).code(), at)
 }
 
 /// Returns whether these two status bytes protect some address from `start` to `start + len - 1`, on a chip of this
@@ -118,14 +118,14 @@ pub fn unit_protected(status: [u8; 2], size: u32, start: u32, len: u32) -> bool
     requires some { 0 < len }
     requires inside { start + len ≤ size }
     ensures borders { result
-        ≡ (guarded_by size (code_of (kept_in status)) start || guarded_by size (code_of (kept_in status)) (start + len - 1)) }
-    ensures somewhere { IsTrue result ↔ HoldsSomewhere (guarded_by size (code_of (kept_in status))) start len }
+        ≡ (protected_by size (code_of (kept_in status)) start || protected_by size (code_of (kept_in status)) (start + len - 1)) }
+    ensures somewhere { IsTrue result ↔ HoldsSomewhere (protected_by size (code_of (kept_in status))) start len }
 {
     protected(status, size, start) || protected(status, size, start + len - 1)
 }
 
 // Returns the number of addresses that a defined code protects.
-fn guarded_length(size: u32, code: u8) -> u32
+fn protected_length(size: u32, code: u8) -> u32
     requires { 65536 ≤ size }
     ensures { result ≡ (if is_complement code then size - named_length size code else named_length size code) }
 {
@@ -147,13 +147,13 @@ fn start_of(size: u32, len: u32, is_first: bool) -> u32
 }
 
 // Returns the range that a defined code protects.
-fn places_of(size: u32, code: u8) -> Places
+fn addresses_of(size: u32, code: u8) -> Places
     requires sized { IsTrue (is_chip_size size) }
     requires defined { is_undefined code ≡ false }
-    ensures guards { GuardsExactly size code result.start result.len }
+    ensures protects { ProtectsExactly size code result.start result.len }
     ensures plain { result.len ≡ 0 → result.start ≡ 0 }
 {
-    let len = guarded_length(size, code);
+    let len = protected_length(size, code);
     let start = start_of(size, len, is_bottom(code) != is_complement(code));
     Places { start, len }
 }
@@ -161,7 +161,7 @@ fn places_of(size: u32, code: u8) -> Places
 /// Returns the range that this status protects on a chip of this size: its first address and its length, or two zeros
 /// if nothing is protected. Returns `None` if the datasheets don't define the status's protection bits; the model then
 /// protects every address. `size` must be a power of two from 65,536 to 16,777,216.
-pub fn guarded_range(status: Status, size: u32) -> Option<(u32, u32)>
+pub fn protected_range(status: Status, size: u32) -> Option<(u32, u32)>
     requires { IsTrue (is_chip_size size) }
     ensures { MatchOption result (is_undefined (code_of (kept_in (bytes_of status))) ≡ true)
         (λ places. IsRangeOf size (code_of (kept_in (bytes_of status))) places.0 places.1) }
@@ -170,17 +170,17 @@ pub fn guarded_range(status: Status, size: u32) -> Option<(u32, u32)>
     if is_undefined(code) {
         return None;
     }
-    let places = places_of(size, code);
+    let places = addresses_of(size, code);
     Some((places.start, places.len))
 }
 
 // True if a defined code protects exactly this range.
-fn guards_exactly(size: u32, code: u8, start: u32, len: u32) -> bool
+fn protects_exactly(size: u32, code: u8, start: u32, len: u32) -> bool
     requires sized { IsTrue (is_chip_size size) }
     requires defined { is_undefined code ≡ false }
-    ensures { (result ≡ true) ↔ GuardsExactly size code start len }
+    ensures { (result ≡ true) ↔ ProtectsExactly size code start len }
 {
-    let places = places_of(size, code);
+    let places = addresses_of(size, code);
     places.len == len && (len == 0 || places.start == start)
 }
 
@@ -194,7 +194,7 @@ pub fn code_for(start: u32, len: u32, size: u32) -> Option<u8>
     ensures none { IfNone result (IsNotOffered size start len) }
 {
     for code in 0..CODES {
-        if !is_undefined(code) && guards_exactly(size, code, start, len) {
+        if !is_undefined(code) && protects_exactly(size, code, start, len) {
             return Some(code);
         }
     }
@@ -212,7 +212,7 @@ fn least_at(size: u32, code: u8) -> Option<Places>
     if is_undefined(code) {
         return None;
     }
-    let places = places_of(size, code);
+    let places = addresses_of(size, code);
     if code_for(places.start, places.len, size) == Some(code) {
         Some(places)
     } else {

@@ -24,7 +24,7 @@
 //! - `guard/walk.rt`: an iterator over the ranges that can be protected
 //! - `running.rt`: the operation that a busy chip carries out
 //! - `sent.rt`: records which modifying commands were sent over a bus
-//! - `heard.rt`: records whether the last poll showed that the chip is ready
+//! - `polled_ready.rt`: records whether the last poll showed that the chip is ready
 //! - `sim.rt`: the simulated bus
 //! - `sim/flash.rt`: the modelled chip in memory
 //! - `sim/cells.rt`: reads, programs and fills plain slices
@@ -36,7 +36,7 @@ mod bus;
 mod command;
 mod config;
 mod guard;
-mod heard;
+mod polled_ready;
 mod running;
 mod sent;
 mod sim;
@@ -48,8 +48,8 @@ pub use bus::{Bus, Meter, Stopped};
 pub use command::{Command, is_changing};
 pub use config::{ALL_KINDS, Config, Kinds, MOST_SECTORS, SECTOR_LEN, TINY64_SFDP};
 pub use guard::walk::Offered;
-pub use guard::{code_for, guarded_range, offered, protected, unit_protected};
-pub use heard::heard_after;
+pub use guard::{code_for, protected_range, offered, protected, unit_protected};
+pub use polled_ready::polled_ready_after;
 pub use running::Running;
 pub use sent::Sent;
 pub use sim::{Delays, SimBus, WrongLength};

@@ -1,6 +1,6 @@
 //! Records the transactions over a bus that may modify a chip.
 ghost use Rattle.std.specs.Prelude.{◌≡◌, ◌<◌, ◌≤◌, ◌+◌, ◌||◌, ℕ, false, length, slice_index_or};
-ghost use Rattle.nor_chip.specs.Sent.{aim_of, bare_aim, addressed_aim, aim_unit, is_in_aim, has_written, writes_status, IsNothing, Notes};
+ghost use Rattle.nor_chip.specs.Sent.{targeted_by, bare_targeted, addressed_targeted, block_targeted, is_in_targeted, has_written, writes_status, IsNothing, Notes};
 
 use crate::command::{is_change, is_changing, is_quiet};
 use crate::{MOST_SECTORS, SECTOR_LEN};
@@ -12,8 +12,8 @@ use crate::{MOST_SECTORS, SECTOR_LEN};
 #[derive(Drop)]
 pub struct Sent {
     stirred: bool,
-    strange: bool,
-    aimed: [bool; MOST_SECTORS as usize],
+    unknown: bool,
+    targeted: [bool; MOST_SECTORS as usize],
     written: [bool; 65536],
     erases: u64,
     programs: u64,
@@ -27,8 +27,8 @@ impl Sent {
     {
         Sent {
             stirred: false,
-            strange: false,
-            aimed: [false; MOST_SECTORS as usize],
+            unknown: false,
+            targeted: [false; MOST_SECTORS as usize],
             written: [false; 65536],
             erases: 0,
             programs: 0,
@@ -44,8 +44,8 @@ impl Sent {
             return;
         }
         self.stirred |= is_changing(out);
-        self.strange |= !is_change(out);
-        mark(&mut self.aimed, Aim::of(out));
+        self.unknown |= !is_change(out);
+        mark(&mut self.targeted, TargetedSectors::of(out));
         match out {
             [0x01, ..] => {
                 self.status_writes = self.status_writes.saturating_add(1);
@@ -71,15 +71,15 @@ impl Sent {
 
 // Consecutive sectors: the first of them, and their number.
 #[derive(Clone, Copy)]
-struct Aim {
+struct TargetedSectors {
     first: usize,
     count: usize,
 }
 
-impl Aim {
+impl TargetedSectors {
     // Returns the sectors that a transaction that sends `out` targets.
-    fn of(out: &[u8]) -> Aim
-        ensures aim { result ≡ aim_of out.now }
+    fn of(out: &[u8]) -> TargetedSectors
+        ensures target_sectors { result ≡ targeted_by out.now }
         ensures within { result.first + result.count ≤ 4096 }
     {
         match out {
@@ -88,24 +88,24 @@ impl Aim {
                 Self::addressed(*opcode, (address / SECTOR_LEN) as usize)
             }
             [opcode, ..] => Self::bare(*opcode),
-            [] => Aim { first: 0, count: 0 },
+            [] => TargetedSectors { first: 0, count: 0 },
         }
     }
 
-    fn bare(opcode: u8) -> Aim
-        ensures aim { result ≡ bare_aim opcode }
+    fn bare(opcode: u8) -> TargetedSectors
+        ensures target_sectors { result ≡ bare_targeted opcode }
         ensures within { result.first + result.count ≤ 4096 }
     {
         let count = match opcode {
             0xC7 => MOST_SECTORS as usize,
             _ => 0,
         };
-        Aim { first: 0, count }
+        TargetedSectors { first: 0, count }
     }
 
-    fn addressed(opcode: u8, sector: usize) -> Aim
+    fn addressed(opcode: u8, sector: usize) -> TargetedSectors
         requires { sector < 4096 }
-        ensures aim { result ≡ addressed_aim opcode sector }
+        ensures target_sectors { result ≡ addressed_targeted opcode sector }
         ensures within { result.first + result.count ≤ 4096 }
     {
         match opcode {
@@ -116,12 +116,12 @@ impl Aim {
         }
     }
 
-    fn unit(count: usize, sector: usize) -> Aim
+    fn unit(count: usize, sector: usize) -> TargetedSectors
         requires some { 0 < count }
         requires below { sector < 4096 }
-        ensures { result ≡ aim_unit count sector }
+        ensures { result ≡ block_targeted count sector }
     {
-        Aim {
+        TargetedSectors {
             first: sector / count * count,
             count,
         }
@@ -129,10 +129,10 @@ impl Aim {
 }
 
 // Marks these sectors.
-fn mark(aimed: &mut [bool], aim: Aim)
-    requires length { length aimed.old ≡ 4096 }
-    requires within { aim.first + aim.count ≤ 4096 }
-    ensures { (s : ℕ) → slice_index_or aimed.new s false ≡ (slice_index_or aimed.old s false || is_in_aim aim s) }
+fn mark(targeted: &mut [bool], target_sectors: TargetedSectors)
+    requires length { length targeted.old ≡ 4096 }
+    requires within { target_sectors.first + target_sectors.count ≤ 4096 }
+    ensures { (s : ℕ) → slice_index_or targeted.new s false ≡ (slice_index_or targeted.old s false || is_in_targeted target_sectors s) }
 {
-    aimed[aim.first..aim.first + aim.count].fill(true);
+    targeted[target_sectors.first..target_sectors.first + target_sectors.count].fill(true);
 }

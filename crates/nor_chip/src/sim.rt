@@ -1,12 +1,12 @@
 //! A simulated bus: the modelled chip in memory.
 ghost use Rattle.std.specs.Prelude.{◌≡◌, ◌≢◌, ◌<◌, ◌||◌, ◌&&◌, ◌↔◌, ℕ, true, false, length, slice_index_or, vec_len};
 ghost use Rattle.std.specs.Prelude.{IsErr, IfOk, OnOk, OnErr};
-ghost use Rattle.nor_chip.specs.Aim.{IsAimed};
+ghost use Rattle.nor_chip.specs.TargetedSectors.{HasValidAddress};
 ghost use Rattle.nor_chip.specs.Step.{wears};
 
 use crate::{
     Bus, Command, Config, MOST_SECTORS, Meter, Running, SECTOR_LEN, Sent, Status, Status1, Stopped,
-    heard_after,
+    polled_ready_after,
 };
 use bitflags::Flags;
 use flash::Flash;
@@ -44,7 +44,7 @@ pub struct SimBus {
     torn: Option<u32>,
     sent: Sent,
     worn: [bool; MOST_SECTORS as usize],
-    heard: bool,
+    polled_ready: bool,
 }
 
 impl SimBus {
@@ -52,7 +52,7 @@ impl SimBus {
     ghost use Rattle.nor_chip.specs.Start.{Starts, AreChipBytes, status_of};
     ghost use Rattle.nor_chip.specs.Flash.{chip_of};
     ghost use Rattle.nor_chip.specs.Bus.{AtStop};
-    ghost use Rattle.nor_chip.specs.Sim.{state_of, fill_of, torn_of, pace_of, TornTo, WornTo, TearsOff, KeepsBus};
+    ghost use Rattle.nor_chip.specs.Sim.{sim_state, fill_of, torn_of, pace_of, TornTo, WornTo, TearsOff, KeepsBus};
 
     /// Returns a bus to a chip with this configuration, these contents and these two status bytes. BUSY (bit 0 of the
     /// first) and SUS (bit 7 of the second) are ignored. The bus carries out no transaction before `allow` is called.
@@ -91,7 +91,7 @@ impl SimBus {
             torn: None,
             sent,
             worn: [false; MOST_SECTORS as usize],
-            heard: false,
+            polled_ready: false,
         })
     }
 
@@ -142,7 +142,7 @@ impl SimBus {
     fn tear_off(&mut self, out: &[u8])
         ensures torn { TornTo (torn_of self.old) out.now (chip_of self.old.flash) (chip_of self.new.flash) }
         ensures worn { WornTo (torn_of self.old) out.now (chip_of self.old.flash)
-            (state_of self.old).worn (state_of self.new).worn }
+            (sim_state self.old).worn (sim_state self.new).worn }
         ensures bus { KeepsBus self.old self.new }
     {
         if let Some(count) = self.torn {
@@ -155,7 +155,7 @@ impl SimBus {
     // Performs a stop: sends the first bytes of the transaction, and makes the chip lose its power, if `tear` and
     // `lose` set that.
     fn cut(&mut self, out: &[u8])
-        ensures at_stop { AtStop out.now (state_of self.old) (state_of self.new) }
+        ensures at_stop { AtStop out.now (sim_state self.old) (sim_state self.new) }
         ensures torn_off { TearsOff (torn_of self.old) (fill_of self.old) out.now
             (chip_of self.old.flash) (chip_of self.new.flash) }
         ensures bus { KeepsBus self.old self.new }
@@ -168,10 +168,10 @@ impl SimBus {
 }
 
 impl Bus for SimBus {
-    ghost use Rattle.nor_chip.specs.Bus.{IsHonestFor, Sends, Stops, Carries, Hears};
-    ghost use Rattle.nor_chip.specs.Sim.{state_of, Simulates};
+    ghost use Rattle.nor_chip.specs.Bus.{IsHonestFor, Sends, Stops, Carries, RecordsPoll};
+    ghost use Rattle.nor_chip.specs.Sim.{sim_state, Simulates};
 
-    ghost state = { state_of };
+    ghost state = { sim_state };
 
     ghost reaches = { λ bus honest. record {
       busy = bus.flash.busy_in;
@@ -181,14 +181,14 @@ impl Bus for SimBus {
     } };
 
     fn transfer(&mut self, out: &[u8], reply: &mut [u8]) -> Result<(), Stopped>
-        ensures sends { Sends out.now (state_of self.old) (state_of self.new) }
-        ensures stops { IsHonestFor out.now (length reply.old) (state_of self.old)
-            → OnErr result (Stops out.now (state_of self.old) (state_of self.new)) }
-        ensures unread { IsHonestFor out.now (length reply.old) (state_of self.old)
+        ensures sends { Sends out.now (sim_state self.old) (sim_state self.new) }
+        ensures stops { IsHonestFor out.now (length reply.old) (sim_state self.old)
+            → OnErr result (Stops out.now (sim_state self.old) (sim_state self.new)) }
+        ensures unread { IsHonestFor out.now (length reply.old) (sim_state self.old)
             → OnErr result (reply.new ≡ reply.old) }
-        ensures carries { IsHonestFor out.now (length reply.old) (state_of self.old)
-            → OnOk result (Carries out.now reply.new (state_of self.old) (state_of self.new)) }
-        ensures hears { Hears out.now reply.new result (state_of self.old) (state_of self.new) }
+        ensures carries { IsHonestFor out.now (length reply.old) (sim_state self.old)
+            → OnOk result (Carries out.now reply.new (sim_state self.old) (sim_state self.new)) }
+        ensures records_poll { RecordsPoll out.now reply.new result (sim_state self.old) (sim_state self.new) }
         ensures simulates { Simulates out.now reply.new result self.old self.new }
     {
         self.sent.note(out);
@@ -199,17 +199,17 @@ impl Bus for SimBus {
         self.left -= 1;
         let command = self.flash.step(out, reply);
         wear(&mut self.worn, command);
-        self.heard = heard_after(out, reply, self.heard);
+        self.polled_ready = polled_ready_after(out, reply, self.polled_ready);
         Ok(())
     }
 }
 
 impl Meter for SimBus {
     ghost use Rattle.nor_chip.specs.Bus.{Allows};
-    ghost use Rattle.nor_chip.specs.Sim.{state_of, fill_of, torn_of, pace_of};
+    ghost use Rattle.nor_chip.specs.Sim.{sim_state, fill_of, torn_of, pace_of};
 
     fn allow(&mut self, n: u64)
-        ensures allows { Allows n (state_of self.old) (state_of self.new) }
+        ensures allows { Allows n (sim_state self.old) (sim_state self.new) }
         ensures fill { fill_of self.new ≡ fill_of self.old }
         ensures torn { torn_of self.new ≡ torn_of self.old }
         ensures pace { pace_of self.new ≡ pace_of self.old }
@@ -221,7 +221,7 @@ impl Meter for SimBus {
 // Marks the sectors that an erase covers.
 fn wear(worn: &mut [bool], command: Command)
     requires length { length worn.old ≡ 4096 }
-    requires aimed { IsAimed 16777216 command }
+    requires targeted { HasValidAddress 16777216 command }
     ensures { (s : ℕ) → slice_index_or worn.new s false ≡ (slice_index_or worn.old s false || wears command s) }
 {
     if let Command::Erase(start, len) = command {

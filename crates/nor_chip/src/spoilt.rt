@@ -3,10 +3,10 @@ ghost use Rattle.std.specs.Prelude.{◌≡◌, Bool, true, false, length, OnOk, 
 ghost use Rattle.std.proofs.Common.{subst};
 ghost use Rattle.nor_chip.specs.Chip.{IsChip};
 ghost use Rattle.nor_chip.specs.Sent.{IsNothing};
-ghost use Rattle.nor_chip.specs.Bus.{IsHonestFor, Sends, Stops, Carries, Hears, Allows};
-ghost use Rattle.nor_chip.specs.Spoilt.{inner_of, spoil_of, sent_of, noted_of, spoilt_state, withheld, spoilt_byte, Spoils};
+ghost use Rattle.nor_chip.specs.Bus.{IsHonestFor, Sends, Stops, Carries, RecordsPoll, Allows};
+ghost use Rattle.nor_chip.specs.Spoilt.{bus_in, spoil_of, succeeded_of, noted_of, spoilt_state, withheld, spoilt_byte, Spoils};
 
-use crate::{Bus, Meter, Sent, Stopped, heard_after};
+use crate::{Bus, Meter, Sent, Stopped, polled_ready_after};
 
 /// The way in which a faulty bus fails. Its transactions are counted from 1.
 #[derive(Clone, Copy, Debug, PartialEq, Eq)]
@@ -29,19 +29,19 @@ pub struct SpoiltBus<B> {
     spoil: Spoil,
     sent: u64,
     noted: Sent,
-    heard: bool,
+    polled_ready: bool,
 }
 
 impl<B: Bus> SpoiltBus<B> {
     /// Returns a bus that applies `spoil` to the transactions of `inner`.
     pub fn new(inner: B, spoil: Spoil) -> SpoiltBus<B>
-        ensures inner { inner_of result ≡ inner }
+        ensures inner { bus_in result ≡ inner }
         ensures spoil { spoil_of result ≡ spoil }
-        ensures sent { sent_of result ≡ 0 }
+        ensures sent { succeeded_of result ≡ 0 }
         ensures state { ⟦<SpoiltBus<B> as Bus>⟧.state result ≡ record (B.state inner) {
           honest = false;
           sent = noted_of result;
-          heard = false;
+          polled_ready = false;
         } }
         ensures nothing { IsNothing (noted_of result) }
     {
@@ -50,28 +50,28 @@ impl<B: Bus> SpoiltBus<B> {
             spoil,
             sent: 0,
             noted: Sent::new(),
-            heard: false,
+            polled_ready: false,
         }
     }
 
     /// Returns the number of transactions that succeeded so far, whether they were carried out or dropped. A
     /// transaction at which the bus inside stops isn't counted. The number stays at the greatest `u64`.
     pub fn sent(&self) -> u64
-        ensures { result ≡ sent_of self.now }
+        ensures { result ≡ succeeded_of self.now }
     {
         self.sent
     }
 
     /// Returns the bus inside, in its present state.
     pub fn into_inner(self) -> B
-        ensures { result ≡ inner_of self }
+        ensures { result ≡ bus_in self }
     {
         let SpoiltBus {
             bus,
             spoil: _,
             sent: _,
             noted: _,
-            heard: _,
+            polled_ready: _,
         } = self;
         bus
     }
@@ -91,7 +91,7 @@ impl<B: Bus> Bus for SpoiltBus<B> {
             → OnErr result (reply.new ≡ reply.old) }
         ensures carries { IsHonestFor out.now (length reply.old) (spoilt_state B.state self.old)
             → OnOk result (Carries out.now reply.new (spoilt_state B.state self.old) (spoilt_state B.state self.new)) }
-        ensures hears { Hears out.now reply.new result (spoilt_state B.state self.old) (spoilt_state B.state self.new) }
+        ensures records_poll { RecordsPoll out.now reply.new result (spoilt_state B.state self.old) (spoilt_state B.state self.new) }
         ensures spoils { Spoils B.state out.now reply.old reply.new result self.old self.new }
     {
         self.noted.note(out);
@@ -103,7 +103,7 @@ impl<B: Bus> Bus for SpoiltBus<B> {
             }
         }
         self.sent = self.sent.saturating_add(1);
-        self.heard = heard_after(out, reply, self.heard);
+        self.polled_ready = polled_ready_after(out, reply, self.polled_ready);
         Ok(())
     }
 }
@@ -111,9 +111,9 @@ impl<B: Bus> Bus for SpoiltBus<B> {
 impl<B: Meter> Meter for SpoiltBus<B> {
     fn allow(&mut self, n: u64)
         ensures allows { Allows n (spoilt_state B.state self.old) (spoilt_state B.state self.new) }
-        ensures inner { Allows n (B.state (inner_of self.old)) (B.state (inner_of self.new)) }
+        ensures inner { Allows n (B.state (bus_in self.old)) (B.state (bus_in self.new)) }
         ensures spoil { spoil_of self.new ≡ spoil_of self.old }
-        ensures sent { sent_of self.new ≡ sent_of self.old }
+        ensures sent { succeeded_of self.new ≡ succeeded_of self.old }
     {
         self.bus.allow(n);
     }

@@ -2,7 +2,7 @@
 ghost use Rattle.std.specs.Prelude.{◌≡◌, true, false, length, OnOk, OnErr};
 ghost use Rattle.std.specs.Io.KnownBytes.{Appends, Keeps};
 ghost use Rattle.hex.specs.Hex.{encode_lower};
-ghost use Rattle.nor_chip.specs.Bus.{IsHonestFor, Sends, Stops, Carries, Hears, Allows};
+ghost use Rattle.nor_chip.specs.Bus.{IsHonestFor, Sends, Stops, Carries, RecordsPoll, Allows};
 ghost use Rattle.nor_chip.specs.Trace.{traced_by, log_of, has_lost, traced_line, Traces};
 
 use crate::{Bus, Meter, Stopped};
@@ -86,7 +86,7 @@ impl<B: Bus, L: Write> Bus for TraceBus<B, L> {
             → OnErr result (reply.new ≡ reply.old) }
         ensures carries { IsHonestFor out.now (length reply.old) (B.state (traced_by self.old))
             → OnOk result (Carries out.now reply.new (B.state (traced_by self.old)) (B.state (traced_by self.new))) }
-        ensures hears { Hears out.now reply.new result (B.state (traced_by self.old)) (B.state (traced_by self.new)) }
+        ensures records_poll { RecordsPoll out.now reply.new result (B.state (traced_by self.old)) (B.state (traced_by self.new)) }
         ensures traces { Traces L.contents out.now reply.new result self.old self.new }
     {
         self.bus.transfer(out, reply)?;

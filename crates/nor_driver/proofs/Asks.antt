@@ -5,9 +5,9 @@ use Rattle.std.proofs.lemmas.Bool.Decides.{nat_tests}
 use Rattle.nor_chip.specs.declared.config.Config.{Config}
 use Rattle.nor_chip.specs.declared.command.Command.TheVariants.{Program, Ignored}
 use Rattle.nor_chip.specs.Command.{address_of, command_of}
-use Rattle.nor_chip.specs.Sent.{is_strange_to_model}
-use Rattle.nor_driver.specs.declared.units.EraseUnit.{EraseUnit}
-use Rattle.nor_driver.specs.declared.units.EraseUnit.TheVariants as Units
+use Rattle.nor_chip.specs.Sent.{is_unknown_to_model}
+use Rattle.nor_driver.specs.declared.units.EraseBlock.{EraseBlock}
+use Rattle.nor_driver.specs.declared.units.EraseBlock.TheVariants as Units
 use Rattle.nor_driver.specs.Operations.{is_operation_or_none, IsCommandAt, AsksForOperation}
 use Rattle.nor_driver.proofs.Erasing.{erase_bytes}
 
@@ -46,7 +46,7 @@ program_begun config x y z (byte ∷ rest) (suc (suc (suc (suc (suc n))))) zero 
 program_begun config x y z (byte ∷ rest) (suc (suc (suc (suc (suc n))))) (suc replies) =
     inl (unread config x y z byte (take n rest) replies)
 
-program_known : (x y z : ℕ) (sent : List ℕ) → 0 < length sent → is_strange_to_model (2 ∷ x ∷ y ∷ z ∷ sent) ≡ false
+program_known : (x y z : ℕ) (sent : List ℕ) → 0 < length sent → is_unknown_to_model (2 ∷ x ∷ y ∷ z ∷ sent) ≡ false
 program_known x y z [] some = absurd (omega (arith, some))
 program_known x y z (byte ∷ rest) some = refl
 
@@ -61,12 +61,12 @@ asks_program at sent command some few sends = rw sends.4 record {
 
 -- ---- an erase
 
-erase_whole : (unit : EraseUnit) (config : Config) (x y z : ℕ)
+erase_whole : (unit : EraseBlock) (config : Config) (x y z : ℕ)
     → is_operation_or_none (command_of config (erase_bytes unit x y z) 0) ≡ true
 erase_whole Units.Chip config x y z = refl
 erase_whole _ config x y z = grind arith
 
-erase_begun : (unit : EraseUnit) (config : Config) (x y z count replies : ℕ)
+erase_begun : (unit : EraseBlock) (config : Config) (x y z count replies : ℕ)
     → AsksAlike config (erase_bytes unit x y z) count replies
 erase_begun Units.Chip config x y z zero replies = inl refl
 erase_begun Units.Chip config x y z (suc n) zero = inr (rw (take-nil {A = ℕ} n) refl)
@@ -80,15 +80,15 @@ erase_begun _ config x y z (suc (suc (suc (suc n)))) zero = inr (rw (take-nil {A
 erase_begun _ config x y z (suc (suc (suc (suc n)))) (suc replies) =
     inl (rw (take-nil {A = ℕ} n) (grind (arith, nat_tests)))
 
-erase_short : (unit : EraseUnit) (x y z : ℕ) → length (erase_bytes unit x y z) ≤ 260
+erase_short : (unit : EraseBlock) (x y z : ℕ) → length (erase_bytes unit x y z) ≤ 260
 erase_short Units.Chip x y z = omega arith
 erase_short _ x y z = omega arith
 
-erase_known : (unit : EraseUnit) (x y z : ℕ) → is_strange_to_model (erase_bytes unit x y z) ≡ false
+erase_known : (unit : EraseBlock) (x y z : ℕ) → is_unknown_to_model (erase_bytes unit x y z) ≡ false
 erase_known Units.Chip x y z = refl
 erase_known _ x y z = grind arith
 
-pub asks_erase : (unit : EraseUnit) (x y z : ℕ) (command : List ℕ) → command ≡ erase_bytes unit x y z
+pub asks_erase : (unit : EraseBlock) (x y z : ℕ) (command : List ℕ) → command ≡ erase_bytes unit x y z
     → AsksForOperation command
 asks_erase unit x y z command is = rw is record {
   known = erase_known unit x y z;

@@ -10,7 +10,7 @@ use Rattle.nor_chip.specs.Power.{is_in_work, KeptCut}
 use Rattle.nor_chip.specs.Step.{Does, is_carried_out, is_idle, is_operation, done_of, byte_after, kept_after, running_after}
 use Rattle.nor_chip.specs.Bus.{BusState, Carries}
 use Rattle.nor_chip.proofs.Steps.{done-agrees}
-use Rattle.nor_driver.specs.Looks.{Unchanged, Stays}
+use Rattle.nor_driver.specs.OnlyReads.{Unchanged, KeepsChip}
 use Rattle.nor_driver.specs.Waits.{HasWaited, latch_when_idle}
 use Rattle.nor_driver.specs.Operations.{operation_of, AsksForOperation, MayOperate, HasOperated}
 use Rattle.nor_driver.proofs.Readings.{Wore, no_operation}
@@ -85,17 +85,17 @@ kept-cut : (command : Command) (old : Chip) (begun new : KeptBits) → is_operat
 kept-cut command old begun new is kept cut = grind arith
 
 -- a call that began no operation satisfies `MayOperate`
-pub may-before : (command : Command) (sent : List ℕ) (old new : BusState) → old.chip.busy ≡ 0 → Stays old new
+pub may-before : (command : Command) (sent : List ℕ) (old new : BusState) → old.chip.busy ≡ 0 → KeepsChip old new
     → MayOperate command sent old new
-may-before command sent old new idle stays = grind (arith, stays.calm (inr idle))
+may-before command sent old new idle stays = grind (arith, stays.steady_or_idle (inr idle))
 
 -- a call that began the operation, and then only waited, satisfies `MayOperate`
 pub may-after : (command : Command) (sent : List ℕ) (old begun new : BusState) → is_operation command ≡ true
-    → begun.steady ≡ old.steady → HasBegun command sent old begun → Stays begun new → MayOperate command sent old new
+    → begun.steady ≡ old.steady → HasBegun command sent old begun → KeepsChip begun new → MayOperate command sent old new
 may-after command sent old begun new is steady has stays =
     let outside = outside-work old.chip command sent in
     let kept = kept-cut command old.chip begun.chip.kept new.chip.kept is has.kept in
-    grind (arith, stays.calm, has.bytes, stays.bytes, outside, stays.worn, has.worn, or-false, kept)
+    grind (arith, stays.steady_or_idle, has.bytes, stays.bytes, outside, stays.worn, has.worn, or-false, kept)
 
 -- on a bus that is not steady, `MayOperate` says nothing about the bytes that the command works on
 pub may-shaky : (command : Command) (sent part : List ℕ) (old new : BusState) → old.steady ≡ false

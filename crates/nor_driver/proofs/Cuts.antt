@@ -4,7 +4,7 @@ use Rattle.nor_chip.specs.declared.running.Running.{Running}
 use Rattle.nor_chip.specs.Chip.{Chip, IsSame, KeptBits}
 use Rattle.nor_chip.specs.Power.{KeptCut}
 use Rattle.nor_chip.specs.Bus.{BusState}
-use Rattle.nor_driver.specs.Looks.{Unchanged, Stays}
+use Rattle.nor_driver.specs.OnlyReads.{Unchanged, KeepsChip}
 
 -- non-volatile bits that are as they were satisfy `KeptCut`
 pub kept_cut-stay : (running : Running) (old new : KeptBits) → new ≡ old → KeptCut running old new
@@ -24,18 +24,18 @@ unchanged_none bus = search arith
 pub unchanged_then : (old mid new : BusState) → Unchanged old mid → Unchanged mid new → Unchanged old new
 unchanged_then old mid new first second = grind arith
 
-pub unchanged_stays : (old new : BusState) → Unchanged old new → Stays old new
+pub unchanged_stays : (old new : BusState) → Unchanged old new → KeepsChip old new
 unchanged_stays old new unchanged =
     let same = unchanged.same in
     let kept = kept_cut-stay old.chip.running old.chip.kept new.chip.kept same.kept in
     search same.bytes
 
--- if two successive calls satisfy `Stays`, both together satisfy it
-pub stays_then : (old mid new : BusState) → mid.steady ≡ old.steady → Stays old mid → Stays mid new → Stays old new
+-- if two successive calls satisfy `KeepsChip`, both together satisfy it
+pub stays_then : (old mid new : BusState) → mid.steady ≡ old.steady → KeepsChip old mid → KeepsChip mid new → KeepsChip old new
 stays_then old mid new steady first second =
     let cut = cut_again old.chip.running old.chip.kept mid.chip.kept new.chip.kept first.kept in
     let stay = kept_cut-stay old.chip.running mid.chip.kept new.chip.kept in
-    grind (arith, first.calm, second.calm, first.bytes, second.bytes, first.worn, second.worn, cut, stay)
+    grind (arith, first.steady_or_idle, second.steady_or_idle, first.bytes, second.bytes, first.worn, second.worn, cut, stay)
 
-pub stays_after : (old mid new : BusState) → mid.steady ≡ old.steady → Unchanged old mid → Stays mid new → Stays old new
+pub stays_after : (old mid new : BusState) → mid.steady ≡ old.steady → Unchanged old mid → KeepsChip mid new → KeepsChip old new
 stays_after old mid new steady first second = stays_then old mid new steady (unchanged_stays old mid first) second

@@ -7,34 +7,34 @@ use Rattle.nor_chip.specs.declared.config.Config.{Config}
 use Rattle.nor_chip.specs.declared.command.Command.{Command}
 use Rattle.nor_chip.specs.declared.command.Command.TheVariants as Commands
 use Rattle.nor_chip.specs.Chip.{Chip}
-use Rattle.nor_chip.specs.Guard.{is_unit_guarded}
+use Rattle.nor_chip.specs.Guard.{is_block_protected}
 use Rattle.nor_chip.specs.Command.{address_of}
 use Rattle.nor_chip.specs.Step.{is_idle, is_carried_out}
-use Rattle.nor_chip.specs.Sent.{aims, writes_status, begins_erase, begins_program, begins_status_write}
+use Rattle.nor_chip.specs.Sent.{targets, writes_status, begins_erase, begins_program, begins_status_write}
 use Rattle.nor_chip.specs.Bus.{BusState}
 use Rattle.nor_chip.proofs.Sizes.{sized_bounds}
 use Rattle.nor_driver.specs.declared.units.Erase.{Erase}
-use Rattle.nor_driver.specs.declared.units.EraseUnit.{EraseUnit}
-use Rattle.nor_driver.specs.declared.units.EraseUnit.TheVariants as Units
-use Rattle.nor_driver.specs.Units.{opcode_of, sectors_in, has_unit}
+use Rattle.nor_driver.specs.declared.units.EraseBlock.{EraseBlock}
+use Rattle.nor_driver.specs.declared.units.EraseBlock.TheVariants as Units
+use Rattle.nor_driver.specs.Units.{opcode_of, sectors_in, has_block}
 use Rattle.nor_driver.specs.Limits.{limits_of, erasing}
 use Rattle.nor_driver.specs.Operations.{operation_of, MayOperate, HasOperated, LeavesOperation, Operates}
-use Rattle.nor_driver.specs.Erases.{sectors_of, unit_length, IsOnChip, takes_erase, is_sector_in_unit, is_place_in_unit, is_sector_named, MayErase, HasErased, LeavesErase, Erases}
+use Rattle.nor_driver.specs.Erases.{sectors_of, block_length, IsOnChip, takes_erase, is_sector_in_block, is_address_in_block, is_sector_named, MayErase, HasErased, LeavesErase, Erases}
 use Rattle.nor_driver.proofs.Limits.{IsPartOf, stirs_more}
 use Rattle.nor_driver.proofs.Programming.{same_address}
 use Rattle.nor_driver.proofs.Taken.{may_taken, has_taken, may_refused, has_refused}
 
 -- the bytes that are sent to erase a block: the opcode, and three address bytes except for the whole chip
-abbrev pub erase_bytes : EraseUnit → ℕ → ℕ → ℕ → List ℕ
+abbrev pub erase_bytes : EraseBlock → ℕ → ℕ → ℕ → List ℕ
 erase_bytes Units.Chip x y z = 0xC7 ∷ []
 erase_bytes unit x y z = opcode_of unit ∷ x ∷ y ∷ z ∷ []
 
-plain : (unit : EraseUnit) (x y z : ℕ) → drop 4 (erase_bytes unit x y z) ≡ []
+plain : (unit : EraseBlock) (x y z : ℕ) → drop 4 (erase_bytes unit x y z) ≡ []
 plain Units.Chip x y z = refl
 plain _ x y z = refl
 
 -- the bytes of an erase count as one erase, no page program and no status write
-one_erase : (unit : EraseUnit) (x y z : ℕ)
+one_erase : (unit : EraseBlock) (x y z : ℕ)
     → (begins_erase (erase_bytes unit x y z) ≡ true) × (begins_program (erase_bytes unit x y z) ≡ false)
     × (begins_status_write (erase_bytes unit x y z) ≡ false)
 one_erase Units.Chip x y z = (refl, refl, refl)
@@ -42,21 +42,21 @@ one_erase Units.Sector x y z = (refl, refl, refl)
 one_erase Units.Block32 x y z = (refl, refl, refl)
 one_erase Units.Block64 x y z = (refl, refl, refl)
 
-no_status_in : (unit : EraseUnit) (x y z one two : ℕ) → writes_status (erase_bytes unit x y z) one two ≡ false
+no_status_in : (unit : EraseBlock) (x y z one two : ℕ) → writes_status (erase_bytes unit x y z) one two ≡ false
 no_status_in Units.Chip x y z one two = refl
 no_status_in _ x y z one two = refl
 
-pub chip_bytes : (unit : EraseUnit) (opcode x y z : ℕ) → opcode ≡ opcode_of unit → unit ≡ Units.Chip
+pub chip_bytes : (unit : EraseBlock) (opcode x y z : ℕ) → opcode ≡ opcode_of unit → unit ≡ Units.Chip
     → opcode ∷ [] ≡ erase_bytes unit x y z
 chip_bytes unit opcode x y z same is = cc
 
-pub other_bytes : (unit : EraseUnit) (opcode x y z : ℕ) → opcode ≡ opcode_of unit → (unit ≡ Units.Chip → ⊥)
+pub other_bytes : (unit : EraseBlock) (opcode x y z : ℕ) → opcode ≡ opcode_of unit → (unit ≡ Units.Chip → ⊥)
     → opcode ∷ x ∷ y ∷ z ∷ [] ≡ erase_bytes unit x y z
 other_bytes unit opcode x y z same other = grind arith
 
 -- the bytes target only the block that the erase names
-named : (unit : EraseUnit) (sector x y z : ℕ) → 65536 * x + 256 * y + z ≡ 4096 * sector → sector < 4096
-    → (s : ℕ) → aims (erase_bytes unit x y z) s ≡ true
+named : (unit : EraseBlock) (sector x y z : ℕ) → 65536 * x + 256 * y + z ≡ 4096 * sector → sector < 4096
+    → (s : ℕ) → targets (erase_bytes unit x y z) s ≡ true
     → is_sector_named (record { unit = unit; sector = sector }) s ≡ true
 named unit sector x y z names below s is =
     let same : (65536 * x + 256 * y + z) / 4096 ≡ sector = omega (arith, names) in
@@ -67,7 +67,7 @@ named unit sector x y z names below s is =
 erased_where : (chip : Chip) (has : Bool) (start start' len len' : ℕ) → start ≡ start' → len ≡ len'
     → (let command = cond has (Commands.Erase start len) Commands.Ignored in
     cond (is_carried_out (record chip { latch = true }) command) command Commands.Ignored)
-    ≡ cond (is_idle chip && has && not (is_unit_guarded chip start' len')) (Commands.Erase start' len') Commands.Ignored
+    ≡ cond (is_idle chip && has && not (is_block_protected chip start' len')) (Commands.Erase start' len') Commands.Ignored
 erased_where chip has start start' len len' same long = grind (arith, and-false)
 
 -- the first address of an aligned block stays the same if it is rounded down to a multiple of the block's length
@@ -78,17 +78,17 @@ unit_start config x y z sector len names below aligned =
     rw (same_address config x y z (4096 * sector) names below) aligned
 
 -- an erase command with a block's first address erases that block, if the chip accepts it
-erase_command : (chip : Chip) (unit : EraseUnit) (sector x y z : ℕ) → 65536 * x + 256 * y + z ≡ 4096 * sector
+erase_command : (chip : Chip) (unit : EraseBlock) (sector x y z : ℕ) → 65536 * x + 256 * y + z ≡ 4096 * sector
     → (let erase : Erase = record { unit = unit; sector = sector } in IsOnChip erase chip
     → operation_of chip (erase_bytes unit x y z)
-    ≡ cond (takes_erase chip erase) (Commands.Erase (4096 * sector) (unit_length chip erase)) Commands.Ignored)
+    ≡ cond (takes_erase chip erase) (Commands.Erase (4096 * sector) (block_length chip erase)) Commands.Ignored)
 erase_command chip Units.Chip sector x y z names on =
     let first : sector ≡ 0 = eqb-true sector 0 on.aligned in let blocks = (sized_bounds chip.config).blocks in
     erased_where chip true 0 (4096 * sector) chip.config.size (4096 * (chip.config.size / 4096))
     (omega arith) (omega arith)
 erase_command chip unit sector x y z names on =
     let within = on.within in let aligned = on.aligned in let len = 4096 * sectors_in (sectors_of chip) unit in
-    erased_where chip (has_unit chip.config unit) _ (4096 * sector) len len
+    erased_where chip (has_block chip.config unit) _ (4096 * sector) len len
     (unit_start chip.config x y z sector len names (omega arith) (omega (arith, eqb-true))) refl
 
 -- an address is in a range of whole sectors if and only if its sector is one of these sectors
@@ -99,16 +99,16 @@ in_unit sector n a = grind (arith, nat_tests)
 module _ (erase : Erase) (old new : BusState) where
   -- the command that the chip carries out for this erase
   abbrev does : Command
-  does = Commands.Erase (4096 * erase.sector) (unit_length old.chip erase)
+  does = Commands.Erase (4096 * erase.sector) (block_length old.chip erase)
 
   -- the addresses that the command erases are those of the erase block (`place`), and so are the sectors (`sector`)
-  place : (a : ℕ) → (nat_le (4096 * erase.sector) a && nat_lt a (4096 * erase.sector + unit_length old.chip erase))
-      ≡ is_place_in_unit erase old.chip a
+  place : (a : ℕ) → (nat_le (4096 * erase.sector) a && nat_lt a (4096 * erase.sector + block_length old.chip erase))
+      ≡ is_address_in_block erase old.chip a
   place a = in_unit erase.sector (sectors_in (sectors_of old.chip) erase.unit) a
 
   sector : (s : ℕ) → (nat_le (4096 * erase.sector) (4096 * s)
-      && nat_lt (4096 * s) (4096 * erase.sector + unit_length old.chip erase)) ≡ is_sector_in_unit erase old.chip s
-  sector s = place (4096 * s) ∙ ap (is_sector_in_unit erase old.chip) (omega arith)
+      && nat_lt (4096 * s) (4096 * erase.sector + block_length old.chip erase)) ≡ is_sector_in_block erase old.chip s
+  sector s = place (4096 * s) ∙ ap (is_sector_in_block erase old.chip) (omega arith)
 
   may_erase : MayOperate does [] old new → MayErase erase old new
   may_erase may = grind (arith, place, sector)

@@ -8,7 +8,7 @@ use Rattle.nor_chip.specs.Step.{Does, is_operation, done_of}
 use Rattle.nor_chip.specs.Bus.{BusState, IsHonestFor, Sends, AtStop, Stops, Carries}
 use Rattle.nor_chip.proofs.Nature.{nature_then}
 use Rattle.nor_driver.specs.declared.waits.Waited.{Waited}
-use Rattle.nor_driver.specs.Looks.{Unchanged, Stays, Falls, Looks}
+use Rattle.nor_driver.specs.OnlyReads.{Unchanged, KeepsChip, Falls, OnlyReads}
 use Rattle.nor_driver.specs.Waits.{Waits}
 use Rattle.nor_driver.specs.Reads.{HasRead}
 use Rattle.nor_driver.specs.Limits.{limits_of, Stirs}
@@ -22,7 +22,7 @@ use Rattle.nor_driver.proofs.Begun.{IsEnabled, enabled, then_done, part_done, op
 module _ (out : List ℕ) (asks : AsksForOperation out) (old : BusState) where
   -- an exit at which the command wasn't carried out
   not_begun : (new : BusState) → Stirs (limits_of out) old new
-      → (old.honest ≡ true → Falls most_operation old new) → (old.honest ≡ true → Stays old new)
+      → (old.honest ≡ true → Falls most_operation old new) → (old.honest ≡ true → KeepsChip old new)
       → LeavesOperation out old new
   not_begun new stirs falls stays =
       search (may-before (operation_of old.chip out) (drop 4 out) old new, idle-takes old.chip out asks, stays)
@@ -52,8 +52,8 @@ module _ (out : List ℕ) (asks : AsksForOperation out) (old : BusState) where
     enabling : old.honest ≡ true → IsEnabled old ready
     enabling honest = enabled old ready first none (carries (enable_fits old honest))
 
-    honest-still : old.honest ≡ true → ready.honest ≡ true
-    honest-still honest = sends.nature.honest ∙ honest
+    honest-unsent : old.honest ≡ true → ready.honest ≡ true
+    honest-unsent honest = sends.nature.honest ∙ honest
 
     -- an exit at the command: the limits of what was sent hold
     stirs-by : (new : BusState) → Sends out ready new → Stirs (limits_of out) old new
@@ -68,7 +68,7 @@ module _ (out : List ℕ) (asks : AsksForOperation out) (old : BusState) where
     -- If the bus stopped at the command, the bytes that were sent asked for no operation, or for the command's
     -- operation.
     module _ (honest : old.honest ≡ true) (new : BusState) where
-      stays-before : Stays ready new → Stays old new
+      stays-before : KeepsChip ready new → KeepsChip old new
       stays-before stays = stays_after old ready new sends.nature.steady (enabling honest).unchanged stays
 
       module _ (shaky : ready.steady ≡ false) (cut : AtStop out ready new) where
@@ -93,7 +93,7 @@ module _ (out : List ℕ) (asks : AsksForOperation out) (old : BusState) where
               (reached_stays out ready new shaky cut))
         ]
 
-        stays-cut : is_operation (operation_of old.chip out) ≡ false → Stays old new
+        stays-cut : is_operation (operation_of old.chip out) ≡ false → KeepsChip old new
         stays-cut none = stays-before (none_begun out ready new shaky cut
             (elim (part_done out old ready cut.count (length cut.read) asks (enabling honest)) [
               | inl nothing ↦ ap is_operation nothing
@@ -103,22 +103,22 @@ module _ (out : List ℕ) (asks : AsksForOperation out) (old : BusState) where
       may-at_stop : is_operation (operation_of old.chip out) ≡ true
           → StandsStill ready new ⊎ ((ready.steady ≡ false) × AtStop out ready new)
           → MayOperate (operation_of old.chip out) (drop 4 out) old new
-      may-at_stop is (inl still) =
-          may-before _ _ old new (idle-takes old.chip out asks is) (stays-before (still_stays ready new still))
+      may-at_stop is (inl unsent) =
+          may-before _ _ old new (idle-takes old.chip out asks is) (stays-before (still_stays ready new unsent))
       may-at_stop is (inr cut) = may-cut cut.0 cut.1 is
 
       stays-at_stop : is_operation (operation_of old.chip out) ≡ false
-          → StandsStill ready new ⊎ ((ready.steady ≡ false) × AtStop out ready new) → Stays old new
-      stays-at_stop none (inl still) = stays-before (still_stays ready new still)
+          → StandsStill ready new ⊎ ((ready.steady ≡ false) × AtStop out ready new) → KeepsChip old new
+      stays-at_stop none (inl unsent) = stays-before (still_stays ready new unsent)
       stays-at_stop none (inr cut) = stays-cut cut.0 cut.1 none
 
     pub leaves-at_command : (new : BusState) → Sends out ready new → (IsHonestFor out 0 ready → Stops out ready new)
         → LeavesOperation out old new
     leaves-at_command new sends' stops = record {
       stirs = stirs-by new sends';
-      falls = λ honest. omega (arith, (enabling honest).count, (stops (command_fits ready (honest-still honest))).left);
-      reached = λ honest is. may-at_stop honest new is (still_or_torn out ready new (stops (command_fits ready (honest-still honest))).at_stop);
-      ignored = λ honest none. stays-at_stop honest new none (still_or_torn out ready new (stops (command_fits ready (honest-still honest))).at_stop);
+      falls = λ honest. omega (arith, (enabling honest).count, (stops (command_fits ready (honest-unsent honest))).left);
+      reached = λ honest is. may-at_stop honest new is (still_or_torn out ready new (stops (command_fits ready (honest-unsent honest))).at_stop);
+      ignored = λ honest none. stays-at_stop honest new none (still_or_torn out ready new (stops (command_fits ready (honest-unsent honest))).at_stop);
     }
 
     module _ (begun : BusState) (second : List ℕ) (none' : length second ≡ 0) (sends' : Sends out ready begun)
@@ -128,7 +128,7 @@ module _ (out : List ℕ) (asks : AsksForOperation out) (old : BusState) where
           ap (λ (n : ℕ). done_of ready.chip out n) none' ∙ then_done out old ready asks (enabling honest)
 
       carried : old.honest ≡ true → Carries out second ready begun
-      carried honest = carries' (command_fits ready (honest-still honest))
+      carried honest = carries' (command_fits ready (honest-unsent honest))
 
       stirs : Stirs (limits_of out) old begun
       stirs = stirs-by begun sends'
@@ -148,21 +148,21 @@ module _ (out : List ℕ) (asks : AsksForOperation out) (old : BusState) where
       unchanged honest is =
           unchanged_then old ready begun (enabling honest).unchanged (was-read honest is).rested.unchanged
 
-      pub leaves-at_wait : (new : BusState) → Looks 65536 begun new → LeavesOperation out old new
-      leaves-at_wait new looks =
-          let nature = nature_then old begun new looks.nature stirs.nature in
-          let looked = λ (honest : old.honest ≡ true). looks.looked (stirs.nature.honest ∙ honest) in
+      pub leaves-at_wait : (new : BusState) → OnlyReads 65536 begun new → LeavesOperation out old new
+      leaves-at_wait new only_reads =
+          let nature = nature_then old begun new only_reads.nature stirs.nature in
+          let honest_reads = λ (honest : old.honest ≡ true). only_reads.honest_reads (stirs.nature.honest ∙ honest) in
           record {
             stirs = record {
               nature = nature;
-              stirred = ap is_stirred looks.sent ∙ stirs.stirred;
-              sends = sends_same (limits_of out) old begun new looks.sent stirs.sends;
+              stirred = ap is_stirred only_reads.sent ∙ stirs.stirred;
+              sends = sends_same (limits_of out) old begun new only_reads.sent stirs.sends;
             };
-            falls = λ honest. omega (arith, (looked honest).falls, (enabling honest).count, (carried honest).left);
+            falls = λ honest. omega (arith, (honest_reads honest).falls, (enabling honest).count, (carried honest).left);
             reached = λ honest is.
-                may-after _ _ old begun new is stirs.nature.steady (has-begun honest is) (looked honest).stays;
+                may-after _ _ old begun new is stirs.nature.steady (has-begun honest is) (honest_reads honest).stays;
             ignored = λ honest is.
-                stays_after old begun new stirs.nature.steady (unchanged honest is) (looked honest).stays;
+                stays_after old begun new stirs.nature.steady (unchanged honest is) (honest_reads honest).stays;
           }
 
       pub operates-with : (new : BusState) (waited : Waited) → new.sent ≡ begun.sent → Waits begun new waited
@@ -170,7 +170,7 @@ module _ (out : List ℕ) (asks : AsksForOperation out) (old : BusState) where
       operates-with new waited same waits =
           let wait = λ (honest : old.honest ≡ true). waits.done (stirs.nature.honest ∙ honest) in
           record {
-            ends = grind (arith, waits.some, waits.few, waits.heard, wait, enabling, carried);
+            ends = grind (arith, waits.some, waits.few, waits.polled_ready, wait, enabling, carried);
             sends = exactly_same same (command_exactly out old ready begun sends sends');
             done = λ honest is. operated _ _ old begun new waited (has-begun honest is) (wait honest);
             ignored = λ honest is.

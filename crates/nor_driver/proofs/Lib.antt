@@ -1,7 +1,7 @@
 pub mod Limits
 pub mod Asks
 pub mod Cuts
-pub mod LooksInTurn
+pub mod ReadsInTurn
 pub mod Readings
 pub mod RestsInTurn
 pub mod Told

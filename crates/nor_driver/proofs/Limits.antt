@@ -2,7 +2,7 @@
 use Rattle.std.proofs.Common.{◌≡◌, ◌≤◌, ◌+◌, ℕ, Bool, true, false, cond, List, [], ◌∷◌, ap, arith, refl, ◌∙◌}
 use Rattle.std.proofs.lemmas.Bool.Decides.{nat_tests}
 use Rattle.std.proofs.Math.Bool.{or-false}
-use Rattle.nor_chip.specs.Sent.{aim_none, is_in_aim, begins_erase, begins_program, begins_status_write, is_stirred, is_strange_to_model, erases_of, programs_of, status_writes_of, one_more}
+use Rattle.nor_chip.specs.Sent.{none_targeted, is_in_targeted, begins_erase, begins_program, begins_status_write, is_stirred, is_unknown_to_model, erases_of, programs_of, status_writes_of, counted_once}
 use Rattle.nor_chip.specs.Bus.{BusState, Sends}
 use Rattle.nor_driver.specs.Limits.{Limits, limits_of, SendsWithin, SendsExactly, CountsUp, Stirs}
 
@@ -50,17 +50,17 @@ sends_none limits old new same = grind arith
 
 pub sends_more : (less more : Limits) (old new : BusState) → IsPartOf less more → SendsWithin less old new
     → SendsWithin more old new
-sends_more less more old new part sends = grind (arith, sends.aimed, sends.written, part.sectors, part.status)
+sends_more less more old new part sends = grind (arith, sends.targeted, sends.written, part.sectors, part.status)
 
 pub sends_then : (first second all : Limits) (old mid new : BusState) → AreParts first second all
     → SendsWithin first old mid → SendsWithin second mid new → SendsWithin all old new
 sends_then first second all old mid new parts before after =
-    grind (arith, before.aimed, after.aimed, before.written, after.written, parts.sectors, parts.sectors', parts.status, parts.status')
+    grind (arith, before.targeted, after.targeted, before.written, after.written, parts.sectors, parts.sectors', parts.status, parts.status')
 
 -- limits are still kept if nothing that may modify a chip is sent afterwards
 pub sends_same : (limits : Limits) (old mid new : BusState) → new.sent ≡ mid.sent → SendsWithin limits old mid
     → SendsWithin limits old new
-sends_same limits old mid new same sends = grind (arith, sends.aimed, sends.written)
+sends_same limits old mid new same sends = grind (arith, sends.targeted, sends.written)
 
 -- ---- exact numbers
 
@@ -101,34 +101,34 @@ pub sends_exactly : {limits : Limits} {e p w : ℕ} {old new : BusState} → Sen
     → SendsExactly e p w old new
     → SendsWithin (record limits { erases = e; programs = p; status_writes = w }) old new
 sends_exactly sends exactly = record {
-  aimed = sends.aimed;
+  targeted = sends.targeted;
   written = sends.written;
   erases = exactly.erased.most;
   programs = exactly.programmed.most;
   status_writes = exactly.wrote_status.most;
-  strange = sends.strange;
+  unknown = sends.unknown;
 }
 
 -- ---- one transaction
 
-counts_most : (is : Bool) (before after : ℕ) → after ≡ one_more is before → after ≤ before + cond is 1 0
+counts_most : (is : Bool) (before after : ℕ) → after ≡ counted_once is before → after ≤ before + cond is 1 0
 counts_most true before after same = grind arith
 counts_most false before after same = omega arith
 
-counts_up : (is : Bool) (before after : ℕ) → after ≡ one_more is before → CountsUp (cond is 1 0) before after
+counts_up : (is : Bool) (before after : ℕ) → after ≡ counted_once is before → CountsUp (cond is 1 0) before after
 counts_up true before after same = grind arith
 counts_up false before after same = omega arith
 
-pub sends_one : (out : List ℕ) (old new : BusState) → is_strange_to_model out ≡ false → Sends out old new
+pub sends_one : (out : List ℕ) (old new : BusState) → is_unknown_to_model out ≡ false → Sends out old new
     → SendsWithin (limits_of out) old new
 sends_one out old new known sends = record {
-  aimed = grind (arith, sends.sent.aimed, or-false);
+  targeted = grind (arith, sends.sent.targeted, or-false);
   written = grind (arith, sends.sent.written, or-false);
   erases = counts_most (begins_erase out) (erases_of old.sent) (erases_of new.sent) sends.sent.erases;
   programs = counts_most (begins_program out) (programs_of old.sent) (programs_of new.sent) sends.sent.programs;
   status_writes = counts_most (begins_status_write out) (status_writes_of old.sent) (status_writes_of new.sent)
       sends.sent.status_writes;
-  strange = grind (arith, or-false, sends.sent.strange);
+  unknown = grind (arith, or-false, sends.sent.unknown);
 }
 
 pub exactly_one : (out : List ℕ) (old new : BusState) → Sends out old new
@@ -142,7 +142,7 @@ exactly_one out old new sends = record {
 
 -- ---- an operation: write enable, which targets nothing, and then a command
 
-pub in_none : (s : ℕ) → is_in_aim aim_none s ≡ true → ⊥
+pub in_none : (s : ℕ) → is_in_targeted none_targeted s ≡ true → ⊥
 in_none s is = grind (arith, nat_tests)
 
 enable_part : (limits : Limits) → IsPartOf (limits_of (6 ∷ [])) limits
@@ -158,7 +158,7 @@ pub enable_sends : (limits : Limits) (old new : BusState) → Sends (6 ∷ []) o
 enable_sends limits old new sends =
     sends_more (limits_of (6 ∷ [])) limits old new (enable_part limits) (sends_one (6 ∷ []) old new refl sends)
 
-pub command_sends : (out : List ℕ) (old ready new : BusState) → is_strange_to_model out ≡ false
+pub command_sends : (out : List ℕ) (old ready new : BusState) → is_unknown_to_model out ≡ false
     → Sends (6 ∷ []) old ready → Sends out ready new → SendsWithin (limits_of out) old new
 command_sends out old ready new known enables sends =
     sends_then (limits_of (6 ∷ [])) (limits_of out) (limits_of out) old ready new (record {

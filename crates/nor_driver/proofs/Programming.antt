@@ -52,7 +52,7 @@ module _ (at : ℕ) (sent command : List ℕ) (sends : IsCommandAt 0x02 at sent 
 
   is_programming : IsPartOf (limits_of command) (programming (is_sector_of at) 1)
   is_programming = rw sends.4 record {
-    sectors = rw sends.3 (λ s aimed. aimed);
+    sectors = rw sends.3 (λ s targeted. targeted);
     status = λ one two is. is;
     erases = omega arith;
     programs = omega arith;

@@ -7,10 +7,10 @@ use Rattle.nor_chip.specs.declared.command.Command.{Command}
 use Rattle.nor_chip.specs.declared.command.Command.TheVariants.{Ignored}
 use Rattle.nor_chip.specs.Chip.{Chip}
 use Rattle.nor_chip.specs.Step.{Does, is_operation, done_of}
-use Rattle.nor_chip.specs.Bus.{BusState, IsHonestFor, Sends, Stops, Carries, Hears}
-use Rattle.nor_chip.specs.Heard.{is_poll}
+use Rattle.nor_chip.specs.Bus.{BusState, IsHonestFor, Sends, Stops, Carries, RecordsPoll}
+use Rattle.nor_chip.specs.PolledReady.{is_poll}
 use Rattle.nor_chip.specs.declared.bus.Stopped.{Stopped}
-use Rattle.nor_driver.specs.Looks.{Rested, LooksHonest, Looks}
+use Rattle.nor_driver.specs.OnlyReads.{Rested, OnlyReadsHonest, OnlyReads}
 use Rattle.nor_driver.specs.Reads.{changes_nothing, IsReading, HasRead, Replies}
 use Rattle.nor_driver.proofs.Cuts.{stays_then, unchanged_none, unchanged_then, unchanged_stays}
 pub use Rattle.nor_driver.proofs.Torn.{Wore, no_operation}
@@ -39,18 +39,18 @@ pub carried_ignored : (out answer : List ℕ) (old new : BusState) → done_of o
     → Carries out answer old new → HasRead old new
 carried_ignored out answer old new ignored carries = carried_by out answer old new (ap changes_nothing ignored) carries
 
--- the relation for reads that succeeded (`Rested`) implies the one for every exit (`LooksHonest`)
-pub looked_by : (old new : BusState) (most : ℕ) → Rested old new → old.left ≡ new.left + most → LooksHonest most old new
+-- the relation for reads that succeeded (`Rested`) implies the one for every exit (`OnlyReadsHonest`)
+pub looked_by : (old new : BusState) (most : ℕ) → Rested old new → old.left ≡ new.left + most → OnlyReadsHonest most old new
 looked_by old new most rested count = search (arith, unchanged_stays old new rested.unchanged)
 
--- two successive calls that only read satisfy `LooksHonest` together, with the sum of their bounds
-pub looked_then : (m n : ℕ) (old mid new : BusState) → mid.steady ≡ old.steady → LooksHonest m old mid
-    → LooksHonest n mid new → LooksHonest (m + n) old new
+-- two successive calls that only read satisfy `OnlyReadsHonest` together, with the sum of their bounds
+pub looked_then : (m n : ℕ) (old mid new : BusState) → mid.steady ≡ old.steady → OnlyReadsHonest m old mid
+    → OnlyReadsHonest n mid new → OnlyReadsHonest (m + n) old new
 looked_then m n old mid new steady first second =
     grind (arith, stays_then old mid new steady first.stays second.stays)
 
-pub looked_more : (old new : BusState) (m n : ℕ) → m ≤ n → LooksHonest m old new → LooksHonest n old new
-looked_more old new m n fits looked = search arith
+pub looked_more : (old new : BusState) (m n : ℕ) → m ≤ n → OnlyReadsHonest m old new → OnlyReadsHonest n old new
+looked_more old new m n fits honest_reads = search arith
 
 pub rested_then : (old mid new : BusState) → Rested old mid → Rested mid new → Rested old new
 rested_then old mid new first second = grind (arith, unchanged_then old mid new first.unchanged second.unchanged)
@@ -59,7 +59,7 @@ pub rested_none : (bus : BusState) → Rested bus bus
 rested_none bus = search (unchanged_none bus)
 
 looked_at : {T E : Type 0} (outcome : Result T E) (out answer : List ℕ) (old new : BusState) → IsReading out
-    → OnErr outcome (Stops out old new) → OnOk outcome (Carries out answer old new) → LooksHonest 1 old new
+    → OnErr outcome (Stops out old new) → OnOk outcome (Carries out answer old new) → OnlyReadsHonest 1 old new
 looked_at (Ok done) out answer old new is stops carries =
     let read = carried_reading out answer old new is carries in
     looked_by old new 1 read.rested read.count
@@ -74,14 +74,14 @@ pub read_fits : (out asked : List ℕ) (bus : BusState) → IsReading out → le
     → IsHonestFor out (length asked) bus
 read_fits out asked bus is short honest = record { honest = honest; fits = inr (is.short, short) }
 
--- at every exit of one transaction that reads, `Looks` holds with a bound of one transaction
+-- at every exit of one transaction that reads, `OnlyReads` holds with a bound of one transaction
 pub read_leaves : {T E : Type 0} (outcome : Result T E) (out answer : List ℕ) (old new : BusState) → IsReading out
     → Sends out old new → (old.honest ≡ true → OnErr outcome (Stops out old new))
-    → (old.honest ≡ true → OnOk outcome (Carries out answer old new)) → Looks 1 old new
+    → (old.honest ≡ true → OnOk outcome (Carries out answer old new)) → OnlyReads 1 old new
 read_leaves outcome out answer old new is sends stops carries = record {
   nature = sends.nature;
   sent = sends.sent.quiet is.quiet;
-  looked = λ honest. looked_at outcome out answer old new is (stops honest) (carries honest);
+  honest_reads = λ honest. looked_at outcome out answer old new is (stops honest) (carries honest);
 }
 
 pub read_does : {T E : Type 0} (outcome : Result T E) (out answer : List ℕ) (old new : BusState) → IsReading out
@@ -96,8 +96,8 @@ no_poll config (opcode ∷ []) is = elim (eqb_tells opcode 5) [
 ]
 no_poll config _ is = refl
 
--- a transaction that reads leaves `heard` as it was
+-- a transaction that reads leaves `polled_ready` as it was
 pub read_heard : (outcome : Result Unit Stopped) (out answer : List ℕ) (old new : BusState) → IsReading out
-    → Hears out answer outcome old new → new.heard ≡ old.heard
-read_heard outcome out answer old new is hears =
-    grind (arith, no_poll old.chip.config out is, hears.told, hears.stopped)
+    → RecordsPoll out answer outcome old new → new.polled_ready ≡ old.polled_ready
+read_heard outcome out answer old new is records_poll =
+    grind (arith, no_poll old.chip.config out is, records_poll.returned, records_poll.stopped)

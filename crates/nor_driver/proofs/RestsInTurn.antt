@@ -2,10 +2,10 @@
 use Rattle.std.proofs.Common.{◌≡◌, ◌<◌, ◌≤◌, ◌+◌, ℕ, true, arith}
 use Rattle.nor_chip.specs.Bus.{BusState, KeepsNature}
 use Rattle.nor_chip.proofs.Nature.{nature_refl, nature_then}
-use Rattle.nor_driver.specs.Looks.{Rested, Looks, RanOutIfHonest}
+use Rattle.nor_driver.specs.OnlyReads.{Rested, OnlyReads, RanOutIfHonest}
 use Rattle.nor_driver.specs.Ready.{StaysReady}
 use Rattle.nor_driver.specs.Reads.{HasRead}
-use Rattle.nor_driver.proofs.LooksInTurn.{looks_then, looks_more}
+use Rattle.nor_driver.proofs.ReadsInTurn.{looks_then, looks_more}
 use Rattle.nor_driver.proofs.Readings.{looked_by}
 pub use Rattle.nor_driver.proofs.Readings.{rested_none, rested_then}
 
@@ -13,27 +13,27 @@ pub use Rattle.nor_driver.proofs.Readings.{rested_none, rested_then}
 pub record HasLooked (reads : ℕ) (old new : BusState) : Type 0 where
   pub nature : KeepsNature old new
   pub same_sent : new.sent ≡ old.sent
-  pub heard : StaysReady old new
+  pub polled_ready : StaysReady old new
   pub rested : old.honest ≡ true → Rested old new
   pub sent : old.honest ≡ true → old.left ≡ new.left + reads
 
 pub has_looked-none : (state : BusState) → HasLooked 0 state state
 has_looked-none state = search (arith, nature_refl state, rested_none state)
 
--- reads that succeeded (`HasLooked`) satisfy the relation for every exit (`Looks`)
-has_looked-looks : (reads : ℕ) (old new : BusState) → HasLooked reads old new → Looks reads old new
-has_looked-looks reads old new has = search (looked_by old new reads, has.rested, has.sent)
+-- reads that succeeded (`HasLooked`) satisfy the relation for every exit (`OnlyReads`)
+has_looked-only_reads : (reads : ℕ) (old new : BusState) → HasLooked reads old new → OnlyReads reads old new
+has_looked-only_reads reads old new has = search (looked_by old new reads, has.rested, has.sent)
 
--- reads that succeeded, followed by a call that only reads and may fail, satisfy `Looks`
-pub looks_after : (reads more most : ℕ) (old mid new : BusState) → reads + more ≤ most → HasLooked reads old mid → Looks more mid new → Looks most old new
-looks_after reads more most old mid new few has looks =
-    looks_more (reads + more) most old new few (looks_then reads more old mid new (has_looked-looks reads old mid has) looks)
+-- reads that succeeded, followed by a call that only reads and may fail, satisfy `OnlyReads`
+pub looks_after : (reads more most : ℕ) (old mid new : BusState) → reads + more ≤ most → HasLooked reads old mid → OnlyReads more mid new → OnlyReads most old new
+looks_after reads more most old mid new few has only_reads =
+    looks_more (reads + more) most old new few (looks_then reads more old mid new (has_looked-only_reads reads old mid has) only_reads)
 
 -- if the read after `reads` successful ones stops, an honest bus ran out of transactions for a call that needs `most`
 pub runs_out : (reads most : ℕ) (old mid new : BusState) → reads < most → HasLooked reads old mid → RanOutIfHonest 1 mid new → RanOutIfHonest most old new
 runs_out reads most old mid new few has out = grind (arith, has.sent, has.nature.honest, out)
 
 -- if the next read succeeds too, `reads + 1` have succeeded
-pub has_looked-more : (reads : ℕ) (old mid new : BusState) → HasLooked reads old mid → Looks 1 mid new → (mid.honest ≡ true → HasRead mid new) → StaysReady mid new → HasLooked (reads + 1) old new
-has_looked-more reads old mid new has looks read heard =
-    grind (arith, nature_then old mid new looks.nature has.nature, rested_then old mid new)
+pub has_looked-more : (reads : ℕ) (old mid new : BusState) → HasLooked reads old mid → OnlyReads 1 mid new → (mid.honest ≡ true → HasRead mid new) → StaysReady mid new → HasLooked (reads + 1) old new
+has_looked-more reads old mid new has only_reads read polled_ready =
+    grind (arith, nature_then old mid new only_reads.nature has.nature, rested_then old mid new)

@@ -17,7 +17,7 @@ use Rattle.nor_chip.specs.Bus.{BusState}
 use Rattle.nor_chip.specs.Sent.{writes_status}
 use Rattle.nor_driver.specs.Limits.{limits_of, writing}
 use Rattle.nor_driver.specs.Operations.{operation_of, MayOperate, HasOperated, LeavesOperation, Operates}
-use Rattle.nor_driver.specs.StatusWrites.{fixed_of, with_code, has_code, takes_status, MayWriteStatus, HasWrittenStatus, LeavesStatusWrite, WritesStatus}
+use Rattle.nor_driver.specs.StatusWrites.{fixed_of, with_code, is_status_with_code, takes_status, MayWriteStatus, HasWrittenStatus, LeavesStatusWrite, WritesStatus}
 use Rattle.nor_driver.proofs.Limits.{IsPartOf, stirs_more, in_none}
 use Rattle.nor_driver.proofs.Taken.{may_taken, has_taken, may_refused, has_refused}
 
@@ -55,7 +55,7 @@ module _ (status : Status) (code : ℕ) (below : code < 64) where
       → operation_of chip (1 ∷ one ∷ two ∷ []) ≡ cond (takes_status chip) (WriteStatus one two) Ignored
   asked chip = rw (and-true (is_idle chip)) refl
 
-  is_code : (a b : ℕ) → writes_status (1 ∷ one ∷ two ∷ []) a b ≡ true → has_code status code a b ≡ true
+  is_code : (a b : ℕ) → writes_status (1 ∷ one ∷ two ∷ []) a b ≡ true → is_status_with_code status code a b ≡ true
   is_code a b is = grind (arith, nat_tests)
 
   module _ (old new : BusState) where
@@ -87,7 +87,7 @@ module _ (status : Status) (code : ℕ) (below : code < 64) where
       asked_as : operation_of old.chip out ≡ cond (takes_status old.chip) (WriteStatus one two) Ignored
       asked_as = rw sent (asked old.chip)
 
-      is_writing : IsPartOf (limits_of out) (writing (has_code status code) 1)
+      is_writing : IsPartOf (limits_of out) (writing (is_status_with_code status code) 1)
       is_writing = rw sent record {
         sectors = λ s is. absurd (in_none s is);
         status = λ a b is. is_code a b is;
@@ -98,7 +98,7 @@ module _ (status : Status) (code : ℕ) (below : code < 64) where
 
       pub leaves_status : LeavesOperation out old new → LeavesStatusWrite status code old new
       leaves_status leaves = record {
-        stirs = stirs_more (limits_of out) (writing (has_code status code) 1) old new is_writing leaves.stirs;
+        stirs = stirs_more (limits_of out) (writing (is_status_with_code status code) 1) old new is_writing leaves.stirs;
         falls = leaves.falls;
         reached = λ honest can. may_write can.fixed
             (may_taken out _ (takes_status old.chip) old new asked_as honest leaves refl

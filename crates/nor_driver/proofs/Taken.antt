@@ -4,7 +4,7 @@ use Rattle.nor_chip.specs.declared.command.Command.{Command}
 use Rattle.nor_chip.specs.declared.command.Command.TheVariants.{Ignored}
 use Rattle.nor_chip.specs.Step.{is_operation}
 use Rattle.nor_chip.specs.Bus.{BusState}
-use Rattle.nor_driver.specs.Looks.{Stays}
+use Rattle.nor_driver.specs.OnlyReads.{KeepsChip}
 use Rattle.nor_driver.specs.Operations.{operation_of, MayOperate, HasOperated, HasIgnored, LeavesOperation, Operates}
 
 module _ (out : List ℕ) (command : Command) (takes : Bool) (old new : BusState)
@@ -27,7 +27,7 @@ module _ (out : List ℕ) (command : Command) (takes : Bool) (old new : BusState
       subst (λ (k : Command). HasOperated k (drop 4 out) old new) (taken is)
       (does.done honest (ap is_operation (taken is) ∙ operates))
 
-  pub may_refused : LeavesOperation out old new → takes ≡ false → Stays old new
+  pub may_refused : LeavesOperation out old new → takes ≡ false → KeepsChip old new
   may_refused leaves is = leaves.ignored honest (refused is)
 
   pub has_refused : {count : ℕ} → Operates out old new count → takes ≡ false → HasIgnored old new

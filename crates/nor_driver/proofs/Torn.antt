@@ -12,7 +12,7 @@ use Rattle.nor_chip.specs.Command.{command_of, begins_quiet, is_quiet_opcode}
 use Rattle.nor_chip.specs.Power.{PowerLost}
 use Rattle.nor_chip.specs.Step.{Does, is_operation, done_of, wears}
 use Rattle.nor_chip.specs.Bus.{BusState, AtStop, Stops}
-use Rattle.nor_driver.specs.Looks.{Unchanged, Stays, LooksHonest}
+use Rattle.nor_driver.specs.OnlyReads.{Unchanged, KeepsChip, OnlyReadsHonest}
 use Rattle.nor_driver.proofs.Cuts.{kept_cut-stay, stays_after}
 
 abbrev pub Wore : Command → BusState → BusState → Type 0
@@ -34,17 +34,17 @@ pub still_or_torn : (out : List ℕ) (old new : BusState) → AtStop out old new
     → StandsStill old new ⊎ ((old.steady ≡ false) × AtStop out old new)
 still_or_torn out old new stop = elim (cases_Bool old.steady) [
   | inl steady ↦ inl record {
-    chip = stop.still steady;
+    chip = stop.unsent steady;
     worn = λ s. (rw (stop.none steady) at stop.worn s) ∙ or-false (old.worn s);
   }
   | inr shaky ↦ inr (shaky, stop)
 ]
 
-pub still_stays : (old new : BusState) → StandsStill old new → Stays old new
-still_stays old new still = grind (arith, still.worn, kept_cut-stay old.chip.running old.chip.kept new.chip.kept)
+pub still_stays : (old new : BusState) → StandsStill old new → KeepsChip old new
+still_stays old new unsent = grind (arith, unsent.worn, kept_cut-stay old.chip.running old.chip.kept new.chip.kept)
 
 lost_stays : (old new : BusState) → old.steady ≡ false → PowerLost old.chip new.chip
-    → ((s : ℕ) → new.worn s ≡ old.worn s) → Stays old new
+    → ((s : ℕ) → new.worn s ≡ old.worn s) → KeepsChip old new
 lost_stays old new shaky lost worn = grind (arith, lost.bytes, worn)
 
 -- ---- a transaction that was cut
@@ -54,15 +54,15 @@ abbrev pub reached : (out : List ℕ) (old new : BusState) → AtStop out old ne
 reached out old new cut = record old { chip = cut.reached; worn = new.worn }
 
 pub reached_stays : (out : List ℕ) (old new : BusState) → old.steady ≡ false → (cut : AtStop out old new)
-    → Stays (reached out old new cut) new
+    → KeepsChip (reached out old new cut) new
 reached_stays out old new shaky cut = elim cut.chip [
   | inl same ↦ still_stays (reached out old new cut) new record { chip = same; worn = λ s. refl }
   | inr lost ↦ lost_stays (reached out old new cut) new shaky lost (λ s. refl)
 ]
 
--- if the bytes that were sent ask for no operation, the state satisfies `Stays`
+-- if the bytes that were sent ask for no operation, the state satisfies `KeepsChip`
 pub none_begun : (out : List ℕ) (old new : BusState) → old.steady ≡ false → (cut : AtStop out old new)
-    → is_operation (done_of old.chip (take cut.count out) (length cut.read)) ≡ false → Stays old new
+    → is_operation (done_of old.chip (take cut.count out) (length cut.read)) ≡ false → KeepsChip old new
 none_begun out old new shaky cut none =
     stays_after old (reached out old new cut) new refl
     (no_operation _ _ cut.read old (reached out old new cut) none cut.step cut.worn)
@@ -74,9 +74,9 @@ enable_part : (chip : Chip) (count replies : ℕ) → is_operation (done_of chip
 enable_part chip zero replies = refl
 enable_part chip (suc n) replies = rw (take-nil {A = ℕ} n) (grind arith)
 
-pub enable_stays : (old new : BusState) → Stops (6 ∷ []) old new → Stays old new
+pub enable_stays : (old new : BusState) → Stops (6 ∷ []) old new → KeepsChip old new
 enable_stays old new stops = elim (still_or_torn _ old new stops.at_stop) [
-  | inl still ↦ still_stays old new still
+  | inl unsent ↦ still_stays old new unsent
   | inr cut ↦ none_begun (6 ∷ []) old new cut.0 cut.1 (enable_part old.chip cut.1.count (length cut.1.read))
 ]
 
@@ -123,9 +123,9 @@ latch_then mid new (inl same) latch = ap (λ (c : Chip). c.latch) (sym same) ∙
 latch_then mid new (inr lost) latch = absurd (true≢false (sym latch ∙ lost.latch))
 
 pub looked_at_stop : (out : List ℕ) (old new : BusState) (most : ℕ) → begins_quiet out ≡ true
-    → Stops out old new → LooksHonest most old new
+    → Stops out old new → OnlyReadsHonest most old new
 looked_at_stop out old new most quiet stops = elim (still_or_torn _ old new stops.at_stop) [
-  | inl still ↦ grind (arith, still_stays old new still)
+  | inl unsent ↦ grind (arith, still_stays old new unsent)
   | inr cut ↦
       let is = quiet_done old.chip cut.1.count out (length cut.1.read) quiet in
       record {

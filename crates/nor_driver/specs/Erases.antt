@@ -2,13 +2,13 @@
 use Rattle.std.specs.Prelude.{◌≡◌, ◌≢◌, ◌≤◌, ◌+◌, ◌*◌, ◌/◌, ◌&&◌, ◌||◌, ℕ, Bool, true, false, not, if◌then◌else◌}
 use Rattle.nor_chip.specs.declared.running.Running.TheVariants as Runs
 use Rattle.nor_chip.specs.Chip.{Chip}
-use Rattle.nor_chip.specs.Guard.{is_unit_guarded}
+use Rattle.nor_chip.specs.Guard.{is_block_protected}
 use Rattle.nor_chip.specs.Step.{is_idle}
-use Rattle.nor_chip.specs.Sent.{is_in_aim, aim_unit}
+use Rattle.nor_chip.specs.Sent.{is_in_targeted, block_targeted}
 use Rattle.nor_chip.specs.Bus.{BusState}
 use Rattle.nor_driver.specs.declared.units.Erase.{Erase}
-use Rattle.nor_driver.specs.Units.{sectors_in, has_unit, is_aligned, erases_sector}
-use Rattle.nor_driver.specs.Looks.{Stays, Falls}
+use Rattle.nor_driver.specs.Units.{sectors_in, has_block, is_aligned, erases_sector}
+use Rattle.nor_driver.specs.OnlyReads.{KeepsChip, Falls}
 use Rattle.nor_driver.specs.Limits.{erasing, Stirs, SendsExactly}
 use Rattle.nor_driver.specs.Operations.{ChangesOnly, EndsWaiting, HasIgnored, most_operation}
 
@@ -17,8 +17,8 @@ abbrev pub sectors_of : Chip → ℕ
 sectors_of chip = chip.config.size / 4096
 
 -- the length of the erase block in bytes
-abbrev pub unit_length : Chip → Erase → ℕ
-unit_length chip erase = 4096 * sectors_in (sectors_of chip) erase.unit
+abbrev pub block_length : Chip → Erase → ℕ
+block_length chip erase = 4096 * sectors_in (sectors_of chip) erase.unit
 
 -- The erase block is aligned and lies on the chip.
 pub record IsOnChip (erase : Erase) (chip : Chip) : Type 0 where
@@ -29,45 +29,45 @@ pub record IsOnChip (erase : Erase) (chip : Chip) : Type 0 where
 pub record CanErase (erase : Erase) (chip : Chip) : Type 0 where
   pub on_chip : IsOnChip erase chip
   pub idle : chip.busy ≡ 0
-  pub offered : has_unit chip.config erase.unit ≡ true
-  pub free : is_unit_guarded chip (4096 * erase.sector) (unit_length chip erase) ≡ false
+  pub offered : has_block chip.config erase.unit ≡ true
+  pub free : is_block_protected chip (4096 * erase.sector) (block_length chip erase) ≡ false
 
 -- the chip carries out this erase after a write enable: it is idle, has the erase type, and protects no address of the
 -- block
 abbrev pub takes_erase : Chip → Erase → Bool
 takes_erase chip erase =
-    is_idle chip && has_unit chip.config erase.unit
-    && not (is_unit_guarded chip (4096 * erase.sector) (unit_length chip erase))
+    is_idle chip && has_block chip.config erase.unit
+    && not (is_block_protected chip (4096 * erase.sector) (block_length chip erase))
 
--- the sector `s` is in the erase block (`is_sector_in_unit`), or the address `a` is (`is_place_in_unit`)
-abbrev pub is_sector_in_unit : Erase → Chip → ℕ → Bool
-is_sector_in_unit erase chip s = erases_sector (sectors_of chip) s erase
+-- the sector `s` is in the erase block (`is_sector_in_block`), or the address `a` is (`is_address_in_block`)
+abbrev pub is_sector_in_block : Erase → Chip → ℕ → Bool
+is_sector_in_block erase chip s = erases_sector (sectors_of chip) s erase
 
-abbrev pub is_place_in_unit : Erase → Chip → ℕ → Bool
-is_place_in_unit erase chip a = is_sector_in_unit erase chip (a / 4096)
+abbrev pub is_address_in_block : Erase → Chip → ℕ → Bool
+is_address_in_block erase chip a = is_sector_in_block erase chip (a / 4096)
 
 -- the sector is in the aligned block that the erase command addresses; for C7h that is all 4,096 sectors of the largest
 -- chip
 abbrev pub is_sector_named : Erase → ℕ → Bool
-is_sector_named erase s = is_in_aim (aim_unit (sectors_in 4096 erase.unit) erase.sector) s
+is_sector_named erase s = is_in_targeted (block_targeted (sectors_in 4096 erase.unit) erase.sector) s
 
 -- On an honest bus, at every exit: bytes and erased sectors outside the erase block, and the non-volatile bits, are as
 -- they were. In the block each byte is as it was or FFh; if the bus isn't steady, it may have any value. A chip that is
 -- still busy executes this erase.
 pub record MayErase (erase : Erase) (old new : BusState) : Type 0 where
   pub config : new.chip.config ≡ old.chip.config
-  pub bytes : ChangesOnly old.steady (is_place_in_unit erase old.chip) (λ _. 255) old.chip.bytes new.chip.bytes
+  pub bytes : ChangesOnly old.steady (is_address_in_block erase old.chip) (λ _. 255) old.chip.bytes new.chip.bytes
   pub kept : new.chip.kept ≡ old.chip.kept
-  pub runs : new.chip.busy ≢ 0 → new.chip.running ≡ Runs.Erase (4096 * erase.sector) (unit_length old.chip erase)
-  pub worn : (s : ℕ) → is_sector_in_unit erase old.chip s ≡ false → new.worn s ≡ old.worn s
+  pub runs : new.chip.busy ≢ 0 → new.chip.running ≡ Runs.Erase (4096 * erase.sector) (block_length old.chip erase)
+  pub worn : (s : ℕ) → is_sector_in_block erase old.chip s ≡ false → new.worn s ≡ old.worn s
 
 -- On an honest bus, the block was erased and the write enable latch is clear. All other bytes, the non-volatile bits
 -- and the record of other erased sectors are as they were.
 pub record HasErased (erase : Erase) (old new : BusState) : Type 0 where
   pub config : new.chip.config ≡ old.chip.config
-  pub bytes : (a : ℕ) → new.chip.bytes a ≡ (if is_place_in_unit erase old.chip a then 255 else old.chip.bytes a)
+  pub bytes : (a : ℕ) → new.chip.bytes a ≡ (if is_address_in_block erase old.chip a then 255 else old.chip.bytes a)
   pub kept : new.chip.kept ≡ old.chip.kept
-  pub worn : (s : ℕ) → new.worn s ≡ (old.worn s || is_sector_in_unit erase old.chip s)
+  pub worn : (s : ℕ) → new.worn s ≡ (old.worn s || is_sector_in_block erase old.chip s)
   pub latch : new.chip.latch ≡ false
 
 -- The effect of an erase at every exit, depending on whether the chip can carry it out or ignores it.
@@ -75,7 +75,7 @@ pub record LeavesErase (erase : Erase) (old new : BusState) : Type 0 where
   pub stirs : Stirs (erasing (is_sector_named erase) 1) old new
   pub falls : old.honest ≡ true → Falls most_operation old new
   pub reached : old.honest ≡ true → CanErase erase old.chip → MayErase erase old new
-  pub ignored : old.honest ≡ true → IsOnChip erase old.chip → takes_erase old.chip erase ≡ false → Stays old new
+  pub ignored : old.honest ≡ true → IsOnChip erase old.chip → takes_erase old.chip erase ≡ false → KeepsChip old new
 
 -- The effect of an erase that succeeded, depending on whether the chip can carry it out or ignores it.
 pub record Erases (erase : Erase) (old new : BusState) (sent : ℕ) : Type 0 where

@@ -1,4 +1,4 @@
-pub mod Looks
+pub mod OnlyReads
 pub mod Ready
 pub mod Waits
 pub mod Reads

@@ -1,6 +1,6 @@
 -- Limits on the modifying commands that a call sends, on every bus.
 use Rattle.std.specs.Prelude.{◌≡◌, ◌≤◌, ◌<◌, ◌+◌, ◌^◌, ◌⊎◌, ℕ, Bool, true, false, List, if◌then◌else◌}
-use Rattle.nor_chip.specs.Sent.{aims, begins_erase, begins_program, begins_status_write, writes_status, is_aimed_at, has_written, is_strange, is_stirred, erases_of, programs_of, status_writes_of}
+use Rattle.nor_chip.specs.Sent.{targets, begins_erase, begins_program, begins_status_write, writes_status, is_targeted, has_written, has_unknown, is_stirred, erases_of, programs_of, status_writes_of}
 use Rattle.nor_chip.specs.Bus.{BusState, KeepsNature}
 
 -- Limits on modifying commands: the sectors that erases and page programs may target, the two bytes that a status write
@@ -34,7 +34,7 @@ writing status n = record { sectors = no_sector; status = status; erases = 0; pr
 -- the limits of one transaction, by the bytes `out` that it sends
 abbrev pub limits_of : (out : List ℕ) → Limits
 limits_of out = record {
-  sectors = aims out;
+  sectors = targets out;
   status = writes_status out;
   erases = if begins_erase out then 1 else 0;
   programs = if begins_program out then 1 else 0;
@@ -44,13 +44,13 @@ limits_of out = record {
 -- Between the two states the bus was asked to send nothing beyond these limits, and no transaction that the model does
 -- not know.
 pub record SendsWithin (limits : Limits) (old new : BusState) : Type 0 where
-  pub aimed : (s : ℕ) → (is_aimed_at new.sent s ≡ is_aimed_at old.sent s) ⊎ (limits.sectors s ≡ true)
+  pub targeted : (s : ℕ) → (is_targeted new.sent s ≡ is_targeted old.sent s) ⊎ (limits.sectors s ≡ true)
   pub written : (one two : ℕ)
       → (has_written new.sent one two ≡ has_written old.sent one two) ⊎ (limits.status one two ≡ true)
   pub erases : erases_of new.sent ≤ erases_of old.sent + limits.erases
   pub programs : programs_of new.sent ≤ programs_of old.sent + limits.programs
   pub status_writes : status_writes_of new.sent ≤ status_writes_of old.sent + limits.status_writes
-  pub strange : is_strange new.sent ≡ is_strange old.sent
+  pub unknown : has_unknown new.sent ≡ has_unknown old.sent
 
 -- A count is at most `n` higher than before, and exactly `n` higher if the sum fits in a u64.
 pub record CountsUp (n before after : ℕ) : Type 0 where

@@ -6,10 +6,10 @@ use Rattle.nor_chip.specs.declared.command.Command.TheVariants.{WriteStatus, Pro
 use Rattle.nor_chip.specs.Chip.{Chip, IsSame}
 use Rattle.nor_chip.specs.Power.{is_in_work}
 use Rattle.nor_chip.specs.Command.{command_of}
-use Rattle.nor_chip.specs.Sent.{begins_erase, begins_program, begins_status_write, is_strange_to_model}
+use Rattle.nor_chip.specs.Sent.{begins_erase, begins_program, begins_status_write, is_unknown_to_model}
 use Rattle.nor_chip.specs.Step.{is_idle, is_operation, done_of, byte_after, kept_after, running_after, wears}
 use Rattle.nor_chip.specs.Bus.{BusState}
-use Rattle.nor_driver.specs.Looks.{Stays, Falls}
+use Rattle.nor_driver.specs.OnlyReads.{KeepsChip, Falls}
 use Rattle.nor_driver.specs.Limits.{limits_of, Stirs, SendsExactly}
 
 -- the greatest number of transactions of an operation: write enable, its command and 65,536 polls
@@ -37,7 +37,7 @@ is_operation_or_none _ = false
 -- regardless of how many reply bytes are read after it. The transaction is one that the model knows, and short enough
 -- for every honest bus.
 pub record AsksForOperation (out : List ℕ) : Type 0 where
-  pub known : is_strange_to_model out ≡ false
+  pub known : is_unknown_to_model out ≡ false
   pub whole : (config : Config) → is_operation_or_none (command_of config out 0) ≡ true
   pub begun : (config : Config) (count replies : ℕ) → (command_of config (take count out) replies ≡ Ignored)
       ⊎ (command_of config (take count out) replies ≡ command_of config out 0)
@@ -61,7 +61,7 @@ pub record HasIgnored (old new : BusState) : Type 0 where
 pub record EndsWaiting (old new : BusState) (sent : ℕ) : Type 0 where
   pub least : 3 ≤ sent
   pub few : sent ≤ most_operation
-  pub heard : new.heard ≡ true
+  pub polled_ready : new.polled_ready ≡ true
   pub count : old.honest ≡ true → old.left ≡ new.left + sent
   pub idle : old.honest ≡ true → new.chip.busy ≡ 0
 
@@ -94,7 +94,7 @@ pub record LeavesOperation (out : List ℕ) (old new : BusState) : Type 0 where
   pub falls : old.honest ≡ true → Falls most_operation old new
   pub reached : old.honest ≡ true → is_operation (operation_of old.chip out) ≡ true
       → MayOperate (operation_of old.chip out) (drop 4 out) old new
-  pub ignored : old.honest ≡ true → is_operation (operation_of old.chip out) ≡ false → Stays old new
+  pub ignored : old.honest ≡ true → is_operation (operation_of old.chip out) ≡ false → KeepsChip old new
 
 -- The state that an operation leaves if it succeeds.
 pub record Operates (out : List ℕ) (old new : BusState) (sent : ℕ) : Type 0 where

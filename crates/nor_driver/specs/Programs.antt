@@ -2,11 +2,11 @@
 use Rattle.std.specs.Prelude.{◌≡◌, ◌≢◌, ◌≤◌, ◌<◌, ◌+◌, ◌-◌, ◌/◌, ◌==◌, ◌&&◌, ℕ, Bool, true, false, not, nat_le, nat_lt, List, length, slice_index, bit_and, if◌then◌else◌}
 use Rattle.nor_chip.specs.declared.running.Running.TheVariants as Runs
 use Rattle.nor_chip.specs.Chip.{Chip}
-use Rattle.nor_chip.specs.Guard.{is_guarded}
+use Rattle.nor_chip.specs.Guard.{is_protected}
 use Rattle.nor_chip.specs.Step.{is_idle}
-use Rattle.nor_chip.specs.Sent.{is_in_aim, aim_unit}
+use Rattle.nor_chip.specs.Sent.{is_in_targeted, block_targeted}
 use Rattle.nor_chip.specs.Bus.{BusState}
-use Rattle.nor_driver.specs.Looks.{Stays, Falls}
+use Rattle.nor_driver.specs.OnlyReads.{KeepsChip, Falls}
 use Rattle.nor_driver.specs.Limits.{programming, Stirs, SendsExactly}
 use Rattle.nor_driver.specs.Operations.{ChangesOnly, EndsWaiting, HasIgnored, most_operation}
 
@@ -14,11 +14,11 @@ use Rattle.nor_driver.specs.Operations.{ChangesOnly, EndsWaiting, HasIgnored, mo
 pub record CanProgram (at len : ℕ) (chip : Chip) : Type 0 where
   pub idle : chip.busy ≡ 0
   pub inside : at + len ≤ chip.config.size
-  pub free : is_guarded chip at ≡ false
+  pub free : is_protected chip at ≡ false
 
 -- the chip carries out a program at this address after a write enable: it is idle and does not protect the address
 abbrev pub takes_program : Chip → ℕ → Bool
-takes_program chip at = is_idle chip && not (is_guarded chip at)
+takes_program chip at = is_idle chip && not (is_protected chip at)
 
 -- the byte at `a` after `sent` was programmed from `at`: ANDed with the byte that was sent for it, if any
 abbrev pub programmed : ℕ → List ℕ → (ℕ → ℕ) → ℕ → ℕ
@@ -27,7 +27,7 @@ programmed at sent old a =
 
 -- the sector `s` holds the address `at`
 abbrev pub is_sector_of : (at s : ℕ) → Bool
-is_sector_of at s = is_in_aim (aim_unit 1 (at / 4096)) s
+is_sector_of at s = is_in_targeted (block_targeted 1 (at / 4096)) s
 
 -- the address `a` is in the page that holds `at`
 abbrev pub is_in_page : (at a : ℕ) → Bool
@@ -57,7 +57,7 @@ pub record LeavesProgram (at : ℕ) (sent : List ℕ) (old new : BusState) : Typ
   pub stirs : Stirs (programming (is_sector_of at) 1) old new
   pub falls : old.honest ≡ true → Falls most_operation old new
   pub reached : old.honest ≡ true → CanProgram at (length sent) old.chip → MayProgram at sent old new
-  pub ignored : old.honest ≡ true → at < old.chip.config.size → takes_program old.chip at ≡ false → Stays old new
+  pub ignored : old.honest ≡ true → at < old.chip.config.size → takes_program old.chip at ≡ false → KeepsChip old new
 
 -- The effect of a program that succeeded, depending on whether the chip can carry it out or ignores it.
 pub record Programs (at : ℕ) (bytes : List ℕ) (old new : BusState) (sent : ℕ) : Type 0 where

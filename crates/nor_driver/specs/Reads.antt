@@ -8,7 +8,7 @@ use Rattle.nor_chip.specs.Chip.{sfdp_byte}
 use Rattle.nor_chip.specs.Command.{command_of, begins_quiet}
 use Rattle.nor_chip.specs.Step.{done_of, reply_byte}
 use Rattle.nor_chip.specs.Bus.{BusState}
-use Rattle.nor_driver.specs.Looks.{Rested}
+use Rattle.nor_driver.specs.OnlyReads.{Rested}
 
 -- a command that changes nothing, not even the write enable latch or `busy`
 abbrev pub changes_nothing : Command → Bool
@@ -37,7 +37,7 @@ pub record HasRead (old new : BusState) : Type 0 where
 -- A transaction that reads succeeded. On an honest bus the reply is the chip's.
 pub record Replies (out : List ℕ) (old new : BusState) (reply : List ℕ) : Type 0 where
   pub read : old.honest ≡ true → HasRead old new
-  pub told : old.honest ≡ true → (i : ℕ) → i < length reply
+  pub returned : old.honest ≡ true → (i : ℕ) → i < length reply
       → slice_index reply i ≡ reply_byte old.chip (done_of old.chip out (length reply)) i
 
 -- the ID: the first three bytes that 9Fh reads (W25Q64FV datasheet, Read JEDEC ID)
@@ -60,22 +60,22 @@ pub record IsSectorOf (content : ℕ → ℕ) (sector : ℕ) (bytes : List ℕ) 
 -- it was, and returns the chip's bytes if the chip is idle. Status 2 is also that of a busy chip.
 pub record ReadsId (old new : BusState) (id : List ℕ) : Type 0 where
   pub read : old.honest ≡ true → HasRead old new
-  pub told : old.honest ≡ true → old.chip.busy ≡ 0 → id ≡ id_of old.chip.config
+  pub returned : old.honest ≡ true → old.chip.busy ≡ 0 → id ≡ id_of old.chip.config
 
 pub record ReadsStatus2 (old new : BusState) (status2 : ℕ) : Type 0 where
   pub read : old.honest ≡ true → HasRead old new
-  pub told : old.honest ≡ true → status2 ≡ old.chip.kept.two
+  pub returned : old.honest ≡ true → status2 ≡ old.chip.kept.two
 
 pub record ReadsUnique (old new : BusState) (unique : List ℕ) : Type 0 where
   pub read : old.honest ≡ true → HasRead old new
-  pub told : old.honest ≡ true → old.chip.busy ≡ 0 → unique ≡ unique_of old.chip.config
+  pub returned : old.honest ≡ true → old.chip.busy ≡ 0 → unique ≡ unique_of old.chip.config
 
 pub record ReadsSfdp (at len : ℕ) (old new : BusState) (bytes : List ℕ) : Type 0 where
   pub read : old.honest ≡ true → HasRead old new
-  pub told : old.honest ≡ true → old.chip.busy ≡ 0 → bytes ≡ shown old.chip.config at len
+  pub returned : old.honest ≡ true → old.chip.busy ≡ 0 → bytes ≡ shown old.chip.config at len
 
 -- The read of a sector. The bytes that it returns are stated only for a sector that lies on the chip.
 pub record ReadsSector (sector : ℕ) (old new : BusState) (bytes : List ℕ) : Type 0 where
   pub read : old.honest ≡ true → HasRead old new
-  pub told : old.honest ≡ true → old.chip.busy ≡ 0 → 4096 * (sector + 1) ≤ old.chip.config.size
+  pub returned : old.honest ≡ true → old.chip.busy ≡ 0 → 4096 * (sector + 1) ≤ old.chip.config.size
       → IsSectorOf old.chip.bytes sector bytes

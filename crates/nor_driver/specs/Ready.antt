@@ -1,7 +1,7 @@
--- The effect of a call on `heard`, the record of the last poll.
+-- The effect of a call on `polled_ready`, the record of the last poll.
 use Rattle.std.specs.Prelude.{◌≡◌, true}
 use Rattle.nor_chip.specs.Bus.{BusState}
 
 -- on every bus: if the last poll before the call showed that the chip is ready, so does the last poll after it
 abbrev pub StaysReady : (old new : BusState) → Type 0
-StaysReady old new = old.heard ≡ true → new.heard ≡ true
+StaysReady old new = old.polled_ready ≡ true → new.polled_ready ≡ true

@@ -6,7 +6,7 @@ use Rattle.nor_chip.specs.Status.{bytes_of}
 use Rattle.nor_chip.specs.Chip.{Chip, KeptBits, is_locked, kept_in}
 use Rattle.nor_chip.specs.Step.{is_idle}
 use Rattle.nor_chip.specs.Bus.{BusState}
-use Rattle.nor_driver.specs.Looks.{Stays, Falls}
+use Rattle.nor_driver.specs.OnlyReads.{KeepsChip, Falls}
 use Rattle.nor_driver.specs.Limits.{writing, Stirs, SendsExactly}
 use Rattle.nor_driver.specs.Operations.{EndsWaiting, HasIgnored, most_operation}
 
@@ -21,8 +21,8 @@ with_code code kept = record { one = 32 * (kept.one / 32) + code % 32; two = 64 
 
 -- the bytes `one` and `two` of a status write are `status` with the protection bits of `code`: the bits that flashnor
 -- never changes are as in `status`, and BUSY, WEL and SUS are clear
-abbrev pub has_code : Status → (code one two : ℕ) → Bool
-has_code status code one two =
+abbrev pub is_status_with_code : Status → (code one two : ℕ) → Bool
+is_status_with_code status code one two =
     one == 128 * (status.one.0 / 128) + 4 * (code % 32) && two == status.two.0 % 64 + 64 * (code / 32)
 
 -- The chip is idle, its status isn't locked, and the bits that flashnor never changes are those of `status`.
@@ -55,10 +55,10 @@ pub record HasWrittenStatus (code : ℕ) (old new : BusState) : Type 0 where
 
 -- The effect of a status write at every exit, depending on whether the chip can carry it out or ignores it.
 pub record LeavesStatusWrite (status : Status) (code : ℕ) (old new : BusState) : Type 0 where
-  pub stirs : Stirs (writing (has_code status code) 1) old new
+  pub stirs : Stirs (writing (is_status_with_code status code) 1) old new
   pub falls : old.honest ≡ true → Falls most_operation old new
   pub reached : old.honest ≡ true → CanWriteStatus status old.chip → MayWriteStatus code old new
-  pub ignored : old.honest ≡ true → takes_status old.chip ≡ false → Stays old new
+  pub ignored : old.honest ≡ true → takes_status old.chip ≡ false → KeepsChip old new
 
 -- The effect of a status write that succeeded, depending on whether the chip can carry it out or ignores it.
 pub record WritesStatus (status : Status) (code : ℕ) (old new : BusState) (sent : ℕ) : Type 0 where

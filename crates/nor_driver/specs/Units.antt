@@ -2,32 +2,32 @@
 use Rattle.std.specs.Prelude.{◌==◌, ◌+◌, ◌%◌, ◌&&◌, ℕ, Bool, true, nat_le, nat_lt}
 use Rattle.nor_chip.specs.declared.config.Config.{Config}
 use Rattle.nor_driver.specs.declared.units.Erase.{Erase}
-use Rattle.nor_driver.specs.declared.units.EraseUnit.{EraseUnit}
-use Rattle.nor_driver.specs.declared.units.EraseUnit.TheVariants.{Sector, Block32, Block64, Chip}
+use Rattle.nor_driver.specs.declared.units.EraseBlock.{EraseBlock}
+use Rattle.nor_driver.specs.declared.units.EraseBlock.TheVariants.{Sector, Block32, Block64, Chip}
 
 -- the opcode that erases the block (W25Q64FV datasheet, instruction set table)
-abbrev pub opcode_of : EraseUnit → ℕ
+abbrev pub opcode_of : EraseBlock → ℕ
 opcode_of Sector = 0x20
 opcode_of Block32 = 0x52
 opcode_of Block64 = 0xD8
 opcode_of Chip = 0xC7
 
 -- how many sectors the block has, on a chip of `total` sectors
-abbrev pub sectors_in : (total : ℕ) → EraseUnit → ℕ
+abbrev pub sectors_in : (total : ℕ) → EraseBlock → ℕ
 sectors_in total Sector = 1
 sectors_in total Block32 = 8
 sectors_in total Block64 = 16
 sectors_in total Chip = total
 
 -- a chip with this configuration has this erase type
-abbrev pub has_unit : Config → EraseUnit → Bool
-has_unit config Sector = true
-has_unit config Block32 = config.kinds.k32
-has_unit config Block64 = config.kinds.k64
-has_unit config Chip = true
+abbrev pub has_block : Config → EraseBlock → Bool
+has_block config Sector = true
+has_block config Block32 = config.kinds.k32
+has_block config Block64 = config.kinds.k64
+has_block config Chip = true
 
 -- the block may begin at this sector: a 32 or 64 KiB block at a multiple of its size, the chip at 0
-abbrev pub is_aligned : EraseUnit → (sector : ℕ) → Bool
+abbrev pub is_aligned : EraseBlock → (sector : ℕ) → Bool
 is_aligned Sector sector = true
 is_aligned Block32 sector = sector % 8 == 0
 is_aligned Block64 sector = sector % 16 == 0

@@ -2,10 +2,10 @@
 use Rattle.std.specs.Prelude.{◌≡◌, ◌≤◌, ◌<◌, ◌+◌, ◌-◌, ◌%◌, ◌==◌, ℕ, Bool, true, false, if◌then◌else◌, ⊤}
 use Rattle.nor_chip.specs.Chip.{Chip, status1_of}
 use Rattle.nor_chip.specs.Bus.{BusState}
-use Rattle.nor_driver.specs.declared.waits.Halt.{Halt}
-use Rattle.nor_driver.specs.declared.waits.Halt.TheVariants.{Stopped, Timeout}
+use Rattle.nor_driver.specs.declared.waits.OperationError.{OperationError}
+use Rattle.nor_driver.specs.declared.waits.OperationError.TheVariants.{Stopped, Timeout}
 use Rattle.nor_driver.specs.declared.waits.Waited.{Waited}
-use Rattle.nor_driver.specs.Looks.{Rested, RanOut}
+use Rattle.nor_driver.specs.OnlyReads.{Rested, RanOut}
 
 -- On an honest bus, one poll read status 1. A busy chip is then busy for one poll fewer, and the poll that shows the
 -- last BUSY clears the write enable latch.
@@ -38,23 +38,23 @@ pub record Waits (old new : BusState) (waited : Waited) : Type 0 where
   pub some : 1 ≤ waited.polls
   pub few : waited.polls ≤ 65536
   pub clear : waited.status1 % 2 ≡ 0
-  pub heard : new.heard ≡ true
+  pub polled_ready : new.polled_ready ≡ true
   pub done : old.honest ≡ true → HasWaited old new waited
 
 -- on every bus, a timeout contains this address
-abbrev pub NamesTimeout : ℕ → Halt → Type 0
+abbrev pub NamesTimeout : ℕ → OperationError → Type 0
 NamesTimeout at Stopped = ⊤
 NamesTimeout at (Timeout address) = address ≡ at
 
 -- A call that waits returned an error. On an honest bus that is a stop: fewer than `needed` transactions were left, and
 -- all of these were carried out.
-pub record Halts (needed : ℕ) (old new : BusState) (halt : Halt) : Type 0 where
+pub record OperationFails (needed : ℕ) (old new : BusState) (halt : OperationError) : Type 0 where
   pub stopped : old.honest ≡ true → halt ≡ Stopped
   pub ran_out : old.honest ≡ true → RanOut needed old new
 
 -- A wait returned an error. On an honest bus that is a stop, and fewer transactions were left than the wait needed,
 -- which is never more than 65,536.
-pub record WaitHalts (at : ℕ) (old new : BusState) (halt : Halt) : Type 0 where
-  pub told : NamesTimeout at halt
-  pub halts : Halts 65536 old new halt
+pub record WaitFails (at : ℕ) (old new : BusState) (halt : OperationError) : Type 0 where
+  pub returned : NamesTimeout at halt
+  pub fails : OperationFails 65536 old new halt
   pub needed : old.honest ≡ true → old.left < old.chip.busy + 1

@@ -18,7 +18,7 @@
 //! assert_eq!(rt; sector[0x100], 0xA5);
 //! ```
 //!
-//! `specs/Looks.antt` defines the effect of functions that only read, and `Waits` and `Reads` what they return.
+//! `specs/OnlyReads.antt` defines the effect of functions that only read, and `Waits` and `Reads` what they return.
 //! `Programs`, `Erases` and `StatusWrites` define the effect of operations.
 //!
 //! - `waits.rt`: polls, and waits until the chip is ready
@@ -34,5 +34,5 @@ mod waits;
 
 pub use operations::{erase, program_page, write_status};
 pub use reads::{read_id, read_parameters, read_sector, read_status2, read_unique};
-pub use units::{Erase, EraseUnit};
-pub use waits::{Halt, Waited, poll, wait};
+pub use units::{Erase, EraseBlock};
+pub use waits::{OperationError, Waited, poll, wait};

@@ -1,14 +1,14 @@
 //! Operations: write enable, a command that modifies the chip, and a wait.
 
 ghost use Rattle.std.specs.Prelude.{◌≡◌, ◌<◌, ◌≤◌, ◌+◌, ◌*◌, ◌%◌, ◌^◌, true, length, IfOk, IfErr};
-ghost use Rattle.nor_driver.specs.Waits.{Halts, NamesTimeout};
+ghost use Rattle.nor_driver.specs.Waits.{OperationFails, NamesTimeout};
 ghost use Rattle.nor_driver.specs.Operations.{BytesNameAddress, IsCommandAt, AsksForOperation, LeavesOperation, Operates, most_operation};
 ghost use Rattle.nor_driver.specs.Programs.{LeavesProgram, Programs};
 ghost use Rattle.nor_driver.specs.Units.{is_aligned};
 ghost use Rattle.nor_driver.specs.Erases.{LeavesErase, Erases};
 ghost use Rattle.nor_driver.specs.StatusWrites.{LeavesStatusWrite, WritesStatus};
 
-use crate::{Erase, EraseUnit, Halt, wait};
+use crate::{Erase, EraseBlock, OperationError, wait};
 use arrayvec::ArrayVec;
 use nor_chip::{Bus, Status};
 
@@ -27,13 +27,13 @@ const WRITE_ENABLE: u8 = 0x06;
 ///
 /// Returns `Stopped` if the bus stopped, and `Timeout` with this address after 65,536 polls that showed BUSY. On an
 /// honest bus there is no timeout. (W25Q64FV datasheet, Page Program.)
-pub fn program_page<B: Bus>(bus: &mut B, address: u32, bytes: &[u8]) -> Result<u32, Halt>
+pub fn program_page<B: Bus>(bus: &mut B, address: u32, bytes: &[u8]) -> Result<u32, OperationError>
     requires reachable { address < 2 ^ 24 }
     requires some { 0 < length bytes.now }
     requires in_page { address % 256 + length bytes.now ≤ 256 }
     ensures leaves { LeavesProgram address bytes.now (B.state bus.old) (B.state bus.new) }
     ensures does { IfOk result (Programs address bytes.now (B.state bus.old) (B.state bus.new)) }
-    ensures halts { IfErr result (Halts most_operation (B.state bus.old) (B.state bus.new)) }
+    ensures fails { IfErr result (OperationFails most_operation (B.state bus.old) (B.state bus.new)) }
     ensures names { IfErr result (NamesTimeout address) }
 {
     let command = program_command(address, bytes);
@@ -48,19 +48,19 @@ pub fn program_page<B: Bus>(bus: &mut B, address: u32, bytes: &[u8]) -> Result<u
 ///
 /// Returns `Stopped` if the bus stopped, and `Timeout` with the block's first address after 65,536 polls that showed
 /// BUSY. On an honest bus there is no timeout. (W25Q64FV datasheet, erase instructions.)
-pub fn erase<B: Bus>(bus: &mut B, erase: Erase) -> Result<u32, Halt>
+pub fn erase<B: Bus>(bus: &mut B, erase: Erase) -> Result<u32, OperationError>
     requires reachable { erase.sector < 4096 }
     requires aligned { is_aligned erase.unit erase.sector ≡ true }
     ensures leaves { LeavesErase erase (B.state bus.old) (B.state bus.new) }
     ensures does { IfOk result (Erases erase (B.state bus.old) (B.state bus.new)) }
-    ensures halts { IfErr result (Halts most_operation (B.state bus.old) (B.state bus.new)) }
+    ensures fails { IfErr result (OperationFails most_operation (B.state bus.old) (B.state bus.new)) }
     ensures names { IfErr result (NamesTimeout (4096 * erase.sector)) }
 {
     let address = erase.address();
     let opcode = erase.unit.opcode();
     let [high, middle, low] = address_bytes(address);
     match erase.unit {
-        EraseUnit::Chip => operation(bus, &[opcode], address),
+        EraseBlock::Chip => operation(bus, &[opcode], address),
         _ => operation(bus, &[opcode, high, middle, low], address),
     }
 }
@@ -74,11 +74,11 @@ pub fn erase<B: Bus>(bus: &mut B, erase: Erase) -> Result<u32, Halt>
 ///
 /// Returns `Stopped` if the bus stopped, and `Timeout` with address 0 after 65,536 polls that showed BUSY. On an honest
 /// bus there is no timeout. (W25Q64FV datasheet, Write Status Register.)
-pub fn write_status<B: Bus>(bus: &mut B, status: Status, code: u8) -> Result<u32, Halt>
+pub fn write_status<B: Bus>(bus: &mut B, status: Status, code: u8) -> Result<u32, OperationError>
     requires { code < 64 }
     ensures leaves { LeavesStatusWrite status code (B.state bus.old) (B.state bus.new) }
     ensures does { IfOk result (WritesStatus status code (B.state bus.old) (B.state bus.new)) }
-    ensures halts { IfErr result (Halts most_operation (B.state bus.old) (B.state bus.new)) }
+    ensures fails { IfErr result (OperationFails most_operation (B.state bus.old) (B.state bus.new)) }
     ensures names { IfErr result (NamesTimeout 0) }
 {
     let [one, two] = status.with_code(code).bytes();
@@ -87,11 +87,11 @@ pub fn write_status<B: Bus>(bus: &mut B, status: Status, code: u8) -> Result<u32
 
 // Performs one operation: write enable, the command, a wait. Returns the number of transactions. A timeout contains
 // `address`.
-fn operation<B: Bus>(bus: &mut B, command: &[u8], address: u32) -> Result<u32, Halt>
+fn operation<B: Bus>(bus: &mut B, command: &[u8], address: u32) -> Result<u32, OperationError>
     requires { AsksForOperation command.now }
     ensures leaves { LeavesOperation command.now (B.state bus.old) (B.state bus.new) }
     ensures does { IfOk result (Operates command.now (B.state bus.old) (B.state bus.new)) }
-    ensures halts { IfErr result (Halts most_operation (B.state bus.old) (B.state bus.new)) }
+    ensures fails { IfErr result (OperationFails most_operation (B.state bus.old) (B.state bus.new)) }
     ensures names { IfErr result (NamesTimeout address) }
 {
     bus.transfer(&[WRITE_ENABLE], &mut [])?;

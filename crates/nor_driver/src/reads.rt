@@ -1,7 +1,7 @@
 //! Commands that read from the chip and modify nothing.
 
 ghost use Rattle.std.specs.Prelude.{◌≡◌, ◌<◌, ◌≤◌, ◌^◌, true, length, IfOk, OnOk, OnErr};
-ghost use Rattle.nor_driver.specs.Looks.{Looks, RanOutIfHonest};
+ghost use Rattle.nor_driver.specs.OnlyReads.{OnlyReads, RanOutIfHonest};
 ghost use Rattle.nor_driver.specs.Reads.{IsReading, Replies, ReadsId, ReadsStatus2, ReadsUnique, ReadsSfdp, ReadsSector};
 
 use crate::operations::address_bytes;
@@ -21,10 +21,10 @@ const READ_ID: u8 = 0x9F;
 /// Reads the three bytes of the ID (9Fh; W25Q64FV datasheet, Read JEDEC ID). On an honest bus they are the chip's if
 /// the chip is idle. Returns `Stopped` if the bus stopped.
 pub fn read_id<B: Bus>(bus: &mut B) -> Result<[u8; 3], Stopped>
-    ensures leaves { Looks 1 (B.state bus.old) (B.state bus.new) }
+    ensures leaves { OnlyReads 1 (B.state bus.old) (B.state bus.new) }
     ensures does { IfOk result (ReadsId (B.state bus.old) (B.state bus.new)) }
-    ensures halts { OnErr result (RanOutIfHonest 1 (B.state bus.old) (B.state bus.new)) }
-    ensures heard { (B.state bus.new).heard ≡ (B.state bus.old).heard }
+    ensures fails { OnErr result (RanOutIfHonest 1 (B.state bus.old) (B.state bus.new)) }
+    ensures polled_ready { (B.state bus.new).polled_ready ≡ (B.state bus.old).polled_ready }
 {
     let mut id = [0; 3];
     read(bus, &[READ_ID], &mut id)?;
@@ -34,10 +34,10 @@ pub fn read_id<B: Bus>(bus: &mut B) -> Result<[u8; 3], Stopped>
 /// Reads status 2 (35h; W25Q64FV datasheet, Read Status Register-2). On an honest bus the byte is the chip's, even if
 /// the chip is busy. Returns `Stopped` if the bus stopped.
 pub fn read_status2<B: Bus>(bus: &mut B) -> Result<u8, Stopped>
-    ensures leaves { Looks 1 (B.state bus.old) (B.state bus.new) }
+    ensures leaves { OnlyReads 1 (B.state bus.old) (B.state bus.new) }
     ensures does { IfOk result (ReadsStatus2 (B.state bus.old) (B.state bus.new)) }
-    ensures halts { OnErr result (RanOutIfHonest 1 (B.state bus.old) (B.state bus.new)) }
-    ensures heard { (B.state bus.new).heard ≡ (B.state bus.old).heard }
+    ensures fails { OnErr result (RanOutIfHonest 1 (B.state bus.old) (B.state bus.new)) }
+    ensures polled_ready { (B.state bus.new).polled_ready ≡ (B.state bus.old).polled_ready }
 {
     let mut reply = [0];
     read(bus, &[READ_STATUS2], &mut reply)?;
@@ -47,10 +47,10 @@ pub fn read_status2<B: Bus>(bus: &mut B) -> Result<u8, Stopped>
 /// Reads the eight bytes of the unique ID (4Bh; W25Q64FV datasheet, Read Unique ID Number). On an honest bus they are
 /// the chip's if the chip is idle. Returns `Stopped` if the bus stopped.
 pub fn read_unique<B: Bus>(bus: &mut B) -> Result<[u8; 8], Stopped>
-    ensures leaves { Looks 1 (B.state bus.old) (B.state bus.new) }
+    ensures leaves { OnlyReads 1 (B.state bus.old) (B.state bus.new) }
     ensures does { IfOk result (ReadsUnique (B.state bus.old) (B.state bus.new)) }
-    ensures halts { OnErr result (RanOutIfHonest 1 (B.state bus.old) (B.state bus.new)) }
-    ensures heard { (B.state bus.new).heard ≡ (B.state bus.old).heard }
+    ensures fails { OnErr result (RanOutIfHonest 1 (B.state bus.old) (B.state bus.new)) }
+    ensures polled_ready { (B.state bus.new).polled_ready ≡ (B.state bus.old).polled_ready }
 {
     let mut unique = [0; 8];
     read(bus, &[READ_UNIQUE, 0, 0, 0, 0], &mut unique)?;
@@ -64,10 +64,10 @@ pub fn read_unique<B: Bus>(bus: &mut B) -> Result<[u8; 8], Stopped>
 pub fn read_parameters<B: Bus>(bus: &mut B, address: u32, bytes: &mut [u8]) -> Result<(), Stopped>
     requires reachable { address < 2 ^ 24 }
     requires short { length bytes.old ≤ 4096 }
-    ensures leaves { Looks 1 (B.state bus.old) (B.state bus.new) }
+    ensures leaves { OnlyReads 1 (B.state bus.old) (B.state bus.new) }
     ensures does { OnOk result (ReadsSfdp address (length bytes.old) (B.state bus.old) (B.state bus.new) bytes.new) }
-    ensures halts { OnErr result (RanOutIfHonest 1 (B.state bus.old) (B.state bus.new)) }
-    ensures heard { (B.state bus.new).heard ≡ (B.state bus.old).heard }
+    ensures fails { OnErr result (RanOutIfHonest 1 (B.state bus.old) (B.state bus.new)) }
+    ensures polled_ready { (B.state bus.new).polled_ready ≡ (B.state bus.old).polled_ready }
     ensures unread { (B.state bus.old).honest ≡ true → OnErr result (bytes.new ≡ bytes.old) }
 {
     let [high, middle, low] = address_bytes(address);
@@ -81,10 +81,10 @@ pub fn read_parameters<B: Bus>(bus: &mut B, address: u32, bytes: &mut [u8]) -> R
 pub fn read_sector<B: Bus>(bus: &mut B, sector: u32, bytes: &mut [u8]) -> Result<(), Stopped>
     requires reachable { sector < 4096 }
     requires whole { length bytes.old ≡ 4096 }
-    ensures leaves { Looks 1 (B.state bus.old) (B.state bus.new) }
+    ensures leaves { OnlyReads 1 (B.state bus.old) (B.state bus.new) }
     ensures does { OnOk result (ReadsSector sector (B.state bus.old) (B.state bus.new) bytes.new) }
-    ensures halts { OnErr result (RanOutIfHonest 1 (B.state bus.old) (B.state bus.new)) }
-    ensures heard { (B.state bus.new).heard ≡ (B.state bus.old).heard }
+    ensures fails { OnErr result (RanOutIfHonest 1 (B.state bus.old) (B.state bus.new)) }
+    ensures polled_ready { (B.state bus.new).polled_ready ≡ (B.state bus.old).polled_ready }
     ensures unread { (B.state bus.old).honest ≡ true → OnErr result (bytes.new ≡ bytes.old) }
 {
     let [high, middle, low] = address_bytes(SECTOR_LEN * sector);
@@ -95,10 +95,10 @@ pub fn read_sector<B: Bus>(bus: &mut B, sector: u32, bytes: &mut [u8]) -> Result
 fn read<B: Bus>(bus: &mut B, out: &[u8], reply: &mut [u8]) -> Result<(), Stopped>
     requires reading { IsReading out.now }
     requires short { length reply.old ≤ 4096 }
-    ensures leaves { Looks 1 (B.state bus.old) (B.state bus.new) }
+    ensures leaves { OnlyReads 1 (B.state bus.old) (B.state bus.new) }
     ensures does { OnOk result (Replies out.now (B.state bus.old) (B.state bus.new) reply.new) }
-    ensures halts { OnErr result (RanOutIfHonest 1 (B.state bus.old) (B.state bus.new)) }
-    ensures heard { (B.state bus.new).heard ≡ (B.state bus.old).heard }
+    ensures fails { OnErr result (RanOutIfHonest 1 (B.state bus.old) (B.state bus.new)) }
+    ensures polled_ready { (B.state bus.new).polled_ready ≡ (B.state bus.old).polled_ready }
     ensures unread { (B.state bus.old).honest ≡ true → OnErr result (reply.new ≡ reply.old) }
 {
     bus.transfer(out, reply)

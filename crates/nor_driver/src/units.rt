@@ -7,7 +7,7 @@ use nor_chip::SECTOR_LEN;
 
 /// The block that one erase command sets to FFh.
 #[derive(Clone, Copy, Debug, PartialEq, Eq)]
-pub enum EraseUnit {
+pub enum EraseBlock {
     /// A sector of 4 KiB (20h).
     Sector,
     /// An aligned block of 32 KiB (52h).
@@ -18,16 +18,16 @@ pub enum EraseUnit {
     Chip,
 }
 
-impl EraseUnit {
+impl EraseBlock {
     // Returns the opcode that erases the block.
     pub(crate) fn opcode(self) -> u8
         ensures { result ≡ opcode_of self }
     {
         match self {
-            EraseUnit::Sector => 0x20,
-            EraseUnit::Block32 => 0x52,
-            EraseUnit::Block64 => 0xD8,
-            EraseUnit::Chip => 0xC7,
+            EraseBlock::Sector => 0x20,
+            EraseBlock::Block32 => 0x52,
+            EraseBlock::Block64 => 0xD8,
+            EraseBlock::Chip => 0xC7,
         }
     }
 }
@@ -35,7 +35,7 @@ impl EraseUnit {
 /// An erase: a block, and the number of its first sector.
 #[derive(Clone, Copy, Debug, PartialEq, Eq)]
 pub struct Erase {
-    pub unit: EraseUnit,
+    pub unit: EraseBlock,
     pub sector: u16,
 }
 
@@ -53,10 +53,10 @@ impl Erase {
         ensures { result ≡ is_aligned self.unit self.sector }
     {
         match self.unit {
-            EraseUnit::Sector => true,
-            EraseUnit::Block32 => self.sector % 8 == 0,
-            EraseUnit::Block64 => self.sector % 16 == 0,
-            EraseUnit::Chip => self.sector == 0,
+            EraseBlock::Sector => true,
+            EraseBlock::Block32 => self.sector % 8 == 0,
+            EraseBlock::Block64 => self.sector % 16 == 0,
+            EraseBlock::Chip => self.sector == 0,
         }
     }
 }

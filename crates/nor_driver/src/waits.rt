@@ -1,9 +1,9 @@
 //! Polls, and waits until the chip is ready.
 
 ghost use Rattle.std.specs.Prelude.{◌≡◌, ◌%◌, ◌==◌, IfOk, IfErr, OnErr};
-ghost use Rattle.nor_driver.specs.declared.waits.Halt.TheVariants as Halts;
-ghost use Rattle.nor_driver.specs.Looks.{Looks, RanOutIfHonest};
-ghost use Rattle.nor_driver.specs.Waits.{Polls, Waits, WaitHalts};
+ghost use Rattle.nor_driver.specs.declared.waits.OperationError.TheVariants as OperationFails;
+ghost use Rattle.nor_driver.specs.OnlyReads.{OnlyReads, RanOutIfHonest};
+ghost use Rattle.nor_driver.specs.Waits.{Polls, Waits, WaitFails};
 
 use bitflags::Flags;
 use nor_chip::{Bus, Status1, Stopped};
@@ -18,10 +18,10 @@ const MOST_POLLS: u32 = 65536;
 /// Reads status 1 with one poll (05h; W25Q64FV datasheet, Read Status Register-1). Returns `Stopped` if the bus
 /// stopped.
 pub fn poll<B: Bus>(bus: &mut B) -> Result<u8, Stopped>
-    ensures leaves { Looks 1 (B.state bus.old) (B.state bus.new) }
+    ensures leaves { OnlyReads 1 (B.state bus.old) (B.state bus.new) }
     ensures does { IfOk result (Polls (B.state bus.old) (B.state bus.new)) }
-    ensures heard { IfOk result (λ status. (B.state bus.new).heard ≡ (status % 2 == 0)) }
-    ensures halts { OnErr result (RanOutIfHonest 1 (B.state bus.old) (B.state bus.new)) }
+    ensures polled_ready { IfOk result (λ status. (B.state bus.new).polled_ready ≡ (status % 2 == 0)) }
+    ensures fails { OnErr result (RanOutIfHonest 1 (B.state bus.old) (B.state bus.new)) }
 {
     let mut reply = [0];
     bus.transfer(&[READ_STATUS1], &mut reply)?;
@@ -30,7 +30,7 @@ pub fn poll<B: Bus>(bus: &mut B) -> Result<u8, Stopped>
 
 /// The reason why a command and its wait did not complete.
 #[derive(Clone, Copy, Debug, PartialEq, Eq, Error)]
-pub enum Halt {
+pub enum OperationError {
     /// The bus stopped.
     #[error("the bus stopped")]
     Stopped,
@@ -39,11 +39,11 @@ pub enum Halt {
     Timeout { address: u32 },
 }
 
-impl From<Stopped> for Halt {
-    ghost from_gives = { λ _ halt. halt ≡ Halts.Stopped };
+impl From<Stopped> for OperationError {
+    ghost from_gives = { λ _ halt. halt ≡ OperationFails.Stopped };
 
-    fn from(_: Stopped) -> Halt {
-        Halt::Stopped
+    fn from(_: Stopped) -> OperationError {
+        OperationError::Stopped
     }
 }
 
@@ -60,10 +60,10 @@ pub struct Waited {
 ///
 /// Returns `Stopped` if the bus stopped, and `Timeout` with `address`, the address of the command that is waited for,
 /// if all 65,536 polls showed BUSY. On an honest bus there is no timeout.
-pub fn wait<B: Bus>(bus: &mut B, address: u32) -> Result<Waited, Halt>
-    ensures leaves { Looks 65536 (B.state bus.old) (B.state bus.new) }
+pub fn wait<B: Bus>(bus: &mut B, address: u32) -> Result<Waited, OperationError>
+    ensures leaves { OnlyReads 65536 (B.state bus.old) (B.state bus.new) }
     ensures does { IfOk result (Waits (B.state bus.old) (B.state bus.new)) }
-    ensures halts { IfErr result (WaitHalts address (B.state bus.old) (B.state bus.new)) }
+    ensures fails { IfErr result (WaitFails address (B.state bus.old) (B.state bus.new)) }
 {
     for polls in 0..MOST_POLLS {
         let status1 = poll(bus)?;
@@ -72,5 +72,5 @@ pub fn wait<B: Bus>(bus: &mut B, address: u32) -> Result<Waited, Halt>
             return Ok(Waited { status1, polls });
         }
     }
-    Err(Halt::Timeout { address })
+    Err(OperationError::Timeout { address })
 }

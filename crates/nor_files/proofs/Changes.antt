@@ -6,7 +6,7 @@ use Rattle.std.proofs.lemmas.Grind.{common_steps}
 use Rattle.nor_files.specs.Files.{Found}
 use Rattle.nor_files.specs.Calls.{IsMixed, with_length, written_over}
 use Rattle.nor_files.specs.Stored.{Becomes, FileSets, FileWrites, IsChanged, IsMixOf, MayBe, MayLeave, bytes_in}
-use Rattle.nor_files.specs.Stored.{file_in, found_in, seen_may_be}
+use Rattle.nor_files.specs.Stored.{file_in, content_found, seen_may_be}
 use Rattle.nor_files.specs.declared.stored.Change.{Change}
 use Rattle.nor_files.specs.declared.stored.Change.TheVariants.{Cut}
 use Rattle.nor_files.specs.declared.stored.Content.{Content}
@@ -18,12 +18,12 @@ becomes_more : (change : Change) (May Might : Found → Type 0) (left : Found)
 becomes_more change May Might left more becomes = grind arith
 
 file_leaves : (content : Content) (change : Change) (had : List ℕ) (old new : Stored)
-    → IsChanged content change old new → found_in old.content ≡ Some had
-    → Becomes change (MayBe old.steps.items (found_in old.content)) (Some (bytes_in content))
+    → IsChanged content change old new → content_found old.content ≡ Some had
+    → Becomes change (MayBe old.steps.items (content_found old.content)) (Some (bytes_in content))
     → (left : Found) → MayLeave (file_in new) left
     → MayLeave (file_in old) left ⊎ Becomes change (MayLeave (file_in old)) left
 file_leaves content change had old new is was becomes left may =
-    let more = becomes_more change (MayBe old.steps.items (found_in old.content)) (MayLeave (file_in old)) left
+    let more = becomes_more change (MayBe old.steps.items (content_found old.content)) (MayLeave (file_in old)) left
     (λ bytes before. grind arith) in
     grind arith
 
@@ -34,7 +34,7 @@ pub mixed_over : (had bytes : List ℕ) (most : ℕ) → most ≤ length bytes �
 mixed_over had bytes most within = grind (arith, common_steps)
 
 pub file_writes : {T E : Type 0} {bytes had : List ℕ} {result : Result T E} {content : Content} {change : Change}
-    {old new : Stored} (most : ℕ) → IsChanged content change old new → Some had ≡ found_in old.content
+    {old new : Stored} (most : ℕ) → IsChanged content change old new → Some had ≡ content_found old.content
     → most ≤ length bytes → Becomes change ≡ IsMixOf bytes → bytes_in content ≡ written_over (take most bytes) had
     → ((any : T) → result ≡ Ok any → length bytes ≤ most)
     → FileWrites bytes result old new
@@ -45,19 +45,19 @@ file_writes {bytes} {had} {result} {content} {change} {old} {new} most is was wi
       ∙ ap (option_map (written_over bytes)) was;
   leaves = λ left may.
       let mixed : IsMixed had bytes (bytes_in content) = rw has (mixed_over had bytes most within) in
-      let before : MayBe old.steps.items (found_in old.content) (Some had) =
-      rw was (seen_may_be old.steps.items (found_in old.content)) in
-      let becomes = subst (λ (Of : (Found → Type 0) → Found → Type 0). Of (MayBe old.steps.items (found_in old.content))
+      let before : MayBe old.steps.items (content_found old.content) (Some had) =
+      rw was (seen_may_be old.steps.items (content_found old.content)) in
+      let becomes = subst (λ (Of : (Found → Type 0) → Found → Type 0). Of (MayBe old.steps.items (content_found old.content))
       (Some (bytes_in content))) (sym mixes) (had, before, (bytes_in content, refl, mixed)) in
       subst (λ (Of : (Found → Type 0) → Found → Type 0). MayLeave (file_in old) left ⊎ Of (MayLeave (file_in old)) left)
       mixes (file_leaves content change had old new is (sym was) becomes left may);
 }
 
 pub file_sets : {T E : Type 0} {len : ℕ} {result : Result T E} {content : Content} {had : List ℕ} {old new : Stored}
-    → IsChanged content (Cut len) old new → Some had ≡ found_in old.content → bytes_in content ≡ with_length len had
+    → IsChanged content (Cut len) old new → Some had ≡ content_found old.content → bytes_in content ≡ with_length len had
     → FileSets len result old new
 file_sets {len} {content} {had} {old} {new} is was has =
-    let before : MayBe old.steps.items (found_in old.content) (Some had) =
-    rw was (seen_may_be old.steps.items (found_in old.content)) in
+    let before : MayBe old.steps.items (content_found old.content) (Some had) =
+    rw was (seen_may_be old.steps.items (content_found old.content)) in
     let leaves = file_leaves content (Cut len) had old new is (sym was) (had, before, ap Some has) in
     grind arith

@@ -14,7 +14,7 @@ use Rattle.std.proofs.lemmas.List.Sums.{fails_before_first, position_or_len_is}
 use Rattle.std.proofs.Math.Seq.{get_or-append_seam}
 use Rattle.nor_files.specs.Files.{AreApart, Name}
 use Rattle.nor_files.specs.Memory.{memory_nature}
-use Rattle.nor_files.specs.Named.{file_of, is_name, is_lent_there, is_named, is_there}
+use Rattle.nor_files.specs.Named.{file_named, are_same_names, is_borrowed_there, is_named, is_there}
 use Rattle.nor_files.specs.Stored.{file_in, missing}
 use Rattle.nor_files.specs.declared.stored.Stored.{Stored}
 
@@ -44,11 +44,11 @@ module _ {Y : Type 0} (name : Name) (look : List Stored → Y) (of : Stored → 
 
 pub found_at : (name : Name) (files : List Stored) (at : ℕ) (stored : Stored)
     → position (is_named name) files ≡ Some at → stored ≡ get_or files at stored
-    → file_of files name ≡ file_in stored
-found_at name = looked_up name (λ files. file_of files name) file_in missing refl (λ _ _. refl)
+    → file_named files name ≡ file_in stored
+found_at name = looked_up name (λ files. file_named files name) file_in missing refl (λ _ _. refl)
 
-pub not_found : (name : Name) (files : List Stored) → position (is_named name) files ≡ None → file_of files name ≡ missing
-not_found name = missed name (λ files. file_of files name) file_in missing refl (λ _ _. refl)
+pub not_found : (name : Name) (files : List Stored) → position (is_named name) files ≡ None → file_named files name ≡ missing
+not_found name = missed name (λ files. file_named files name) file_in missing refl (λ _ _. refl)
 
 pub not_there : (name : Name) (files : List Stored) → position (is_named name) files ≡ None → is_there files name ≡ false
 not_there name = missed name (λ files. is_there files name) (λ _. true) false refl (λ _ _. refl)
@@ -69,7 +69,7 @@ place_kept name files stored none is =
     rw (first, lt-ltb (length files) (length (files ++ stored ∷ [])) (omega (arith, whole))) refl
 
 pub same_with_place : (files : List Stored) (stored : Stored) (any : Name) → file_in stored ≡ missing
-    → file_of (files ++ stored ∷ []) any ≡ file_of files any
+    → file_named (files ++ stored ∷ []) any ≡ file_named files any
 same_with_place [] stored any is = cond_both (is_named any stored) _ _ (λ file. file ≡ missing) (λ _. is) (λ _. refl)
 same_with_place (first ∷ files) stored any is =
     ap (cond (is_named any first) (file_in first)) (same_with_place files stored any is)
@@ -79,8 +79,8 @@ there_with_place : (files : List Stored) (stored : Stored) (name : Name)
 there_with_place [] stored name there = absurd cc
 there_with_place (first ∷ files) stored name there = grind (arith, there_with_place files stored name)
 
-pub lent_with_place : (files : List Stored) (stored : Stored) (lent : Option Name)
-    → is_lent_there files lent ≡ true → is_lent_there (files ++ stored ∷ []) lent ≡ true
+pub lent_with_place : (files : List Stored) (stored : Stored) (borrowed : Option Name)
+    → is_borrowed_there files borrowed ≡ true → is_borrowed_there (files ++ stored ∷ []) borrowed ≡ true
 lent_with_place files stored None there = refl
 lent_with_place files stored (Some name) there = there_with_place files stored name there
 
@@ -95,15 +95,15 @@ set_there any (first ∷ files) (suc at) now d same =
 
 -- The file of that name was replaced, and each file whose name is apart from it is the same.
 pub record IsUpdated (name : Name) (old new : List Stored) (was now : Stored) : Type 0 where
-  pub before : file_of old name ≡ file_in was
-  pub after : file_of new name ≡ file_in now
-  pub others : (other : Name) → AreApart memory_nature name other → file_of new other ≡ file_of old other
+  pub before : file_named old name ≡ file_in was
+  pub after : file_named new name ≡ file_in now
+  pub others : (other : Name) → AreApart memory_nature name other → file_named new other ≡ file_named old other
   pub there : is_there new name ≡ true
 
 -- names that are apart differ
 apart_differ : (name other : Name) → AreApart memory_nature name other → other ≢ name
 apart_differ name other apart same =
-    let is : is_name name other ≡ true = rw same (nat_list_eq_equiv.refl name) in
+    let is : are_same_names name other ≡ true = rw same (nat_list_eq_equiv.refl name) in
     false≢true (sym (ap not is) ∙ apart.0)
 
 other_named : (name other : Name) (stored : Stored) → is_named name stored ≡ true → other ≢ name
@@ -115,7 +115,7 @@ module _ (files : List Stored) (at : ℕ) (was now : Stored) (place : was ≡ ge
     (same : now.name ≡ was.name) where
   -- the replacement keeps its name, so each index refers to the same name as before
   still_named : (any : Name) → is_named any now ≡ is_named any (get_or files at was)
-  still_named any = ap (λ its. is_name its.items any) (same ∙ ap (λ stored. stored.name) place)
+  still_named any = ap (λ its. are_same_names its.items any) (same ∙ ap (λ stored. stored.name) place)
 
   still_at : (any : Name) (first : ℕ) → position (is_named any) files ≡ Some first
       → position (is_named any) (set files at now) ≡ Some first
@@ -132,22 +132,22 @@ module _ (files : List Stored) (at : ℕ) (was now : Stored) (place : was ≡ ge
             (sym (get_or-set_same files at now now first.0));
         others = λ other apart.
             let ne = apart_differ name other apart in
-            recursion.found_set_other (λ all. file_of all other) (is_named other) file_in missing refl (λ _ _. refl) files
+            recursion.found_set_other (λ all. file_named all other) (is_named other) file_in missing refl (λ _ _. refl) files
             at now was (other_named name other (get_or files at was) first.1 ne)
             (other_named name other now (still_named name ∙ first.1) ne);
         there = looked_up name (λ all. is_there all name) (λ _. true) false refl (λ _ _. refl) (set files at now) at now
             (still_at name at is) (sym (get_or-set_same files at now now first.0));
       }
 
-  pub lent_updated : (lent : Option Name) → is_lent_there files lent ≡ true
-      → is_lent_there (set files at now) lent ≡ true
+  pub lent_updated : (borrowed : Option Name) → is_borrowed_there files borrowed ≡ true
+      → is_borrowed_there (set files at now) borrowed ≡ true
   lent_updated None there = refl
   lent_updated (Some name) there = set_there name files at now was (still_named name) ∙ there
 
 -- if an entry for the file of a name is appended and this file is then replaced, the file was replaced in the first
 -- list, too
 pub updated_since : {name : Name} {old kept new : List Stored} {was now : Stored}
-    → ((any : Name) → file_of kept any ≡ file_of old any) → IsUpdated name kept new was now
+    → ((any : Name) → file_named kept any ≡ file_named old any) → IsUpdated name kept new was now
     → IsUpdated name old new was now
 updated_since {name} same is = record {
   before = sym (same name) ∙ is.before;

@@ -5,7 +5,7 @@ use Rattle.std.proofs.lemmas.Bool.{cases_Bool, false_from_ne_true, false≢true}
 use Rattle.std.proofs.lemmas.Cmp.{nat_list_eq_equiv}
 use Rattle.nor_files.specs.Files.{AreApart, Found, Name}
 use Rattle.nor_files.specs.Memory.{memory_nature}
-use Rattle.nor_files.specs.Named.{file_of, is_name}
+use Rattle.nor_files.specs.Named.{file_named, are_same_names}
 use Rattle.nor_files.specs.Stored.{File, FilePlaces, FileSyncs, MayBe, MayLeave, OrMissing, file_in, seen_may_be}
 use Rattle.nor_files.specs.declared.stored.Stored.{Stored}
 use Rattle.nor_files.proofs.Places.{IsUpdated}
@@ -53,24 +53,24 @@ placed_stays old = record {
 -- ---- all files
 
 -- names that differ are apart
-apart_of : (name any : Name) → is_name name any ≡ false → AreApart memory_nature name any
+apart_of : (name any : Name) → are_same_names name any ≡ false → AreApart memory_nature name any
 apart_of name any differ = (
   ap not differ,
-  ap not (false_from_ne_true (is_name any name) (λ is.
-      let same : is_name name any ≡ true = rw (same_text any name (sym is)) (nat_list_eq_equiv.refl name) in
+  ap not (false_from_ne_true (are_same_names any name) (λ is.
+      let same : are_same_names name any ≡ true = rw (same_text any name (sym is)) (nat_list_eq_equiv.refl name) in
       false≢true (sym differ ∙ same))),
 )
 
 all_stay : {name : Name} {old new : List Stored} {was now : Stored} → IsUpdated name old new was now
-    → FileStays (file_in was) (file_in now) → (any : Name) → FileStays (file_of old any) (file_of new any)
-all_stay {name} {old} {new} is stays any = elim (cases_Bool (is_name name any)) [
+    → FileStays (file_in was) (file_in now) → (any : Name) → FileStays (file_named old any) (file_named new any)
+all_stay {name} {old} {new} is stays any = elim (cases_Bool (are_same_names name any)) [
   | inl same ↦ rw (← same_text name any (sym same), is.before, is.after) stays
-  | inr differ ↦ rw (is.others any (apart_of name any differ)) (file_same (file_of old any))
+  | inr differ ↦ rw (is.others any (apart_of name any differ)) (file_same (file_named old any))
 ]
 
 module _ {name : Name} {old new : List Stored} {was now : Stored} (is : IsUpdated name old new was now) where
-  pub all_synced : FileSyncs was now → (any : Name) → FileStays (file_of old any) (file_of new any)
+  pub all_synced : FileSyncs was now → (any : Name) → FileStays (file_named old any) (file_named new any)
   all_synced synced = all_stay is (rw synced.file (synced_stays (file_in was)))
 
-  pub all_placed : FilePlaces was now → (any : Name) → FileStays (file_of old any) (file_of new any)
+  pub all_placed : FilePlaces was now → (any : Name) → FileStays (file_named old any) (file_named new any)
   all_placed placed = all_stay is (rw placed.file (placed_stays (file_in was)))

@@ -2,14 +2,14 @@
 use Rattle.std.specs.Prelude.{◌≡◌, ◌≤◌, ◌+◌, ◌-◌, ◌⊎◌, ◌++◌, ℕ, Bool, true, false, List, [], None, Some, Result, Ok, Err}
 use Rattle.std.specs.Prelude.{drop, is_some, length, max, option_map, replicate, slice_index, take}
 use Rattle.nor_journal.specs.Vault.{VaultState}
-use Rattle.nor_files.specs.Files.{AllStay, FilesState, Found, IsKnown, IsSettled, Name, OthersStay, Stays, View}
+use Rattle.nor_files.specs.Files.{AllStay, FilesState, Found, IsKnownFile, IsDurable, Name, OthersStay, KeepsFile, View}
 
 -- ---- reading
 
 -- `found` is what a read of the file returns: `None` if the file is missing, else its first `most` bytes, or all bytes
 -- if it has fewer. This requires that the files obey the contract, and that no vault or log in this file is borrowed.
-abbrev pub Reads : Name → ℕ → Found → View → Type 0
-Reads name most found view = IsKnown name view → found ≡ option_map (take most) (view.seen name)
+abbrev pub ReadsFile : Name → ℕ → Found → View → Type 0
+ReadsFile name most found view = IsKnownFile name view → found ≡ option_map (take most) (view.seen name)
 
 -- ---- how many calls are left
 
@@ -29,7 +29,7 @@ Counts (Err _) old new = Fails old new
 -- A call on one file, which lends no vault or log. Each file whose name is apart from this one is as it was.
 pub record WorksOn {T E : Type 0} (name : Name) (result : Result T E) (old new : FilesState) : Type 0 where
   pub counts : Counts result old new
-  pub lent : new.lent ≡ old.lent
+  pub borrowed : new.borrowed ≡ old.borrowed
   pub out : new.view.out name ≡ old.view.out name
   pub others : OthersStay name old new
 
@@ -39,9 +39,9 @@ pub record WorksOn {T E : Type 0} (name : Name) (result : Result T E) (old new :
 -- no vault or log in this file is borrowed, success returns whether the file exists.
 pub record Holds {E : Type 0} (name : Name) (result : Result Bool E) (old new : FilesState) : Type 0 where
   pub counts : Counts result old new
-  pub lent : new.lent ≡ old.lent
+  pub borrowed : new.borrowed ≡ old.borrowed
   pub stay : AllStay old new
-  pub there : (there : Bool) → result ≡ Ok there → IsKnown name old.view → there ≡ is_some (old.view.seen name)
+  pub there : (there : Bool) → result ≡ Ok there → IsKnownFile name old.view → there ≡ is_some (old.view.seen name)
 
 -- ---- syncing
 
@@ -80,7 +80,7 @@ Syncs name (Err _) old new = LeavesNoMore name old new
 -- The effect of a sync of a directory on the file in it.
 abbrev pub Places : {T E : Type 0} → Name → Result T E → (old new : FilesState) → Type 0
 Places name (Ok _) old new = IsPlaced name old new
-Places name (Err _) old new = Stays name old new
+Places name (Err _) old new = KeepsFile name old new
 
 -- ---- changing
 
@@ -120,38 +120,38 @@ pub record SetsLength {T E : Type 0} (name : Name) (len : ℕ) (result : Result 
       ⊎ ((had : List ℕ) × old.may_leave name (Some had) × (left ≡ Some (with_length len had)))
 
 -- The file was missing and was created, empty. A host crash may leave what it could leave before, or an empty file.
-pub record IsMade (name : Name) (old new : FilesState) : Type 0 where
+pub record IsCreated (name : Name) (old new : FilesState) : Type 0 where
   pub missing : old.view.seen name ≡ None
   pub seen : new.view.seen name ≡ Some []
   pub leaves : (left : Found) → new.may_leave name left → old.may_leave name left ⊎ (left ≡ Some [])
 
 -- The effect of creating a file: after a failure the file is as it was.
-abbrev pub Makes : {T E : Type 0} → Name → Result T E → (old new : FilesState) → Type 0
-Makes name (Ok _) old new = IsMade name old new
-Makes name (Err _) old new = Stays name old new
+abbrev pub Creates : {T E : Type 0} → Name → Result T E → (old new : FilesState) → Type 0
+Creates name (Ok _) old new = IsCreated name old new
+Creates name (Err _) old new = KeepsFile name old new
 
 -- ---- vaults and logs
 
 -- A vault in the file was borrowed. Each file whose name is apart from this one is as it was.
-pub record Lends (name : Name) (old new : FilesState) : Type 0 where
+pub record Borrows (name : Name) (old new : FilesState) : Type 0 where
   pub succeeds : Succeeds old new
-  pub lent : new.lent ≡ Some name
+  pub borrowed : new.borrowed ≡ Some name
   pub out : new.view.out name ≡ true
   pub others : OthersStay name old new
 
 -- The call failed, so no vault was borrowed. A host crash can leave nothing of the file that it couldn't leave before,
 -- except an empty file if it was missing. The second sentence requires that the files obey the contract, and that no
 -- vault or log in the file was borrowed before.
-pub record LendsNone (name : Name) (old new : FilesState) : Type 0 where
+pub record BorrowsNone (name : Name) (old new : FilesState) : Type 0 where
   pub fails : Fails old new
-  pub leaves : IsKnown name old.view → LeavesOrEmpty name old new
+  pub leaves : IsKnownFile name old.view → LeavesOrEmpty name old new
 
 -- The vault in the file was taken back. It is faithful (`telling`), and the file has its bytes; if it is sealed, a host
 -- crash can leave nothing else.
 pub record TakesBack (name : Name) (vault : VaultState) (old new : FilesState) : Type 0 where
-  pub lent : new.lent ≡ None
+  pub borrowed : new.borrowed ≡ None
   pub in_store : new.view.out name ≡ false
   pub telling : vault.telling ≡ true
   pub seen : new.view.seen name ≡ Some vault.bytes
-  pub settled : vault.sealed ≡ true → IsSettled name (Some vault.bytes) new
+  pub settled : vault.sealed ≡ true → IsDurable name (Some vault.bytes) new
   pub others : OthersStay name old new

@@ -1,18 +1,18 @@
 -- The system's files, as contracts see them.
 use Rattle.std.specs.Prelude.{⊤, false, true, None, not}
 use Rattle.nor_files.specs.Files.{FilesState}
-use Rattle.nor_files.specs.Named.{is_name}
+use Rattle.nor_files.specs.Named.{are_same_names}
 
 -- A store of which nothing is known: it need not obey the contract, and each call may fail in each way. Two names are
 -- apart if they differ. That `is_one_file` recognizes two different names of one file is assumed, and tested.
 abbrev pub unknown : FilesState
 unknown = record {
   view = record {
-    nature = record { lawful = false; fails = λ failure. true; apart = λ one other. not (is_name one other) };
+    nature = record { lawful = false; fails = λ failure. true; apart = λ one other. not (are_same_names one other) };
     out = λ name. false;
     seen = λ name. None;
   };
   left = 0;
-  lent = None;
+  borrowed = None;
   may_leave = λ name left. ⊤;
 }

@@ -55,7 +55,7 @@ pub record FilesState : Type 1 where
   -- crash
   pub left : ℕ
   -- the file whose vault was borrowed last and not yet taken back
-  pub lent : Option Name
+  pub borrowed : Option Name
   -- the contents that a host crash now may leave of that file
   pub may_leave : Name → Found → Type 0
 
@@ -68,7 +68,7 @@ abbrev pub AreApart : Nature → (one other : Name) → Type 0
 AreApart nature one other = (nature.apart one other ≡ true) × (nature.apart other one ≡ true)
 
 -- Holds if the files obey the contract, and no vault or log in that one is borrowed.
-pub record IsKnown (name : Name) (view : View) : Type 0 where
+pub record IsKnownFile (name : Name) (view : View) : Type 0 where
   pub lawful : is_lawful view ≡ true
   pub in_store : view.out name ≡ false
 
@@ -78,7 +78,7 @@ pub record AreAtRest (files : FilesState) : Type 0 where
   pub in_store : (name : Name) → files.view.out name ≡ false
 
 -- The file is as it was: a read returns the same, and a host crash can leave nothing that it couldn't leave before.
-pub record Stays (name : Name) (old new : FilesState) : Type 0 where
+pub record KeepsFile (name : Name) (old new : FilesState) : Type 0 where
   pub out : new.view.out name ≡ old.view.out name
   pub seen : new.view.seen name ≡ old.view.seen name
   pub leaves : (left : Found) → new.may_leave name left → old.may_leave name left
@@ -90,17 +90,17 @@ pub record AreUntouched (old new : FilesState) : Type 0 where
 
 -- Each file is as it was.
 abbrev pub AllStay : (old new : FilesState) → Type 0
-AllStay old new = (name : Name) → Stays name old new
+AllStay old new = (name : Name) → KeepsFile name old new
 
 -- If the files obey the contract, each without a borrowed vault or log is as it was.
 abbrev pub KnownStay : (old new : FilesState) → Type 0
-KnownStay old new = (name : Name) → IsKnown name old.view → Stays name old new
+KnownStay old new = (name : Name) → IsKnownFile name old.view → KeepsFile name old new
 
 -- Each file whose name is apart from this one is as it was. Nothing is said about other names of the same file.
 abbrev pub OthersStay : Name → (old new : FilesState) → Type 0
-OthersStay name old new = (other : Name) → AreApart old.view.nature name other → Stays other old new
+OthersStay name old new = (other : Name) → AreApart old.view.nature name other → KeepsFile other old new
 
 -- A read returns exactly `content`, and a host crash can leave nothing else.
-pub record IsSettled (name : Name) (content : Found) (files : FilesState) : Type 0 where
+pub record IsDurable (name : Name) (content : Found) (files : FilesState) : Type 0 where
   pub seen : files.view.seen name ≡ content
   pub leaves : (left : Found) → files.may_leave name left → left ≡ content

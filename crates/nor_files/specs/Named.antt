@@ -5,22 +5,22 @@ use Rattle.nor_files.specs.Files.{Name}
 use Rattle.nor_files.specs.Stored.{File, file_in, missing}
 use Rattle.nor_files.specs.declared.stored.Stored.{Stored}
 
-abbrev pub is_name : (one other : Name) → Bool
-is_name = pointwise nat_eq
+abbrev pub are_same_names : (one other : Name) → Bool
+are_same_names = pointwise nat_eq
 
 abbrev pub is_named : Name → Stored → Bool
-is_named name stored = is_name stored.name.items name
+is_named name stored = are_same_names stored.name.items name
 
 -- the first file of that name, or `missing` if the list has none
-abbrev pub file_of : List Stored → Name → File
-file_of [] name = missing
-file_of (stored ∷ files) name = if is_named name stored then file_in stored else file_of files name
+abbrev pub file_named : List Stored → Name → File
+file_named [] name = missing
+file_named (stored ∷ files) name = if is_named name stored then file_in stored else file_named files name
 
 abbrev pub is_there : List Stored → Name → Bool
 is_there [] name = false
 is_there (stored ∷ files) name = if is_named name stored then true else is_there files name
 
 -- true if no vault is borrowed, or if the list has an entry for the file whose vault is borrowed
-abbrev pub is_lent_there : List Stored → Option Name → Bool
-is_lent_there files None = true
-is_lent_there files (Some name) = is_there files name
+abbrev pub is_borrowed_there : List Stored → Option Name → Bool
+is_borrowed_there files None = true
+is_borrowed_there files (Some name) = is_there files name

@@ -17,8 +17,8 @@ abbrev pub bytes_in : Content → List ℕ
 bytes_in (Plain bytes) = bytes.items
 bytes_in (Vaulted vault) = (held_by vault).bytes
 
-abbrev pub found_in : Option Content → Found
-found_in content = option_map bytes_in content
+abbrev pub content_found : Option Content → Found
+content_found content = option_map bytes_in content
 
 -- A file as contracts see it, which may be missing.
 pub record File : Type 0 where
@@ -32,7 +32,7 @@ pub record File : Type 0 where
 
 abbrev pub file_in : Stored → File
 file_in stored = record {
-  seen = found_in stored.content;
+  seen = content_found stored.content;
   steps = stored.steps.items;
   unplaced = stored.unplaced;
   out = stored.out;
@@ -62,8 +62,8 @@ Becomes Lent MayHaveBeen left = ⊤
 -- may make of it
 abbrev pub MayBe : List Step → Found → Found → Type 0
 MayBe [] seen left = left ≡ seen
-MayBe (step ∷ earlier) seen left = (left ≡ seen) ⊎ (MayBe earlier (found_in step.before) left
-    ⊎ Becomes step.change (MayBe earlier (found_in step.before)) left)
+MayBe (step ∷ earlier) seen left = (left ≡ seen) ⊎ (MayBe earlier (content_found step.before) left
+    ⊎ Becomes step.change (MayBe earlier (content_found step.before)) left)
 
 -- a content that may be left; with `true` a host crash may remove the file, so it may be missing; with `false` it
 -- exists if and only if a read finds it
@@ -138,18 +138,18 @@ pub record FilePlaces (old new : Stored) : Type 0 where
   pub file : file_in new ≡ record (file_in old) { unplaced = false }
 
 -- The file was missing and was created, empty. A host crash may remove it.
-pub record IsMadeNow (old new : Stored) : Type 0 where
+pub record IsCreatedNow (old new : Stored) : Type 0 where
   pub name : new.name ≡ old.name
   pub missing : (file_in old).seen ≡ None
   pub file : file_in new ≡ record { seen = Some []; steps = []; unplaced = true; out = old.out }
 
-abbrev pub FileMakes : {T E : Type 0} → Result T E → (old new : Stored) → Type 0
-FileMakes (Ok _) old new = IsMadeNow old new
-FileMakes (Err _) old new = IsUnchanged old new
+abbrev pub FileCreates : {T E : Type 0} → Result T E → (old new : Stored) → Type 0
+FileCreates (Ok _) old new = IsCreatedNow old new
+FileCreates (Err _) old new = IsUnchanged old new
 
 -- A vault or a log in the file was borrowed. The file is empty; if it had to be new, it was missing before, and a host
 -- crash can't remove it.
-pub record IsLent (is_new : Bool) (old new : Stored) : Type 0 where
+pub record IsBorrowed (is_new : Bool) (old new : Stored) : Type 0 where
   pub name : new.name ≡ old.name
   pub missing : is_new ≡ true → (file_in old).seen ≡ None
   pub file : file_in new ≡ record {
@@ -159,12 +159,12 @@ pub record IsLent (is_new : Bool) (old new : Stored) : Type 0 where
     out = true;
   }
 
-abbrev pub FileLends : {T E : Type 0} → Bool → Result T E → (old new : Stored) → Type 0
-FileLends is_new (Ok _) old new = IsLent is_new old new
-FileLends is_new (Err _) old new = IsUnchanged old new
+abbrev pub FileBorrows : {T E : Type 0} → Bool → Result T E → (old new : Stored) → Type 0
+FileBorrows is_new (Ok _) old new = IsBorrowed is_new old new
+FileBorrows is_new (Err _) old new = IsUnchanged old new
 
 -- The file has these bytes, and a host crash can leave nothing else of it.
-pub record FileSettles (bytes : List ℕ) (old new : Stored) : Type 0 where
+pub record FileIsDurable (bytes : List ℕ) (old new : Stored) : Type 0 where
   pub name : new.name ≡ old.name
   pub file : file_in new ≡ record { seen = Some bytes; steps = []; unplaced = false; out = false }
 

@@ -6,7 +6,7 @@ use crate::held::{Held, hold_chip, hold_journal, mode_beside, sync_under, write_
 use crate::identity::{is_one_file, is_stream};
 use crate::locks::LockFile;
 use crate::making::{VaultedFile, make_empty, make_new};
-use crate::store::{HoldFault, MakeFault, Store};
+use crate::store::{LockFault, CreateFault, Store};
 use nor_journal::{FileVault, Vault};
 use std::alloc::Global;
 use std::fs::OpenFile;
@@ -45,11 +45,11 @@ impl<'a, R: Files + AllocGlobal> Disk<'a, R> {
     }
 
     // Keeps a file open until the store is dropped. Returns whether the file exists.
-    fn keep(&mut self, held: Held<R::File>) -> Result<bool, HoldFault> {
+    fn keep(&mut self, held: Held<R::File>) -> Result<bool, LockFault> {
         let there = held.file.is_some();
         match self.held.push(held) {
             Ok(()) => Ok(there),
-            Err(error) => Err(HoldFault::Unread(error.into())),
+            Err(error) => Err(LockFault::Unread(error.into())),
         }
     }
 }
@@ -114,12 +114,12 @@ where
         }
     }
 
-    fn hold(&mut self, name: &str) -> Result<bool, HoldFault> {
+    fn hold(&mut self, name: &str) -> Result<bool, LockFault> {
         let held = hold_chip(self.files, self.alloc(), name)?;
         self.keep(held)
     }
 
-    fn share(&mut self, name: &str) -> Result<(), HoldFault> {
+    fn share(&mut self, name: &str) -> Result<(), LockFault> {
         let held = hold_journal(self.files, self.alloc(), name)?;
         self.keep(held)?;
         Ok(())
@@ -165,7 +165,7 @@ where
         Err(ErrorKind::NotFound.into())
     }
 
-    fn vault_in_new(&mut self, name: &str) -> Result<FileVault<VaultedFile<'a, R>>, MakeFault> {
+    fn vault_in_new(&mut self, name: &str) -> Result<FileVault<VaultedFile<'a, R>>, CreateFault> {
         let named = String::from_str(self.alloc(), name)?;
         let file = make_new(self.files, name, mode_beside(&self.held))?;
         sync_folder(self.files, name)?;
@@ -173,7 +173,7 @@ where
         Ok(FileVault::new(vaulted))
     }
 
-    fn vault_in(&mut self, name: &str) -> Result<FileVault<VaultedFile<'a, R>>, MakeFault> {
+    fn vault_in(&mut self, name: &str) -> Result<FileVault<VaultedFile<'a, R>>, CreateFault> {
         let file = make_empty(self.files, name)?;
         Ok(FileVault::new(VaultedFile::new(self.files, file, None)))
     }
@@ -184,12 +184,12 @@ where
         sealed
     }
 
-    fn log_in(&mut self, name: &str) -> Result<R::File, MakeFault> {
+    fn log_in(&mut self, name: &str) -> Result<R::File, CreateFault> {
         make_empty(self.files, name)
     }
 }
 
-/// Reads the rest of `file`, but not more than `most` bytes. If the file reports its length, memory for that many bytes
+/// ReadsFile the rest of `file`, but not more than `most` bytes. If the file reports its length, memory for that many bytes
 /// is allocated at once.
 pub fn read_up_to<F: Read + OpenFile + Drop>(
     alloc: Global,
@@ -198,12 +198,12 @@ pub fn read_up_to<F: Read + OpenFile + Drop>(
 ) -> io::Result<Vec<u8>>
     ensures { IfOk result (λ bytes. IfSome (F.remaining file) (λ all. bytes.items ≡ take most all)) }
 {
-    let told = match file.metadata() {
+    let returned = match file.metadata() {
         Ok(metadata) => metadata.len().min(most),
         Err(_) => 0,
     };
     // One byte more than the file has, so that the read at the end needs no further allocation.
-    let room = (told as usize).saturating_add(1);
+    let room = (returned as usize).saturating_add(1);
     let mut bytes = Vec::with_capacity(alloc, room)?;
     file.take(most).read_to_end(&mut bytes)?;
     Ok(bytes)

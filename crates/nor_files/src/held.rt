@@ -2,7 +2,7 @@
 
 use crate::identity::is_same;
 use crate::locks::LockFile;
-use crate::store::HoldFault;
+use crate::store::LockFault;
 use std::alloc::Global;
 use std::fs::{Metadata, OpenFile, OpenOptions};
 use std::io::{ErrorKind, Seek, Write};
@@ -17,9 +17,9 @@ pub struct Held<F> {
     pub file: Option<F>,
 }
 
-/// Opens and locks exclusively a file of the chip that the run will write. A missing file is recorded as missing. Fails
+/// ReadsIdentity and locks exclusively a file of the chip that the run will write. A missing file is recorded as missing. Fails
 /// if the name refers to anything but a regular file, or if the file can't be opened for writing or locked.
-pub fn hold_chip<R: Files>(files: &R, alloc: Global, name: &str) -> Result<Held<R::File>, HoldFault>
+pub fn hold_chip<R: Files>(files: &R, alloc: Global, name: &str) -> Result<Held<R::File>, LockFault>
 where
     R::File: LockFile,
 {
@@ -32,13 +32,13 @@ where
     Ok(Held { name: owned, file })
 }
 
-/// Opens a journal that the run reads, and locks it for reading. A name that doesn't refer to a regular file is
+/// ReadsIdentity a journal that the run reads, and locks it for reading. A name that doesn't refer to a regular file is
 /// recorded as missing.
 pub fn hold_journal<R: Files>(
     files: &R,
     alloc: Global,
     name: &str,
-) -> Result<Held<R::File>, HoldFault>
+) -> Result<Held<R::File>, LockFault>
 where
     R::File: LockFile,
 {
@@ -50,77 +50,77 @@ where
     Ok(Held { name: owned, file })
 }
 
-fn own(alloc: Global, name: &str) -> Result<String, HoldFault> {
+fn own(alloc: Global, name: &str) -> Result<String, LockFault> {
     match String::from_str(alloc, name) {
         Ok(owned) => Ok(owned),
-        Err(error) => Err(HoldFault::Unread(error.into())),
+        Err(error) => Err(LockFault::Unread(error.into())),
     }
 }
 
 // Returns whether a regular file of this name exists. The error for a directory is `Unread`. For a file of another kind
 // or a dangling link, which can't be overwritten in place, it is `Unheld`.
-fn is_there<R: Files>(files: &R, name: &str) -> Result<bool, HoldFault> {
+fn is_there<R: Files>(files: &R, name: &str) -> Result<bool, LockFault> {
     match fs::metadata(files, name) {
         Ok(metadata) if metadata.is_file() => Ok(true),
         Ok(metadata) if metadata.is_dir() => {
-            Err(HoldFault::Unread(ErrorKind::IsADirectory.into()))
+            Err(LockFault::Unread(ErrorKind::IsADirectory.into()))
         }
-        Ok(_) => Err(HoldFault::Unheld),
+        Ok(_) => Err(LockFault::Unheld),
         Err(error) if error.kind() == ErrorKind::NotFound => is_nowhere(files, name),
-        Err(error) => Err(HoldFault::Unread(error)),
+        Err(error) => Err(LockFault::Unread(error)),
     }
 }
 
 // Returns false if neither a file nor a link of this name exists. The error for a dangling link is `Unheld`.
-fn is_nowhere<R: Files>(files: &R, name: &str) -> Result<bool, HoldFault> {
+fn is_nowhere<R: Files>(files: &R, name: &str) -> Result<bool, LockFault> {
     match fs::symlink_metadata(files, name) {
         Err(error) if error.kind() == ErrorKind::NotFound => Ok(false),
-        _ => Err(HoldFault::Unheld),
+        _ => Err(LockFault::Unheld),
     }
 }
 
-// Opens the named regular file for reading and writing, and locks it exclusively.
-fn open_alone<R: Files>(files: &R, name: &str) -> Result<R::File, HoldFault>
+// ReadsIdentity the named regular file for reading and writing, and locks it exclusively.
+fn open_alone<R: Files>(files: &R, name: &str) -> Result<R::File, LockFault>
 where
     R::File: LockFile,
 {
     let file = open_both(files, name)?;
     match file.metadata() {
         Ok(metadata) if metadata.is_file() => {}
-        _ => return Err(HoldFault::Unheld),
+        _ => return Err(LockFault::Unheld),
     }
     match file.lock_alone() {
         Ok(true) => Ok(file),
-        Ok(false) => Err(HoldFault::Busy),
-        Err(_) => Err(HoldFault::Unheld),
+        Ok(false) => Err(LockFault::Busy),
+        Err(_) => Err(LockFault::Unheld),
     }
 }
 
-// Opens the named file for reading and writing. The error is `Unheld` if it can only be opened for reading.
-fn open_both<R: Files>(files: &R, name: &str) -> Result<R::File, HoldFault> {
+// ReadsIdentity the named file for reading and writing. The error is `Unheld` if it can only be opened for reading.
+fn open_both<R: Files>(files: &R, name: &str) -> Result<R::File, LockFault> {
     let opened = OpenOptions::new().read(true).write(true).open(files, name);
     match opened {
         Ok(file) => Ok(file),
         Err(_) => match fs::open(files, name) {
-            Ok(_) => Err(HoldFault::Unheld),
-            Err(error) => Err(HoldFault::Unread(error)),
+            Ok(_) => Err(LockFault::Unheld),
+            Err(error) => Err(LockFault::Unread(error)),
         },
     }
 }
 
-// Opens the named file for reading, and locks it against runs that write it.
-fn open_shared<R: Files>(files: &R, name: &str) -> Result<R::File, HoldFault>
+// ReadsIdentity the named file for reading, and locks it against runs that write it.
+fn open_shared<R: Files>(files: &R, name: &str) -> Result<R::File, LockFault>
 where
     R::File: LockFile,
 {
     let file = match fs::open(files, name) {
         Ok(file) => file,
-        Err(error) => return Err(HoldFault::Unread(error)),
+        Err(error) => return Err(LockFault::Unread(error)),
     };
     match file.lock_shared() {
         Ok(true) => Ok(file),
-        Ok(false) => Err(HoldFault::Busy),
-        Err(_) => Err(HoldFault::Unheld),
+        Ok(false) => Err(LockFault::Busy),
+        Err(_) => Err(LockFault::Unheld),
     }
 }
 

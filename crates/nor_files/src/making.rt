@@ -2,7 +2,7 @@
 
 use crate::identity::is_same;
 use crate::locks::LockFile;
-use crate::store::MakeFault;
+use crate::store::CreateFault;
 use nor_journal::{FIRST_MAGIC, MAGIC};
 use std::fs::{Metadata, OpenFile, OpenOptions};
 use std::io::{ErrorKind, Read, Seek, Write};
@@ -11,7 +11,7 @@ use std::rt::Files;
 use std::{fs, io};
 
 /// Creates the named file with this mode, and locks it. The error is `There` if it exists.
-pub fn make_new<R: Files>(files: &R, name: &str, mode: u32) -> Result<R::File, MakeFault>
+pub fn make_new<R: Files>(files: &R, name: &str, mode: u32) -> Result<R::File, CreateFault>
 where
     R::File: LockFile,
 {
@@ -19,8 +19,8 @@ where
     options.read(true).write(true).create_new(true).mode(mode);
     let file = match options.open(files, name) {
         Ok(file) => file,
-        Err(error) if error.kind() == ErrorKind::AlreadyExists => return Err(MakeFault::There),
-        Err(error) => return Err(MakeFault::Unmade(error)),
+        Err(error) if error.kind() == ErrorKind::AlreadyExists => return Err(CreateFault::There),
+        Err(error) => return Err(CreateFault::Unmade(error)),
     };
     lock(&file)?;
     Ok(file)
@@ -29,14 +29,14 @@ where
 /// Creates or truncates the named file. A regular file is truncated only after it was locked. A journal is never
 /// truncated, since it may be the only way to restore a chip: the error is `There`. A FIFO, a device or a terminal is
 /// opened as it is.
-pub fn make_empty<R: Files>(files: &R, name: &str) -> Result<R::File, MakeFault>
+pub fn make_empty<R: Files>(files: &R, name: &str) -> Result<R::File, CreateFault>
 where
     R::File: LockFile,
 {
     if is_special(files, name) {
         return match fs::create(files, name) {
             Ok(file) => Ok(file),
-            Err(error) => Err(MakeFault::Unmade(error)),
+            Err(error) => Err(CreateFault::Unmade(error)),
         };
     }
     let mut options = OpenOptions::new();
@@ -47,17 +47,17 @@ where
         .open(files, name);
     let mut file = match opened {
         Ok(file) => file,
-        Err(error) => return Err(MakeFault::Unmade(error)),
+        Err(error) => return Err(CreateFault::Unmade(error)),
     };
     lock(&file)?;
     match is_journal(&mut file) {
         Ok(false) => {}
-        Ok(true) => return Err(MakeFault::There),
-        Err(error) => return Err(MakeFault::Unmade(error)),
+        Ok(true) => return Err(CreateFault::There),
+        Err(error) => return Err(CreateFault::Unmade(error)),
     }
     match empty(&mut file) {
         Ok(()) => Ok(file),
-        Err(error) => Err(MakeFault::Unmade(error)),
+        Err(error) => Err(CreateFault::Unmade(error)),
     }
 }
 
@@ -69,11 +69,11 @@ fn is_special<R: Files>(files: &R, name: &str) -> bool {
     }
 }
 
-fn lock<F: LockFile>(file: &F) -> Result<(), MakeFault> {
+fn lock<F: LockFile>(file: &F) -> Result<(), CreateFault> {
     match file.lock_alone() {
         Ok(true) => Ok(()),
-        Ok(false) => Err(MakeFault::Busy),
-        Err(error) => Err(MakeFault::Unmade(error)),
+        Ok(false) => Err(CreateFault::Busy),
+        Err(error) => Err(CreateFault::Unmade(error)),
     }
 }
 

@@ -1,10 +1,10 @@
 //! Files in memory that obey the contract of `Store`, for tests.
 ghost use Rattle.std.specs.Prelude.{◌≡◌, ◌+◌, true, None, OnErr, OnOk, IfOk, Some, option_map, position};
-ghost use Rattle.nor_files.specs.Files.{AllStay, AreAtRest, IsSettled, Name, OthersStay, Stays};
+ghost use Rattle.nor_files.specs.Files.{AllStay, AreAtRest, IsDurable, Name, OthersStay, KeepsFile};
 ghost use Rattle.nor_files.specs.Calls.{Counts};
-ghost use Rattle.nor_files.specs.Named.{file_of, is_lent_there, is_named, is_there};
+ghost use Rattle.nor_files.specs.Named.{file_named, is_borrowed_there, is_named, is_there};
 
-use crate::store::{HoldFault, MakeFault, Store};
+use crate::store::{LockFault, CreateFault, Store};
 use crate::stored::{Loss, Stored, copy};
 use nor_journal::MemVault;
 use std::alloc::{AllocError, Global};
@@ -22,11 +22,11 @@ pub struct Memory {
     alloc: Global,
     files: Vec<Stored>,
     // The name of the file whose vault was borrowed last and not yet taken back.
-    lent: Option<Vec<u8>>,
+    borrowed: Option<Vec<u8>>,
     left: u64,
     // Whether `write_over` writes only half of its bytes, and fails, if it is the last call that is left.
     torn: bool,
-    ghost lent_is_there: { is_lent_there files.items (option_map (λ name. name.items) lent) ≡ true },
+    ghost borrowed_is_there: { is_borrowed_there files.items (option_map (λ name. name.items) borrowed) ≡ true },
 }
 
 impl Memory {
@@ -37,7 +37,7 @@ impl Memory {
         Memory {
             alloc,
             files: Vec::new(alloc),
-            lent: None,
+            borrowed: None,
             left,
             torn: false,
         }
@@ -47,7 +47,7 @@ impl Memory {
     /// count as a call. Fails if memory runs out.
     pub fn put(&mut self, name: &str, bytes: &[u8]) -> Result<(), AllocError>
         ensures left { self.new.left ≡ self.old.left }
-        ensures puts { OnOk result (IsSettled name.now (Some bytes.now) (memory_state self.new)) }
+        ensures puts { OnOk result (IsDurable name.now (Some bytes.now) (memory_state self.new)) }
         ensures others { OthersStay name.now (memory_state self.old) (memory_state self.new) }
     {
         let at = self.keep_place(name)?;
@@ -56,7 +56,7 @@ impl Memory {
         Ok(())
     }
 
-    /// Makes `write_over` write only the first half of its bytes, and fail, if it is the last call that is left. Only a
+    /// Creates `write_over` write only the first half of its bytes, and fail, if it is the last call that is left. Only a
     /// write of no bytes then succeeds.
     pub fn tear(&mut self)
         ensures left { self.new.left ≡ self.old.left }
@@ -71,7 +71,7 @@ impl Memory {
         ensures left { (memory_state result).left ≡ left }
         ensures at_rest { AreAtRest (memory_state result) }
         ensures allowed { (name : Name) → (memory_state self).may_leave name ((memory_state result).view.seen name) }
-        ensures settled { (name : Name) → IsSettled name ((memory_state result).view.seen name) (memory_state result) }
+        ensures settled { (name : Name) → IsDurable name ((memory_state result).view.seen name) (memory_state result) }
     {
         let Memory {
             alloc,
@@ -84,7 +84,7 @@ impl Memory {
         Memory {
             alloc,
             files,
-            lent: None,
+            borrowed: None,
             left,
             torn: false,
         }
@@ -120,8 +120,8 @@ impl Memory {
     // Returns the index of the entry for the named file. Appends an entry for a missing file if there is none.
     fn keep_place(&mut self, name: &str) -> Result<usize, AllocError>
         ensures at { IfOk result (λ at. position (is_named name.now) self.new.files.items ≡ Some at) }
-        ensures same { (any : Name) → file_of self.new.files.items any ≡ file_of self.old.files.items any }
-        ensures lent { self.new.lent ≡ self.old.lent }
+        ensures same { (any : Name) → file_named self.new.files.items any ≡ file_named self.old.files.items any }
+        ensures borrowed { self.new.borrowed ≡ self.old.borrowed }
         ensures left { self.new.left ≡ self.old.left }
     {
         if let Some(at) = self.place(name.as_bytes()) {
@@ -137,11 +137,11 @@ impl Memory {
     fn lend(&mut self, name: &str, is_new: bool) -> io::Result<()>
         ensures counts { Counts result (memory_state self.old) (memory_state self.new) }
         ensures others { OthersStay name.now (memory_state self.old) (memory_state self.new) }
-        ensures out { OnOk result ((file_of self.new.files.items name.now).out ≡ true) }
+        ensures out { OnOk result ((file_named self.new.files.items name.now).out ≡ true) }
         ensures there { OnOk result (is_there self.new.files.items name.now ≡ true) }
-        ensures missing { is_new ≡ true → OnOk result ((file_of self.old.files.items name.now).seen ≡ None) }
-        ensures lent { self.new.lent ≡ self.old.lent }
-        ensures stays { OnErr result (Stays name.now (memory_state self.old) (memory_state self.new)) }
+        ensures missing { is_new ≡ true → OnOk result ((file_named self.old.files.items name.now).seen ≡ None) }
+        ensures borrowed { self.new.borrowed ≡ self.old.borrowed }
+        ensures stays { OnErr result (KeepsFile name.now (memory_state self.old) (memory_state self.new)) }
     {
         spend(&mut self.left)?;
         let at = self.keep_place(name)?;
@@ -175,7 +175,7 @@ impl Store for Memory {
 
     ghost state = { memory_state };
 
-    ghost seen_may_stay = { λ memory name. file.seen_may_stay (file_of memory.files.items name) };
+    ghost seen_may_stay = { λ memory name. file.seen_may_stay (file_named memory.files.items name) };
 
     type Filed = MemVault;
 
@@ -207,14 +207,14 @@ impl Store for Memory {
         }
     }
 
-    fn hold(&mut self, name: &str) -> Result<bool, HoldFault> {
+    fn hold(&mut self, name: &str) -> Result<bool, LockFault> {
         match spend(&mut self.left) {
             Ok(()) => Ok(self.bytes_of(name).is_some()),
-            Err(error) => Err(HoldFault::Unread(error)),
+            Err(error) => Err(LockFault::Unread(error)),
         }
     }
 
-    fn share(&mut self, _name: &str) -> Result<(), HoldFault> {
+    fn share(&mut self, _name: &str) -> Result<(), LockFault> {
         Ok(())
     }
 
@@ -259,23 +259,23 @@ impl Store for Memory {
         self.files[at].make(self.alloc)
     }
 
-    fn vault_in_new(&mut self, name: &str) -> Result<MemVault, MakeFault> {
-        let lent = copy(self.alloc, name.as_bytes())?;
+    fn vault_in_new(&mut self, name: &str) -> Result<MemVault, CreateFault> {
+        let borrowed = copy(self.alloc, name.as_bytes())?;
         self.lend(name, true)?;
-        self.lent = Some(lent);
+        self.borrowed = Some(borrowed);
         Ok(MemVault::new(self.alloc))
     }
 
-    fn vault_in(&mut self, name: &str) -> Result<MemVault, MakeFault> {
-        let lent = copy(self.alloc, name.as_bytes())?;
+    fn vault_in(&mut self, name: &str) -> Result<MemVault, CreateFault> {
+        let borrowed = copy(self.alloc, name.as_bytes())?;
         self.lend(name, false)?;
-        self.lent = Some(lent);
+        self.borrowed = Some(borrowed);
         Ok(MemVault::new(self.alloc))
     }
 
     fn hand_back(&mut self, vault: MemVault) -> bool {
         let sealed = vault.is_sealed();
-        let Some(name) = mem::replace(&mut self.lent, None) else {
+        let Some(name) = mem::replace(&mut self.borrowed, None) else {
             return sealed;
         };
         match self.place(&name) {
@@ -287,7 +287,7 @@ impl Store for Memory {
         }
     }
 
-    fn log_in(&mut self, name: &str) -> Result<Sink, MakeFault> {
+    fn log_in(&mut self, name: &str) -> Result<Sink, CreateFault> {
         self.lend(name, false)?;
         Ok(io::sink())
     }

@@ -8,7 +8,7 @@ use std::{fmt, io};
 
 /// Why a file can't be opened and locked by `hold` or `share`.
 #[derive(Debug, Drop)]
-pub enum HoldFault {
+pub enum LockFault {
     /// The file can't be opened or read.
     Unread(io::Error),
     /// The file exists, but can't be overwritten or locked: it may be read-only, or not a regular file.
@@ -17,21 +17,21 @@ pub enum HoldFault {
     Busy,
 }
 
-impl fmt::Display for HoldFault {
+impl fmt::Display for LockFault {
     fn fmt<W: fmt::Write>(&self, f: &mut fmt::Formatter<W>) -> fmt::Result {
         match self {
-            HoldFault::Unread(why) => write!(f, "the file can't be opened or read: {why}"),
-            HoldFault::Unheld => f.write_str("the file can't be written over or locked"),
-            HoldFault::Busy => f.write_str("another process has locked the file"),
+            LockFault::Unread(why) => write!(f, "the file can't be opened or read: {why}"),
+            LockFault::Unheld => f.write_str("the file can't be written over or locked"),
+            LockFault::Busy => f.write_str("another process has locked the file"),
         }
     }
 }
 
-impl Error for HoldFault {}
+impl Error for LockFault {}
 
 /// Why a file can't be created or truncated.
 #[derive(Debug, Drop)]
-pub enum MakeFault {
+pub enum CreateFault {
     /// A file that must be new exists, or the file is a journal, which `Disk` never truncates.
     There,
     /// Another process has locked the file.
@@ -42,43 +42,43 @@ pub enum MakeFault {
     Memory,
 }
 
-impl fmt::Display for MakeFault {
+impl fmt::Display for CreateFault {
     fn fmt<W: fmt::Write>(&self, f: &mut fmt::Formatter<W>) -> fmt::Result {
         match self {
-            MakeFault::There => f.write_str("the file is there already, or is a journal"),
-            MakeFault::Busy => f.write_str("another process has locked the file"),
-            MakeFault::Unmade(why) => write!(f, "the file can't be made or emptied: {why}"),
-            MakeFault::Memory => f.write_str("out of memory"),
+            CreateFault::There => f.write_str("the file is there already, or is a journal"),
+            CreateFault::Busy => f.write_str("another process has locked the file"),
+            CreateFault::Unmade(why) => write!(f, "the file can't be made or emptied: {why}"),
+            CreateFault::Memory => f.write_str("out of memory"),
         }
     }
 }
 
-impl Error for MakeFault {}
+impl Error for CreateFault {}
 
-impl From<io::Error> for MakeFault {
+impl From<io::Error> for CreateFault {
     ghost use Rattle.std.specs.Prelude.{◌≡◌};
-    ghost use Rattle.nor_files.specs.declared.store.MakeFault.TheVariants.{Unmade};
+    ghost use Rattle.nor_files.specs.declared.store.CreateFault.TheVariants.{Unmade};
 
     ghost from_gives = { λ error fault. fault ≡ Unmade error };
 
-    fn from(error: io::Error) -> MakeFault {
-        MakeFault::Unmade(error)
+    fn from(error: io::Error) -> CreateFault {
+        CreateFault::Unmade(error)
     }
 }
 
-impl From<AllocError> for MakeFault {
-    fn from(_: AllocError) -> MakeFault {
-        MakeFault::Memory
+impl From<AllocError> for CreateFault {
+    fn from(_: AllocError) -> CreateFault {
+        CreateFault::Memory
     }
 }
 
-impl From<MakeFault> for io::Error {
-    fn from(fault: MakeFault) -> io::Error {
+impl From<CreateFault> for io::Error {
+    fn from(fault: CreateFault) -> io::Error {
         match fault {
-            MakeFault::There => ErrorKind::AlreadyExists.into(),
-            MakeFault::Busy => ErrorKind::WouldBlock.into(),
-            MakeFault::Unmade(error) => error,
-            MakeFault::Memory => ErrorKind::OutOfMemory.into(),
+            CreateFault::There => ErrorKind::AlreadyExists.into(),
+            CreateFault::Busy => ErrorKind::WouldBlock.into(),
+            CreateFault::Unmade(error) => error,
+            CreateFault::Memory => ErrorKind::OutOfMemory.into(),
         }
     }
 }
@@ -97,12 +97,12 @@ impl From<MakeFault> for io::Error {
 pub trait Store: AllocGlobal {
     ghost use Rattle.std.specs.Prelude.{◌≡◌, ◌⊎◌, false, true, None, IfErr, IfOk, Ok, OnErr, OnOk, option_map};
     ghost use Rattle.nor_journal.specs.Vault.{IsFresh};
-    ghost use Rattle.nor_files.specs.Files.{AreApart, AreUntouched, FilesState, IsKnown, KnownStay, Name};
-    ghost use Rattle.nor_files.specs.Files.{OthersStay, Stays, is_lawful};
+    ghost use Rattle.nor_files.specs.Files.{AreApart, AreUntouched, FilesState, IsKnownFile, KnownStay, Name};
+    ghost use Rattle.nor_files.specs.Files.{OthersStay, KeepsFile, is_lawful};
     ghost use Rattle.nor_files.specs.Files.Failure.{Printed, Shared, There, Unread, Unwritten};
-    ghost use Rattle.nor_files.specs.Calls.{Fails, Holds, LeaveNoMore, Lends, LendsNone, Makes, Places, Reads};
+    ghost use Rattle.nor_files.specs.Calls.{Fails, Holds, LeaveNoMore, Borrows, BorrowsNone, Creates, Places, ReadsFile};
     ghost use Rattle.nor_files.specs.Calls.{SetsLength, Syncs, TakesBack, WorksOn, WritesOver};
-    ghost use Rattle.nor_files.specs.Faults.{IsHoldFault, IsMakeFault};
+    ghost use Rattle.nor_files.specs.Faults.{IsLockFault, IsCreateFault};
 
     ghost state: { Self → FilesState };
 
@@ -145,23 +145,23 @@ pub trait Store: AllocGlobal {
     /// `read` holds for a lawful file without a borrowed vault or log.
     fn read_named(&self, name: &str, most: u64) -> io::Result<Option<Vec<u8>>>
         ensures read { IfOk result (λ found.
-            Reads name.now most (option_map (λ bytes. bytes.items) found) (state self.now).view) }
+            ReadsFile name.now most (option_map (λ bytes. bytes.items) found) (state self.now).view) }
         ensures unread { OnErr result ((state self.now).view.nature.fails (Unread name.now) ≡ true) };
 
-    /// Opens and locks the named file, if it exists, so that it can be overwritten later. The lock keeps other runs off
+    /// ReadsIdentity and locks the named file, if it exists, so that it can be overwritten later. The lock keeps other runs off
     /// until the store is dropped; contracts don't describe locks. Returns whether the file exists. On lawful files,
     /// all files are as they were.
-    fn hold(&mut self, name: &str) -> Result<bool, HoldFault>
+    fn hold(&mut self, name: &str) -> Result<bool, LockFault>
         ensures nature { (state self.new).view.nature ≡ (state self.old).view.nature }
         ensures holds { is_lawful (state self.old).view ≡ true
             → Holds name.now result (state self.old) (state self.new) }
-        ensures fails { IfErr result (IsHoldFault (state self.old).view.nature name.now) };
+        ensures fails { IfErr result (IsLockFault (state self.old).view.nature name.now) };
 
     /// Locks the named file, if it exists, for reading, so that no other run overwrites it until the store is dropped;
     /// contracts don't describe locks. All files are as they were.
-    fn share(&mut self, name: &str) -> Result<(), HoldFault>
+    fn share(&mut self, name: &str) -> Result<(), LockFault>
         ensures same { AreUntouched (state self.old) (state self.new) }
-        ensures fails { IfErr result (IsHoldFault (state self.old).view.nature name.now) };
+        ensures fails { IfErr result (IsLockFault (state self.old).view.nature name.now) };
 
     /// Syncs the bytes and the length of the named file. Contracts promise the following for lawful files without a
     /// borrowed vault or log:
@@ -177,7 +177,7 @@ pub trait Store: AllocGlobal {
         ensures stay { OnOk result (KnownStay (state self.old) (state self.new)) }
         ensures no_more { is_lawful (state self.old).view ≡ true
             → LeaveNoMore (state self.old) (state self.new) }
-        ensures syncs { IsKnown name.now (state self.old).view
+        ensures syncs { IsKnownFile name.now (state self.old).view
             → Syncs name.now result (state self.old) (state self.new) }
         ensures fails { OnErr result ((state self.old).view.nature.fails (Unwritten name.now) ≡ true) };
 
@@ -188,7 +188,7 @@ pub trait Store: AllocGlobal {
         ensures alone { is_lawful (state self.old).view ≡ true
             → WorksOn name.now result (state self.old) (state self.new) }
         ensures stay { KnownStay (state self.old) (state self.new) }
-        ensures places { IsKnown name.now (state self.old).view
+        ensures places { IsKnownFile name.now (state self.old).view
             → Places name.now result (state self.old) (state self.new) }
         ensures fails { OnErr result ((state self.old).view.nature.fails (Unwritten name.now) ≡ true) };
 
@@ -199,7 +199,7 @@ pub trait Store: AllocGlobal {
         ensures nature { (state self.new).view.nature ≡ (state self.old).view.nature }
         ensures alone { is_lawful (state self.old).view ≡ true
             → WorksOn name.now result (state self.old) (state self.new) }
-        ensures writes { IsKnown name.now (state self.old).view
+        ensures writes { IsKnownFile name.now (state self.old).view
             → WritesOver name.now bytes.now result (state self.old) (state self.new) }
         ensures fails { OnErr result ((state self.old).view.nature.fails (Unwritten name.now) ≡ true) };
 
@@ -209,7 +209,7 @@ pub trait Store: AllocGlobal {
         ensures nature { (state self.new).view.nature ≡ (state self.old).view.nature }
         ensures alone { is_lawful (state self.old).view ≡ true
             → WorksOn name.now result (state self.old) (state self.new) }
-        ensures sets { IsKnown name.now (state self.old).view
+        ensures sets { IsKnownFile name.now (state self.old).view
             → SetsLength name.now len result (state self.old) (state self.new) }
         ensures fails { OnErr result ((state self.old).view.nature.fails (Unwritten name.now) ≡ true) };
 
@@ -219,55 +219,55 @@ pub trait Store: AllocGlobal {
         ensures nature { (state self.new).view.nature ≡ (state self.old).view.nature }
         ensures alone { is_lawful (state self.old).view ≡ true
             → WorksOn name.now result (state self.old) (state self.new) }
-        ensures makes { IsKnown name.now (state self.old).view
-            → Makes name.now result (state self.old) (state self.new) }
+        ensures makes { IsKnownFile name.now (state self.old).view
+            → Creates name.now result (state self.old) (state self.new) }
         ensures fails { OnErr result ((state self.old).view.nature.fails (Unwritten name.now) ≡ true) };
 
     /// Creates the named file, which must not exist, and lends a vault in it; return the vault with `hand_back`. `Disk`
     /// returns `There` for an existing file, and syncs the directory. On lawful files, after a failure a host crash can
     /// leave nothing that it couldn't leave before, except an empty file if there was none.
-    fn vault_in_new(&mut self, name: &str) -> Result<Self::Filed, MakeFault>
+    fn vault_in_new(&mut self, name: &str) -> Result<Self::Filed, CreateFault>
         ensures nature { (state self.new).view.nature ≡ (state self.old).view.nature }
         ensures fresh { IfOk result (λ vault. IsFresh (Self.Filed.state vault)) }
-        ensures lends { is_lawful (state self.old).view ≡ true
-            → OnOk result (Lends name.now (state self.old) (state self.new)) }
-        ensures missing { IsKnown name.now (state self.old).view
+        ensures borrows { is_lawful (state self.old).view ≡ true
+            → OnOk result (Borrows name.now (state self.old) (state self.new)) }
+        ensures missing { IsKnownFile name.now (state self.old).view
             → OnOk result ((state self.old).view.seen name.now ≡ None) }
         ensures fails { is_lawful (state self.old).view ≡ true
-            → OnErr result (LendsNone name.now (state self.old) (state self.new)) }
+            → OnErr result (BorrowsNone name.now (state self.old) (state self.new)) }
         ensures others { is_lawful (state self.old).view ≡ true
             → OthersStay name.now (state self.old) (state self.new) }
-        ensures unmade { IfErr result (IsMakeFault (state self.old).view.nature name.now) };
+        ensures unmade { IfErr result (IsCreateFault (state self.old).view.nature name.now) };
 
     /// Creates or truncates the named file, and lends a vault in it; return the vault with `hand_back`. `Disk` refuses
     /// to truncate a journal.
-    fn vault_in(&mut self, name: &str) -> Result<Self::Filed, MakeFault>
+    fn vault_in(&mut self, name: &str) -> Result<Self::Filed, CreateFault>
         ensures nature { (state self.new).view.nature ≡ (state self.old).view.nature }
         ensures fresh { IfOk result (λ vault. IsFresh (Self.Filed.state vault)) }
-        ensures lends { is_lawful (state self.old).view ≡ true
-            → OnOk result (Lends name.now (state self.old) (state self.new)) }
+        ensures borrows { is_lawful (state self.old).view ≡ true
+            → OnOk result (Borrows name.now (state self.old) (state self.new)) }
         ensures fails { is_lawful (state self.old).view ≡ true
             → OnErr result (Fails (state self.old) (state self.new)) }
         ensures others { is_lawful (state self.old).view ≡ true
             → OthersStay name.now (state self.old) (state self.new) }
-        ensures unmade { IfErr result (IsMakeFault (state self.old).view.nature name.now) };
+        ensures unmade { IfErr result (IsCreateFault (state self.old).view.nature name.now) };
 
     /// Takes back the vault that was borrowed last, and returns whether it is sealed. On lawful files, that vault is
     /// faithful (`telling`), the file has its bytes, and if it is sealed, a host crash can leave nothing else.
     fn hand_back(&mut self, vault: Self::Filed) -> bool
         ensures nature { (state self.new).view.nature ≡ (state self.old).view.nature }
         ensures sealed { result ≡ (Self.Filed.state vault).sealed }
-        ensures takes { is_lawful (state self.old).view ≡ true → (name : Name) → (state self.old).lent ≡ Some name
+        ensures takes { is_lawful (state self.old).view ≡ true → (name : Name) → (state self.old).borrowed ≡ Some name
             → TakesBack name (Self.Filed.state vault) (state self.old) (state self.new) };
 
     /// Creates or truncates the named file, and lends it as a log. `Disk` refuses to truncate a journal.
-    fn log_in(&mut self, name: &str) -> Result<Self::Log, MakeFault>
+    fn log_in(&mut self, name: &str) -> Result<Self::Log, CreateFault>
         ensures nature { (state self.new).view.nature ≡ (state self.old).view.nature }
         ensures alone { is_lawful (state self.old).view ≡ true
             → OthersStay name.now (state self.old) (state self.new) }
         ensures fails { is_lawful (state self.old).view ≡ true
             → OnErr result (Fails (state self.old) (state self.new)) }
-        ensures unmade { IfErr result (IsMakeFault (state self.old).view.nature name.now) };
+        ensures unmade { IfErr result (IsCreateFault (state self.old).view.nature name.now) };
 
     // A host crash may leave what a read returns, on every store. A killed process leaves just that.
     ghost seen_may_stay: { (files : Self) (name : Name)

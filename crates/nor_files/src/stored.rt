@@ -1,8 +1,8 @@
 //! A file in memory, and what a host crash may leave of it.
 ghost use Rattle.std.specs.Prelude.{◌≡◌, ◌&&◌, IfOk, is_some, not, option_map};
 ghost use Rattle.nor_files.specs.Calls.{with_length, written_over};
-ghost use Rattle.nor_files.specs.Stored.{Alters, FileForgets, FileLends, FileLoses, FileMakes, FilePlaces, FileSets};
-ghost use Rattle.nor_files.specs.Stored.{FileSettles, FileSyncs, FileTakesBack, FileWrites, bytes_in, file_in, missing};
+ghost use Rattle.nor_files.specs.Stored.{Alters, FileForgets, FileBorrows, FileLoses, FileCreates, FilePlaces, FileSets};
+ghost use Rattle.nor_files.specs.Stored.{FileIsDurable, FileSyncs, FileTakesBack, FileWrites, bytes_in, file_in, missing};
 ghost use Rattle.nor_files.specs.Named.{is_named};
 ghost use Rattle.nor_journal.specs.MemVault.{held_by};
 
@@ -167,7 +167,7 @@ impl Stored {
 
     /// Creates the file, empty. Fails with `AlreadyExists`, and changes nothing, if it exists.
     pub fn make(&mut self, alloc: Global) -> io::Result<()>
-        ensures { FileMakes result self.old self.new }
+        ensures { FileCreates result self.old self.new }
     {
         if self.content.is_some() {
             return Err(ErrorKind::AlreadyExists.into());
@@ -181,7 +181,7 @@ impl Stored {
     /// Creates or empties the file, for a vault or a log. If `is_new`, fails with `AlreadyExists` if the file exists,
     /// and a host crash can't remove the file that is created. Also fails if memory runs out.
     pub fn lend(&mut self, alloc: Global, is_new: bool) -> io::Result<()>
-        ensures { FileLends is_new result self.old self.new }
+        ensures { FileBorrows is_new result self.old self.new }
     {
         let was_there = self.content.is_some();
         if is_new && was_there {
@@ -195,7 +195,7 @@ impl Stored {
 
     /// Gives the file these bytes; a host crash can leave nothing else.
     pub fn settle(&mut self, bytes: Vec<u8>)
-        ensures { FileSettles bytes.items self.old self.new }
+        ensures { FileIsDurable bytes.items self.old self.new }
     {
         self.content = Some(Content::Plain(bytes));
         self.steps.clear();

@@ -10,7 +10,7 @@ use Rattle.std.proofs.lemmas.List.{get_or-drop}
 use borrow.Rule.Slice.PartMut.{put_mid, same_len_mid}
 use Rattle.nor_journal.specs.Number.{number_text, number_at}
 use Rattle.nor_journal.specs.Text.{magic, head}
-use Rattle.nor_journal.specs.Fault.{head_length}
+use Rattle.nor_journal.specs.Fault.{header_length}
 use Rattle.nor_journal.proofs.SectorRecords.{IsBytes, IsBytes-drop, number_text-number_at}
 use Rattle.std.proofs.Math.Seq.{take-add}
 use Rattle.std.proofs.lemmas.Grind.{elements}
@@ -44,8 +44,8 @@ unique_read part (Ok u) whole = (sym whole.same, ap length whole.same ∙ whole.
 unique_read part (Err e) other = other
 
 -- bytes with a complete header are the encoding of its fields, followed by the rest
-pub splits : (told : Option (List ℕ)) (len : ℕ) (bytes : List ℕ) (unique : Option (List ℕ)) → IsBytes bytes
-    → take 8 bytes ≡ magic told → len ≡ head_length told → len ≤ length bytes
+pub splits : (returned : Option (List ℕ)) (len : ℕ) (bytes : List ℕ) (unique : Option (List ℕ)) → IsBytes bytes
+    → take 8 bytes ≡ magic returned → len ≡ header_length returned → len ≤ length bytes
     → IsUnique (take (len - 6 - 11) (drop 11 bytes)) unique
     → IfSome unique (λ u. length u ≡ 8)
     × (bytes

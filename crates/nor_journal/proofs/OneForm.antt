@@ -10,9 +10,9 @@ use Rattle.sha2.specs.Sha256.{sha256}
 use Rattle.nor_count.specs.Size.{is_chip_size}
 use Rattle.nor_count.proofs.Sizes.{is_chip_size-in_blocks}
 use Rattle.nor_journal.specs.Number.{number_text, number_at}
-use Rattle.nor_journal.specs.Text.{SavedSector, Content, IsContent, IsSectorBelow, AreRising, magic, SameHead, head}
+use Rattle.nor_journal.specs.Text.{SavedSector, Content, IsContent, IsSectorBelow, AreRising, magic, SameHeader, head}
 use Rattle.nor_journal.specs.Text.{record_text, records_text, front, body, text, end_mark, least_after, next_number}
-use Rattle.nor_journal.specs.Fault.{head_length, HasFault, HeadFault, NextFault}
+use Rattle.nor_journal.specs.Fault.{header_length, HasFault, HeaderFault, NextFault}
 use Rattle.nor_journal.specs.Reading.{BeginsRecord}
 use Rattle.nor_journal.proofs.SectorRecords.{length-number_text, number_at-number_text, number_at-take}
 use Rattle.sha2.proofs.Facts256.{length-sha256}
@@ -97,15 +97,15 @@ pub length-magic : (u : Option (List ℕ)) → length (magic u) ≡ 8
 length-magic u = grind arith
 
 -- the magic determines the length of the header
-pub same_format : (u v : Option (List ℕ)) → magic u ≡ magic v → head_length u ≡ head_length v
+pub same_format : (u v : Option (List ℕ)) → magic u ≡ magic v → header_length u ≡ header_length v
 same_format u v e = grind arith
 
 -- the length of the unique ID in a header of either format
 length-unique : (u : Option (List ℕ)) → IfSome u (λ unique. length unique ≡ 8)
-    → length (unwrap_or u []) + 17 ≡ head_length u
+    → length (unwrap_or u []) + 17 ≡ header_length u
 length-unique u is = grind arith
 
-same_unique : (u v : Option (List ℕ)) → head_length u ≡ head_length v → unwrap_or u [] ≡ unwrap_or v [] → u ≡ v
+same_unique : (u v : Option (List ℕ)) → header_length u ≡ header_length v → unwrap_or u [] ≡ unwrap_or v [] → u ≡ v
 same_unique u v f e = grind arith
 
 -- a header is the concatenation of its fields
@@ -114,14 +114,14 @@ pub head_opened : (c : Content) (x : List ℕ)
 unfolding head
 head_opened c x = simp append_assoc
 
-pub length-head : (c : Content) → IsContent c → length (head c) ≡ head_length c.unique
+pub length-head : (c : Content) → IsContent c → length (head c) ≡ header_length c.unique
 unfolding head
 length-head c is =
     simp (length-append, length-magic, length-number_text)
     (omega (arith, length-unique c.unique is.unique, is.id, is.status))
 
 same_heads : (c d : Content) (x y : List ℕ) → IsContent c → IsContent d → head c ++ x ≡ head d ++ y
-    → SameHead c d × (x ≡ y)
+    → SameHeader c d × (x ≡ y)
 same_heads c d x y c-is d-is e =
     let magics = same_parts (magic c.unique) (magic d.unique)
     (length-magic c.unique ∙ sym (length-magic d.unique)) (sym (head_opened c x) ∙ e ∙ head_opened d y) in
@@ -161,26 +161,26 @@ same_fronts c d x y c-is d-is no_x no_y e =
 
 -- ---- at most one fault
 
-least_head : (u : Option (List ℕ)) → 17 ≤ head_length u
+least_head : (u : Option (List ℕ)) → 17 ≤ header_length u
 least_head u = grind arith
 
 -- a header has at most one fault
-one_in_head : (bytes : List ℕ) (f g : JournalFault) → HeadFault bytes f → HeadFault bytes g → f ≡ g
+one_in_head : (bytes : List ℕ) (f g : JournalFault) → HeaderFault bytes f → HeaderFault bytes g → f ≡ g
 one_in_head bytes f g p q = grind (arith, same_format, least_head)
 
 -- the last four bytes of a header are the size
 head_number : (c : Content) (x : List ℕ) → IsContent c
-    → number_at (drop (head_length c.unique - 4) (head c ++ x)) ≡ c.size
+    → number_at (drop (header_length c.unique - 4) (head c ++ x)) ≡ c.size
 unfolding head
 head_number c x is =
     let before : List ℕ = ((magic c.unique ++ c.id) ++ unwrap_or c.unique []) ++ c.status in
-    let len : length before ≡ head_length c.unique - 4 =
+    let len : length before ≡ header_length c.unique - 4 =
     omega (arith, length-head c is, length-append before (number_text c.size), length-number_text c.size) in
     rw (append_assoc before (number_text c.size) x, drop_at before (number_text c.size ++ x) _ len)
     (number_at-number_text c.size x (omega (arith, few_sectors c.size is.size)))
 
 -- the header of a valid content has no fault
-none_in_head : (c : Content) (x : List ℕ) (f : JournalFault) → IsContent c → HeadFault (head c ++ x) f → ⊥
+none_in_head : (c : Content) (x : List ℕ) (f : JournalFault) → IsContent c → HeaderFault (head c ++ x) f → ⊥
 none_in_head c x f is found =
     let begins = ap (take 8) (head_opened c x) ∙ take_at _ _ _ (length-magic c.unique) in
     let long = length-append (head c) x in let len = length-head c is in let number = head_number c x is in
@@ -211,7 +211,7 @@ faulty c rest f is found begins = grind (arith, number_at-marked rest, few_secto
 
 -- bytes that begin with the header and records of a valid content have no fault in the header
 not_in_head : (bytes : List ℕ) (f : JournalFault) (c : Content) (rest : List ℕ) → IsContent c
-    → bytes ≡ front c ++ rest → HeadFault bytes f → ⊥
+    → bytes ≡ front c ++ rest → HeaderFault bytes f → ⊥
 not_in_head bytes f c rest is split found =
     none_in_head c (records_text c.saved ++ rest) f is (rw (split ∙ front_opened c rest) at found)
 

@@ -7,8 +7,8 @@ use Rattle.sha2.specs.Sha256.{sha256}
 use Rattle.nor_journal.specs.declared.fault.JournalFault.{JournalFault}
 use Rattle.nor_journal.specs.declared.head.Head.{Head}
 use Rattle.nor_journal.specs.Text.{Content, IsContent, head, front, body, text, end_mark}
-use Rattle.nor_journal.specs.Fault.{FaultBehindFront, NextFault, EndFault}
-use Rattle.nor_journal.specs.Reading.{headed, content_at, IsHead, HasRecords}
+use Rattle.nor_journal.specs.Fault.{FaultAfterFront, NextFault, EndFault}
+use Rattle.nor_journal.specs.Reading.{with_header, content_at, IsHeader, HasRecords}
 use Rattle.nor_journal.proofs.SectorRecords.{IsBytes, records_text-sectors_in, with_mark}
 use Rattle.nor_journal.proofs.OneForm.{length-end_mark}
 
@@ -17,12 +17,12 @@ IsBytes-behind : (before rest bytes : List ℕ) → bytes ≡ before ++ rest →
 IsBytes-behind before rest bytes split fits i =
     rw (← get_or-append-add before rest i 0, ← split) (fits (length before + i))
 
-pub is_content : (h : Head) (records : List ℕ) (k : ℕ) → IsHead h → HasRecords h records k
+pub is_content : (h : Head) (records : List ℕ) (k : ℕ) → IsHeader h → HasRecords h records k
     → IsContent (content_at h k records)
 is_content h records k is has =
     record { id = is.id; unique = is.unique; status = is.status; size = is.size; saved = has.rising }
 
-module _ {h : Head} {bytes records : List ℕ} {k : ℕ} (split : bytes ≡ head (headed h) ++ records)
+module _ {h : Head} {bytes records : List ℕ} {k : ℕ} (split : bytes ≡ head (with_header h) ++ records)
     (fits : IsBytes bytes) (has : HasRecords h records k) where
   abbrev content : Content
   content = content_at h k records
@@ -33,7 +33,7 @@ module _ {h : Head} {bytes records : List ℕ} {k : ℕ} (split : bytes ≡ head
   front_splits : bytes ≡ front content ++ drop (4100 * k) records
   unfolding front head
   front_splits =
-      let read = records_text-sectors_in k records (IsBytes-behind (head (headed h)) records bytes split fits)
+      let read = records_text-sectors_in k records (IsBytes-behind (head (with_header h)) records bytes split fits)
       has.within in
       split ∙ rw (
         read,
@@ -46,7 +46,7 @@ module _ {h : Head} {bytes records : List ℕ} {k : ℕ} (split : bytes ≡ head
     arith,
     ap length split,
     ap length front_splits,
-    length-append (head (headed h)) records,
+    length-append (head (with_header h)) records,
     length-append (front content) (drop (4100 * k) records),
     length-drop (4100 * k) records,
   )
@@ -68,8 +68,8 @@ module _ {h : Head} {bytes records : List ℕ} {k : ℕ} (split : bytes ≡ head
   )
 
   -- a fault after the records is a fault of the whole bytes
-  pub next_fault : (fault : JournalFault) → IsHead h → NextFault content (drop (4100 * k) records) fault
-      → FaultBehindFront bytes fault
+  pub next_fault : (fault : JournalFault) → IsHeader h → NextFault content (drop (4100 * k) records) fault
+      → FaultAfterFront bytes fault
   next_fault fault is found = record {
     content = content;
     is_content = is_content h records k is has;
@@ -78,8 +78,8 @@ module _ {h : Head} {bytes records : List ℕ} {k : ℕ} (split : bytes ≡ head
     next = found;
   }
 
-  pub end_fault : (fault : JournalFault) → IsHead h → EndFault (take mark bytes) (drop mark bytes) fault
-      → FaultBehindFront bytes fault
+  pub end_fault : (fault : JournalFault) → IsHeader h → EndFault (take mark bytes) (drop mark bytes) fault
+      → FaultAfterFront bytes fault
   end_fault fault is found = next_fault fault is (inr (rw (before_mark, from_mark) at found))
 
   -- with the end mark and the correct digest, the bytes are the encoding of the content

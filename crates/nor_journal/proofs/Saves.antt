@@ -5,7 +5,7 @@ use Rattle.std.specs.Prelude.{Result, Ok, Err, IsOkAnd}
 use Rattle.std.proofs.lemmas.Bool.Decides.{nat_tests}
 use Rattle.nor_journal.specs.declared.writer.Writer.{Writer}
 use Rattle.nor_journal.specs.Vault.{VaultState}
-use Rattle.nor_journal.specs.Text.{Content, IsContent, SameHead, MayFollow, empty_content, with_sector}
+use Rattle.nor_journal.specs.Text.{Content, IsContent, SameHeader, MayFollow, empty_content, with_sector}
 use Rattle.nor_journal.specs.Saved.{IsWholeSector, Saves, HasOneMore, JournalSaves, is_saved, saved_byte}
 use Rattle.nor_journal.specs.declared.fault.JournalFault.{JournalFault}
 use Rattle.nor_journal.specs.Writer.{HasWritten, HasPutSectors}
@@ -56,7 +56,7 @@ Saves-none chip saved c is empty none = record {
 
 -- the sectors that a journal saves are the sectors that reading it returns
 pub reads_kept : (bytes : List ℕ) (r : Result Content JournalFault) (head : Content) (chip : ℕ → ℕ) (saved : ℕ → Bool) (kept : JournalSaves head chip saved bytes) → IsOkAnd r (λ journal. journal ≡ kept.content)
-    → IsOkAnd r (λ journal. SameHead head journal × Saves chip saved journal)
+    → IsOkAnd r (λ journal. SameHeader head journal × Saves chip saved journal)
 reads_kept bytes (Ok journal) head chip saved kept is = rw is (kept.same, kept.saves)
 reads_kept bytes (Err fault) head chip saved kept never = absurd never
 

@@ -10,8 +10,8 @@ use Rattle.std.proofs.lemmas.Bool.Decides.{nat_tests}
 use Rattle.std.proofs.lemmas.Bool.{cases_Bool}
 use Rattle.sha2.specs.Sha256.{sha256}
 use Rattle.sha2.proofs.Facts256.{length-sha256}
-use Rattle.nor_journal.specs.Text.{Content, IsContent, SameHead, next_number, end_mark, front, text, with_sector}
-use Rattle.nor_journal.specs.Saved.{IsWholeSector, Saves, HasOneMore, BeginsText}
+use Rattle.nor_journal.specs.Text.{Content, IsContent, SameHeader, next_number, end_mark, front, text, with_sector}
+use Rattle.nor_journal.specs.Saved.{IsWholeSector, Saves, HasOneMore, IsJournalPrefix}
 use Rattle.nor_journal.proofs.Saved.{next_number-with_sector}
 use Rattle.nor_journal.proofs.Saves.{Saves-same, Saves-more}
 use Rattle.nor_journal.proofs.Beginnings.{front-with_sector, text_is, begins_longer}
@@ -49,7 +49,7 @@ none_more_below set n is s = grind (arith, nat_tests)
 -- Holds if c can be completed to a content that saves the sectors of the set below n.
 pub record GoesOn (chip : ℕ → ℕ) (set : ℕ → Bool) (c : Content) (n : ℕ) : Type 0 where
   pub content : Content
-  pub same : SameHead c content
+  pub same : SameHeader c content
   pub saves : Saves chip (λ s. nat_lt s n && set s) content
   pub next : next_number content ≤ n
   pub begins : (bytes : List ℕ) → StartsWith (front c) bytes → StartsWith (front content) bytes
@@ -103,8 +103,8 @@ front_begins c part rest bytes is begins =
 
 -- a prefix of the header and the records of the sectors below n is a prefix of the journal of all sectors of the set
 pub begins_whole : (head : Content) (chip : ℕ → ℕ) (set : ℕ → Bool) (c : Content) (n : ℕ) (bytes : List ℕ)
-    → SameHead head c → Saves chip (λ s. nat_lt s n && set s) c → next_number c ≤ n → n ≤ head.size / 4096
-    → StartsWith (front c) bytes → BeginsText head chip (λ s. nat_lt s (head.size / 4096) && set s) bytes
+    → SameHeader head c → Saves chip (λ s. nat_lt s n && set s) c → next_number c ≤ n → n ≤ head.size / 4096
+    → StartsWith (front c) bytes → IsJournalPrefix head chip (λ s. nat_lt s (head.size / 4096) && set s) bytes
 begins_whole head chip set c n bytes same saves next within begins =
     let total = head.size / 4096 in
     let size : head.size ≡ c.size = ap (λ (d : Content). d.size) same in
@@ -120,14 +120,14 @@ begins_whole head chip set c n bytes same saves next within begins =
 
 -- a journal that is a prefix of another journal has the same header and saves the same sectors
 pub begins_all_of_it : (head : Content) (chip : ℕ → ℕ) (saved : ℕ → Bool) (bytes : List ℕ) (journal : Content)
-    → BeginsText head chip saved bytes → IsContent journal → bytes ≡ text journal
-    → SameHead head journal × Saves chip saved journal
+    → IsJournalPrefix head chip saved bytes → IsContent journal → bytes ≡ text journal
+    → SameHeader head journal × Saves chip saved journal
 begins_all_of_it head chip saved bytes journal begun is e =
     let rest = drop (length bytes) (text begun.content) in
     let whole : text journal ++ rest ≡ text begun.content ++ [] =
     ap (λ (t : List ℕ). t ++ rest) (sym e ∙ sym begun.begins)
     ∙ take-append-drop (length bytes) (text begun.content) ∙ sym (append-nil (text begun.content)) in
-    subst (λ (c : Content). SameHead head c × Saves chip saved c)
+    subst (λ (c : Content). SameHeader head c × Saves chip saved c)
     (sym (one_text journal begun.content rest [] is begun.saves.is whole).0) (begun.same, begun.saves)
 
 -- no journal is empty

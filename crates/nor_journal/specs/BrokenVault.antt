@@ -5,8 +5,8 @@ use Rattle.nor_journal.specs.declared.vault.VaultFault.{VaultFault}
 use Rattle.nor_journal.specs.Vault.{VaultState, Took, PutRefused}
 
 -- the inner vault
-abbrev pub inner_of : {V : Type 0} → BrokenVault V → V
-inner_of vault = vault.inner
+abbrev pub inner_vault : {V : Type 0} → BrokenVault V → V
+inner_vault vault = vault.inner
 
 -- the number of calls up to and including the refused one, or 0 if none is to be refused any more
 abbrev pub calls_left : {V : Type 0} → BrokenVault V → ℕ

@@ -9,32 +9,32 @@ use Rattle.nor_journal.specs.declared.fault.JournalFault.{JournalFault}
 use Rattle.nor_journal.specs.declared.fault.JournalFault.TheVariants.{Short, Magic, Size, Place, Order, Long, Digest}
 
 -- the numbers of the faults
-abbrev pub number_of_fault : JournalFault → ℕ
-number_of_fault Short = 1
-number_of_fault Magic = 2
-number_of_fault Size = 3
-number_of_fault Place = 4
-number_of_fault Order = 5
-number_of_fault Long = 6
-number_of_fault Digest = 7
+abbrev pub journal_fault_number : JournalFault → ℕ
+journal_fault_number Short = 1
+journal_fault_number Magic = 2
+journal_fault_number Size = 3
+journal_fault_number Place = 4
+journal_fault_number Order = 5
+journal_fault_number Long = 6
+journal_fault_number Digest = 7
 
 -- The length of a header in format 1 (None) and format 2 (Some). Its last four bytes are the size.
-abbrev pub head_length : (unique : Option (List ℕ)) → ℕ
-head_length None = 17
-head_length (Some _) = 25
+abbrev pub header_length : (unique : Option (List ℕ)) → ℕ
+header_length None = 17
+header_length (Some _) = 25
 
 -- Holds if the header has this fault.
-abbrev pub HeadFault : List ℕ → JournalFault → Type 0
+abbrev pub HeaderFault : List ℕ → JournalFault → Type 0
 -- the bytes end within the magic, or after a valid magic but within the header
-HeadFault bytes Short = (length bytes < 8)
-    ⊎ ((unique : Option (List ℕ)) × (take 8 bytes ≡ magic unique) × (length bytes < head_length unique))
+HeaderFault bytes Short = (length bytes < 8)
+    ⊎ ((unique : Option (List ℕ)) × (take 8 bytes ≡ magic unique) × (length bytes < header_length unique))
 -- the first eight bytes aren't the magic of a format
-HeadFault bytes Magic = (8 ≤ length bytes) × ((unique : Option (List ℕ)) → take 8 bytes ≢ magic unique)
+HeaderFault bytes Magic = (8 ≤ length bytes) × ((unique : Option (List ℕ)) → take 8 bytes ≢ magic unique)
 -- the header is complete, and its size isn't one that a chip may have
-HeadFault bytes Size = (unique : Option (List ℕ)) × (take 8 bytes ≡ magic unique)
-    × (head_length unique ≤ length bytes)
-    × (is_chip_size (number_at (drop (head_length unique - 4) bytes)) ≡ false)
-HeadFault bytes _ = ⊥
+HeaderFault bytes Size = (unique : Option (List ℕ)) × (take 8 bytes ≡ magic unique)
+    × (header_length unique ≤ length bytes)
+    × (is_chip_size (number_at (drop (header_length unique - 4) bytes)) ≡ false)
+HeaderFault bytes _ = ⊥
 
 -- Holds if the next record has this fault. The chip has `sectors` sectors, and after the records before it the number
 -- must be at least `least`.
@@ -62,7 +62,7 @@ abbrev pub NextFault : Content → List ℕ → JournalFault → Type 0
 NextFault c rest fault = RecordFault (c.size / 4096) (next_number c) rest fault ⊎ EndFault (front c) rest fault
 
 -- Holds if the bytes begin with the header and records of a content, and the bytes after these have this fault.
-pub record FaultBehindFront (bytes : List ℕ) (fault : JournalFault) : Type 0 where
+pub record FaultAfterFront (bytes : List ℕ) (fault : JournalFault) : Type 0 where
   pub content : Content
   pub is_content : IsContent content
   pub rest : List ℕ
@@ -71,4 +71,4 @@ pub record FaultBehindFront (bytes : List ℕ) (fault : JournalFault) : Type 0 w
 
 -- Holds if this is the first fault of the bytes: in the header, or after the records that are complete and in order.
 abbrev pub HasFault : List ℕ → JournalFault → Type 0
-HasFault bytes fault = HeadFault bytes fault ⊎ FaultBehindFront bytes fault
+HasFault bytes fault = HeaderFault bytes fault ⊎ FaultAfterFront bytes fault

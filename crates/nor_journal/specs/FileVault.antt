@@ -30,6 +30,6 @@ FileTakes old new piece (Err fault) = Appends old new (take fault.kept piece)
 
 -- The effect of a sync on a file, if its contents are known: the contents didn't change, and if the sync succeeded they
 -- are the synced contents.
-abbrev pub Syncs : {T E : Type 0} → (old new synced : Option (List ℕ)) → Result T E → Type 0
-Syncs old new synced (Ok _) = Keeps old new × Keeps old synced
-Syncs old new synced (Err _) = Keeps old new
+abbrev pub SyncsFile : {T E : Type 0} → (old new synced : Option (List ℕ)) → Result T E → Type 0
+SyncsFile old new synced (Ok _) = Keeps old new × Keeps old synced
+SyncsFile old new synced (Err _) = Keeps old new

@@ -18,8 +18,8 @@ saved_records zero bytes = []
 saved_records (suc k) bytes = saved_records k bytes ++ sector_at bytes k ∷ []
 
 -- the content with the fields of a header, and no saved sector
-abbrev pub headed : Head → Content
-headed h = record { id = h.id; unique = h.unique; status = h.status; size = h.size; saved = [] }
+abbrev pub with_header : Head → Content
+with_header h = record { id = h.id; unique = h.unique; status = h.status; size = h.size; saved = [] }
 
 -- the content with the fields of a header, and the first k records of the bytes after it
 abbrev pub content_at : Head → ℕ → List ℕ → Content
@@ -27,7 +27,7 @@ content_at h k bytes =
     record { id = h.id; unique = h.unique; status = h.status; size = h.size; saved = saved_records k bytes }
 
 -- Holds if the fields of the header are valid.
-pub record IsHead (h : Head) : Type 0 where
+pub record IsHeader (h : Head) : Type 0 where
   pub id : length h.id ≡ 3
   pub unique : IfSome h.unique (λ unique. length unique ≡ 8)
   pub status : length h.status ≡ 2
@@ -41,13 +41,13 @@ pub record HasRecords (h : Head) (bytes : List ℕ) (k : ℕ) : Type 0 where
 
 -- Holds if the bytes after the header begin with some number of valid records, and the bytes after these records have
 -- this fault.
-pub record FaultBehindRecords (h : Head) (bytes : List ℕ) (fault : JournalFault) : Type 0 where
+pub record FaultAfterRecords (h : Head) (bytes : List ℕ) (fault : JournalFault) : Type 0 where
   pub count : ℕ
   pub records : HasRecords h bytes count
   pub next : RecordFault (h.size / 4096) (next_number (content_at h count bytes)) (drop (4100 * count) bytes) fault
 
 -- Holds if the end mark follows k valid records.
-pub record EndsBehind (h : Head) (bytes : List ℕ) (k : ℕ) : Type 0 where
+pub record EndsAfter (h : Head) (bytes : List ℕ) (k : ℕ) : Type 0 where
   pub records : HasRecords h bytes k
   pub mark : take 4 (drop (4100 * k) bytes) ≡ end_mark
 

@@ -2,7 +2,7 @@
 use Rattle.std.specs.Prelude.{◌≡◌, ◌≢◌, ℕ, ◌+◌, ◌*◌, ◌/◌, ◌%◌, ◌<◌, Bool, true, false, List, [], ◌∷◌, length, slice_index, slice_get, Option, Some, None, IsSomeAnd, ◌==◌, if◌then◌else◌}
 use Rattle.std.specs.Io.{StartsWith}
 use Rattle.std.specs.Option.{is_some, unwrap_or}
-use Rattle.nor_journal.specs.Text.{SavedSector, Content, IsContent, SameHead, text}
+use Rattle.nor_journal.specs.Text.{SavedSector, Content, IsContent, SameHeader, text}
 
 -- the bytes that are saved for a sector, or None if it isn't saved
 unfoldable pub saved_in : List SavedSector → (number : ℕ) → Option (List ℕ)
@@ -39,15 +39,15 @@ pub record HasOneMore (saved : ℕ → Bool) (sector : ℕ) (more : ℕ → Bool
   pub others : (s : ℕ) → s ≢ sector → more s ≡ saved s
 
 -- Holds if the bytes are a prefix of a journal with this header that saves exactly these sectors.
-pub record BeginsText (head : Content) (old : ℕ → ℕ) (saved : ℕ → Bool) (bytes : List ℕ) : Type 0 where
+pub record IsJournalPrefix (head : Content) (old : ℕ → ℕ) (saved : ℕ → Bool) (bytes : List ℕ) : Type 0 where
   pub content : Content
-  pub same : SameHead head content
+  pub same : SameHeader head content
   pub saves : Saves old saved content
   pub begins : StartsWith (text content) bytes
 
 -- Holds if the bytes are a journal with this header that saves exactly these sectors.
 pub record JournalSaves (head : Content) (old : ℕ → ℕ) (saved : ℕ → Bool) (bytes : List ℕ) : Type 0 where
   pub content : Content
-  pub same : SameHead head content
+  pub same : SameHeader head content
   pub saves : Saves old saved content
   pub is : bytes ≡ text content

@@ -93,8 +93,8 @@ abbrev pub with_sector : Content → ℕ → List ℕ → Content
 with_sector c number bytes = record c { saved = c.saved ++ record { number = number; bytes = bytes } ∷ [] }
 
 -- Holds if two contents are equal except for their saved sectors.
-abbrev pub SameHead : (c d : Content) → Type 0
-SameHead c d = record c { saved = [] } ≡ record d { saved = [] }
+abbrev pub SameHeader : (c d : Content) → Type 0
+SameHeader c d = record c { saved = [] } ≡ record d { saved = [] }
 
 -- the least number that the next sector may have: one more than the last of these sectors' numbers, or `least` if there
 -- are none

@@ -19,12 +19,12 @@ abbrev pub new_vault : Bool → VaultState
 new_vault telling = record { telling = telling; bytes = []; sealed = false; failures = 0 }
 
 -- the number of refusals after one more, modulo 2^64
-abbrev pub one_more : (failures : ℕ) → ℕ
-one_more failures = (failures + 1) % 2 ^ 64
+abbrev pub one_more_failure : (failures : ℕ) → ℕ
+one_more_failure failures = (failures + 1) % 2 ^ 64
 
 -- Holds if the number of refusals differs between two states, so the vault refused a call.
-abbrev pub Rose : (old new : VaultState) → Type 0
-Rose old new = new.failures ≢ old.failures
+abbrev pub CountsRefusal : (old new : VaultState) → Type 0
+CountsRefusal old new = new.failures ≢ old.failures
 
 -- The effect of an accepted piece: it is appended, and nothing else changes. The bytes are known for a faithful vault
 -- only. Every vault is empty after it only if it was empty before and the piece is empty.
@@ -40,7 +40,7 @@ pub record Took (old : VaultState) (piece : List ℕ) (new : VaultState) : Type 
 pub record Refused (old new : VaultState) : Type 0 where
   pub telling : new.telling ≡ old.telling
   pub sealed : new.sealed ≡ old.sealed
-  pub failures : new.failures ≡ one_more old.failures
+  pub failures : new.failures ≡ one_more_failure old.failures
 
 -- The effect of a refused piece: the vault counts a refusal. A faithful vault has accepted the first `kept` bytes of
 -- it. Every vault is empty after it only if it was empty before and `kept` is 0.
@@ -71,8 +71,8 @@ Seals old (Err fault) new = PutRefused old [] fault.kept new
 -- ---- several calls
 
 -- If the vault is faithful, it holds a prefix of these bytes.
-abbrev pub HoldsBeginning : VaultState → (whole : List ℕ) → Type 0
-HoldsBeginning vault whole = vault.telling ≡ true → StartsWith whole vault.bytes
+abbrev pub HoldsPrefix : VaultState → (whole : List ℕ) → Type 0
+HoldsPrefix vault whole = vault.telling ≡ true → StartsWith whole vault.bytes
 
 -- Holds if a journal may be written to the vault: it is unsealed, and has accepted no byte, whether it is faithful or
 -- not.

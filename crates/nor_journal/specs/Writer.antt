@@ -4,7 +4,7 @@ use Rattle.std.specs.Borrow.{MutBor}
 use Rattle.sha2.specs.Hashers.{Holds256}
 use Rattle.nor_journal.specs.declared.writer.Writer.{Writer}
 use Rattle.nor_journal.specs.Vault.{VaultState}
-use Rattle.nor_journal.specs.Text.{Content, IsContent, SameHead, next_number, front}
+use Rattle.nor_journal.specs.Text.{Content, IsContent, SameHeader, next_number, front}
 use Rattle.nor_journal.specs.Saved.{Saves}
 
 -- the vault that a writer borrows
@@ -18,7 +18,7 @@ vault_seen state writer = state (vault_of writer).now
 -- Holds if exactly these bytes were hashed, and a faithful (`telling`) vault holds exactly these bytes.
 pub record HasPut {V : Type 0} (state : V → VaultState) (writer : Writer V) (bytes : List ℕ) : Type 0 where
   pub hashed : Holds256 writer.hasher bytes
-  pub told : (vault_seen state writer).telling ≡ true → (vault_seen state writer).bytes ≡ bytes
+  pub returned : (vault_seen state writer).telling ≡ true → (vault_seen state writer).bytes ≡ bytes
 
 -- Holds if the header and the records of this content were written, and nothing more.
 pub record HasWritten {V : Type 0} (state : V → VaultState) (writer : Writer V) (content : Content) : Type 0 where
@@ -30,6 +30,6 @@ pub record HasPutSectors {V : Type 0} (state : V → VaultState) (writer : Write
     (old : ℕ → ℕ) (saved : ℕ → Bool) (n : ℕ) : Type 0 where
   pub content : Content
   pub written : HasWritten state writer content
-  pub same : SameHead head content
+  pub same : SameHeader head content
   pub saves : Saves old saved content
   pub next : next_number content ≤ n

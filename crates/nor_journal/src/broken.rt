@@ -1,7 +1,7 @@
 //! A vault that refuses one call, for tests of sessions whose vault fails.
 ghost use Rattle.std.specs.Prelude.{◌≡◌, ◌≢◌, ◌↔◌, ◌-◌, IsTrue, false, IsErr, IsErrAnd};
-ghost use Rattle.nor_journal.specs.Vault.{Puts, Seals, one_more};
-ghost use Rattle.nor_journal.specs.BrokenVault.{inner_of, calls_left, kept_of, Broke};
+ghost use Rattle.nor_journal.specs.Vault.{Puts, Seals, one_more_failure};
+ghost use Rattle.nor_journal.specs.BrokenVault.{inner_vault, calls_left, kept_of, Broke};
 
 use crate::vault::{Vault, VaultFault};
 
@@ -24,7 +24,7 @@ impl<V: Vault> BrokenVault<V> {
     /// `put`.
     pub fn new(inner: V, nth: u64, kept: usize) -> BrokenVault<V>
         ensures state { ⟦<BrokenVault<V> as Vault>⟧.state result ≡ record (V.state inner) { failures = 0 } }
-        ensures inner { inner_of result ≡ inner }
+        ensures inner { inner_vault result ≡ inner }
         ensures nth { calls_left result ≡ nth }
         ensures kept { kept_of result ≡ kept }
     {
@@ -38,14 +38,14 @@ impl<V: Vault> BrokenVault<V> {
 
     /// Returns the inner vault.
     pub fn inner(&self) -> &V
-        ensures { result.now ≡ inner_of self.now }
+        ensures { result.now ≡ inner_vault self.now }
     {
         &self.inner
     }
 
     /// Consumes the wrapper and returns the inner vault.
     pub fn into_inner(self) -> V
-        ensures { result ≡ inner_of self }
+        ensures { result ≡ inner_vault self }
     {
         let BrokenVault { inner, .. } = self;
         inner
@@ -70,8 +70,8 @@ impl<V: Vault> BrokenVault<V> {
 
     // Counts a refusal and returns its fault.
     fn refusal(&mut self, kept: usize) -> VaultFault
-        ensures told { result.kept ≡ kept }
-        ensures counted { self.new ≡ record self.old { failures = one_more self.old.failures } }
+        ensures returned { result.kept ≡ kept }
+        ensures counted { self.new ≡ record self.old { failures = one_more_failure self.old.failures } }
     {
         self.failures = self.failures.wrapping_add(1);
         VaultFault { kept }
@@ -79,10 +79,10 @@ impl<V: Vault> BrokenVault<V> {
 
     // Writes a piece to the inner vault.
     fn pass_on(&mut self, piece: &[u8]) -> Result<(), VaultFault>
-        requires { (V.state (inner_of self.old)).sealed ≡ false }
+        requires { (V.state (inner_vault self.old)).sealed ≡ false }
         ensures law { Puts (⟦<BrokenVault<V> as Vault>⟧.state self.old) piece.now result
             (⟦<BrokenVault<V> as Vault>⟧.state self.new) }
-        ensures inner { Puts (V.state (inner_of self.old)) piece.now result (V.state (inner_of self.new)) }
+        ensures inner { Puts (V.state (inner_vault self.old)) piece.now result (V.state (inner_vault self.new)) }
         ensures calls { calls_left self.new ≡ calls_left self.old }
         ensures kept { kept_of self.new ≡ kept_of self.old }
     {
@@ -103,10 +103,10 @@ impl<V: Vault> Vault for BrokenVault<V> {
         // The refused call.
         ensures breaks { calls_left self.old ≡ 1
             → IsErrAnd result
-            (Broke (kept_of self.old) (V.state (inner_of self.old)) piece.now (V.state (inner_of self.new))) }
+            (Broke (kept_of self.old) (V.state (inner_vault self.old)) piece.now (V.state (inner_vault self.new))) }
         // Every other call.
         ensures passes { calls_left self.old ≢ 1
-            → Puts (V.state (inner_of self.old)) piece.now result (V.state (inner_of self.new)) }
+            → Puts (V.state (inner_vault self.old)) piece.now result (V.state (inner_vault self.new)) }
         ensures calls { calls_left self.new ≡ calls_left self.old - 1 }
         ensures kept { kept_of self.new ≡ kept_of self.old }
     {
@@ -122,9 +122,9 @@ impl<V: Vault> Vault for BrokenVault<V> {
         requires { (⟦<BrokenVault<V> as Vault>⟧.state self.old).sealed ≡ false }
         ensures law { Seals (⟦<BrokenVault<V> as Vault>⟧.state self.old) result
             (⟦<BrokenVault<V> as Vault>⟧.state self.new) }
-        ensures breaks { calls_left self.old ≡ 1 → IsErr result × (inner_of self.new ≡ inner_of self.old) }
+        ensures breaks { calls_left self.old ≡ 1 → IsErr result × (inner_vault self.new ≡ inner_vault self.old) }
         ensures passes { calls_left self.old ≢ 1
-            → Seals (V.state (inner_of self.old)) result (V.state (inner_of self.new)) }
+            → Seals (V.state (inner_vault self.old)) result (V.state (inner_vault self.new)) }
         ensures calls { calls_left self.new ≡ calls_left self.old - 1 }
         ensures kept { kept_of self.new ≡ kept_of self.old }
     {

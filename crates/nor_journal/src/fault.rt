@@ -1,6 +1,6 @@
 //! The reasons why bytes aren't a journal.
 ghost use Rattle.std.specs.Prelude.{◌≡◌};
-ghost use Rattle.nor_journal.specs.Fault.{number_of_fault};
+ghost use Rattle.nor_journal.specs.Fault.{journal_fault_number};
 
 use std::error::Error;
 use std::fmt;
@@ -29,7 +29,7 @@ pub enum JournalFault {
 impl JournalFault {
     /// Returns the number of the fault, 1 to 7, which messages print.
     pub fn number(self) -> u8
-        ensures { result ≡ number_of_fault self }
+        ensures { result ≡ journal_fault_number self }
     {
         self as u8
     }

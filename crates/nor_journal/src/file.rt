@@ -10,7 +10,7 @@ pub trait VaultFile {
     ghost use Rattle.std.specs.Prelude.{ℕ, List, Option};
     ghost use Rattle.std.specs.Io.KnownBytes.{WriteAppends};
     ghost use Rattle.std.specs.Io.{WritesAtMost};
-    ghost use Rattle.nor_journal.specs.FileVault.{Syncs};
+    ghost use Rattle.nor_journal.specs.FileVault.{SyncsFile};
 
     // The contents of the file, if known.
     ghost contents: { Self → Option (List ℕ) };
@@ -27,7 +27,7 @@ pub trait VaultFile {
 
     /// Makes the contents and the length of the file durable. The contents don't change, even if it fails.
     fn sync(&mut self) -> io::Result<()>
-        ensures { Syncs (contents self.old) (contents self.new) (synced self.new) result };
+        ensures { SyncsFile (contents self.old) (contents self.new) (synced self.new) result };
 }
 
 /// The system's files, synced by `sync_all`, which also syncs the length.

@@ -1,7 +1,7 @@
 //! A vault in a file.
 ghost use Rattle.std.specs.Prelude.{◌≡◌, false, []};
-ghost use Rattle.nor_journal.specs.Vault.{new_vault, one_more, Puts, Seals};
-ghost use Rattle.nor_journal.specs.FileVault.{file_of, filed_by, FileTakes, Syncs};
+ghost use Rattle.nor_journal.specs.Vault.{new_vault, one_more_failure, Puts, Seals};
+ghost use Rattle.nor_journal.specs.FileVault.{file_of, filed_by, FileTakes, SyncsFile};
 
 use crate::file::VaultFile;
 use crate::vault::{Vault, VaultFault};
@@ -51,8 +51,8 @@ impl<F: VaultFile> FileVault<F> {
 
     // Counts a refusal and returns its fault.
     fn refusal(&mut self, kept: usize) -> VaultFault
-        ensures told { result.kept ≡ kept }
-        ensures counted { self.new ≡ record self.old { failures = one_more self.old.failures } }
+        ensures returned { result.kept ≡ kept }
+        ensures counted { self.new ≡ record self.old { failures = one_more_failure self.old.failures } }
     {
         self.failures = self.failures.wrapping_add(1);
         VaultFault { kept }
@@ -85,7 +85,7 @@ impl<F: VaultFile> Vault for FileVault<F> {
         requires { (⟦<FileVault<F> as Vault>⟧.state self.old).sealed ≡ false }
         ensures law { Seals (⟦<FileVault<F> as Vault>⟧.state self.old) result
             (⟦<FileVault<F> as Vault>⟧.state self.new) }
-        ensures file { Syncs (F.contents (file_of self.old)) (F.contents (file_of self.new))
+        ensures file { SyncsFile (F.contents (file_of self.old)) (F.contents (file_of self.new))
             (F.synced (file_of self.new)) result }
     {
         if self.file.sync().is_err() {

@@ -2,8 +2,8 @@
 ghost use Rattle.std.specs.Prelude.{◌≡◌, ◌++◌, ℕ, List, take, Option, Some, IfOk, IfErr};
 ghost use Rattle.nor_count.specs.Size.{is_chip_size};
 ghost use Rattle.nor_journal.specs.Text.{empty_content, head, magic};
-ghost use Rattle.nor_journal.specs.Fault.{HeadFault, head_length};
-ghost use Rattle.nor_journal.specs.Reading.{IsHead, headed};
+ghost use Rattle.nor_journal.specs.Fault.{HeaderFault, header_length};
+ghost use Rattle.nor_journal.specs.Reading.{IsHeader, with_header};
 
 use crate::fault::JournalFault;
 use crate::number::{number_bytes, number_of};
@@ -54,8 +54,8 @@ pub fn head_bytes(id: [u8; 3], unique: [u8; 8], status: [u8; 2], size: u32) -> [
 /// Returns `Short` if the bytes end within the header, `Magic` if the first eight bytes aren't those of a format, or
 /// `Size` if the size isn't one that a chip may have.
 pub fn read_head(bytes: &[u8]) -> Result<(Head, &[u8]), JournalFault>
-    ensures fault { IfErr result (HeadFault bytes.now) }
-    ensures found { IfOk result (λ x. IsHead x.0 × (bytes.now ≡ head (headed x.0) ++ x.1.now)) }
+    ensures fault { IfErr result (HeaderFault bytes.now) }
+    ensures found { IfOk result (λ x. IsHeader x.0 × (bytes.now ≡ head (with_header x.0) ++ x.1.now)) }
 {
     if bytes.len() < MAGIC.len() {
         return Err(JournalFault::Short);
@@ -73,9 +73,9 @@ pub fn read_head(bytes: &[u8]) -> Result<(Head, &[u8]), JournalFault>
 // the unique ID; format 1 has none there.
 fn read_form(bytes: &[u8], len: usize) -> Result<(Head, &[u8]), JournalFault>
     requires { (unique : Option (List ℕ)) × (take 8 bytes.now ≡ magic unique)
-        × (len ≡ head_length unique) }
-    ensures fault { IfErr result (HeadFault bytes.now) }
-    ensures found { IfOk result (λ x. IsHead x.0 × (bytes.now ≡ head (headed x.0) ++ x.1.now)) }
+        × (len ≡ header_length unique) }
+    ensures fault { IfErr result (HeaderFault bytes.now) }
+    ensures found { IfOk result (λ x. IsHeader x.0 × (bytes.now ≡ head (with_header x.0) ++ x.1.now)) }
 {
     if bytes.len() < len {
         return Err(JournalFault::Short);

@@ -2,7 +2,7 @@
 ghost use Rattle.std.specs.Prelude.{◌≡◌, ◌↔◌, ℕ, ◌/◌, ◌<◌, ◌≤◌, Bool, List, ◌++◌};
 ghost use Rattle.std.specs.Prelude.{length, take, slice_get};
 ghost use Rattle.std.specs.Prelude.{Some, None, IfSome, MatchOption, IfOk, IfErr, OnOk, IsOkAnd};
-ghost use Rattle.nor_journal.specs.Text.{Content, IsContent, SameHead, text};
+ghost use Rattle.nor_journal.specs.Text.{Content, IsContent, SameHeader, text};
 ghost use Rattle.nor_journal.specs.Saved.{Saves, JournalSaves, HasRecord, saved_in};
 ghost use Rattle.nor_journal.specs.Fault.{HasFault};
 ghost use Rattle.nor_journal.specs.declared.fault.JournalFault.{JournalFault};
@@ -28,11 +28,11 @@ impl<'a> Model for Journal<'a> {
 
     ghost Value = { Content };
 
-    ghost use Rattle.nor_journal.specs.Reading.{content_at, IsHead, HasRecords};
+    ghost use Rattle.nor_journal.specs.Reading.{content_at, IsHeader, HasRecords};
 
     ghost view = { λ j. content_at j.head j.count j.records.now };
 
-    ghost invariant = { λ j. IsHead j.head × HasRecords j.head j.records.now j.count };
+    ghost invariant = { λ j. IsHeader j.head × HasRecords j.head j.records.now j.count };
 }
 
 impl<'a> Journal<'a> {
@@ -48,7 +48,7 @@ impl<'a> Journal<'a> {
         // A journal with this header that saves these sectors is read, with the same header and sectors.
         ensures kept { (head : Content) (old : ℕ → ℕ) (saved : ℕ → Bool)
             → JournalSaves head old saved bytes.now
-            → IsOkAnd result (λ journal. SameHead head journal × Saves old saved journal) }
+            → IsOkAnd result (λ journal. SameHeader head journal × Saves old saved journal) }
         // If it succeeds, no proper prefix of the bytes is a journal.
         ensures whole { OnOk result ((c : Content) (n : ℕ) → IsContent c → take n bytes.now ≡ text c
             → length bytes.now ≤ n) }

@@ -3,7 +3,7 @@ ghost use Rattle.std.specs.Prelude.{◌≡◌, ◌+◌, ◌*◌, ◌≤◌, leng
 ghost use Rattle.sha2.specs.Sha256.{sha256};
 ghost use Rattle.nor_journal.specs.Text.{end_mark, record_text};
 ghost use Rattle.nor_journal.specs.Fault.{RecordFault, EndFault};
-ghost use Rattle.nor_journal.specs.Reading.{sector_at, BeginsRecord, HasRecords, EndsBehind, FaultBehindRecords};
+ghost use Rattle.nor_journal.specs.Reading.{sector_at, BeginsRecord, HasRecords, EndsAfter, FaultAfterRecords};
 
 use crate::fault::JournalFault;
 use crate::head::Head;
@@ -55,8 +55,8 @@ fn next_record(sectors: u32, least: u32, bytes: &[u8]) -> Result<Option<u32>, Jo
 ///
 /// Returns `Short`, `Place` or `Order` for the first record that has a fault.
 pub fn count_records(head: &Head, bytes: &[u8]) -> Result<usize, JournalFault>
-    ensures fault { IfErr result (FaultBehindRecords head.now bytes.now) }
-    ensures found { IfOk result (EndsBehind head.now bytes.now) }
+    ensures fault { IfErr result (FaultAfterRecords head.now bytes.now) }
+    ensures found { IfOk result (EndsAfter head.now bytes.now) }
 {
     let sectors = head.size / 4096;
     let mut count = 0;

@@ -1,7 +1,7 @@
 //! Writing a journal to a vault, piece by piece.
 ghost use Rattle.std.specs.Prelude.{◌≡◌, ◌+◌, ◌/◌, ◌<◌, ◌≤◌, ◌++◌, List, ℕ, Bool, []};
 ghost use Rattle.std.specs.Prelude.{IsTrue, false, true, Some, OnOk, OnErr, IfOk, IfErr};
-ghost use Rattle.nor_journal.specs.Vault.{PutRefused, Accepted, PutsOn, Completes, HoldsBeginning, IsFresh};
+ghost use Rattle.nor_journal.specs.Vault.{PutRefused, Accepted, PutsOn, Completes, HoldsPrefix, IsFresh};
 ghost use Rattle.nor_count.specs.Size.{is_chip_size};
 ghost use Rattle.nor_journal.specs.Text.{Content, IsContent, MayFollow, empty_content, with_sector, front, text};
 ghost use Rattle.nor_journal.specs.Saved.{IsWholeSector, HasOneMore, JournalSaves};
@@ -113,7 +113,7 @@ impl<'a, V: Vault> Writer<'a, V> {
         ensures written { HasPut V.state self.old []
             → OnOk result (HasWritten V.state self.new (empty_content id (Some unique) status size)) }
         ensures cut { HasPut V.state self.old []
-            → OnErr result (HoldsBeginning (vault_seen V.state self.new)
+            → OnErr result (HoldsPrefix (vault_seen V.state self.new)
             (front (empty_content id (Some unique) status size))) }
         ensures content { IsContent (empty_content id (Some unique) status size) }
     {
@@ -138,7 +138,7 @@ impl<'a, V: Vault> Writer<'a, V> {
             → IsWholeSector old number bytes.now → HasOneMore saved number more
             → OnOk result (HasPutSectors V.state self.new head old more (number + 1)) }
         ensures cut { (c : Content) → HasWritten V.state self.old c
-            → OnErr result (HoldsBeginning (vault_seen V.state self.new) (front (with_sector c number bytes.now))) }
+            → OnErr result (HoldsPrefix (vault_seen V.state self.new) (front (with_sector c number bytes.now))) }
     {
         self.piece(&record_bytes(number, bytes))
     }
@@ -159,7 +159,7 @@ impl<'a, V: Vault> Writer<'a, V> {
             → OnOk result ((V.state self.exit.0.now).telling ≡ true
             → JournalSaves head old saved (V.state self.exit.0.now).bytes) }
         ensures cut { (c : Content) → HasWritten V.state self.entry c
-            → OnErr result (HoldsBeginning (V.state self.exit.0.now) (text c)) }
+            → OnErr result (HoldsPrefix (V.state self.exit.0.now) (text c)) }
     {
         let Writer { vault, mut hasher } = self;
         vault.put(&END_MARK)?;

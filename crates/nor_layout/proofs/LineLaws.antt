@@ -9,7 +9,7 @@ use Rattle.nor_layout.specs.declared.region.Region.{Region}
 use Rattle.nor_layout.specs.declared.fault.LineFault.{LineFault}
 use Rattle.nor_layout.specs.declared.fault.LineFault.TheVariants.{Backwards, Name}
 use Rattle.nor_layout.specs.Address.{is_hex_digit, digits_of, are_digits, digits_address}
-use Rattle.nor_layout.specs.Line.{cut_at, without_spaces, with_start, parts_behind, is_name_byte, is_name, region_of}
+use Rattle.nor_layout.specs.Line.{cut_at, without_spaces, with_start, parts_after, is_name_byte, is_name, region_of}
 use Rattle.nor_layout.specs.Line.{parts_say, line_says}
 use Rattle.nor_layout.specs.Grammar.{IsAddress, IsLine}
 
@@ -109,7 +109,7 @@ some_of P o gives region is none e = grind arith
 
 pub line_says-found : (line : List ℕ) (region : Region) → line_says line ≡ Ok region → IsLine line region
 line_says-found line region e =
-    let first = some_of (IsCut 58 line) (cut_at 58 line) (λ cut. parts_say (parts_behind cut)) region
+    let first = some_of (IsCut 58 line) (cut_at 58 line) (λ cut. parts_say (parts_after cut)) region
     (cut_at-is 58 line) (λ none. cc) e in
     let behind = first.0.1 in
     let second = some_of (IsCut 32 behind) (cut_at 32 behind) (λ cut. parts_say (with_start first.0.0 cut)) region

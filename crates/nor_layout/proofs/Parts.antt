@@ -5,7 +5,7 @@ use Rattle.std.proofs.lemmas.Bool.{cond_both}
 use Rattle.std.proofs.lemmas.Bool.Decides.{nat_tests}
 use Rattle.nor_layout.specs.declared.ranges.Span.{Span}
 use Rattle.nor_layout.specs.declared.places.Places.{Places}
-use Rattle.nor_layout.specs.Ranges.{is_in_span, contains, IsApartFrom, AreApart}
+use Rattle.nor_layout.specs.Ranges.{is_in_span, contains, IsApartFrom, AreDisjoint}
 use Rattle.nor_layout.specs.Places.{is_covered, part_in_sector, parts_in_sector, AreRisingFrom, AreIncludedIn}
 
 -- true if the span has no address in the sector
@@ -47,19 +47,19 @@ rising-cons sector first span rest le forward rising = cond_both (is_outside sec
     ))
 
 -- the positions of spans that follow `low` are after those of `low`
-parts_rise : (sector : ℕ) (low : Span) (spans : List Span) → IsApartFrom low spans → AreApart spans
+parts_rise : (sector : ℕ) (low : Span) (spans : List Span) → IsApartFrom low spans → AreDisjoint spans
     → AreRisingFrom (low.last + 1 - 4096 * sector) (parts_in_sector sector spans)
 parts_rise sector low [] from apart = tt
 parts_rise sector low (span ∷ spans) from apart =
     rising-cons sector _ span (parts_in_sector sector spans) (omega (arith, from)) apart.0
     (parts_rise sector span spans apart.1 apart.2)
 
-all_rise : (sector : ℕ) (spans : List Span) → AreApart spans → AreRisingFrom 0 (parts_in_sector sector spans)
+all_rise : (sector : ℕ) (spans : List Span) → AreDisjoint spans → AreRisingFrom 0 (parts_in_sector sector spans)
 all_rise sector [] apart = tt
 all_rise sector (span ∷ spans) apart = rising-cons sector 0 span (parts_in_sector sector spans) (omega arith) apart.0
     (parts_rise sector span spans apart.1 apart.2)
 
-pub parts_are_included : (sector : ℕ) (spans : List Span) → AreApart spans
+pub parts_are_included : (sector : ℕ) (spans : List Span) → AreDisjoint spans
     → AreIncludedIn spans sector (parts_in_sector sector spans)
 parts_are_included sector spans apart =
     record { exact = is_covered-parts sector spans; rising = all_rise sector spans apart }

@@ -6,14 +6,14 @@ use Rattle.std.specs.List.{list_any}
 use Rattle.std.proofs.lemmas.Bool.{cases_Bool, both_ways, leb-true}
 use Rattle.std.proofs.lemmas.Bool.Decides.{nat_tests}
 use Rattle.nor_layout.specs.declared.ranges.Span.{Span}
-use Rattle.nor_layout.specs.Ranges.{is_in_span, contains, AreApart}
+use Rattle.nor_layout.specs.Ranges.{is_in_span, contains, AreDisjoint}
 use Rattle.nor_layout.specs.Sectors.{includes, sectors_included, has_in_sector, ReachesPast}
 use Rattle.nor_count.proofs.Below.{same_tests, any_below-some, any_below-found, count_below-most}
 
 -- if each span that passes the test has an address of the kind, and some span passes, the set has such an address
 any_span : (test : Span → Bool) (Kind : ℕ → Type 0)
     → ((span : Span) → span.first ≤ span.last → test span ≡ true → (a : ℕ) × Kind a × (is_in_span span a ≡ true))
-    → (spans : List Span) → AreApart spans → list_any test spans ≡ true → (a : ℕ) × Kind a × (contains spans a ≡ true)
+    → (spans : List Span) → AreDisjoint spans → list_any test spans ≡ true → (a : ℕ) × Kind a × (contains spans a ≡ true)
 any_span test Kind has [] apart h = absurd (cc)
 any_span test Kind has (span ∷ spans) apart h = grind (arith, has span apart.0, any_span test Kind has spans apart.2)
 
@@ -29,7 +29,7 @@ abbrev pub ends_from : ℕ → Span → Bool
 ends_from size span = leb size span.last
 
 -- some span ends at or above `size` if and only if the set has an address there
-pub size_cases : (spans : List Span) (size : ℕ) → AreApart spans
+pub size_cases : (spans : List Span) (size : ℕ) → AreDisjoint spans
     → MatchBool (list_any (ends_from size) spans) (ReachesPast (Some spans) size) (¬ ReachesPast (Some spans) size)
 size_cases spans size apart = elim (cases_Bool (list_any (ends_from size) spans)) [
   | inl some ↦ rw some (any_span (ends_from size) (λ a. size ≤ a)
@@ -44,7 +44,7 @@ abbrev pub is_in_sector : ℕ → Span → Bool
 is_in_sector sector span = leb (span.first / 4096) sector && leb sector (span.last / 4096)
 
 -- some span overlaps the sector if and only if some address of the sector is in the set
-pub in_sector-is : (spans : List Span) (sector : ℕ) → AreApart spans → list_any (is_in_sector sector) spans ≡ has_in_sector (contains spans) sector
+pub in_sector-is : (spans : List Span) (sector : ℕ) → AreDisjoint spans → list_any (is_in_sector sector) spans ≡ has_in_sector (contains spans) sector
 in_sector-is spans sector apart =
     same_tests (list_any (is_in_sector sector) spans) (has_in_sector (contains spans) sector)
     (λ yes.

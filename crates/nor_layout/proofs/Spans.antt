@@ -4,7 +4,7 @@ use Rattle.std.proofs.Common.{arith}
 use Rattle.std.proofs.lemmas.Bool.Decides.{nat_tests}
 use Rattle.std.proofs.lemmas.List.{at_drop_all}
 use Rattle.nor_layout.specs.declared.ranges.Span.{Span}
-use Rattle.nor_layout.specs.Ranges.{is_in_span, contains, AreApart}
+use Rattle.nor_layout.specs.Ranges.{is_in_span, contains, AreDisjoint}
 use Rattle.nor_layout.specs.Steps.{join}
 
 abbrev is_below : Span → Span → Bool
@@ -16,7 +16,7 @@ merged new [] = new ∷ []
 merged new (span ∷ spans) =
     cond (is_below span new) (span ∷ merged new spans) (cond (is_below new span) (new ∷ merged span spans) (merged (join new span) spans))
 
-contains-merged : (new : Span) (spans : List Span) (address : ℕ) → new.first ≤ new.last → AreApart spans
+contains-merged : (new : Span) (spans : List Span) (address : ℕ) → new.first ≤ new.last → AreDisjoint spans
     → contains (merged new spans) address ≡ (is_in_span new address || contains spans address)
 unfolding merged
 contains-merged new [] address forward apart = refl
@@ -28,12 +28,12 @@ contains-merged new (span ∷ spans) address forward apart =
 
 -- a span that is apart below `span` is apart below the spans that follow `span`
 further : (low span : Span) (spans : List Span) → low.first ≤ low.last → low.last + 1 < span.first
-    → AreApart (span ∷ spans) → AreApart (low ∷ spans)
+    → AreDisjoint (span ∷ spans) → AreDisjoint (low ∷ spans)
 further low span spans forward lt apart = grind arith
 
 -- adding a span above `low` keeps the spans apart from `low`
 apart_behind : (low new : Span) (spans : List Span) → low.last + 1 < new.first → new.first ≤ new.last
-    → AreApart (low ∷ spans) → AreApart (low ∷ merged new spans)
+    → AreDisjoint (low ∷ spans) → AreDisjoint (low ∷ merged new spans)
 unfolding merged
 apart_behind low new [] lt forward apart = (apart.0, lt, (forward, tt, tt))
 apart_behind low new (span ∷ spans) lt forward apart =
@@ -44,23 +44,23 @@ apart_behind low new (span ∷ spans) lt forward apart =
     let low_behind = further low span spans in
     grind (arith, nat_tests)
 
-AreApart-merged : (new : Span) (spans : List Span) → new.first ≤ new.last → AreApart spans → AreApart (merged new spans)
+AreDisjoint-merged : (new : Span) (spans : List Span) → new.first ≤ new.last → AreDisjoint spans → AreDisjoint (merged new spans)
 unfolding merged
-AreApart-merged new [] forward apart = (forward, tt, tt)
-AreApart-merged new (span ∷ spans) forward apart =
+AreDisjoint-merged new [] forward apart = (forward, tt, tt)
+AreDisjoint-merged new (span ∷ spans) forward apart =
     let below = apart_behind span new spans in
     let above = apart_behind new span spans in
-    let joined = AreApart-merged (join new span) spans in
+    let joined = AreDisjoint-merged (join new span) spans in
     let behind = further new span spans in
     grind (arith, nat_tests)
 
 -- when the loop has passed the last span, the spans so far and `new` are the set with the span added
 pub merged_all : (front : List Span) (new added : Span) (spans : List Span) (i : ℕ) → length spans ≤ i
-    → front ++ merged new (drop i spans) ≡ merged added spans → added.first ≤ added.last → AreApart spans
-    → AreApart (front ++ new ∷ [])
+    → front ++ merged new (drop i spans) ≡ merged added spans → added.first ≤ added.last → AreDisjoint spans
+    → AreDisjoint (front ++ new ∷ [])
     × ((address : ℕ) → contains (front ++ new ∷ []) address ≡ (is_in_span added address || contains spans address))
 unfolding merged
 merged_all front new added spans i le same forward apart =
     let last : merged new (drop i spans) ≡ new ∷ [] = at_drop_all (merged new) spans i le in
     let is : front ++ new ∷ [] ≡ merged added spans = rw last at same in
-    rw is (AreApart-merged added spans forward apart, λ address. contains-merged added spans address forward apart)
+    rw is (AreDisjoint-merged added spans forward apart, λ address. contains-merged added spans address forward apart)

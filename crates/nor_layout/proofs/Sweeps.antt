@@ -3,7 +3,7 @@ use Rattle.std.proofs.Common.{◌≡◌, ℕ, ◌+◌, ◌<◌, ◌≤◌, true,
 use Rattle.std.proofs.lemmas.Bool.{false≢true, or_cases}
 use Rattle.std.proofs.lemmas.Bool.Decides.{nat_tests}
 use Rattle.nor_layout.specs.declared.ranges.Span.{Span}
-use Rattle.nor_layout.specs.Ranges.{is_in_span, contains, AreApart, IsSetOf}
+use Rattle.nor_layout.specs.Ranges.{is_in_span, contains, AreDisjoint, IsSetOf}
 
 -- ---- the fewest spans with the same addresses
 
@@ -11,7 +11,7 @@ first_in : (span : Span) (spans : List Span) → span.first ≤ span.last → co
 first_in span spans forward = grind (arith, nat_tests)
 
 -- each address of the following spans is above the address after this span's end
-above : (span : Span) (spans : List Span) (a : ℕ) → AreApart (span ∷ spans) → contains spans a ≡ true → span.last + 1 < a
+above : (span : Span) (spans : List Span) (a : ℕ) → AreDisjoint (span ∷ spans) → contains spans a ≡ true → span.last + 1 < a
 above span [] a apart holds = absurd (false≢true holds)
 above span (next ∷ spans) a apart holds = grind (arith, nat_tests, above next spans a apart.2)
 
@@ -21,8 +21,8 @@ record AreCut (low limit : ℕ) (few many : List Span) : Type 0 where
   into : (a : ℕ) → contains few a ≡ true → contains many a ≡ true
   from : (a : ℕ) → low ≤ a → a < limit → contains many a ≡ true → contains few a ≡ true
 
-module _ (low limit : ℕ) (s : Span) (ss : List Span) (b : Span) (bs : List Span) (apart : AreApart (s ∷ ss))
-    (apart_b : AreApart (b ∷ bs)) (cut : AreCut low limit (s ∷ ss) (b ∷ bs)) where
+module _ (low limit : ℕ) (s : Span) (ss : List Span) (b : Span) (bs : List Span) (apart : AreDisjoint (s ∷ ss))
+    (apart_b : AreDisjoint (b ∷ bs)) (cut : AreCut low limit (s ∷ ss) (b ∷ bs)) where
   -- If s begins in b, the spans after s are cut from those after b. If one of their addresses were in b, b would also
   -- contain the address after s, which no span of the list that begins with s contains.
   rests : is_in_span b s.first ≡ true → AreCut (s.last + 1) limit ss bs
@@ -42,7 +42,7 @@ module _ (low limit : ℕ) (s : Span) (ss : List Span) (b : Span) (bs : List Spa
       let past = above b bs s.first apart_b later in
       grind (arith, nat_tests)
 
-length_cut : (low limit : ℕ) (few many : List Span) → AreApart few → AreApart many → AreCut low limit few many
+length_cut : (low limit : ℕ) (few many : List Span) → AreDisjoint few → AreDisjoint many → AreCut low limit few many
     → length few ≤ length many
 length_cut low limit [] many apart apart_many cut = omega arith
 length_cut low limit (s ∷ ss) [] apart apart_many cut = absurd (false≢true (cut.into s.first (first_in s ss apart.0)))
@@ -57,7 +57,7 @@ length_cut low limit (s ∷ ss) (b ∷ bs) apart apart_many cut =
     ]
 
 -- if more than 64 spans that are apart have the addresses below `done`, no set has the addresses of all spans
-pub none_has : (spans all : List Span) (done : ℕ) → AreApart all → 64 < length all
+pub none_has : (spans all : List Span) (done : ℕ) → AreDisjoint all → 64 < length all
     → ((a : ℕ) → contains all a ≡ (ltb a done && contains spans a)) → (set : List Span) → ¬ IsSetOf spans set
 none_has spans all done apart many same set is =
     let cut : AreCut 0 done all set = grind (arith, nat_tests) in

@@ -18,7 +18,7 @@ use Rattle.nor_layout.specs.Line.{line_says}
 use Rattle.nor_layout.specs.Text.{◌>>=◌, lines_of, is_region_named, joins_or_fault, with_line, lines_say, layout_says}
 use Rattle.nor_layout.specs.Text.{AreNamedApart, AreRegions, ReadsLayout, AsksMemory}
 use Rattle.nor_layout.specs.Grammar.{IsLine, IsLayout}
-use Rattle.nor_layout.specs.Steps.{Adds}
+use Rattle.nor_layout.specs.Steps.{AddsRegion}
 use Rattle.nor_layout.proofs.LineLaws.{line_says-taken, line_says-found}
 
 -- ---- regions with the same name
@@ -156,10 +156,10 @@ module _ (before : List (List ℕ)) (n : ℕ) (line : List ℕ) (regions : List 
 
   module _ (text : List ℕ) (after : List (List ℕ)) (lines_are : lines_of text ≡ before ++ line ∷ after)
       (counted : length before ≡ n) where
-    told : (said : Result (List Region) LayoutFault) → with_line regions (n + 1) line ≡ said
+    returned : (said : Result (List Region) LayoutFault) → with_line regions (n + 1) line ≡ said
         → layout_says text ≡ said >>= λ more. lines_say more (n + 1 + 1) after
     unfolding layout_says
-    told said e = ap (lines_say [] 1) lines_are ∙ onward said e after
+    returned said e = ap (lines_say [] 1) lines_are ∙ onward said e after
 
     -- a line at which memory can run out adds a region
     asks_memory : (region : Region) → with_line regions (n + 1) line ≡ Ok (regions ++ region ∷ []) → AsksMemory text
@@ -181,11 +181,11 @@ module _ (before : List (List ℕ)) (n : ℕ) (line : List ℕ) (regions : List 
     gives_one region kept e none =
         let more = regions ++ region ∷ [] in
         let kept_more = with_line-keeps regions more (n + 1) line kept e in
-        let behind = lines_say-found after more [] (n + 1 + 1) kept_more (sym (told (Ok more) e) ∙ none) in
+        let behind = lines_say-found after more [] (n + 1 + 1) kept_more (sym (returned (Ok more) e) ∙ none) in
         omega (arith, ap length behind.1.1, length-append more behind.1.0, length-append regions (region ∷ []))
 
     pub reads_fault : (new : List Region) (fault : LayoutFault) → AreRegions regions
-        → Adds regions new (Err fault) (with_line regions (n + 1) line)
+        → AddsRegion regions new (Err fault) (with_line regions (n + 1) line)
         → ReadsLayout (Err fault) (layout_says text) × (fault ≡ Memory → AsksMemory text)
     reads_fault new Memory kept e = (gives_one e.0 kept e.1, λ asks. asks_memory e.0 e.1)
-    reads_fault new fault kept e = (told (Err fault) e, λ asks. absurd (cc))
+    reads_fault new fault kept e = (returned (Err fault) e, λ asks. absurd (cc))

@@ -13,11 +13,11 @@ number_in_line Name = 4
 number_in_line Twice = 5
 
 -- the number that messages print
-abbrev pub number_of_fault : LayoutFault → ℕ
-number_of_fault (InLine line fault) = number_in_line fault
-number_of_fault TooMany = 6
-number_of_fault Memory = 7
-number_of_fault NoRegion = 8
+abbrev pub layout_fault_number : LayoutFault → ℕ
+layout_fault_number (InLine line fault) = number_in_line fault
+layout_fault_number TooMany = 6
+layout_fault_number Memory = 7
+layout_fault_number NoRegion = 8
 
 -- the number of the line that has the fault
 abbrev pub line_of_fault : LayoutFault → Option ℕ

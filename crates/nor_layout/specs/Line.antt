@@ -29,14 +29,14 @@ abbrev pub with_start : List ℕ → Option (List ℕ × List ℕ) → Option Pa
 with_start start None = None
 with_start start (Some parts) = Some (record { start = start; end = parts.0; name = without_spaces parts.1 })
 
-abbrev pub parts_behind : Option (List ℕ × List ℕ) → Option Parts
-parts_behind None = None
-parts_behind (Some parts) = with_start parts.0 (cut_at 32 parts.1)
+abbrev pub parts_after : Option (List ℕ × List ℕ) → Option Parts
+parts_after None = None
+parts_after (Some parts) = with_start parts.0 (cut_at 32 parts.1)
 
 -- The parts of a line: the start ends at the first `:`, the end at the next space, and the name follows one or more
 -- spaces.
 abbrev pub parts_of : List ℕ → Option Parts
-parts_of line = parts_behind (cut_at 58 line)
+parts_of line = parts_after (cut_at 58 line)
 
 -- true for a visible ASCII character except `,` and `:`
 abbrev pub is_name_byte : ℕ → Bool

@@ -17,14 +17,14 @@ IsApartFrom span [] = ⊤
 IsApartFrom span (next ∷ spans) = span.last + 1 < next.first
 
 -- True if the spans are in ascending order, and at least one address is between each two.
-abbrev pub AreApart : List Span → Type 0
-AreApart [] = ⊤
-AreApart (span ∷ spans) = (span.first ≤ span.last) × IsApartFrom span spans × AreApart spans
+abbrev pub AreDisjoint : List Span → Type 0
+AreDisjoint [] = ⊤
+AreDisjoint (span ∷ spans) = (span.first ≤ span.last) × IsApartFrom span spans × AreDisjoint spans
 
 -- the invariant of `Ranges`: at most 64 spans, in ascending order, with at least one address between each two
 pub record AreRanges (spans : List Span) : Type 0 where
   pub few : length spans ≤ 64
-  pub apart : AreApart spans
+  pub apart : AreDisjoint spans
 
 -- true if one of the spans ends before it begins
 abbrev pub has_backwards : List Span → Bool

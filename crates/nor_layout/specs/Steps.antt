@@ -16,10 +16,10 @@ pub record IsFirst (byte : ℕ) (text : List ℕ) (at : ℕ) : Type 0 where
   pub before : (k : ℕ) → k < at → slice_index text k ≢ byte
 
 -- The result of adding a line's region is what `with_line` defines (`said`). If it is `Memory`, the line adds a region.
-abbrev pub Adds : (old new : List Region) → Result ⊤ LayoutFault → Result (List Region) LayoutFault → Type 0
-Adds old new (Ok x) said = said ≡ Ok new
-Adds old new (Err Memory) said = (region : Region) × (said ≡ Ok (old ++ region ∷ []))
-Adds old new (Err fault) said = said ≡ Err fault
+abbrev pub AddsRegion : (old new : List Region) → Result ⊤ LayoutFault → Result (List Region) LayoutFault → Type 0
+AddsRegion old new (Ok x) said = said ≡ Ok new
+AddsRegion old new (Err Memory) said = (region : Region) × (said ≡ Ok (old ++ region ∷ []))
+AddsRegion old new (Err fault) said = said ≡ Err fault
 
 -- true if the name is one of the comma-separated names
 abbrev pub is_listed : (text name : List ℕ) → Bool

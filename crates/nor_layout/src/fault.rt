@@ -1,7 +1,7 @@
 //! The faults of layout texts and of names of regions.
 
 ghost use Rattle.std.specs.Prelude.{◌≡◌};
-ghost use Rattle.nor_layout.specs.Faults.{number_of_fault, line_of_fault};
+ghost use Rattle.nor_layout.specs.Faults.{layout_fault_number, line_of_fault};
 ghost use Rattle.nor_layout.specs.declared.fault.LayoutFault.TheVariants.{Memory};
 
 use crate::region::REGIONS;
@@ -54,7 +54,7 @@ pub enum LayoutFault {
 impl LayoutFault {
     /// Returns the number of the fault, 1 to 8, which messages print.
     pub fn number(self) -> u8
-        ensures { result ≡ number_of_fault self }
+        ensures { result ≡ layout_fault_number self }
     {
         match self {
             LayoutFault::InLine { fault, .. } => fault as u8,

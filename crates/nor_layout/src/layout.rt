@@ -5,7 +5,7 @@ ghost use Rattle.nor_layout.specs.Text.{is_region_named, with_line, layout_says,
 ghost use Rattle.nor_layout.specs.Grammar.{IsLayout};
 ghost use Rattle.nor_layout.specs.Included.{are_known, is_included};
 ghost use Rattle.nor_layout.specs.Ranges.{AreRanges, contains};
-ghost use Rattle.nor_layout.specs.Steps.{Adds, is_listed, is_listed_address};
+ghost use Rattle.nor_layout.specs.Steps.{AddsRegion, is_listed, is_listed_address};
 
 use crate::fault::{LayoutFault, LineFault};
 use crate::line;
@@ -55,12 +55,12 @@ fn are_known(regions: &[Region], names: &[u8]) -> bool
         .all(|name| is_named(regions, name))
 }
 
-/// Adds the region of line `number` to `regions`, or nothing if the line is empty.
+/// AddsRegion the region of line `number` to `regions`, or nothing if the line is empty.
 ///
 /// Returns a fault of the line, or `TooMany` if there are 64 regions already, or `Memory` if an allocation fails.
 #[tactic(auto, unfolding(crate::specs::Text::with_line))]
 fn add_line(regions: &mut Vec<Region>, number: usize, line: &[u8]) -> Result<(), LayoutFault>
-    ensures { Adds regions.old.items regions.new.items result (with_line regions.old.items number line.now) }
+    ensures { AddsRegion regions.old.items regions.new.items result (with_line regions.old.items number line.now) }
 {
     if line.is_empty() {
         return Ok(());

@@ -1,7 +1,7 @@
 //! Sets of addresses, as at most 64 sorted spans.
 
 ghost use Rattle.std.specs.Prelude.{◌≡◌, ◌≤◌, ◌<◌, ◌+◌, ◌||◌, ◌*◌, ℕ, false, MatchBool, MatchOption, length, nat_lt, [], slice_index, if◌then◌else◌};
-ghost use Rattle.nor_layout.specs.Ranges.{is_in_span, contains, has_backwards, AreApart, AreRanges, IsSetOf, MakeNoSet};
+ghost use Rattle.nor_layout.specs.Ranges.{is_in_span, contains, has_backwards, AreDisjoint, AreRanges, IsSetOf, MakeNoSet};
 ghost use Rattle.nor_layout.specs.Sectors.{SomeInSector, NoneInSector, has_in_sector, ReachesPast};
 ghost use Rattle.nor_layout.specs.Places.{AreIncludedIn, places_left};
 ghost use Rattle.nor_layout.specs.Steps.{join, sooner, IsNextOrNone};
@@ -95,8 +95,8 @@ fn next_span(spans: &[Span], done: u64) -> Option<Span>
 fn with_span(spans: &[Span], added: Span) -> ArrayVec<Span, ROOM>
     requires room { length spans.now ≤ 64 }
     requires forward { added.first ≤ added.last }
-    requires apart { AreApart spans.now }
-    ensures apart { AreApart result.items }
+    requires apart { AreDisjoint spans.now }
+    ensures apart { AreDisjoint result.items }
     ensures union { (address : ℕ)
         → contains result.items address ≡ (is_in_span added address || contains spans.now address) }
     ensures room { length result.items ≤ length spans.now + 1 }

@@ -1,14 +1,14 @@
 -- The file of a vault that was borrowed and taken back, and the files that stay as they were.
 use Rattle.std.proofs.Common.{◌≡◌, ◌∙◌, Some, ap, refl, subst, sym, true}
-use Rattle.nor_files.specs.Calls.{Lends, TakesBack}
-use Rattle.nor_files.specs.Files.{AreApart, FilesState, Name, Nature, Stays, is_lawful}
+use Rattle.nor_files.specs.Calls.{Borrows, TakesBack}
+use Rattle.nor_files.specs.Files.{AreApart, FilesState, Name, Nature, KeepsFile, is_lawful}
 use Rattle.nor_journal.specs.Vault.{VaultState}
 use Rattle.nor_lines.specs.Stored.{IsKeptFile}
 
-pub stays_same : (name : Name) (files : FilesState) → Stays name files files
+pub stays_same : (name : Name) (files : FilesState) → KeepsFile name files files
 stays_same name files = record { out = refl; seen = refl; leaves = λ left can. can }
 
-pub stays_on : {name : Name} {old mid new : FilesState} → Stays name old mid → Stays name mid new → Stays name old new
+pub stays_on : {name : Name} {old mid new : FilesState} → KeepsFile name old mid → KeepsFile name mid new → KeepsFile name old new
 stays_on one other = record {
   out = other.out ∙ one.out;
   seen = other.seen ∙ one.seen;
@@ -24,16 +24,16 @@ lawful_after same is = ap (λ (n : Nature). n.lawful) same ∙ is
 
 -- a vault that was borrowed and taken back
 module _ (name : Name) (old mid new : FilesState) (vault : VaultState)
-    (made : mid.view.nature ≡ old.view.nature) (lends : is_lawful old.view ≡ true → Lends name old mid)
+    (made : mid.view.nature ≡ old.view.nature) (borrows : is_lawful old.view ≡ true → Borrows name old mid)
     (back : new.view.nature ≡ mid.view.nature)
-    (takes : is_lawful mid.view ≡ true → (n : Name) → mid.lent ≡ Some n → TakesBack n vault mid new) where
+    (takes : is_lawful mid.view ≡ true → (n : Name) → mid.borrowed ≡ Some n → TakesBack n vault mid new) where
   taken : is_lawful old.view ≡ true → TakesBack name vault mid new
-  taken is = takes (lawful_after made is) name (lends is).lent
+  taken is = takes (lawful_after made is) name (borrows is).borrowed
 
   pub kept_file : is_lawful new.view ≡ true → IsKeptFile name vault new
   kept_file is =
       let t = taken (lawful_after (sym (back ∙ made)) is) in
       record { telling = t.telling; seen = t.seen; settled = t.settled }
 
-  pub others_stay : is_lawful old.view ≡ true → (any : Name) → AreApart old.view.nature name any → Stays any old new
-  others_stay is any other = stays_on ((lends is).others any other) ((taken is).others any (apart_after made other))
+  pub others_stay : is_lawful old.view ≡ true → (any : Name) → AreApart old.view.nature name any → KeepsFile any old new
+  others_stay is any other = stays_on ((borrows is).others any other) ((taken is).others any (apart_after made other))

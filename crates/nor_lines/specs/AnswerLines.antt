@@ -1,7 +1,7 @@
 -- The printed lines of each answer, byte by byte.
 use Rattle.std.specs.Prelude.{◌≡◌, ℕ, Bool, List, [], ◌∷◌, ◌++◌, Option, Some, None, codes, decimal, flat_map, if◌then◌else◌}
 use Rattle.std.specs.Iterator.{Drains}
-use Rattle.nor_chip.specs.Offered.{GivesNextSet}
+use Rattle.nor_chip.specs.Offered.{ReturnsNextRange}
 use Rattle.nor_chip.specs.declared.guard.walk.Offered.{Offered}
 use Rattle.nor_probe.specs.Table.{chips, name_text}
 use Rattle.nor_probe.specs.declared.probes.Found.{Found}
@@ -66,12 +66,12 @@ stop_line ended = line (codes "Rehearsal: session " ∷ how_it_went ended ∷ co
 abbrev pub restores_line : ℕ → List ℕ
 restores_line restores = line (codes "Restores: " ∷ decimal restores ∷ codes "." ∷ [])
 
-abbrev pub given_back_line : List ℕ
-given_back_line = line (codes "Chip as before." ∷ [])
+abbrev pub restored_line : List ℕ
+restored_line = line (codes "Chip as before." ∷ [])
 
 -- the lines of a rehearsal
 abbrev pub rehearsal_lines : Rehearsal → List ℕ
-rehearsal_lines rehearsal = stop_line rehearsal.ended ++ (restores_line rehearsal.restores ++ given_back_line)
+rehearsal_lines rehearsal = stop_line rehearsal.ended ++ (restores_line rehearsal.restores ++ restored_line)
 
 -- the line of the protected range: its first address and its length in bytes
 abbrev pub protected_line : Option (ℕ × ℕ) → List ℕ
@@ -90,7 +90,7 @@ range_line range = line (codes "0x" ∷ hex_digits 6 range.0 ∷ codes ",0x" ∷
 -- Holds for the lines of all ranges that the iterator yields, one line per range.
 abbrev pub AreRangeLines : Offered → List ℕ → Type 0
 AreRangeLines walk text =
-    (ranges : List (ℕ × ℕ)) × Drains GivesNextSet walk ranges × (text ≡ flat_map range_line ranges)
+    (ranges : List (ℕ × ℕ)) × Drains ReturnsNextRange walk ranges × (text ≡ flat_map range_line ranges)
 
 -- Holds for the lines of this answer.
 abbrev pub AreLines : Answer → List ℕ → Type 0

@@ -2,8 +2,8 @@
 use Rattle.std.specs.Prelude.{ℕ, List, [], ◌∷◌, ◌++◌, Option, Some, None, codes, decimal}
 use Rattle.std.specs.Fmt.{with_newline}
 use Rattle.std.specs.List.{concat}
-use Rattle.nor_layout.specs.Faults.{line_of_fault, number_of_fault as layout_number}
-use Rattle.nor_call.specs.Refusal.{number_of}
+use Rattle.nor_layout.specs.Faults.{line_of_fault, layout_fault_number as layout_number}
+use Rattle.nor_call.specs.Refusal.{refusal_number}
 use Rattle.nor_call.specs.Texts.{refusal_text}
 use Rattle.nor_words.specs.Faults.{usage_fault_text as usage_text}
 use Rattle.nor_words.specs.Text.{Text}
@@ -31,7 +31,7 @@ text_of (end.Layout fault) =
     Some (concat (codes "Layout fault " ∷ decimal (layout_number fault) ∷ place (line_of_fault fault) ∷ codes "." ∷ []))
 text_of (end.File fault name) = Some (file_text fault name.now)
 text_of (end.Refused refusal) =
-    Some (concat (codes "Error " ∷ decimal (number_of refusal) ∷ codes ": " ∷ refusal_text refusal ∷ codes "." ∷ []))
+    Some (concat (codes "Error " ∷ decimal (refusal_number refusal) ∷ codes ": " ∷ refusal_text refusal ∷ codes "." ∷ []))
 
 -- the line of a fault: its text and a line feed; `None` if its text isn't known
 abbrev pub line_of : Fault → Option (List ℕ)

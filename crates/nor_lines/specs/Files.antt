@@ -3,11 +3,11 @@
 use Rattle.std.specs.Prelude.{◌≡◌, ◌≢◌, ◌<◌, ◌+◌, ◌⊎◌, ℕ, List, None, length}
 use Rattle.nor_call.specs.declared.refusal.Refusal.TheVariants.{Memory}
 use Rattle.nor_words.specs.Text.{Text}
-use Rattle.nor_files.specs.Calls.{Reads}
+use Rattle.nor_files.specs.Calls.{ReadsFile}
 use Rattle.nor_files.specs.Files.{View}
 use Rattle.nor_files.specs.Files.Failure.{Busy, There, Unheld, Unmade, Unread, Unwritten}
-use Rattle.nor_files.specs.declared.store.HoldFault.{HoldFault}
-use Rattle.nor_files.specs.declared.store.HoldFault.TheVariants as why
+use Rattle.nor_files.specs.declared.store.LockFault.{LockFault}
+use Rattle.nor_files.specs.declared.store.LockFault.TheVariants as why
 use Rattle.nor_lines.specs.Stored.{Happens, IsRead}
 use Rattle.nor_lines.specs.declared.messages.Fault.{Fault}
 use Rattle.nor_lines.specs.declared.messages.Fault.TheVariants as end
@@ -20,17 +20,17 @@ IsUnreadFault name (end.File file.Read of) = of.now ≡ name
 IsUnreadFault name _ = ⊥
 
 -- Holds for the faults of a file of this name that can't be locked, or opened to be written or read.
-abbrev pub IsUnheldFault : HoldFault → Text → Fault → Type 0
-IsUnheldFault (why.Unread error) name fault = IsUnreadFault name fault
-IsUnheldFault why.Unheld name (end.File file.Write of) = of.now ≡ name
-IsUnheldFault why.Busy name (end.File file.Taken of) = of.now ≡ name
-IsUnheldFault _ name _ = ⊥
+abbrev pub IsNotLocked : LockFault → Text → Fault → Type 0
+IsNotLocked (why.Unread error) name fault = IsUnreadFault name fault
+IsNotLocked why.Unheld name (end.File file.Write of) = of.now ≡ name
+IsNotLocked why.Busy name (end.File file.Taken of) = of.now ≡ name
+IsNotLocked _ name _ = ⊥
 
 -- Holds for the faults of reading at most `most` bytes: the file is missing or can't be read, or memory runs out.
 abbrev pub IsReadingFault : View → Text → ℕ → Fault → Type 0
 IsReadingFault view name most (end.Refused refusal) = refusal ≡ Memory
 IsReadingFault view name most (end.File file.Read of) =
-    (of.now ≡ name) × (Reads name most None view ⊎ Happens view (Unread name))
+    (of.now ≡ name) × (ReadsFile name most None view ⊎ Happens view (Unread name))
 IsReadingFault view name most _ = ⊥
 
 -- Holds for the fault of a file of this name that may have at most `most` bytes, and has more.
@@ -50,13 +50,13 @@ IsOpeningFault view name len _ = ⊥
 
 -- Holds for the faults of locking and reading a chip's file, which must have `len` bytes. In addition to the faults of
 -- reading it, the file may have become missing, be read-only, be locked by another run, or fail to sync.
-abbrev pub IsHoldingFault : View → Text → ℕ → Fault → Type 0
-IsHoldingFault view name len (end.File file.Read of) =
-    (of.now ≡ name) × (Reads name (len + 1) None view ⊎ Happens view (Unread name))
-IsHoldingFault view name len (end.File file.Write of) =
+abbrev pub IsLockingFault : View → Text → ℕ → Fault → Type 0
+IsLockingFault view name len (end.File file.Read of) =
+    (of.now ≡ name) × (ReadsFile name (len + 1) None view ⊎ Happens view (Unread name))
+IsLockingFault view name len (end.File file.Write of) =
     (of.now ≡ name) × (Happens view (Unheld name) ⊎ Happens view (Unwritten name))
-IsHoldingFault view name len (end.File file.Taken of) = (of.now ≡ name) × Happens view (Busy name)
-IsHoldingFault view name len fault = IsOpeningFault view name len fault
+IsLockingFault view name len (end.File file.Taken of) = (of.now ≡ name) × Happens view (Busy name)
+IsLockingFault view name len fault = IsOpeningFault view name len fault
 
 -- Holds for the faults of locking and reading a journal. In addition to the faults of reading it, the lock may fail, or
 -- another process may have locked it.

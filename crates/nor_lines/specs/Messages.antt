@@ -19,11 +19,11 @@ file_number file.Exists = 4
 file_number file.Taken = 5
 
 -- Holds for the fault of arguments that could not be collected: out of memory, or not UTF-8.
-abbrev pub IsOfWords : Error → Fault → Type 0
-IsOfWords error fault = ((error_kind error ≡ Kinds.OutOfMemory) × (fault ≡ end.Usage usage.Memory))
+abbrev pub IsOfArguments : Error → Fault → Type 0
+IsOfArguments error fault = ((error_kind error ≡ Kinds.OutOfMemory) × (fault ≡ end.Usage usage.Memory))
     ⊎ ((error_kind error ≢ Kinds.OutOfMemory) × (fault ≡ end.NoText))
 
 -- an error of a call is a fault of the run
-abbrev pub IsToldAs : {T : Type 0} → Result T Refusal → Result T Fault → Type 0
-IsToldAs (Ok found) outcome = outcome ≡ Ok found
-IsToldAs (Err refusal) outcome = outcome ≡ Err (end.Refused refusal)
+abbrev pub IsReportedAs : {T : Type 0} → Result T Refusal → Result T Fault → Type 0
+IsReportedAs (Ok found) outcome = outcome ≡ Ok found
+IsReportedAs (Err refusal) outcome = outcome ≡ Err (end.Refused refusal)

@@ -1,13 +1,13 @@
 -- The results of the jobs that change a chip: all that the engine promises of a session, with its journal in a file.
 use Rattle.std.specs.Prelude.{◌≡◌, ℕ, true, List, None, Result}
 use Rattle.nor_chip.specs.Bus.{BusState}
-use Rattle.nor_files.specs.Files.{FilesState, IsKnown, View, is_lawful}
+use Rattle.nor_files.specs.Files.{FilesState, IsKnownFile, View, is_lawful}
 use Rattle.nor_journal.specs.Vault.{IsFresh, VaultState}
 use Rattle.nor_probe.specs.Known.{IsModelled}
 use Rattle.nor_call.specs.declared.refusal.Refusal.{Refusal}
 use Rattle.nor_call.specs.declared.report.Report.{Report}
 use Rattle.nor_call.specs.declared.request.Request.{Request}
-use Rattle.nor_session.specs.Headline.{KeepsFirst}
+use Rattle.nor_session.specs.Headline.{KeepsOriginal}
 use Rattle.nor_session.specs.Session.{SessionAlways, SessionHonest, SessionModelled}
 use Rattle.nor_words.specs.Text.{Text}
 use Rattle.nor_lines.specs.Readings.{AnswersCall}
@@ -17,24 +17,24 @@ use Rattle.nor_lines.specs.declared.answers.Answer.TheVariants as answer
 
 -- the answer is the report of a change or a restore that ended
 abbrev pub TellsReport : Report → Answer → Type 0
-TellsReport report (answer.Done told) = told ≡ report
+TellsReport report (answer.Done returned) = returned ≡ report
 TellsReport report _ = ⊥
 
 -- A session ended or returned an error, with its journal in a vault. It kept all promises of `session`.
 pub record HasRunSession (request : Request) (image : List ℕ) (old new : BusState) (vault vault' : VaultState)
     (outcome : Result Answer Refusal) : Type 0 where
   pub result : Result Report Refusal
-  pub keeps : KeepsFirst old new vault'
+  pub keeps : KeepsOriginal old new vault'
   pub always : SessionAlways request old new vault vault' result
   pub honest : old.honest ≡ true → SessionHonest request image old new result
   pub modelled : IsModelled old → SessionModelled request image old new vault vault' result
-  pub told : AnswersCall TellsReport result outcome
+  pub returned : AnswersCall TellsReport result outcome
 
 -- A session was run with its journal in a new file: before the session the file was missing. If the files obey their
 -- contract, the file has exactly the bytes of the session's vault, and after the seal a host crash does not lose them.
 pub record HasRunInFile (request : Request) (image : List ℕ) (file : Text) (before : View) (after : FilesState)
     (old new : BusState) (outcome : Result Answer Refusal) : Type 0 where
-  pub missing : IsKnown file before → before.seen file ≡ None
+  pub missing : IsKnownFile file before → before.seen file ≡ None
   pub vault : VaultState
   pub vault' : VaultState
   pub fresh : IsFresh vault

@@ -1,8 +1,8 @@
 -- The contents of the files of a run, as they were read and as they are afterwards.
 use Rattle.std.specs.Prelude.{◌≡◌, ◌+◌, ℕ, List, Option, None, Some, IfSome, ⊤, length, true, unwrap_or}
 use Rattle.std.specs.Borrow.{Bor}
-use Rattle.nor_files.specs.Calls.{LeavesNoMore, LeavesOrEmpty, Reads}
-use Rattle.nor_files.specs.Files.{AreApart, Failure, FilesState, IsKnown, IsSettled, Nature, Stays, View, is_lawful}
+use Rattle.nor_files.specs.Calls.{LeavesNoMore, LeavesOrEmpty, ReadsFile}
+use Rattle.nor_files.specs.Files.{AreApart, Failure, FilesState, IsKnownFile, IsDurable, Nature, KeepsFile, View, is_lawful}
 use Rattle.nor_files.specs.Files.Failure.{Unwritten}
 use Rattle.nor_journal.specs.Vault.{VaultState}
 use Rattle.nor_words.specs.Text.{Text}
@@ -13,13 +13,13 @@ Happens view failure = view.nature.fails failure ≡ true
 
 -- Holds if at most `most` bytes of the file were read, and these are the bytes.
 abbrev pub IsRead : View → Text → ℕ → List ℕ → Type 0
-IsRead view name most bytes = Reads name most (Some bytes) view
+IsRead view name most bytes = ReadsFile name most (Some bytes) view
 
 -- Holds if `found` has the bytes that were read from a file, or is `None` if no file is named or it is missing. If the
 -- file has more than `len` bytes, `len` and one more are read.
 abbrev pub IsFileFound : View → Option (Bor Text) → ℕ → Option (List ℕ) → Type 0
 IsFileFound view None len found = found ≡ None
-IsFileFound view (Some name) len found = Reads name.now (len + 1) found view
+IsFileFound view (Some name) len found = ReadsFile name.now (len + 1) found view
 
 -- Holds if the bytes are those of a file that is named and has exactly `len` bytes; or the bytes `missing` if no file
 -- is named or it is missing.
@@ -33,7 +33,7 @@ pub record AreOfFile (view : View) (name : Option (Bor Text)) (len : ℕ) (missi
 -- contract.
 abbrev pub Has : Option (Bor Text) → List ℕ → FilesState → Type 0
 Has None bytes files = ⊤
-Has (Some name) bytes files = is_lawful files.view ≡ true → IsSettled name.now (Some bytes) files
+Has (Some name) bytes files = is_lawful files.view ≡ true → IsDurable name.now (Some bytes) files
 
 -- Holds if the file was written with these bytes; or if it could not be written, and its name is given as failed.
 abbrev pub ArePut : Option (Bor Text) → List ℕ → Option (Bor Text) → FilesState → Type 0
@@ -41,9 +41,9 @@ ArePut name bytes None files = Has name bytes files
 ArePut name bytes (Some failed) files = (name ≡ Some failed) × Happens files.view (Unwritten failed.now)
 
 -- Holds if the only file that may have failed to be written is the one named here.
-abbrev pub IsToldOf : (name failed : Option (Bor Text)) → View → Type 0
-IsToldOf name None view = ⊤
-IsToldOf name (Some failed) view = (name ≡ Some failed) × Happens view (Unwritten failed.now)
+abbrev pub IsReportedOf : (name failed : Option (Bor Text)) → View → Type 0
+IsReportedOf name None view = ⊤
+IsReportedOf name (Some failed) view = (name ≡ Some failed) × Happens view (Unwritten failed.now)
 
 -- Holds if no other name is given, or if the other is apart from the name: on lawful files the two refer to different
 -- files.
@@ -59,7 +59,7 @@ AreTwo nature (Some one) other = IsNot nature other one.now
 -- Holds if no file is named, or if the named file is as it was.
 abbrev pub StaysOf : Option (Bor Text) → (old new : FilesState) → Type 0
 StaysOf None old new = ⊤
-StaysOf (Some name) old new = Stays name.now old new
+StaysOf (Some name) old new = KeepsFile name.now old new
 
 -- Holds if no file is named, or if a host crash may leave nothing of the named file that it could not leave before.
 abbrev pub LeavesNoMoreOf : Option (Bor Text) → (old new : FilesState) → Type 0
@@ -69,16 +69,16 @@ LeavesNoMoreOf (Some name) old new = LeavesNoMore name.now old new
 -- Holds if no file is named, or if the file of that name is known to be missing.
 abbrev pub IsMissing : Option (Bor Text) → View → Type 0
 IsMissing None view = ⊤
-IsMissing (Some name) view = IsKnown name.now view → view.seen name.now ≡ None
+IsMissing (Some name) view = IsKnownFile name.now view → view.seen name.now ≡ None
 
 -- Holds if no file is named, or if a host crash may leave nothing of the named file that it could not leave before,
 -- except an empty file if it was missing. A file that isn't known is not covered.
 abbrev pub MakesNothing : Option (Bor Text) → (old new : FilesState) → Type 0
 MakesNothing None old new = ⊤
-MakesNothing (Some name) old new = IsKnown name.now old.view → LeavesOrEmpty name.now old new
+MakesNothing (Some name) old new = IsKnownFile name.now old.view → LeavesOrEmpty name.now old new
 
 -- The file has exactly the bytes of the vault. If the vault is sealed, these are durable.
 pub record IsKeptFile (name : Text) (vault : VaultState) (files : FilesState) : Type 0 where
   pub telling : vault.telling ≡ true
   pub seen : files.view.seen name ≡ Some vault.bytes
-  pub settled : vault.sealed ≡ true → IsSettled name (Some vault.bytes) files
+  pub settled : vault.sealed ≡ true → IsDurable name (Some vault.bytes) files

@@ -1,10 +1,10 @@
 //! The calls to the engine that both programs make, with their files and their answers.
 ghost use Rattle.std.specs.Prelude.{◌≡◌, IfErr, IfOk, OnErr, false, option_copied, replicate, true};
-ghost use Rattle.nor_files.specs.Calls.{LendsNone};
+ghost use Rattle.nor_files.specs.Calls.{BorrowsNone};
 ghost use Rattle.nor_files.specs.Files.{OthersStay, is_lawful};
 ghost use Rattle.nor_journal.specs.Vault.{IsFresh};
 ghost use Rattle.nor_lines.specs.Files.{IsMaking};
-ghost use Rattle.nor_lines.specs.Readings.{HasReadInto, HasReadOut, HasTold, HasVerified, ListsRanges, TellsGuarded};
+ghost use Rattle.nor_lines.specs.Readings.{HasReadInto, HasReadOut, HasReported, HasVerified, ListsRanges, ReportsProtection};
 ghost use Rattle.nor_lines.specs.Sessions.{HasRunInFile, HasRunSession};
 
 use crate::answers::{Answer, Outcome};
@@ -20,8 +20,8 @@ use nor_session::{Request, session};
 use std::alloc::{AllocError, Global};
 
 /// Returns the chip's protected range, and whether its status is locked.
-pub fn tell_protection<B: Bus>(bus: &mut B, named: Option<ChipName>) -> Outcome
-    ensures { HasTold TellsGuarded named (B.state bus.old) (B.state bus.new) result }
+pub fn report_protection<B: Bus>(bus: &mut B, named: Option<ChipName>) -> Outcome
+    ensures { HasReported ReportsProtection named (B.state bus.old) (B.state bus.new) result }
 {
     let protection = wp_status(bus, named)?;
     Ok(Answer::Protection(protection))
@@ -29,7 +29,7 @@ pub fn tell_protection<B: Bus>(bus: &mut B, named: Option<ChipName>) -> Outcome
 
 /// Returns the ranges of the chip that can be protected.
 pub fn list_ranges<B: Bus>(bus: &mut B, named: Option<ChipName>) -> Outcome
-    ensures { HasTold ListsRanges named (B.state bus.old) (B.state bus.new) result }
+    ensures { HasReported ListsRanges named (B.state bus.old) (B.state bus.new) result }
 {
     let protection = wp_status(bus, named)?;
     Ok(Answer::Ranges(offered(protection.size)))
@@ -110,7 +110,7 @@ pub fn session_in_file<'a, R: Store, B: Bus>(
     ensures ok { IfOk result (HasRunInFile request.now image.old file.now (R.state rt.old).view (R.state rt.new)
         (B.state bus.old) (B.state bus.new)) }
     ensures unmade { is_lawful (R.state rt.old).view ≡ true
-        → OnErr result (LendsNone file.now (R.state rt.old) (R.state rt.new)) }
+        → OnErr result (BorrowsNone file.now (R.state rt.old) (R.state rt.new)) }
     ensures unsent { OnErr result (B.state bus.new ≡ B.state bus.old) }
     ensures err { IfErr result (IsMaking (R.state rt.old).view file.now) }
 {

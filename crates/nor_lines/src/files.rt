@@ -2,18 +2,18 @@
 ghost use Rattle.std.specs.Prelude.{◌≡◌, ◌↔◌, true, IfOk, IfErr, OnOk, OnErr, None, Some};
 ghost use Rattle.std.specs.IoError.{error_kind};
 ghost use Rattle.std.specs.declared.io.ErrorKind.TheVariants as Kinds;
-ghost use Rattle.nor_files.specs.Calls.{Lends, LendsNone};
-ghost use Rattle.nor_files.specs.Faults.{IsMakeFault};
-ghost use Rattle.nor_files.specs.Files.{AreUntouched, IsKnown, OthersStay, View, is_lawful};
+ghost use Rattle.nor_files.specs.Calls.{Borrows, BorrowsNone};
+ghost use Rattle.nor_files.specs.Faults.{IsCreateFault};
+ghost use Rattle.nor_files.specs.Files.{AreUntouched, IsKnownFile, OthersStay, View, is_lawful};
 ghost use Rattle.nor_journal.specs.Vault.{IsFresh};
 ghost use Rattle.nor_lines.specs.Stored.{IsRead};
-ghost use Rattle.nor_lines.specs.Files.{IsReadingFault, IsMaking, IsSharingFault, IsUnheldFault, IsUnreadFault};
+ghost use Rattle.nor_lines.specs.Files.{IsReadingFault, IsMaking, IsSharingFault, IsNotLocked, IsUnreadFault};
 ghost use Rattle.nor_lines.specs.declared.messages.Fault.TheVariants as Faults;
 ghost use Rattle.nor_lines.specs.declared.messages.FileFault.TheVariants as FileFaults;
 ghost use Rattle.nor_call.specs.declared.refusal.Refusal.TheVariants as Refusals;
 
 use crate::messages::{Fault, FileFault};
-use nor_files::{HoldFault, MakeFault, Store};
+use nor_files::{LockFault, CreateFault, Store};
 use nor_session::Refusal;
 use std::io;
 use std::io::{BufWriter, ErrorKind};
@@ -68,8 +68,8 @@ pub fn unread(name: &str) -> Fault<'_>
 pub fn empty<'a, R: Store>(rt: &mut R, name: &'a str) -> Result<R::Filed, Fault<'a>>
     ensures nature { (R.state rt.new).view.nature ≡ (R.state rt.old).view.nature }
     ensures fresh { IfOk result (λ vault. IsFresh (R.Filed.state vault)) }
-    ensures lends { is_lawful (R.state rt.old).view ≡ true
-        → OnOk result (Lends name.now (R.state rt.old) (R.state rt.new)) }
+    ensures borrows { is_lawful (R.state rt.old).view ≡ true
+        → OnOk result (Borrows name.now (R.state rt.old) (R.state rt.new)) }
     ensures others { is_lawful (R.state rt.old).view ≡ true
         → OthersStay name.now (R.state rt.old) (R.state rt.new) }
     ensures err { IfErr result (IsMaking (R.state rt.old).view name.now) }
@@ -85,12 +85,12 @@ pub fn empty<'a, R: Store>(rt: &mut R, name: &'a str) -> Result<R::Filed, Fault<
 pub fn make<'a, R: Store>(rt: &mut R, name: &'a str) -> Result<R::Filed, Fault<'a>>
     ensures nature { (R.state rt.new).view.nature ≡ (R.state rt.old).view.nature }
     ensures fresh { IfOk result (λ vault. IsFresh (R.Filed.state vault)) }
-    ensures lends { is_lawful (R.state rt.old).view ≡ true
-        → OnOk result (Lends name.now (R.state rt.old) (R.state rt.new)) }
-    ensures missing { IsKnown name.now (R.state rt.old).view
+    ensures borrows { is_lawful (R.state rt.old).view ≡ true
+        → OnOk result (Borrows name.now (R.state rt.old) (R.state rt.new)) }
+    ensures missing { IsKnownFile name.now (R.state rt.old).view
         → OnOk result ((R.state rt.old).view.seen name.now ≡ None) }
     ensures fails { is_lawful (R.state rt.old).view ≡ true
-        → OnErr result (LendsNone name.now (R.state rt.old) (R.state rt.new)) }
+        → OnErr result (BorrowsNone name.now (R.state rt.old) (R.state rt.new)) }
     ensures others { is_lawful (R.state rt.old).view ≡ true
         → OthersStay name.now (R.state rt.old) (R.state rt.new) }
     ensures err { IfErr result (IsMaking (R.state rt.old).view name.now) }
@@ -122,17 +122,17 @@ pub fn create_log<'a, R: Store>(rt: &mut R, name: &'a str) -> Result<BufWriter<R
 /// - file fault 5 if another process has locked the file
 /// - error 18 if memory ran out
 /// - otherwise file fault 2
-pub fn making(fault: MakeFault, name: &str) -> Fault<'_>
-    ensures { (view : View) → IsMakeFault view.nature name.now fault → IsMaking view name.now result }
+pub fn making(fault: CreateFault, name: &str) -> Fault<'_>
+    ensures { (view : View) → IsCreateFault view.nature name.now fault → IsMaking view name.now result }
 {
     match fault {
-        MakeFault::There => {
+        CreateFault::There => {
             let fault = FileFault::Exists;
             Fault::File { fault, name }
         }
-        MakeFault::Busy => taken(name),
-        MakeFault::Unmade(_) => unmade(name),
-        MakeFault::Memory => Fault::Refused(Refusal::Memory),
+        CreateFault::Busy => taken(name),
+        CreateFault::Unmade(_) => unmade(name),
+        CreateFault::Memory => Fault::Refused(Refusal::Memory),
     }
 }
 
@@ -170,12 +170,12 @@ pub fn read_journal<'a, R: Store>(rt: &mut R, journal: &'a str) -> Result<Vec<u8
 }
 
 /// Returns the fault of a file that can't be locked, or opened to be read or written.
-pub fn unheld(fault: HoldFault, name: &str) -> Fault<'_>
-    ensures { IsUnheldFault fault name.now result }
+pub fn unheld(fault: LockFault, name: &str) -> Fault<'_>
+    ensures { IsNotLocked fault name.now result }
 {
     match fault {
-        HoldFault::Unread(error) => reading(error, name),
-        HoldFault::Unheld => unmade(name),
-        HoldFault::Busy => taken(name),
+        LockFault::Unread(error) => reading(error, name),
+        LockFault::Unheld => unmade(name),
+        LockFault::Busy => taken(name),
     }
 }

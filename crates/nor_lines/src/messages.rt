@@ -1,6 +1,6 @@
 //! The faults that end a run with status 1, and their texts.
 ghost use Rattle.std.specs.Prelude.{◌≡◌, Some};
-ghost use Rattle.nor_lines.specs.Messages.{IsToldAs};
+ghost use Rattle.nor_lines.specs.Messages.{IsReportedAs};
 
 use crate::escapes::Escaped;
 use nor_layout::LayoutFault;
@@ -54,11 +54,11 @@ pub enum Fault<'a> {
 }
 
 impl Fault<'_> {
-    ghost use Rattle.nor_lines.specs.Messages.{IsOfWords};
+    ghost use Rattle.nor_lines.specs.Messages.{IsOfArguments};
 
     /// Returns the fault of arguments that could not be collected: out of memory, or not UTF-8.
     pub fn of_words(error: &io::Error) -> Fault<'static>
-        ensures { IsOfWords error.now result }
+        ensures { IsOfArguments error.now result }
     {
         match error.kind() {
             ErrorKind::OutOfMemory => Fault::Usage(UsageFault::Memory),
@@ -69,7 +69,7 @@ impl Fault<'_> {
 
 /// Returns the result of a call as a run reports it: an error of the call is a fault of the run.
 pub fn or_fault<'a, T>(outcome: Result<T, Refusal>) -> Result<T, Fault<'a>>
-    ensures { IsToldAs outcome result }
+    ensures { IsReportedAs outcome result }
 {
     match outcome {
         Ok(value) => Ok(value),

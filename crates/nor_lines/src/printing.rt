@@ -2,7 +2,7 @@
 ghost use Rattle.std.specs.Prelude.{◌≡◌, IsTrue, IsSome, IsNone, OnOk, IfSome, Err, flat_map};
 ghost use Rattle.std.specs.Io.KnownBytes.{Appends};
 ghost use Rattle.nor_probe.specs.Table.{chips};
-ghost use Rattle.nor_lines.specs.AnswerLines.{AreLines, AreRangeLines, chip_line, chip_lines, counts_line, done_lines, found_line, given_back_line, how_it_went, name_line, protected_line, protection_lines, range_line, read_lines, rehearsal_lines, restores_line, size_line, stop_line, verified_lines};
+ghost use Rattle.nor_lines.specs.AnswerLines.{AreLines, AreRangeLines, chip_line, chip_lines, counts_line, done_lines, found_line, restored_line, how_it_went, name_line, protected_line, protection_lines, range_line, read_lines, rehearsal_lines, restores_line, size_line, stop_line, verified_lines};
 ghost use Rattle.nor_lines.specs.FaultLines.{line_of};
 ghost use Rattle.nor_lines.specs.Printing.{IsAnswered, Prints};
 
@@ -151,7 +151,7 @@ fn print_rehearsal<W: Write>(output: &mut W, rehearsal: &Rehearsal) -> io::Resul
 {
     print_stop(output, rehearsal.ended)?;
     print_restores(output, rehearsal.restores)?;
-    print_given_back(output)
+    print_restored(output)
 }
 
 #[tactic(auto, unfolding(crate::specs::Lines::line))]
@@ -176,8 +176,8 @@ fn print_restores<W: Write>(output: &mut W, restores: u32) -> io::Result<()>
 }
 
 #[tactic(auto, unfolding(crate::specs::Lines::line))]
-fn print_given_back<W: Write>(output: &mut W) -> io::Result<()>
-    ensures { OnOk result (Appends (W.contents output.old) (W.contents output.new) given_back_line) }
+fn print_restored<W: Write>(output: &mut W) -> io::Result<()>
+    ensures { OnOk result (Appends (W.contents output.old) (W.contents output.new) restored_line) }
 {
     writeln!(output, "Chip as before.")
 }

@@ -95,17 +95,17 @@ module _ (old target : List ℕ) where
   pub spans_of-AreSpans : AreSpans old target (spans_of old target)
   spans_of-AreSpans =
       let spans = spans_of old target in
-      let told = tell 0 (page_count old - 0) in
+      let returned = tell 0 (page_count old - 0) in
       let all : page_count old - 0 ≡ page_count old = omega arith in
       let spanned : (k : ℕ) → DifferAt old target k → spanned_by (spans_of old target) k ≡ true =
-      λ k differ. told.complete k (omega arith) (omega (arith, differ.0)) differ in
+      λ k differ. returned.complete k (omega arith) (omega (arith, differ.0)) differ in
       record {
-        each = All-weaker (SpanFrom 0) (IsSpan old target) (λ s is. is.0) spans told.each;
+        each = All-weaker (SpanFrom 0) (IsSpan old target) (λ s is. is.0) spans returned.each;
         complete = λ k differ.
             let found = Any-from_list_any _ spans (spanned k differ) in
             let inside = and_parts _ _ found.4 in
             (found.0, found.1, found.2, found.3, (leb-true _ _ inside.0, leb-true _ _ inside.1));
-        rising = told.rising;
+        rising = returned.rising;
         others = λ k within outside. elim (cases_eq (get_or old k 0) (get_or target k 0)) [
           | inl same ↦ same
           | inr differ ↦ absurd (both_ways _ outside (spanned k (within, differ)))

@@ -9,7 +9,7 @@ use Rattle.std.proofs.lemmas.Nat.{le_or_l, le_or_r}
 use Rattle.std.proofs.lemmas.Simd.{length-chunk, get_or-chunk, length-zip2, get_or-zip2}
 use Rattle.std.specs.Bool.{MatchBool}
 use Rattle.nor_plan.specs.Bytes.{AgreeWithin, SomeDiffer}
-use Rattle.nor_plan.specs.Mask.{TellsChanges}
+use Rattle.nor_plan.specs.Mask.{ShowsDifferences}
 
 -- numbers that differ in no bit are equal
 same_from_xor : (a b : ℕ) → bit_xor a b ≡ 0 → a ≡ b
@@ -45,9 +45,9 @@ some_lane P start (x ∷ xs) front lane some =
 
 module _ (a b : List ℕ) where
   -- the XOR of two chunks of 32 bytes shows whether the bytes differ
-  pub TellsChanges-xor : (at : ℕ) → at + 32 ≤ length a → at + 32 ≤ length b
-      → TellsChanges a b at 32 (zip2 bit_xor (chunk at 32 a) (chunk at 32 b))
-  TellsChanges-xor at a_room b_room =
+  pub ShowsDifferences-xor : (at : ℕ) → at + 32 ≤ length a → at + 32 ≤ length b
+      → ShowsDifferences a b at 32 (zip2 bit_xor (chunk at 32 a) (chunk at 32 b))
+  ShowsDifferences-xor at a_room b_room =
       let xs : List ℕ = chunk at 32 a in
       let ys : List ℕ = chunk at 32 b in
       let a_long : length (chunk at 32 a) ≡ 32 = length-chunk at 32 a a_room in
@@ -68,17 +68,17 @@ module _ (a b : List ℕ) where
       }
 
   -- a vector of zeros shows the differences of no bytes
-  pub TellsChanges-zeros : (at : ℕ) → TellsChanges a b at 0 (replicate 32 0)
-  TellsChanges-zeros at = record {
+  pub ShowsDifferences-zeros : (at : ℕ) → ShowsDifferences a b at 0 (replicate 32 0)
+  ShowsDifferences-zeros at = record {
     long = length-replicate {A = ℕ} 32 0;
     none = λ zeros k low high. absurd (omega (arith, low, high));
     some = λ i lane other. absurd (other (get_or-replicate {A = ℕ} 32 i 0 0 lane));
   }
 
   -- the OR of two vectors that show the differences of adjacent parts shows those of both parts together
-  pub TellsChanges-or : {at m from n count : ℕ} {xs ys : List ℕ} → from ≡ at + m → count ≡ m + n
-      → TellsChanges a b at m xs → TellsChanges a b from n ys → TellsChanges a b at count (zip2 bit_or xs ys)
-  TellsChanges-or {at} {m} {from} {n} {count} {xs} {ys} next sum first second =
+  pub ShowsDifferences-or : {at m from n count : ℕ} {xs ys : List ℕ} → from ≡ at + m → count ≡ m + n
+      → ShowsDifferences a b at m xs → ShowsDifferences a b from n ys → ShowsDifferences a b at count (zip2 bit_or xs ys)
+  ShowsDifferences-or {at} {m} {from} {n} {count} {xs} {ys} next sum first second =
       let long = first.long in
       let same = second.long in
       let bits : (i : ℕ) → i < 32 → get_or (zip2 bit_or xs ys) i 0 ≡ bit_or (get_or xs i 0) (get_or ys i 0) =
@@ -99,17 +99,17 @@ module _ (a b : List ℕ) where
       }
 
   -- if the OR of all lanes is 0, none of the bytes differs
-  pub TellsChanges-none : (at count : ℕ) (xs : List ℕ) → TellsChanges a b at count xs → fold_l bit_or 0 xs ≡ 0
+  pub ShowsDifferences-none : (at count : ℕ) (xs : List ℕ) → ShowsDifferences a b at count xs → fold_l bit_or 0 xs ≡ 0
       → AgreeWithin a b at (at + count)
-  TellsChanges-none at count xs tells none = tells.none (λ i lane. omega (arith, none, lane_le 0 xs i))
+  ShowsDifferences-none at count xs errors none = errors.none (λ i lane. omega (arith, none, lane_le 0 xs i))
 
   -- testing the OR of all lanes shows whether some byte differs, for a vector that covers all bytes up to `end`
-  pub TellsChanges-tested : (count end : ℕ) (xs : List ℕ) → TellsChanges a b 0 count xs → end ≤ count
+  pub ShowsDifferences-tested : (count end : ℕ) (xs : List ℕ) → ShowsDifferences a b 0 count xs → end ≤ count
       → MatchBool (not (nat_eq (fold_l bit_or 0 xs) 0)) (SomeDiffer a b) (AgreeWithin a b 0 end)
-  TellsChanges-tested count end xs tells within =
+  ShowsDifferences-tested count end xs errors within =
       elim (cases_eq (fold_l bit_or 0 xs) 0) [
-        | inl nothing ↦ rw nothing (λ k low high. TellsChanges-none 0 count xs tells nothing k low (omega arith))
+        | inl nothing ↦ rw nothing (λ k low high. ShowsDifferences-none 0 count xs errors nothing k low (omega arith))
         | inr something ↦ rw (ne_eqb (fold_l bit_or 0 xs) 0 something)
             (some_lane (SomeDiffer a b) 0 xs (λ some. absurd (some (omega arith)))
-            (λ i lane other. tells.some i (omega (arith, tells.long)) other) something)
+            (λ i lane other. errors.some i (omega (arith, errors.long)) other) something)
       ]

@@ -7,13 +7,13 @@ use Rattle.std.proofs.lemmas.List.Elements.{All-map, All-weaker, filter_passes}
 use Rattle.std.proofs.lemmas.List.Folds.{list_any_at, Any-from_list_any}
 use Rattle.std.proofs.lemmas.List.FromFn.{length-range_with_len, get_or-range_with_len}
 use Rattle.nor_chip.specs.declared.config.Kinds.{Kinds}
-use Rattle.nor_driver.specs.declared.units.EraseUnit.{EraseUnit}
-use Rattle.nor_driver.specs.declared.units.EraseUnit.TheVariants.{Sector, Block32, Block64, Chip}
+use Rattle.nor_driver.specs.declared.units.EraseBlock.{EraseBlock}
+use Rattle.nor_driver.specs.declared.units.EraseBlock.TheVariants.{Sector, Block32, Block64, Chip}
 use Rattle.nor_driver.specs.Units.{sectors_in, erases_sector}
 use Rattle.nor_count.proofs.Below.{same_tests}
 use Rattle.nor_plan.specs.Erase.{is_offered, IsErase, Covers}
-use Rattle.nor_plan.specs.Planned.{holds_run, planned_unit, begins_unit, erase_at, planned_from}
-use Rattle.nor_plan.proofs.Units.{holds_run-at, first_of, first_of-once, first_of-aligned, first_of-holds, IsLargest, planned_unit-largest, planned_unit-first}
+use Rattle.nor_plan.specs.Planned.{holds_run, planned_block, begins_block, erase_at, planned_from}
+use Rattle.nor_plan.proofs.Units.{holds_run-at, first_of, first_of-once, first_of-aligned, first_of-holds, IsLargest, planned_block-largest, planned_block-first}
 
 -- The premises of a plan: `whole` is set if and only if all `total` sectors are in the set, and the set lies below
 -- `total` and below 4,096.
@@ -23,7 +23,7 @@ pub record IsPlannable (whole : Bool) (total : ℕ) (set : ℕ → Bool) : Type 
   pub small : (s : ℕ) → set s ≡ true → s < 4096
 
 -- a sector at which its erase block begins is in the set
-pub begins_in : (whole : Bool) (kinds : Kinds) (set : ℕ → Bool) (q : ℕ) → begins_unit whole kinds set q ≡ true
+pub begins_in : (whole : Bool) (kinds : Kinds) (set : ℕ → Bool) (q : ℕ) → begins_block whole kinds set q ≡ true
     → set q ≡ true
 begins_in whole kinds set q begins = (and_parts _ _ begins).0
 
@@ -38,13 +38,13 @@ list_any-kept p f test (k ∷ ks) = elim (cases_Bool (test k)) [
 
 module _ (whole : Bool) (kinds : Kinds) (total : ℕ) (set : ℕ → Bool) (can : IsPlannable whole total set) where
   -- the chip has the largest fit erase block of a sector
-  largest_offered : (q : ℕ) (unit : EraseUnit) → IsLargest whole kinds set q unit → is_offered kinds unit ≡ true
+  largest_offered : (q : ℕ) (unit : EraseBlock) → IsLargest whole kinds set q unit → is_offered kinds unit ≡ true
   largest_offered q Sector largest = refl
   largest_offered q Block32 largest = (and_parts _ _ largest.2).0
   largest_offered q Block64 largest = (and_parts _ _ largest.1).0
   largest_offered q Chip largest = refl
 
-  largest_within : (q : ℕ) → set q ≡ true → (unit : EraseUnit) → IsLargest whole kinds set q unit
+  largest_within : (q : ℕ) → set q ≡ true → (unit : EraseBlock) → IsLargest whole kinds set q unit
       → (s : ℕ) → first_of unit q ≤ s → s < first_of unit q + sectors_in total unit → set s ≡ true
   largest_within q member Sector largest s = λ low high. let same : s ≡ q = omega arith in rw same member
   largest_within q member Block32 largest s = holds_run-at set (q - q % 8) 8 (and_parts _ _ largest.2).1 s
@@ -52,23 +52,23 @@ module _ (whole : Bool) (kinds : Kinds) (total : ℕ) (set : ℕ → Bool) (can 
   largest_within q member Chip largest s = holds_run-at set 0 total (sym can.whole_is ∙ largest) s
 
   -- each sector of a planned erase is in the set
-  unit_within : (q : ℕ) → begins_unit whole kinds set q ≡ true
-      → (s : ℕ) → q ≤ s → s < q + sectors_in total (planned_unit whole kinds set q) → set s ≡ true
+  unit_within : (q : ℕ) → begins_block whole kinds set q ≡ true
+      → (s : ℕ) → q ≤ s → s < q + sectors_in total (planned_block whole kinds set q) → set s ≡ true
   unit_within q begins s low high =
-      let unit = planned_unit whole kinds set q in
-      let first : first_of (planned_unit whole kinds set q) q ≡ q =
+      let unit = planned_block whole kinds set q in
+      let first : first_of (planned_block whole kinds set q) q ≡ q =
       first_of-once total unit q q (and_parts _ _ begins).1 (omega arith) (omega arith) in
-      largest_within q (begins_in whole kinds set q begins) unit (planned_unit-largest whole kinds set q) s
+      largest_within q (begins_in whole kinds set q begins) unit (planned_block-largest whole kinds set q) s
       (omega arith) (omega arith)
 
   -- each planned erase is one that the chip has
-  planned_IsErase : (q : ℕ) → begins_unit whole kinds set q ≡ true → IsErase kinds total (erase_at whole kinds set q)
+  planned_IsErase : (q : ℕ) → begins_block whole kinds set q ≡ true → IsErase kinds total (erase_at whole kinds set q)
   planned_IsErase q begins = record {
-    offered = largest_offered q _ (planned_unit-largest whole kinds set q);
+    offered = largest_offered q _ (planned_block-largest whole kinds set q);
     aligned = (and_parts _ _ begins).1;
     within =
         let here : q < total = can.below q (begins_in whole kinds set q begins) in
-        let count = sectors_in total (planned_unit whole kinds set q) in
+        let count = sectors_in total (planned_block whole kinds set q) in
         let last = q + (count - 1) in
         let inside : 0 < count → q + (count - 1) < total =
         λ some. can.below last (unit_within q begins last (omega arith) (omega arith)) in
@@ -77,12 +77,12 @@ module _ (whole : Bool) (kinds : Kinds) (total : ℕ) (set : ℕ → Bool) (can 
 
   -- each sector of the set lies in an erase block that begins at some sector
   unit_begins : (s : ℕ) → set s ≡ true
-      → (q : ℕ) × (begins_unit whole kinds set q ≡ true)
-      × (q ≤ s) × (s < q + sectors_in total (planned_unit whole kinds set q))
+      → (q : ℕ) × (begins_block whole kinds set q ≡ true)
+      × (q ≤ s) × (s < q + sectors_in total (planned_block whole kinds set q))
   unit_begins s member =
-      let unit = planned_unit whole kinds set s in
-      let largest = planned_unit-largest whole kinds set s in
-      let same = planned_unit-first whole kinds set s unit largest in
+      let unit = planned_block whole kinds set s in
+      let largest = planned_block-largest whole kinds set s in
+      let same = planned_block-first whole kinds set s unit largest in
       let holds = first_of-holds total unit s (can.below s member) in
       let here : set (first_of unit s) ≡ true =
       largest_within s member unit largest (first_of unit s) (omega arith) (omega arith) in
@@ -94,7 +94,7 @@ module _ (whole : Bool) (kinds : Kinds) (total : ℕ) (set : ℕ → Bool) (can 
   unfolding planned_from
   planned_union from start s =
       let sectors : List ℕ = range_with_len from (4096 - from) in
-      list_any-kept (erases_sector total s) (erase_at whole kinds set) (begins_unit whole kinds set) sectors
+      list_any-kept (erases_sector total s) (erase_at whole kinds set) (begins_block whole kinds set) sectors
       ∙ same_tests _ _
       (λ some.
       let found = Any-from_list_any _ sectors some in
@@ -113,7 +113,7 @@ module _ (whole : Bool) (kinds : Kinds) (total : ℕ) (set : ℕ → Bool) (can 
   unfolding planned_from
   planned_Covers from start = record {
     units = All-map (IsErase kinds total) (erase_at whole kinds set) _
-        (All-weaker (λ q. begins_unit whole kinds set q ≡ true) (λ q. IsErase kinds total (erase_at whole kinds set q))
-        planned_IsErase _ (filter_passes (begins_unit whole kinds set) (range_with_len from (4096 - from))));
+        (All-weaker (λ q. begins_block whole kinds set q ≡ true) (λ q. IsErase kinds total (erase_at whole kinds set q))
+        planned_IsErase _ (filter_passes (begins_block whole kinds set) (range_with_len from (4096 - from))));
     union = planned_union from start;
   }

@@ -15,12 +15,12 @@ use Rattle.nor_chip.specs.declared.config.Kinds.{Kinds}
 use Rattle.nor_driver.specs.declared.units.Erase.{Erase}
 use Rattle.nor_plan.specs.declared.set.SectorSet.{SectorSet}
 use Rattle.nor_plan.specs.SectorSet.{has, members_from}
-use Rattle.nor_driver.specs.declared.units.EraseUnit.{EraseUnit}
-use Rattle.nor_driver.specs.declared.units.EraseUnit.TheVariants.{Sector, Block32, Block64, Chip}
+use Rattle.nor_driver.specs.declared.units.EraseBlock.{EraseBlock}
+use Rattle.nor_driver.specs.declared.units.EraseBlock.TheVariants.{Sector, Block32, Block64, Chip}
 use Rattle.nor_driver.specs.Units.{sectors_in, is_aligned, erases_sector}
 use Rattle.nor_plan.specs.Erase.{is_offered, Covers}
-use Rattle.nor_plan.specs.Planned.{holds_run, planned_unit, begins_unit, erase_at, planned_from, planned, fewest_erases, IsLeastLength}
-use Rattle.nor_plan.proofs.Units.{holds_run-from, first_of, first_of-once, is_fit, larger_begins, planned_unit-largest}
+use Rattle.nor_plan.specs.Planned.{holds_run, planned_block, begins_block, erase_at, planned_from, planned, fewest_erases, IsLeastLength}
+use Rattle.nor_plan.proofs.Units.{holds_run-from, first_of, first_of-once, is_fit, larger_begins, planned_block-largest}
 use Rattle.nor_plan.proofs.Coverage.{IsPlannable, planned_Covers, begins_in}
 
 -- the positions of a range that pass a test are distinct
@@ -39,7 +39,7 @@ sector erase = erase.sector
 
 module _ (whole : Bool) (kinds : Kinds) (total : ℕ) (set : ℕ → Bool) (can : IsPlannable whole total set) where
   -- an erase block that the chip has and that lies in the set is fit
-  within_fit : (unit : EraseUnit) (q : ℕ) → is_offered kinds unit ≡ true
+  within_fit : (unit : EraseBlock) (q : ℕ) → is_offered kinds unit ≡ true
       → ((s : ℕ) → first_of unit q ≤ s → s < first_of unit q + sectors_in total unit → set s ≡ true)
       → is_fit whole kinds set q unit ≡ true
   within_fit Sector q offered inside = refl
@@ -48,18 +48,18 @@ module _ (whole : Bool) (kinds : Kinds) (total : ℕ) (set : ℕ → Bool) (can 
   within_fit Chip q offered inside = can.whole_is ∙ holds_run-from set 0 total inside
 
   -- an erase block within the set begins at a sector if it holds that sector and a planned erase begins there
-  begins_alike : (q : ℕ) → begins_unit whole kinds set q ≡ true → (unit : EraseUnit) (first : ℕ)
+  begins_alike : (q : ℕ) → begins_block whole kinds set q ≡ true → (unit : EraseBlock) (first : ℕ)
       → is_offered kinds unit ≡ true → is_aligned unit first ≡ true
       → ((s : ℕ) → first ≤ s → s < first + sectors_in total unit → set s ≡ true)
       → first ≤ q → q < first + sectors_in total unit → q ≡ first
   begins_alike q begins unit first offered aligned inside low high =
       let start = first_of-once total unit first q aligned low high in
       let fit = within_fit unit q offered (λ s from to. inside s (omega arith) (omega arith)) in
-      sym (larger_begins whole kinds set q unit _ fit (planned_unit-largest whole kinds set q) (and_parts _ _ begins).1)
+      sym (larger_begins whole kinds set q unit _ fit (planned_block-largest whole kinds set q) (and_parts _ _ begins).1)
       ∙ start
 
   -- if a planned erase begins at a sector, each list that covers the set has an erase that begins there
-  some_begins : (others : List Erase) → Covers kinds total others set → (q : ℕ) → begins_unit whole kinds set q ≡ true
+  some_begins : (others : List Erase) → Covers kinds total others set → (q : ℕ) → begins_block whole kinds set q ≡ true
       → list_any (nat_eq q) (map sector others) ≡ true
   some_begins others covers q begins =
       let erased = covers.union q ∙ begins_in whole kinds set q begins in
@@ -80,7 +80,7 @@ module _ (whole : Bool) (kinds : Kinds) (total : ℕ) (set : ℕ → Bool) (can 
   unfolding planned_from
   planned_fewest from others covers =
       let sectors : List ℕ = range_with_len from (4096 - from) in
-      let begins : ℕ → Bool = begins_unit whole kinds set in
+      let begins : ℕ → Bool = begins_block whole kinds set in
       let few : length (filter begins sectors) ≤ length (map sector others) =
       length-le_from_is_member nat_eq_equiv (filter begins sectors) (map sector others)
       (IsDistinct-places begins from (4096 - from)) (λ q member.
@@ -94,9 +94,9 @@ pub planned_few : (whole : Bool) (kinds : Kinds) (set : SectorSet) (from : ℕ)
 unfolding planned_from members_from
 planned_few whole kinds set from =
     let sectors : List ℕ = range_with_len from (4096 - from) in
-    let begins : ℕ → Bool = begins_unit whole kinds (has set) in
+    let begins : ℕ → Bool = begins_block whole kinds (has set) in
     let fewer = sum_by-le-sum_by (λ s. cond (begins s) 1 0) (λ s. cond (has set s) 1 0) sectors
-    (λ s. both_le (has set s) (is_aligned (planned_unit whole kinds (has set) s) s)) in
+    (λ s. both_le (has set s) (is_aligned (planned_block whole kinds (has set) s) s)) in
     let listed = length-map (filter begins sectors) (erase_at whole kinds (has set)) in
     omega (arith, listed, length-filter begins sectors, length-filter (has set) sectors, fewer)
   where

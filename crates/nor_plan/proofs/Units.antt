@@ -5,10 +5,10 @@ use Rattle.std.proofs.lemmas.Bool.{cases_Bool, both_ways, eq-eqb, eqb-true}
 use Rattle.std.proofs.lemmas.List.FromFn.{length-range_with_len, get_or-range_with_len}
 use Rattle.std.proofs.lemmas.List.Sums.{AllPass-from_list_all, list_all-from_AllPass}
 use Rattle.nor_chip.specs.declared.config.Kinds.{Kinds}
-use Rattle.nor_driver.specs.declared.units.EraseUnit.{EraseUnit}
-use Rattle.nor_driver.specs.declared.units.EraseUnit.TheVariants.{Sector, Block32, Block64, Chip}
+use Rattle.nor_driver.specs.declared.units.EraseBlock.{EraseBlock}
+use Rattle.nor_driver.specs.declared.units.EraseBlock.TheVariants.{Sector, Block32, Block64, Chip}
 use Rattle.nor_driver.specs.Units.{sectors_in, is_aligned}
-use Rattle.nor_plan.specs.Planned.{holds_run, holds_block, planned_unit}
+use Rattle.nor_plan.specs.Planned.{holds_run, holds_block, planned_block}
 
 -- a run of sectors is in the set if and only if each of its sectors is
 pub holds_run-at : (set : ℕ → Bool) (from count : ℕ) → holds_run set from count ≡ true → (s : ℕ) → from ≤ s
@@ -29,26 +29,26 @@ holds_run-from set from count all = list_all-from_AllPass set (range_with_len fr
     ap set (get_or-range_with_len from count k d there) ∙ all (from + k) (omega arith) (omega arith))
 
 -- the first sector of the erase block that holds a sector
-abbrev pub first_of : EraseUnit → ℕ → ℕ
+abbrev pub first_of : EraseBlock → ℕ → ℕ
 first_of Sector s = s
 first_of Block32 s = s - s % 8
 first_of Block64 s = s - s % 16
 first_of Chip s = 0
 
-pub first_of-once : (total : ℕ) (unit : EraseUnit) (first s : ℕ) → is_aligned unit first ≡ true → first ≤ s
+pub first_of-once : (total : ℕ) (unit : EraseBlock) (first s : ℕ) → is_aligned unit first ≡ true → first ≤ s
     → s < first + sectors_in total unit → first_of unit s ≡ first
 first_of-once total Sector first s aligned low high = omega arith
 first_of-once total Block32 first s aligned low high = omega (arith, eqb-true)
 first_of-once total Block64 first s aligned low high = omega (arith, eqb-true)
 first_of-once total Chip first s aligned low high = omega (arith, eqb-true)
 
-pub first_of-aligned : (unit : EraseUnit) (s : ℕ) → is_aligned unit (first_of unit s) ≡ true
+pub first_of-aligned : (unit : EraseBlock) (s : ℕ) → is_aligned unit (first_of unit s) ≡ true
 first_of-aligned Sector s = refl
 first_of-aligned Block32 s = eq-eqb _ _ (omega arith)
 first_of-aligned Block64 s = eq-eqb _ _ (omega arith)
 first_of-aligned Chip s = refl
 
-pub first_of-holds : (total : ℕ) (unit : EraseUnit) (s : ℕ) → s < total
+pub first_of-holds : (total : ℕ) (unit : EraseBlock) (s : ℕ) → s < total
     → (first_of unit s ≤ s) × (s < first_of unit s + sectors_in total unit)
 first_of-holds total Sector s below = (omega arith, omega arith)
 first_of-holds total Block32 s below = (omega arith, omega arith)
@@ -57,22 +57,22 @@ first_of-holds total Chip s below = (omega arith, omega arith)
 
 module _ (whole : Bool) (kinds : Kinds) (set : ℕ → Bool) where
   -- the erase block that holds the sector is fit: the chip has it, and it lies in the set
-  abbrev pub is_fit : ℕ → EraseUnit → Bool
+  abbrev pub is_fit : ℕ → EraseBlock → Bool
   is_fit s Sector = true
   is_fit s Block32 = kinds.k32 && holds_block set 8 s
   is_fit s Block64 = kinds.k64 && holds_block set 16 s
   is_fit s Chip = whole
 
   -- the erase block is fit, and no larger one is; the chip is the largest if `whole` is set
-  abbrev pub IsLargest : ℕ → EraseUnit → Type 0
+  abbrev pub IsLargest : ℕ → EraseBlock → Type 0
   IsLargest s Chip = whole ≡ true
   IsLargest s Block64 = (whole ≡ false) × (is_fit s Block64 ≡ true)
   IsLargest s Block32 = (whole ≡ false) × (is_fit s Block64 ≡ false) × (is_fit s Block32 ≡ true)
   IsLargest s Sector = (whole ≡ false) × (is_fit s Block64 ≡ false) × (is_fit s Block32 ≡ false)
 
-  pub planned_unit-largest : (s : ℕ) → IsLargest s (planned_unit whole kinds set s)
-  unfolding planned_unit
-  planned_unit-largest s = elim (cases_Bool whole) [
+  pub planned_block-largest : (s : ℕ) → IsLargest s (planned_block whole kinds set s)
+  unfolding planned_block
+  planned_block-largest s = elim (cases_Bool whole) [
     | inl w ↦ rw w
     | inr w ↦ elim (cases_Bool (is_fit s Block64)) [
       | inl wide ↦ rw (w, wide) (refl, wide)
@@ -84,21 +84,21 @@ module _ (whole : Bool) (kinds : Kinds) (set : ℕ → Bool) where
   ]
 
   -- the planned block of a sector is also the planned block of the sector at which it begins
-  pub planned_unit-first : (s : ℕ) (unit : EraseUnit) → IsLargest s unit
-      → planned_unit whole kinds set (first_of unit s) ≡ unit
-  unfolding planned_unit
-  planned_unit-first s Chip largest = rw largest
-  planned_unit-first s Block64 largest =
+  pub planned_block-first : (s : ℕ) (unit : EraseBlock) → IsLargest s unit
+      → planned_block whole kinds set (first_of unit s) ≡ unit
+  unfolding planned_block
+  planned_block-first s Chip largest = rw largest
+  planned_block-first s Block64 largest =
       let same : (s - s % 16) - (s - s % 16) % 16 ≡ s - s % 16 = omega arith in
       rw (largest.0, same, largest.1)
-  planned_unit-first s Block32 largest =
+  planned_block-first s Block32 largest =
       let wide : (s - s % 8) - (s - s % 8) % 16 ≡ s - s % 16 = omega arith in
       let same : (s - s % 8) - (s - s % 8) % 8 ≡ s - s % 8 = omega arith in
       rw (largest.0, wide, largest.1, same, largest.2)
-  planned_unit-first s Sector largest = rw (largest.0, largest.1, largest.2)
+  planned_block-first s Sector largest = rw (largest.0, largest.1, largest.2)
 
   -- a fit block begins at the sector, if the largest fit one may begin there
-  pub larger_begins : (s : ℕ) (unit largest : EraseUnit) → is_fit s unit ≡ true → IsLargest s largest
+  pub larger_begins : (s : ℕ) (unit largest : EraseBlock) → is_fit s unit ≡ true → IsLargest s largest
       → is_aligned largest s ≡ true → first_of unit s ≡ s
   larger_begins s Sector _ fit is aligned = refl
   larger_begins s Block32 Sector fit is aligned = absurd (both_ways _ is.2 fit)

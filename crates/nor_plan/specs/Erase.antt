@@ -4,12 +4,12 @@ use Rattle.std.specs.List.{list_any}
 use Rattle.nor_chip.specs.declared.config.Kinds.{Kinds}
 use Rattle.nor_driver.specs.Units.{sectors_in, is_aligned, erases_sector}
 use Rattle.nor_driver.specs.declared.units.Erase.{Erase}
-use Rattle.nor_driver.specs.declared.units.EraseUnit.{EraseUnit}
-use Rattle.nor_driver.specs.declared.units.EraseUnit.TheVariants.{Sector, Block32, Block64, Chip}
+use Rattle.nor_driver.specs.declared.units.EraseBlock.{EraseBlock}
+use Rattle.nor_driver.specs.declared.units.EraseBlock.TheVariants.{Sector, Block32, Block64, Chip}
 
--- A chip with these erase types has this erase block. (`has_unit` tests a configuration. Only the erase types of a chip
+-- A chip with these erase types has this erase block. (`has_block` tests a configuration. Only the erase types of a chip
 -- that was found are known.)
-abbrev pub is_offered : Kinds → EraseUnit → Bool
+abbrev pub is_offered : Kinds → EraseBlock → Bool
 is_offered kinds Sector = true
 is_offered kinds Block32 = kinds.k32
 is_offered kinds Block64 = kinds.k64

@@ -10,7 +10,7 @@ pub record IsMask (mask : ℕ) (test : ℕ → Bool) : Type 0 where
 
 -- A vector of 32 lanes that shows differences. If all lanes are 0, none of the `count` bytes from position `at` on
 -- differs. If some lane isn't 0, some byte of the slices differs, not necessarily one of these.
-pub record TellsChanges (a b : List ℕ) (at count : ℕ) (lanes : List ℕ) : Type 0 where
+pub record ShowsDifferences (a b : List ℕ) (at count : ℕ) (lanes : List ℕ) : Type 0 where
   pub long : length lanes ≡ 32
   pub none : ((i : ℕ) → i < 32 → slice_index lanes i ≡ 0) → AgreeWithin a b at (at + count)
   pub some : (i : ℕ) → i < 32 → slice_index lanes i ≢ 0 → SomeDiffer a b

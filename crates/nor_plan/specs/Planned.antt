@@ -3,8 +3,8 @@ use Rattle.std.specs.Prelude.{ℕ, ◌≡◌, ◌≤◌, ◌-◌, ◌%◌, Bool,
 use Rattle.std.specs.List.{list_all, range_with_len}
 use Rattle.nor_chip.specs.declared.config.Kinds.{Kinds}
 use Rattle.nor_driver.specs.declared.units.Erase.{Erase}
-use Rattle.nor_driver.specs.declared.units.EraseUnit.{EraseUnit}
-use Rattle.nor_driver.specs.declared.units.EraseUnit.TheVariants.{Sector, Block32, Block64, Chip}
+use Rattle.nor_driver.specs.declared.units.EraseBlock.{EraseBlock}
+use Rattle.nor_driver.specs.declared.units.EraseBlock.TheVariants.{Sector, Block32, Block64, Chip}
 use Rattle.nor_driver.specs.Units.{is_aligned}
 use Rattle.nor_plan.specs.Erase.{Covers}
 
@@ -18,25 +18,25 @@ holds_block set count sector = holds_run set (sector - sector % count) count
 
 -- the erase block with which a sector of the set is erased: the chip if `whole` is set; else the largest of the chip's
 -- erase blocks that holds the sector and lies in the set
-unfoldable pub planned_unit : Bool → Kinds → (ℕ → Bool) → ℕ → EraseUnit
-planned_unit whole kinds set sector =
+unfoldable pub planned_block : Bool → Kinds → (ℕ → Bool) → ℕ → EraseBlock
+planned_block whole kinds set sector =
     if whole then Chip
     else if kinds.k64 && holds_block set 16 sector then Block64
     else if kinds.k32 && holds_block set 8 sector then Block32
     else Sector
 
 -- the sector is in the set, and its erase block begins at it
-abbrev pub begins_unit : Bool → Kinds → (ℕ → Bool) → ℕ → Bool
-begins_unit whole kinds set sector = set sector && is_aligned (planned_unit whole kinds set sector) sector
+abbrev pub begins_block : Bool → Kinds → (ℕ → Bool) → ℕ → Bool
+begins_block whole kinds set sector = set sector && is_aligned (planned_block whole kinds set sector) sector
 
 -- the erase of the block that begins at this sector
 abbrev pub erase_at : Bool → Kinds → (ℕ → Bool) → ℕ → Erase
-erase_at whole kinds set sector = record { unit = planned_unit whole kinds set sector; sector = sector }
+erase_at whole kinds set sector = record { unit = planned_block whole kinds set sector; sector = sector }
 
 -- the erases of the blocks that begin at sector `from` or above, in ascending order
 unfoldable pub planned_from : Bool → Kinds → (ℕ → Bool) → ℕ → List Erase
 planned_from whole kinds set from =
-    map (erase_at whole kinds set) (filter (begins_unit whole kinds set) (range_with_len from (4096 - from)))
+    map (erase_at whole kinds set) (filter (begins_block whole kinds set) (range_with_len from (4096 - from)))
 
 -- `head` is the first planned erase at or after sector `from`, and the sector at or after which the others begin;
 -- `None` if there are none

@@ -5,14 +5,14 @@ ghost use Rattle.std.specs.Prelude.{true, List, length};
 ghost use Rattle.nor_chip.specs.declared.config.Kinds.{Kinds};
 ghost use Rattle.nor_count.specs.Counts.{IsCount};
 ghost use Rattle.nor_plan.specs.Erase.{Covers};
-ghost use Rattle.nor_plan.specs.Planned.{holds_block, holds_run, planned_unit, planned, fewest_erases};
+ghost use Rattle.nor_plan.specs.Planned.{holds_block, holds_run, planned_block, planned, fewest_erases};
 ghost use Rattle.nor_plan.specs.Planned.{HeadsPlanned, IsLeastLength};
 ghost use Rattle.nor_plan.specs.Erases.{erases_left};
 ghost use Rattle.nor_plan.specs.SectorSet.{has, LiesBelow, member_count};
 
 use crate::set::SectorSet;
 use nor_chip::{MOST_SECTORS, SECTOR_LEN};
-use nor_driver::{Erase, EraseUnit};
+use nor_driver::{Erase, EraseBlock};
 use nor_probe::Kinds;
 
 mod iter;
@@ -57,7 +57,7 @@ fn next_erase(set: &SectorSet, kinds: Kinds, whole: bool, from: u32) -> Option<(
 {
     for sector in from..MOST_SECTORS {
         if set.contains(sector) {
-            let unit = unit_of(set, kinds, whole, sector);
+            let unit = block_of(set, kinds, whole, sector);
             let erase = Erase {
                 unit,
                 sector: sector as u16,
@@ -72,19 +72,19 @@ fn next_erase(set: &SectorSet, kinds: Kinds, whole: bool, from: u32) -> Option<(
 
 /// Returns the erase block with which `sector`, a sector of the set, is erased. This is the chip if `whole` is set,
 /// else the largest block of the chip that holds the sector and lies in the set.
-#[tactic(auto, unfolding(crate::specs::Planned::planned_unit))]
-fn unit_of(set: &SectorSet, kinds: Kinds, whole: bool, sector: u32) -> EraseUnit
+#[tactic(auto, unfolding(crate::specs::Planned::planned_block))]
+fn block_of(set: &SectorSet, kinds: Kinds, whole: bool, sector: u32) -> EraseBlock
     requires { sector < 4096 }
-    ensures { result ≡ planned_unit whole kinds (has set.now) sector }
+    ensures { result ≡ planned_block whole kinds (has set.now) sector }
 {
     if whole {
-        EraseUnit::Chip
+        EraseBlock::Chip
     } else if kinds.k64 && is_block(set, 16, sector) {
-        EraseUnit::Block64
+        EraseBlock::Block64
     } else if kinds.k32 && is_block(set, 8, sector) {
-        EraseUnit::Block32
+        EraseBlock::Block32
     } else {
-        EraseUnit::Sector
+        EraseBlock::Sector
     }
 }
 

@@ -2,7 +2,7 @@
 
 ghost use Rattle.std.specs.Prelude.{◌≡◌, ◌==◌, ◌+◌, ◌*◌, ◌/◌, ◌≤◌, not, bit_and, length, slice_index};
 ghost use Rattle.std.specs.Prelude.{MatchBool, MatchOption, IfNone, IfSome};
-ghost use Rattle.nor_plan.specs.Mask.{IsMask, TellsChanges};
+ghost use Rattle.nor_plan.specs.Mask.{IsMask, ShowsDifferences};
 ghost use Rattle.nor_plan.specs.Bytes.{AllAgree, AgreeWithin, SomeDiffer, NoneRises, SomeRise, IsFirstDifference, IsLastDifference};
 
 use std::simd::prelude::*;
@@ -138,7 +138,7 @@ pub fn raises(old: &[u8], target: &[u8]) -> bool
 fn changes_256(a: &[u8], b: &[u8], at: usize) -> u8x32
     requires a_within { at + 256 ≤ length a.now }
     requires b_within { at + 256 ≤ length b.now }
-    ensures { TellsChanges a.now b.now at 256 result }
+    ensures { ShowsDifferences a.now b.now at 256 result }
 {
     let mut changes = u8x32::splat(0);
     for part in 0..BLOCK / LANES {
@@ -152,7 +152,7 @@ fn changes_256(a: &[u8], b: &[u8], at: usize) -> u8x32
 fn changes_32(a: &[u8], b: &[u8], at: usize) -> u8x32
     requires a_within { at + 32 ≤ length a.now }
     requires b_within { at + 32 ≤ length b.now }
-    ensures { TellsChanges a.now b.now at 32 result }
+    ensures { ShowsDifferences a.now b.now at 32 result }
 {
     u8x32::from_slice(&a[at..]) ^ u8x32::from_slice(&b[at..])
 }

@@ -39,19 +39,19 @@ record IsPartOf (config : Config) (part : Part) : Type 0 where
 shown_part : (config : Config) (none : Bool) (row : Option Part) (says : Result Geometry SfdpFault) (part : Part)
     → IsGenuine config → part_with_id (id_of config) ≡ row → chip_says config ≡ says
     → (if none then Err NoChip else listed_or (part_by_sfdp (id_of config) says) row) ≡ Ok part → IsPartOf config part
-shown_part config true row says part genuine listed tells is = absurd (cc)
-shown_part config false (Some row) says part genuine listed tells is =
+shown_part config true row says part genuine listed errors is = absurd (cc)
+shown_part config false (Some row) says part genuine listed errors is =
     let has = genuine.listed row listed in
     let found = found_has (λ p. bytes_eq p.id (id_of config)) (λ p. true) chips row refl listed in
     let same : row ≡ part = cc in
     let id = (bytes_eq-Decides row.id (id_of config)).0 found.0 in
     grind arith
-shown_part config false None (Ok geometry) part genuine listed tells is =
-    let has = genuine.described listed geometry tells in
+shown_part config false None (Ok geometry) part genuine listed errors is =
+    let has = genuine.described listed geometry errors in
     let same : sfdp_part (id_of config) geometry ≡ part = cc in
     let scheme = genuine.unlisted listed in
     grind arith
-shown_part config false None (Err fault) part genuine listed tells is = absurd (cc)
+shown_part config false None (Err fault) part genuine listed errors is = absurd (cc)
 
 -- A chip found has the configuration of a genuine chip, if it is what that chip shows itself as.
 pub shown_config : (config : Config) (found : Found) → IsGenuine config → shown_as config ≡ Ok (part_in found)

@@ -13,7 +13,7 @@ use Rattle.nor_probe.specs.declared.probes.Probed.{Probed}
 use Rattle.nor_probe.specs.declared.probes.ProbeFault.{ProbeFault}
 use Rattle.nor_probe.specs.declared.probes.ProbeFault.TheVariants.{NoChip, UnknownChip, OtherName, Stopped, Timeout}
 use Rattle.nor_probe.specs.Table.{part_with_id}
-use Rattle.nor_driver.specs.Looks.{Looks, Rested, RanOut}
+use Rattle.nor_driver.specs.OnlyReads.{OnlyReads, Rested, RanOut}
 use Rattle.nor_driver.specs.Waits.{latch_when_idle}
 use Rattle.nor_probe.specs.Known.{id_of, is_no_chip, shown_as, IsKnown}
 
@@ -108,19 +108,19 @@ pub record HasProbed (old new : BusState) : Type 0 where
 
 -- The meaning of a fault on a well-behaved bus. A stop is possible only with fewer than 65,540 transactions left, and a
 -- timeout doesn't occur.
-abbrev pub Tells : Option ChipName → (old new : BusState) → ProbeFault → Type 0
-Tells named old new NoChip = (shown_as old.chip.config ≡ Err NoChip) × HasProbed old new
-Tells named old new (UnknownChip fault) = (shown_as old.chip.config ≡ Err (UnknownChip fault)) × HasProbed old new
-Tells named old new OtherName = HasOtherName named old.chip.config × HasProbed old new
-Tells named old new Stopped = RanOut (needed old.chip) old new × (old.left < most_probe)
-Tells named old new Timeout = ⊥
+abbrev pub ProbeErrors : Option ChipName → (old new : BusState) → ProbeFault → Type 0
+ProbeErrors named old new NoChip = (shown_as old.chip.config ≡ Err NoChip) × HasProbed old new
+ProbeErrors named old new (UnknownChip fault) = (shown_as old.chip.config ≡ Err (UnknownChip fault)) × HasProbed old new
+ProbeErrors named old new OtherName = HasOtherName named old.chip.config × HasProbed old new
+ProbeErrors named old new Stopped = RanOut (needed old.chip) old new × (old.left < most_probe)
+ProbeErrors named old new Timeout = ⊥
 
 -- ---- the promises of a probe
 
 -- The promises of a probe on every bus.
 pub record ProbeAlways (named : Option ChipName) (old new : BusState) (result : Result Found ProbeFault) : Type 0 where
   -- no modifying command was sent; on a well-behaved bus at most 65,540 transactions were
-  pub looks : Looks most_probe old new
+  pub only_reads : OnlyReads most_probe old new
   -- a chip found is a row of the table, or was identified by SFDP, and has a size that a chip may have
   pub part : IfOk result IsPart
   -- a chip found has the requested name, or no name is requested
@@ -128,7 +128,7 @@ pub record ProbeAlways (named : Option ChipName) (old new : BusState) (result : 
   -- `OtherName` is possible only if a name is requested
   pub blames : IfErr result (BlamesName named)
   -- a chip is found only if the last poll showed that it is ready
-  pub heard : OnOk result (new.heard ≡ true)
+  pub polled_ready : OnOk result (new.polled_ready ≡ true)
 
 -- The promises of a probe on a well-behaved bus.
 pub record ProbeHonest (named : Option ChipName) (old new : BusState) (result : Result Found ProbeFault) : Type 0 where
@@ -137,7 +137,7 @@ pub record ProbeHonest (named : Option ChipName) (old new : BusState) (result : 
   pub finds : IfOk result (Finds old new)
   -- a fault says why no chip with the requested name was found, or that too few transactions were left; a timeout
   -- doesn't occur
-  pub tells : IfErr result (Tells named old new)
+  pub errors : IfErr result (ProbeErrors named old new)
 
 -- the result of a probe without the number of transactions
 abbrev pub found_in : Result Probed ProbeFault → Result Found ProbeFault

@@ -84,12 +84,12 @@ abbrev pub sfdp_says : (header first table : List ℕ) → Result Geometry SfdpF
 sfdp_says header first table = first_fault_or (geometry_of table) (header_faults header first ++ table_faults table)
 
 -- the number that messages show for a fault
-abbrev pub number_of_sfdp_fault : SfdpFault → ℕ
-number_of_sfdp_fault Signature = 1
-number_of_sfdp_fault Major = 2
-number_of_sfdp_fault FirstHeader = 3
-number_of_sfdp_fault Length = 4
-number_of_sfdp_fault Address = 5
-number_of_sfdp_fault Granularity = 6
-number_of_sfdp_fault Size = 7
-number_of_sfdp_fault NoSector = 8
+abbrev pub sfdp_fault_number : SfdpFault → ℕ
+sfdp_fault_number Signature = 1
+sfdp_fault_number Major = 2
+sfdp_fault_number FirstHeader = 3
+sfdp_fault_number Length = 4
+sfdp_fault_number Address = 5
+sfdp_fault_number Granularity = 6
+sfdp_fault_number Size = 7
+sfdp_fault_number NoSector = 8

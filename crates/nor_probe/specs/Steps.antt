@@ -10,17 +10,17 @@ use Rattle.nor_probe.specs.declared.table.Part.{Part}
 use Rattle.nor_probe.specs.declared.probes.Parameters.{Parameters}
 use Rattle.nor_probe.specs.declared.probes.ProbeFault.{ProbeFault}
 use Rattle.nor_probe.specs.declared.probes.ProbeFault.TheVariants.{NoChip, UnknownChip, OtherName, Stopped, Timeout}
-use Rattle.nor_driver.specs.declared.waits.Halt.{Halt}
-use Rattle.nor_driver.specs.declared.waits.Halt.TheVariants as Halts
+use Rattle.nor_driver.specs.declared.waits.OperationError.{OperationError}
+use Rattle.nor_driver.specs.declared.waits.OperationError.TheVariants as OperationFails
 use Rattle.nor_probe.specs.Table.{part_with_id}
-use Rattle.nor_driver.specs.Looks.{Rested, RanOut}
+use Rattle.nor_driver.specs.OnlyReads.{Rested, RanOut}
 use Rattle.nor_probe.specs.Known.{id_of, is_no_chip, shown, pointer_in, chip_says, shown_as}
 use Rattle.nor_probe.specs.Found.{reads_of}
 
 -- the probe's fault for a wait that failed
-abbrev pub fault_of : Halt → ProbeFault
-fault_of Halts.Stopped = Stopped
-fault_of (Halts.Timeout address) = Timeout
+abbrev pub fault_of : OperationError → ProbeFault
+fault_of OperationFails.Stopped = Stopped
+fault_of (OperationFails.Timeout address) = Timeout
 
 -- the number of reads that identify a chip of this name
 abbrev pub reads_under : ChipName → ℕ
@@ -59,11 +59,11 @@ pub record ReadsGeometry (old new : BusState) (geometry : Geometry) : Type 0 whe
   pub says : old.chip.busy ≡ 0 → chip_says old.chip.config ≡ Ok geometry
 
 -- the meaning of a fault for an idle chip on a well-behaved bus, if only its SFDP was read
-abbrev pub GeometryTells : (old new : BusState) → ProbeFault → Type 0
-GeometryTells old new (UnknownChip fault) =
+abbrev pub GeometryErrors : (old new : BusState) → ProbeFault → Type 0
+GeometryErrors old new (UnknownChip fault) =
     (chip_says old.chip.config ≡ Err fault) × (old.left ≡ new.left + 3) × Rested old new
-GeometryTells old new Stopped = RanOut 3 old new
-GeometryTells old new _ = ⊥
+GeometryErrors old new Stopped = RanOut 3 old new
+GeometryErrors old new _ = ⊥
 
 -- holds for the faults that are possible after the ID was read and before names are compared
 abbrev pub IsIdentityFault : ProbeFault → Type 0
@@ -81,8 +81,8 @@ pub record Identifies (old new : BusState) (part : Part) : Type 0 where
   pub count : old.left + 1 ≡ new.left + reads_of (id_of old.chip.config)
 
 -- the meaning of a fault for an idle chip on a well-behaved bus, after its ID was read
-abbrev pub IdentityTells : (old new : BusState) → ProbeFault → Type 0
-IdentityTells old new Stopped = (new.left ≡ 0) × (old.left + 1 < reads_of (id_of old.chip.config))
-IdentityTells old new fault =
+abbrev pub IdentityErrors : (old new : BusState) → ProbeFault → Type 0
+IdentityErrors old new Stopped = (new.left ≡ 0) × (old.left + 1 < reads_of (id_of old.chip.config))
+IdentityErrors old new fault =
     (shown_as old.chip.config ≡ Err fault) × (old.left + 1 ≡ new.left + reads_of (id_of old.chip.config))
     × Rested old new

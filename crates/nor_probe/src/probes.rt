@@ -3,16 +3,16 @@
 ghost use Rattle.std.specs.Prelude.{◌≡◌, ◌<◌, ◌^◌, ◌↔◌, true, IsTrue, IfOk, IfErr, OnErr};
 ghost use Rattle.nor_chip.specs.Size.{is_chip_size};
 ghost use Rattle.nor_probe.specs.declared.probes.ProbeFault.TheVariants as Faults;
-ghost use Rattle.nor_driver.specs.Looks.{Looks, RanOutIfHonest};
+ghost use Rattle.nor_driver.specs.OnlyReads.{OnlyReads, RanOutIfHonest};
 ghost use Rattle.nor_probe.specs.Known.{id_of, pointer_in, is_no_chip, IsModelled};
 ghost use Rattle.nor_probe.specs.Found.{found_in, part_in, IsConfigOf, IsCounted, IsWanted, ProbeAlways, ProbeHonest};
-ghost use Rattle.nor_probe.specs.Steps.{Identifies, IdentityTells, IsIdentified, IsIdentityFault};
-ghost use Rattle.nor_probe.specs.Steps.{GeometryTells, ReadsGeometry, ReadsParameters, reads_under, fault_of};
+ghost use Rattle.nor_probe.specs.Steps.{Identifies, IdentityErrors, IsIdentified, IsIdentityFault};
+ghost use Rattle.nor_probe.specs.Steps.{GeometryErrors, ReadsGeometry, ReadsParameters, reads_under, fault_of};
 
 use crate::{ChipName, Geometry, Part, SfdpFault, part_of, read_sfdp};
 use byteorder::{ByteOrder, LittleEndian};
 use nor_chip::{Bus, Kinds, Stopped};
-use nor_driver::{Halt, read_id, read_parameters, wait};
+use nor_driver::{OperationError, read_id, read_parameters, wait};
 use thiserror::Error;
 
 /// The reason why a probe found no chip. The first three variants are checked in this order.
@@ -129,19 +129,19 @@ impl Part {
 }
 
 // Returns the type of the chip whose ID was read as `id`: its row of the table or, without a row, the type that its
-// SFDP gives. `shown` and `tells` hold only on a well-behaved bus, if the chip is idle and `id` is its ID.
+// SFDP gives. `shown` and `errors` hold only on a well-behaved bus, if the chip is idle and `id` is its ID.
 fn identify<B: Bus>(bus: &mut B, id: [u8; 3]) -> Result<Part, ProbeFault>
-    ensures leaves { Looks 3 (B.state bus.old) (B.state bus.new) }
-    ensures heard { (B.state bus.new).heard ≡ (B.state bus.old).heard }
+    ensures leaves { OnlyReads 3 (B.state bus.old) (B.state bus.new) }
+    ensures polled_ready { (B.state bus.new).polled_ready ≡ (B.state bus.old).polled_ready }
     ensures part { IfOk result (IsIdentified id) }
     ensures faults { IfErr result IsIdentityFault }
 
     ensures shown { (B.state bus.old).honest ≡ true → (B.state bus.old).chip.busy ≡ 0
         → id ≡ id_of (B.state bus.old).chip.config
         → IfOk result (Identifies (B.state bus.old) (B.state bus.new)) }
-    ensures tells { (B.state bus.old).honest ≡ true → (B.state bus.old).chip.busy ≡ 0
+    ensures errors { (B.state bus.old).honest ≡ true → (B.state bus.old).chip.busy ≡ 0
         → id ≡ id_of (B.state bus.old).chip.config
-        → IfErr result (IdentityTells (B.state bus.old) (B.state bus.new)) }
+        → IfErr result (IdentityErrors (B.state bus.old) (B.state bus.new)) }
 {
     if is_no_chip(id) {
         return Err(ProbeFault::NoChip);
@@ -169,15 +169,15 @@ fn is_no_chip(id: [u8; 3]) -> bool
 // Reads the SFDP, and returns the size and the erase types that it gives. On a well-behaved bus they are the chip's own
 // if it is idle.
 fn read_geometry<B: Bus>(bus: &mut B) -> Result<Geometry, ProbeFault>
-    ensures leaves { Looks 3 (B.state bus.old) (B.state bus.new) }
-    ensures heard { (B.state bus.new).heard ≡ (B.state bus.old).heard }
+    ensures leaves { OnlyReads 3 (B.state bus.old) (B.state bus.new) }
+    ensures polled_ready { (B.state bus.new).polled_ready ≡ (B.state bus.old).polled_ready }
     ensures sized { IfOk result (λ geometry. is_chip_size geometry.size ≡ true) }
     ensures faults { IfErr result IsIdentityFault }
 
     ensures reads { (B.state bus.old).honest ≡ true
         → IfOk result (ReadsGeometry (B.state bus.old) (B.state bus.new)) }
-    ensures tells { (B.state bus.old).honest ≡ true → (B.state bus.old).chip.busy ≡ 0
-        → IfErr result (GeometryTells (B.state bus.old) (B.state bus.new)) }
+    ensures errors { (B.state bus.old).honest ≡ true → (B.state bus.old).chip.busy ≡ 0
+        → IfErr result (GeometryErrors (B.state bus.old) (B.state bus.new)) }
 {
     let parameters = read_parts(bus)?;
     let geometry = read_sfdp(&parameters.header, &parameters.first, &parameters.table)?;
@@ -195,11 +195,11 @@ struct Parameters {
 // Reads the SFDP header, the first parameter header, and 36 bytes of the table that it points to. On a well-behaved bus
 // they are the chip's own if it is idle.
 fn read_parts<B: Bus>(bus: &mut B) -> Result<Parameters, Stopped>
-    ensures leaves { Looks 3 (B.state bus.old) (B.state bus.new) }
-    ensures heard { (B.state bus.new).heard ≡ (B.state bus.old).heard }
+    ensures leaves { OnlyReads 3 (B.state bus.old) (B.state bus.new) }
+    ensures polled_ready { (B.state bus.new).polled_ready ≡ (B.state bus.old).polled_ready }
     ensures reads { (B.state bus.old).honest ≡ true
         → IfOk result (ReadsParameters (B.state bus.old) (B.state bus.new)) }
-    ensures halts { OnErr result (RanOutIfHonest 3 (B.state bus.old) (B.state bus.new)) }
+    ensures fails { OnErr result (RanOutIfHonest 3 (B.state bus.old) (B.state bus.new)) }
 {
     let mut header = [0; 8];
     let mut first = [0; 8];
@@ -250,13 +250,13 @@ impl From<Stopped> for ProbeFault {
     }
 }
 
-impl From<Halt> for ProbeFault {
+impl From<OperationError> for ProbeFault {
     ghost from_gives = { λ reason fault. fault ≡ fault_of reason };
 
-    fn from(halt: Halt) -> ProbeFault {
+    fn from(halt: OperationError) -> ProbeFault {
         match halt {
-            Halt::Stopped => ProbeFault::Stopped,
-            Halt::Timeout { .. } => ProbeFault::Timeout,
+            OperationError::Stopped => ProbeFault::Stopped,
+            OperationError::Timeout { .. } => ProbeFault::Timeout,
         }
     }
 }

@@ -53,11 +53,11 @@ pub enum SfdpFault {
 }
 
 impl SfdpFault {
-    ghost use Rattle.nor_probe.specs.Sfdp.{number_of_sfdp_fault};
+    ghost use Rattle.nor_probe.specs.Sfdp.{sfdp_fault_number};
 
     /// Returns the number that messages show, from 1 to 8 in the order of the variants.
     pub fn number(self) -> u8
-        ensures { result ≡ number_of_sfdp_fault self }
+        ensures { result ≡ sfdp_fault_number self }
     {
         self as u8
     }

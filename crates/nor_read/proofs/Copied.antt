@@ -5,7 +5,7 @@ use Rattle.std.specs.Prelude.{◌/◌}
 use Rattle.std.proofs.lemmas.Bool.{cases_lt}
 use Rattle.std.proofs.lemmas.List.{get_or_append_left, get_or-append_right, get_or-take, length-take-le}
 use Rattle.nor_chip.specs.Bus.{BusState}
-use Rattle.nor_driver.specs.Looks.{Looks, IsOpen}
+use Rattle.nor_driver.specs.OnlyReads.{OnlyReads, IsOpen}
 use Rattle.nor_journal.specs.Vault.{VaultState, Accepted, Took}
 use Rattle.nor_layout.specs.declared.ranges.Span.{Span}
 use Rattle.nor_count.specs.Below.{count_below}
@@ -14,7 +14,7 @@ use Rattle.nor_count.proofs.Below.{count_below-zero}
 use Rattle.nor_driver.proofs.RestsInTurn.{HasLooked, has_looked-none}
 use Rattle.nor_call.specs.declared.refusal.Refusal.{Refusal}
 use Rattle.nor_call.specs.declared.refusal.Refusal.TheVariants.{Output}
-use Rattle.nor_read.specs.Reading.{copied, Grows, Copies, ReadsPiece, ReadsAll, CopyTells, PutTells}
+use Rattle.nor_read.specs.Reading.{copied, Grows, Copies, ReadsPiece, ReadsAll, CopyErrors, PutErrors}
 use Rattle.nor_read.proofs.Onward.{has_looked, looked_on, open_on, same_bytes}
 
 -- Holds if the vault has `count` bytes more. If `known` holds, these are the first ones of the copy.
@@ -32,7 +32,7 @@ pub record HasCopied (included : Option (List Span)) (size n : ℕ) (old new : B
     (reads : ℕ) : Type 0 where
   pub few : reads ≤ 16 * n
   pub counted : reads ≡ count_below (16 * n) (has_in_sector (includes included))
-  pub looked : HasLooked reads old new
+  pub honest_reads : HasLooked reads old new
   pub accepted : Accepted vault vault'
   pub copy : vault.telling ≡ true → CopiesIf (IsOpen size old) included old.chip.bytes (65536 * n) vault vault'
 
@@ -41,7 +41,7 @@ pub copied_none : (included : Option (List Span)) (size : ℕ) (state : BusState
 copied_none included size state vault = record {
   few = omega arith;
   counted = sym (count_below-zero (has_in_sector (includes included)));
-  looked = has_looked-none state;
+  honest_reads = has_looked-none state;
   accepted = assumption;
   copy = λ telling. record {
     grows = record { bytes = []; long = refl; grown = sym (append-nil vault.bytes) };
@@ -76,18 +76,18 @@ module _ {known : Type 0} {included : Option (List Span)} {content : ℕ → ℕ
 
 module _ {included : Option (List Span)} {size n reads more : ℕ} {bytes : List ℕ} {old mid new : BusState}
     {vault now : VaultState} (below : n < size / 65536) (long : length bytes ≡ 65536)
-    (has : HasCopied included size n old mid vault now reads) (looks : Looks 16 mid new)
+    (has : HasCopied included size n old mid vault now reads) (only_reads : OnlyReads 16 mid new)
     (piece : ReadsPiece included n bytes mid new more) where
   looked_all : HasLooked (reads + more) old new
-  looked_all = looked_on has.looked (has_looked looks piece.rested piece.fell piece.heard)
+  looked_all = looked_on has.honest_reads (has_looked only_reads piece.rested piece.fell piece.polled_ready)
 
   -- On a well-behaved bus with an idle chip of this size, the piece has the bytes of the copy.
   piece_right : IsOpen size old → (i : ℕ) → i < 65536
       → slice_index bytes i ≡ copied included old.chip.bytes (65536 * n + i)
   piece_right is_open i small =
-      let now = open_on is_open has.looked in
+      let now = open_on is_open has.honest_reads in
       let same = now.same in
-      rw (same_bytes (has.looked.rested is_open.honest)) at (piece.right now.honest now.idle (omega arith) i small)
+      rw (same_bytes (has.honest_reads.rested is_open.honest)) at (piece.right now.honest now.idle (omega arith) i small)
 
   -- `HasCopied` holds for one piece more, after the vault accepted it.
   pub copied_more : {later : VaultState} → Took now bytes later
@@ -95,21 +95,21 @@ module _ {included : Option (List Span)} {size n reads more : ℕ} {bytes : List
   copied_more took = record {
     few = grind arith;
     counted = grind arith;
-    looked = looked_all;
+    honest_reads = looked_all;
     accepted = grind arith;
     copy = λ telling. copies_more 65536 (65536 * (n + 1)) bytes (omega arith) (has.copy telling) long
         (took.bytes (has.accepted.telling ∙ telling)) piece_right;
   }
 
   -- If the vault refuses the piece, the error has the number of bytes accepted.
-  pub copy_fails : (later : VaultState) (refusal : Refusal) → PutTells n bytes now later refusal
-      → CopyTells included size old new vault later refusal
-  copy_fails later (Output written) tells =
-      let kept = tells.0 in let put = tells.2 in
+  pub copy_fails : (later : VaultState) (refusal : Refusal) → PutErrors n bytes now later refusal
+      → CopyErrors included size old new vault later refusal
+  copy_fails later (Output written) errors =
+      let kept = errors.0 in let put = errors.2 in
       let within = put.within in
       let refused = put.refused in
       let so_far : vault.telling ≡ true → CopiesIf (IsOpen size old) included old.chip.bytes written vault later
-      = λ telling. copies_more kept written (take kept bytes) (sym tells.1) (has.copy telling)
+      = λ telling. copies_more kept written (take kept bytes) (sym errors.1) (has.copy telling)
       (length-take-le kept bytes within) (put.bytes (has.accepted.telling ∙ telling))
       (λ is_open i small. get_or-take kept bytes i 0 small ∙ piece_right is_open i (omega arith)) in
       record {

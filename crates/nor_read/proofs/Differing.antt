@@ -4,7 +4,7 @@ use Rattle.std.proofs.Common.{Option, Some, None, subst, sym, arith}
 use Rattle.std.specs.Prelude.{◌/◌, MatchBool, if◌then◌else◌}
 use Rattle.std.specs.Option.{option_or}
 use Rattle.nor_chip.specs.Bus.{BusState}
-use Rattle.nor_driver.specs.Looks.{Looks, IsOpen}
+use Rattle.nor_driver.specs.OnlyReads.{OnlyReads, IsOpen}
 use Rattle.nor_layout.specs.declared.ranges.Span.{Span}
 use Rattle.nor_count.specs.Below.{count_below}
 use Rattle.nor_layout.specs.Sectors.{includes, has_in_sector, AreOfSector, SomeInSector, NoneInSector}
@@ -12,7 +12,7 @@ use Rattle.nor_count.proofs.Below.{count_below-zero, count_below-more}
 use Rattle.nor_plan.specs.Bytes.{AllAgree, IsFirstDifference}
 use Rattle.nor_driver.proofs.RestsInTurn.{HasLooked, has_looked-none, rested_none}
 use Rattle.nor_read.specs.declared.verifying.Compared.{Compared}
-use Rattle.nor_read.specs.Verifying.{AgreeIn, IsFirstOther, TellsFirst, ComparesPart}
+use Rattle.nor_read.specs.Verifying.{AgreeIn, IsFirstOther, FindsFirst, ComparesPart}
 use Rattle.nor_read.proofs.Onward.{has_looked, looked_on, open_on, same_bytes}
 
 -- ---- one sector
@@ -65,17 +65,17 @@ module _ (included : Option (List Span)) (image : List ℕ) (sector : ℕ) (byte
       }
 
 -- A sector without an included address isn't read, and counts as one without a difference.
-pub part_skipped : (included : Option (List Span)) (image : List ℕ) (sector : ℕ) (told : Bool) (state : BusState)
-    → told ≡ false → told ≡ has_in_sector (includes included) sector
-    → MatchBool told (SomeInSector (includes included) sector) (NoneInSector (includes included) sector)
+pub part_skipped : (included : Option (List Span)) (image : List ℕ) (sector : ℕ) (returned : Bool) (state : BusState)
+    → returned ≡ false → returned ≡ has_in_sector (includes included) sector
+    → MatchBool returned (SomeInSector (includes included) sector) (NoneInSector (includes included) sector)
     → ComparesPart included image sector state state (record { first = None; reads = 0 })
 part_skipped included image sector true state out test cases = absurd (cc)
 part_skipped included image sector false state out test none = record {
   counted = rw (← test);
-  heard = λ ready. ready;
+  polled_ready = λ ready. ready;
   rested = λ honest. rested_none state;
   fell = λ honest. omega arith;
-  tells = λ honest idle inside.
+  errors = λ honest idle inside.
       in_sector (λ a. includes included a ≡ true → slice_index image a ≡ state.chip.bytes a) sector
       (λ i small inside. let outside = none i small in absurd (cc));
 }
@@ -89,8 +89,8 @@ module _ (included : Option (List Span)) (image : List ℕ) (content : ℕ → �
 
   -- The first difference in two adjacent ranges is that of the first range or, if it has none, that of the second.
   tells_more : (to : ℕ) (first second : Option ℕ) → from ≤ mid → mid ≤ to
-      → TellsFirst included image content from mid first → TellsFirst included image content mid to second
-      → TellsFirst included image content from to (option_or first second)
+      → FindsFirst included image content from mid first → FindsFirst included image content mid to second
+      → FindsFirst included image content from to (option_or first second)
   tells_more to None None low high agree more = agree_more to agree more
   tells_more to None (Some address) low high agree other =
       let before = agree_more address agree other.before in search arith
@@ -101,8 +101,8 @@ pub record HasCompared (included : Option (List Span)) (image : List ℕ) (size 
     (first : Option ℕ) (reads : ℕ) : Type 0 where
   pub few : reads ≤ n
   pub counted : reads ≡ count_below n (has_in_sector (includes included))
-  pub looked : HasLooked reads old new
-  pub tells : IsOpen size old → TellsFirst included image old.chip.bytes 0 (4096 * n) first
+  pub honest_reads : HasLooked reads old new
+  pub errors : IsOpen size old → FindsFirst included image old.chip.bytes 0 (4096 * n) first
 
 pub compared_none : (included : Option (List Span)) (image : List ℕ) (size : ℕ) (state : BusState)
     → HasCompared included image size 0 state state None 0
@@ -110,17 +110,17 @@ compared_none included image size state = grind (arith, count_below-zero, has_lo
 
 module _ {included : Option (List Span)} {image : List ℕ} {size n reads : ℕ} {old mid new : BusState}
     {first : Option ℕ} {part : Compared} where
-  pub compared_more : n < size / 4096 → HasCompared included image size n old mid first reads → Looks 1 mid new
+  pub compared_more : n < size / 4096 → HasCompared included image size n old mid first reads → OnlyReads 1 mid new
       → ComparesPart included image n mid new part
       → HasCompared included image size (n + 1) old new (option_or first part.first) (reads + part.reads)
-  compared_more below has looks compares = record {
+  compared_more below has only_reads compares = record {
     few = grind arith;
     counted = let next = count_below-more n (has_in_sector (includes included)) in grind arith;
-    looked = looked_on has.looked (has_looked looks compares.rested compares.fell compares.heard);
-    tells = λ is_open.
-        let now = open_on is_open has.looked in
+    honest_reads = looked_on has.honest_reads (has_looked only_reads compares.rested compares.fell compares.polled_ready);
+    errors = λ is_open.
+        let now = open_on is_open has.honest_reads in
         let same = now.same in
         tells_more included image old.chip.bytes 0 (4096 * n) (4096 * (n + 1)) first part.first (omega arith)
-        (omega arith) (has.tells is_open) (rw (same_bytes (has.looked.rested is_open.honest))
-        at (compares.tells now.honest now.idle (omega arith)));
+        (omega arith) (has.errors is_open) (rw (same_bytes (has.honest_reads.rested is_open.honest))
+        at (compares.errors now.honest now.idle (omega arith)));
   }

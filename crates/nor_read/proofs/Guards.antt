@@ -7,23 +7,23 @@ use Rattle.nor_chip.specs.Chip.{Chip, IsSame, KeptBits, status1_of, kept_in, is_
 use Rattle.nor_chip.specs.Guard.{code_of, is_undefined}
 use Rattle.nor_chip.specs.Offer.{IsRangeOf}
 use Rattle.nor_chip.specs.Bus.{BusState}
-use Rattle.nor_driver.specs.Looks.{Looks, RanOutIfHonest}
+use Rattle.nor_driver.specs.OnlyReads.{OnlyReads, RanOutIfHonest}
 use Rattle.nor_driver.specs.Reads.{ReadsStatus2}
 use Rattle.nor_probe.specs.declared.table.ChipName.{ChipName}
 use Rattle.nor_probe.specs.declared.probes.Probed.{Probed}
 use Rattle.nor_probe.specs.Found.{most_probe}
-use Rattle.nor_driver.proofs.LooksInTurn.{looks_more}
+use Rattle.nor_driver.proofs.ReadsInTurn.{looks_more}
 use Rattle.nor_call.specs.declared.refusal.Refusal.{Refusal}
 use Rattle.nor_call.specs.declared.refusal.Refusal.TheVariants.{NoProtection, Stopped, Timeout}
-use Rattle.nor_call.specs.Tells.{OpeningTells}
+use Rattle.nor_call.specs.Tells.{IdentificationErrors}
 use Rattle.nor_read.specs.declared.protection.Protection.{Protection}
-use Rattle.nor_read.specs.Finding.{IsModelled, HasFound, ReadingTells, most_status}
-use Rattle.nor_read.specs.Protecting.{IsGuardedRange, IsProtectionRefusal}
-use Rattle.nor_read.specs.Protecting.{ProtectionAlways, ProtectionHonest, ProtectionModelled, ProtectionTells}
+use Rattle.nor_read.specs.Finding.{IsModelled, HasFound, ReadingErrors, most_status}
+use Rattle.nor_read.specs.Protecting.{IsProtectedRange, IsProtectionRefusal}
+use Rattle.nor_read.specs.Protecting.{ProtectionAlways, ProtectionHonest, ProtectionModelled, ProtectionErrors}
 use Rattle.nor_read.proofs.Whole.{find_tells, looks_on, ran_on, rested_on, has_name, size_of}
 
 -- Holds if the promises of `wp_status` are kept at an exit with this result.
-pub record HasTold (named : Option ChipName) (old new : BusState) (result : Result Protection Refusal) : Type 0 where
+pub record HasReported (named : Option ChipName) (old new : BusState) (result : Result Protection Refusal) : Type 0 where
   pub always : ProtectionAlways old new result
   pub honest : old.honest ≡ true → ProtectionHonest named old new result
   pub modelled : IsModelled old → ProtectionModelled named old result
@@ -40,71 +40,71 @@ kept1_read old mid one is same idle = let kept = ap (λ (bits : KeptBits). bits.
 range_read : (chip : Chip) (range : Option (ℕ × ℕ)) → chip.config.scheme ≡ true
     → MatchOption range (is_undefined (code_of chip.kept) ≡ true)
     (λ places. IsRangeOf chip.config.size (code_of chip.kept) places.0 places.1)
-    → MatchOption range (is_undefined (code_of chip.kept) ≡ true) (λ places. IsGuardedRange chip places.0 places.1)
+    → MatchOption range (is_undefined (code_of chip.kept) ≡ true) (λ places. IsProtectedRange chip places.0 places.1)
 range_read chip None scheme undefined = undefined
 range_read chip (Some places) scheme is =
     record { defined = is.defined; exactly = λ a. rw scheme (is.exactly a); plain = is.plain }
 
 module _ (named : Option ChipName) where
-  refused : {old new : BusState} (refusal : Refusal) → Looks most_status old new → IsProtectionRefusal refusal
-      → (old.honest ≡ true → ReadingTells most_status named old new refusal)
-      → (IsModelled old → ProtectionTells named old.chip refusal) → HasTold named old new (Err refusal)
-  refused refusal looks is tells own = search
+  refused : {old new : BusState} (refusal : Refusal) → OnlyReads most_status old new → IsProtectionRefusal refusal
+      → (old.honest ≡ true → ReadingErrors most_status named old new refusal)
+      → (IsModelled old → ProtectionErrors named old.chip refusal) → HasReported named old new (Err refusal)
+  refused refusal only_reads is errors own = search
 
   -- An error of the probe is one that `wp_status` may return, and means what `wp_status` promises.
-  unfound_tells : (old new : BusState) (refusal : Refusal) → OpeningTells most_probe named old new refusal
-      → IsProtectionRefusal refusal × ProtectionTells named old.chip refusal
-  unfound_tells old new (Timeout address) tells = (tells.0, tt)
-  unfound_tells old new _ tells = search
+  unfound_tells : (old new : BusState) (refusal : Refusal) → IdentificationErrors most_probe named old new refusal
+      → IsProtectionRefusal refusal × ProtectionErrors named old.chip refusal
+  unfound_tells old new (Timeout address) errors = (errors.0, tt)
+  unfound_tells old new _ errors = search
 
-  pub unfound : {old new : BusState} (refusal : Refusal) → Looks most_probe old new
-      → OpeningTells most_probe named old new refusal → HasTold named old new (Err refusal)
-  unfound {old} {new} refusal looks tells =
-      let own = unfound_tells old new refusal tells in
-      refused refusal (looks_more most_probe most_status old new (omega arith) looks) own.0
-      (find_tells most_status named old new refusal (omega arith) tells) (λ known. own.1)
+  pub unfound : {old new : BusState} (refusal : Refusal) → OnlyReads most_probe old new
+      → IdentificationErrors most_probe named old new refusal → HasReported named old new (Err refusal)
+  unfound {old} {new} refusal only_reads errors =
+      let own = unfound_tells old new refusal errors in
+      refused refusal (looks_more most_probe most_status old new (omega arith) only_reads) own.0
+      (find_tells most_status named old new refusal (omega arith) errors) (λ known. own.1)
 
   -- the exits after a chip was found
   module _ {old mid new : BusState} {probed : Probed} (found : HasFound named old mid probed)
-      (looks : Looks most_probe old mid) (after : Looks 1 mid new) where
-    looks_all : Looks most_status old new
-    looks_all = looks_on found looks 1 most_status (omega arith) after
+      (only_reads : OnlyReads most_probe old mid) (after : OnlyReads 1 mid new) where
+    looks_all : OnlyReads most_status old new
+    looks_all = looks_on found only_reads 1 most_status (omega arith) after
 
     -- the exit at which the bus stopped before status 2 was read
-    pub stopped : RanOutIfHonest 1 mid new → HasTold named old new (Err Stopped)
+    pub stopped : RanOutIfHonest 1 mid new → HasReported named old new (Err Stopped)
     stopped out =
-        refused Stopped looks_all tt (ran_on found looks 1 most_status (omega arith) out) (λ known. tt)
+        refused Stopped looks_all tt (ran_on found only_reads 1 most_status (omega arith) out) (λ known. tt)
 
     module _ {status2 : ℕ} (reads : ReadsStatus2 mid new status2) where
       -- the exit with error 6: the chip has no block protection
-      pub plain : probed.found.scheme ≡ false → HasTold named old new (Err NoProtection)
-      plain none = refused NoProtection looks_all tt (rested_on found looks (λ is. (reads.read is).rested))
-          (λ known. (has_name found looks known.honest, sym (found.is.config known).scheme ∙ none))
+      pub plain : probed.found.scheme ≡ false → HasReported named old new (Err NoProtection)
+      plain none = refused NoProtection looks_all tt (rested_on found only_reads (λ is. (reads.read is).rested))
+          (λ known. (has_name found only_reads known.honest, sym (found.is.config known).scheme ∙ none))
 
       -- the exit with a report: the chip has block protection
-      pub told : (bytes : List ℕ) (range : Option (ℕ × ℕ)) (locked : Bool) → new.heard ≡ mid.heard
+      pub returned : (bytes : List ℕ) (range : Option (ℕ × ℕ)) (locked : Bool) → new.polled_ready ≡ mid.polled_ready
           → probed.found.scheme ≡ true → bytes ≡ probed.found.status1 ∷ status2 ∷ []
           → MatchOption range (is_undefined (code_of (kept_in bytes)) ≡ true)
           (λ places. IsRangeOf probed.found.size (code_of (kept_in bytes)) places.0 places.1)
           → locked ≡ is_locked (kept_in bytes)
-          → HasTold named old new (Ok (record { range = range; locked = locked; size = probed.found.size }))
-      told bytes range locked same scheme are places lock = record {
-        always = search (looks_all, same ∙ found.heard);
+          → HasReported named old new (Ok (record { range = range; locked = locked; size = probed.found.size }))
+      returned bytes range locked same scheme are places lock = record {
+        always = search (looks_all, same ∙ found.polled_ready);
         honest = λ honest.
-            let rested = rested_on found looks (λ is. (reads.read is).rested) honest in
+            let rested = rested_on found only_reads (λ is. (reads.read is).rested) honest in
             let idle = found.idle honest in
-            let same = (reads.read (looks.nature.honest ∙ honest)).busy in
-            search (arith, has_name found looks);
+            let same = (reads.read (only_reads.nature.honest ∙ honest)).busy in
+            search (arith, has_name found only_reads);
         modelled = λ known.
             let was = (found.rested known.honest).unchanged.same in
             let one = kept1_read old.chip mid.chip probed.found.status1 (found.status1 known.honest) was
             (found.idle known.honest) in
             let two : status2 ≡ old.chip.kept.two =
-            reads.told (looks.nature.honest ∙ known.honest) ∙ ap (λ (bits : KeptBits). bits.two) was.kept in
+            reads.returned (only_reads.nature.honest ∙ known.honest) ∙ ap (λ (bits : KeptBits). bits.two) was.kept in
             let protects : old.chip.config.scheme ≡ true = sym (found.is.config known).scheme ∙ scheme in
             let code : code_of (kept_in bytes) ≡ code_of old.chip.kept = rw (are, one, two) (omega arith) in
-            let guarded = range_read old.chip range protects (rw (code, size_of found looks known) at places) in
+            let guarded = range_read old.chip range protects (rw (code, size_of found only_reads known) at places) in
             let locks = lock ∙ ap (λ (bytes : List ℕ). is_locked (kept_in bytes)) are
             ∙ lock_read probed.found.status1 status2 old.chip.kept one two in
-            search (size_of found looks known);
+            search (size_of found only_reads known);
       }

@@ -4,13 +4,13 @@ use mathlib.Core.Path.{fun_ext}
 use Rattle.nor_chip.specs.Bus.{BusState}
 use Rattle.nor_chip.proofs.Nature.{nature_then}
 use Rattle.nor_driver.specs.Ready.{StaysReady}
-use Rattle.nor_driver.specs.Looks.{Rested, Looks, IsOpen}
+use Rattle.nor_driver.specs.OnlyReads.{Rested, OnlyReads, IsOpen}
 use Rattle.nor_driver.proofs.RestsInTurn.{HasLooked, rested_then}
 
 -- `HasLooked` holds after a step that sent `more` transactions and succeeded.
-pub has_looked : {most more : ℕ} {old new : BusState} → Looks most old new → (old.honest ≡ true → Rested old new)
+pub has_looked : {most more : ℕ} {old new : BusState} → OnlyReads most old new → (old.honest ≡ true → Rested old new)
     → (old.honest ≡ true → old.left ≡ new.left + more) → StaysReady old new → HasLooked more old new
-has_looked looks rested fell heard = assumption
+has_looked only_reads rested fell polled_ready = assumption
 
 -- Two steps that succeeded, one after the other, are one with the sum of their reads.
 pub looked_on : {reads more : ℕ} {old mid new : BusState} → HasLooked reads old mid → HasLooked more mid new
@@ -24,4 +24,4 @@ same_bytes rested = fun_ext rested.unchanged.same.bytes
 
 -- After reads, an idle chip is still idle, and has the same size.
 pub open_on : {size reads : ℕ} {old mid : BusState} → IsOpen size old → HasLooked reads old mid → IsOpen size mid
-open_on is_open looked = let was = (looked.rested is_open.honest).unchanged in search arith
+open_on is_open honest_reads = let was = (honest_reads.rested is_open.honest).unchanged in search arith

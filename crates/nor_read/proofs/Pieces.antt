@@ -4,7 +4,7 @@ use Rattle.std.proofs.Common.{arith, inl, inr}
 use Rattle.std.proofs.lemmas.Bool.{cases_lt}
 use borrow.Rule.Slice.PartMut.{put_mid}
 use Rattle.nor_chip.specs.Bus.{BusState}
-use Rattle.nor_driver.specs.Looks.{Looks}
+use Rattle.nor_driver.specs.OnlyReads.{OnlyReads}
 use Rattle.nor_layout.specs.declared.ranges.Span.{Span}
 use Rattle.nor_count.specs.Below.{count_below}
 use Rattle.nor_layout.specs.Sectors.{includes, has_in_sector}
@@ -20,7 +20,7 @@ pub record HasPieced (included : Option (List Span)) (piece k : ℕ) (bytes : Li
   pub few : reads ≤ k
   pub counted : count_below (16 * piece + k) (has_in_sector (includes included))
       ≡ count_below (16 * piece) (has_in_sector (includes included)) + reads
-  pub looked : HasLooked reads old new
+  pub honest_reads : HasLooked reads old new
   pub right : old.honest ≡ true → old.chip.busy ≡ 0 → 65536 * (piece + 1) ≤ old.chip.config.size
       → (i : ℕ) → i < 4096 * k → slice_index bytes i ≡ copied included old.chip.bytes (65536 * piece + i)
 
@@ -31,15 +31,15 @@ pieced_none included piece bytes state = grind (arith, has_looked-none state)
 -- `HasPieced` holds for one sector more, after it was copied.
 module _ {included : Option (List Span)} {piece k reads more : ℕ} {bytes part : List ℕ} {old mid new : BusState} where
   pub pieced_more : (width : ℕ) → k < 16 → width ≡ 4096 → length bytes ≡ 65536 → length part ≡ 4096
-      → HasPieced included piece k bytes old mid reads → Looks 1 mid new
+      → HasPieced included piece k bytes old mid reads → OnlyReads 1 mid new
       → ReadsPart included (16 * piece + k) part mid new more
       → HasPieced included piece (k + 1) (put_mid (4096 * k) width bytes part) old new (reads + more)
-  pieced_more width below exact whole long has looks reading =
+  pieced_more width below exact whole long has only_reads reading =
       let test = has_in_sector (includes included) in
       record {
         few = grind arith;
         counted = let next = count_below-more (16 * piece + k) test in grind arith;
-        looked = looked_on has.looked (has_looked looks reading.rested reading.fell reading.heard);
+        honest_reads = looked_on has.honest_reads (has_looked only_reads reading.rested reading.fell reading.polled_ready);
         right = λ honest idle fits i small.
             let put = put_back k width bytes part exact long (omega arith) in
             elim (cases_lt i (4096 * k)) [
@@ -48,10 +48,10 @@ module _ {included : Option (List Span)} {piece k reads more : ℕ} {bytes part 
                   let j = i - 4096 * k in
                   let at : 4096 * k + j ≡ i = omega arith in
                   let far : 4096 * (16 * piece + k) + j ≡ 65536 * piece + i = omega arith in
-                  let now = open_on (record { honest = honest; idle = idle; same = refl }) has.looked in
+                  let now = open_on (record { honest = honest; idle = idle; same = refl }) has.honest_reads in
                   let same = now.same in
                   rw at at (put.inside j (omega arith))
-                  ∙ rw (same_bytes (has.looked.rested honest), far)
+                  ∙ rw (same_bytes (has.honest_reads.rested honest), far)
                   at (reading.right now.honest now.idle (omega arith) j (omega arith))
             ];
       }

@@ -3,21 +3,21 @@ use Rattle.std.proofs.Common.{◌≡◌, ◌≤◌, ◌+◌, ◌∙◌, ℕ, tru
 use Rattle.std.specs.Prelude.{◌/◌, IsErrAnd}
 use Rattle.nor_chip.specs.Chip.{status1_of}
 use Rattle.nor_chip.specs.Bus.{BusState}
-use Rattle.nor_driver.specs.Looks.{Rested, Looks, RanOut, RanOutIfHonest, IsOpen}
+use Rattle.nor_driver.specs.OnlyReads.{Rested, OnlyReads, RanOut, RanOutIfHonest, IsOpen}
 use Rattle.nor_layout.specs.declared.ranges.Span.{Span}
 use Rattle.nor_layout.specs.Sectors.{sectors_included, FitsInto, ReachesPast}
 use Rattle.nor_layout.proofs.Sectors.{sectors_included-most}
 use Rattle.nor_probe.specs.declared.table.ChipName.{ChipName}
 use Rattle.nor_probe.specs.declared.probes.Probed.{Probed}
 use Rattle.nor_probe.specs.Found.{IsConfigOf, most_probe}
-use Rattle.nor_driver.proofs.LooksInTurn.{looks_then, looks_more}
+use Rattle.nor_driver.proofs.ReadsInTurn.{looks_then, looks_more}
 use Rattle.nor_driver.proofs.RestsInTurn.{HasLooked, rested_then}
 use Rattle.nor_call.specs.declared.refusal.Refusal.{Refusal}
 use Rattle.nor_call.specs.declared.refusal.Refusal.TheVariants.{Stopped, Timeout}
 use Rattle.nor_call.specs.declared.report.Report.{Report}
-use Rattle.nor_call.specs.Tells.{OpeningTells}
+use Rattle.nor_call.specs.Tells.{IdentificationErrors}
 use Rattle.nor_read.specs.Finding.{IsModelled, HasFound, IsNamed, IsPassed, IsTaken}
-use Rattle.nor_read.specs.Finding.{ReportsPart, ReportsReads, ReadingTells, most_read}
+use Rattle.nor_read.specs.Finding.{ReportsPart, ReportsReads, ReadingErrors, most_read}
 
 -- The outcome is the error that `?` passed on.
 pub is_err : {T : Type 0} (outcome : Result T Refusal) (refusal : Refusal)
@@ -28,25 +28,25 @@ is_err (Err passed) refusal is = ap Err is
 -- Holds if no more transactions were sent than a call takes for the largest chip, and on a modelled bus no more than it
 -- takes for this chip.
 pub record Sends (old new : BusState) : Type 0 where
-  pub largest : Looks (most_read 16777216) old new
-  pub own : IsModelled old → Looks (most_read old.chip.config.size) old new
+  pub largest : OnlyReads (most_read 16777216) old new
+  pub own : IsModelled old → OnlyReads (most_read old.chip.config.size) old new
 
 -- Holds after a stop: fewer transactions were left than a call takes for the largest chip, and on a modelled bus fewer
 -- than it takes for this chip.
-pub record Halts (old new : BusState) : Type 0 where
+pub record OperationFails (old new : BusState) : Type 0 where
   pub largest : old.honest ≡ true → RanOut (most_read 16777216) old new
   pub own : IsModelled old → RanOut (most_read old.chip.config.size) old new
 
 -- ---- no chip is found
 
 pub find_tells : (most : ℕ) (named : Option ChipName) (old new : BusState) (refusal : Refusal) → most_probe ≤ most
-    → OpeningTells most_probe named old new refusal → old.honest ≡ true → ReadingTells most named old new refusal
-find_tells most named old new Stopped fits tells honest = let ran = tells honest in omega arith
-find_tells most named old new (Timeout address) fits tells honest = absurd (tells.1 honest)
-find_tells most named old new _ fits tells honest = search
+    → IdentificationErrors most_probe named old new refusal → old.honest ≡ true → ReadingErrors most named old new refusal
+find_tells most named old new Stopped fits errors honest = let ran = errors honest in omega arith
+find_tells most named old new (Timeout address) fits errors honest = absurd (errors.1 honest)
+find_tells most named old new _ fits errors honest = search
 
-pub sends_probe : {old new : BusState} → Looks most_probe old new → Sends old new
-sends_probe looks = search (arith, looks_more)
+pub sends_probe : {old new : BusState} → OnlyReads most_probe old new → Sends old new
+sends_probe only_reads = search (arith, looks_more)
 
 -- ---- a chip is found
 
@@ -66,7 +66,7 @@ report_is probed reads report found touched erases programs sent = λ i.
 pub record Reports (named : Option ChipName) (included : Option (List Span)) (old new : BusState)
     (report : Report) : Type 0 where
   pub part : ReportsPart named report
-  pub heard : new.heard ≡ true
+  pub polled_ready : new.polled_ready ≡ true
   pub reads : old.honest ≡ true → ReportsReads (sectors_included included report.found.size) old new report
   pub config : IsModelled old → IsConfigOf old.chip.config report.found
 
@@ -77,32 +77,32 @@ status1_stays old new idle rested =
     let busy : new.chip.busy ≡ old.chip.busy = omega arith in cc
 
 module _ {named : Option ChipName} {old mid : BusState} {probed : Probed}
-    (found : HasFound named old mid probed) (looks : Looks most_probe old mid) where
+    (found : HasFound named old mid probed) (only_reads : OnlyReads most_probe old mid) where
   -- On a modelled bus the size that was found is that of the chip on the bus.
   pub size_of : IsModelled old → probed.found.size ≡ old.chip.config.size
   size_of known = (found.is.config known).size
 
   -- If at most `n` transactions follow the probe, the call as a whole reads only, with at most `most` transactions.
-  pub looks_on : {new : BusState} (n most : ℕ) → most_probe + n ≤ most → Looks n mid new → Looks most old new
+  pub looks_on : {new : BusState} (n most : ℕ) → most_probe + n ≤ most → OnlyReads n mid new → OnlyReads most old new
   looks_on {new} n most fits after =
-      looks_more (most_probe + n) most old new fits (looks_then most_probe n old mid new looks after)
+      looks_more (most_probe + n) most old new fits (looks_then most_probe n old mid new only_reads after)
 
-  pub sends_on : {new : BusState} → Looks (probed.found.size / 4096) mid new → Sends old new
+  pub sends_on : {new : BusState} → OnlyReads (probed.found.size / 4096) mid new → Sends old new
   sends_on after = search (arith, looks_on, size_of)
 
   -- If the bus stops after the probe, fewer transactions were left than the whole call takes.
   pub ran_on : {new : BusState} (n most : ℕ) → most_probe + n ≤ most → RanOutIfHonest n mid new → old.honest ≡ true
       → RanOut most old new
   ran_on n most fits out honest =
-      let ran = out (looks.nature.honest ∙ honest) in let fell = found.fell honest in omega arith
+      let ran = out (only_reads.nature.honest ∙ honest) in let fell = found.fell honest in omega arith
 
-  pub halts : {new : BusState} → RanOutIfHonest (probed.found.size / 4096) mid new → Halts old new
-  halts out = let most = found.is.part.at_most in search (arith, ran_on, size_of)
+  pub fails : {new : BusState} → RanOutIfHonest (probed.found.size / 4096) mid new → OperationFails old new
+  fails out = let most = found.is.part.at_most in search (arith, ran_on, size_of)
 
   -- The probe and the reads after it leave contents and non-volatile status bits as they were.
   pub rested_on : {new : BusState} → (mid.honest ≡ true → Rested mid new) → old.honest ≡ true → Rested old new
   rested_on {new} rested honest =
-      rested_then old mid new (found.rested honest) (rested (looks.nature.honest ∙ honest))
+      rested_then old mid new (found.rested honest) (rested (only_reads.nature.honest ∙ honest))
 
   -- On a modelled bus the chip is idle after the probe, and has the size that was found.
   pub open_after : IsModelled old → IsOpen probed.found.size mid
@@ -123,18 +123,18 @@ module _ {named : Option ChipName} {old mid : BusState} {probed : Probed}
   -- The promises about a report hold for the report of a call that succeeded.
   pub reported : {included : Option (List Span)} {new : BusState} {reads : ℕ} → HasLooked reads mid new
       → reads ≡ sectors_included included probed.found.size → Reports named included old new (report_of probed reads)
-  reported {included} {new} {reads} looked counted =
+  reported {included} {new} {reads} honest_reads counted =
       let few = sectors_included-most included probed.found.size in
       let most = found.most in
       record {
         part = search arith;
-        heard = looked.heard found.heard;
+        polled_ready = honest_reads.polled_ready found.polled_ready;
         reads = λ honest.
-            let now = looks.nature.honest ∙ honest in
+            let now = only_reads.nature.honest ∙ honest in
             let idle = found.idle honest in
-            let last = looked.rested now in
-            let sent = looked.sent now in
-            let rested = rested_on looked.rested honest in
+            let last = honest_reads.rested now in
+            let sent = honest_reads.sent now in
+            let rested = rested_on honest_reads.rested honest in
             let status1 = found.status1 honest ∙ sym (status1_stays mid new idle last) in
             search (arith, found.is.shown honest, found.count honest, found.fell honest);
         config = found.is.config;

@@ -3,7 +3,7 @@ use Rattle.std.specs.Prelude.{◌≡◌, ◌≤◌, ◌+◌, ◌/◌, ℕ, true,
 use Rattle.nor_chip.specs.declared.config.Config.{Config}
 use Rattle.nor_chip.specs.Chip.{status1_of}
 use Rattle.nor_chip.specs.Bus.{BusState}
-use Rattle.nor_driver.specs.Looks.{Rested, RanOut}
+use Rattle.nor_driver.specs.OnlyReads.{Rested, RanOut}
 use Rattle.nor_layout.specs.declared.ranges.Span.{Span}
 use Rattle.nor_layout.specs.Sectors.{ReachesPast, FitsInto}
 use Rattle.nor_probe.specs.declared.table.ChipName.{ChipName}
@@ -13,7 +13,7 @@ use Rattle.nor_probe.specs.declared.probes.ProbeFault.TheVariants as Probes
 pub use Rattle.nor_probe.specs.Known.{IsModelled}
 use Rattle.nor_probe.specs.Known.{shown_as}
 pub use Rattle.nor_probe.specs.Found.{IsNamed}
-use Rattle.nor_probe.specs.Found.{needed, part_in, IsPart, IsWanted, IsConfigOf, Tells, most_probe}
+use Rattle.nor_probe.specs.Found.{needed, part_in, IsPart, IsWanted, IsConfigOf, ProbeErrors, most_probe}
 use Rattle.nor_call.specs.declared.refusal.Refusal.{Refusal}
 use Rattle.nor_call.specs.declared.refusal.Refusal.TheVariants.{NoChip, UnknownChip, OtherName, Stopped, Timeout}
 use Rattle.nor_call.specs.declared.report.Report.{Report}
@@ -36,7 +36,7 @@ pub record IsFound (named : Option ChipName) (old : BusState) (found : Found) : 
 pub record HasFound (named : Option ChipName) (old new : BusState) (probed : Probed) : Type 0 where
   pub is : IsFound named old probed.found
   pub most : probed.transactions ≤ most_probe
-  pub heard : new.heard ≡ true
+  pub polled_ready : new.polled_ready ≡ true
   pub rested : old.honest ≡ true → Rested old new
   pub idle : old.honest ≡ true → new.chip.busy ≡ 0
   pub status1 : old.honest ≡ true → probed.found.status1 ≡ status1_of new.chip
@@ -106,10 +106,10 @@ IsFindRefusal _ = ⊥
 -- The meaning of errors on a well-behaved bus. An error of the probe has its cause in the chip; after a stop fewer than
 -- `most` transactions were left; there is no timeout. After any error except a stop, contents and non-volatile status
 -- bits are as before.
-abbrev pub ReadingTells : ℕ → Option ChipName → (old new : BusState) → Refusal → Type 0
-ReadingTells most named old new NoChip = Tells named old new Probes.NoChip
-ReadingTells most named old new (UnknownChip fault) = Tells named old new (Probes.UnknownChip fault)
-ReadingTells most named old new OtherName = Tells named old new Probes.OtherName
-ReadingTells most named old new Stopped = RanOut most old new
-ReadingTells most named old new (Timeout address) = ⊥
-ReadingTells most named old new _ = Rested old new
+abbrev pub ReadingErrors : ℕ → Option ChipName → (old new : BusState) → Refusal → Type 0
+ReadingErrors most named old new NoChip = ProbeErrors named old new Probes.NoChip
+ReadingErrors most named old new (UnknownChip fault) = ProbeErrors named old new (Probes.UnknownChip fault)
+ReadingErrors most named old new OtherName = ProbeErrors named old new Probes.OtherName
+ReadingErrors most named old new Stopped = RanOut most old new
+ReadingErrors most named old new (Timeout address) = ⊥
+ReadingErrors most named old new _ = Rested old new

@@ -2,21 +2,21 @@
 use Rattle.std.specs.Prelude.{◌≡◌, ◌<◌, ◌≤◌, ◌+◌, ◌↔◌, ℕ, true, false, Option, MatchOption, ⊤}
 use Rattle.std.specs.Prelude.{Result, IfOk, IfErr, OnOk}
 use Rattle.nor_chip.specs.Chip.{Chip, is_locked}
-use Rattle.nor_chip.specs.Guard.{code_of, is_guarded, is_undefined}
+use Rattle.nor_chip.specs.Guard.{code_of, is_protected, is_undefined}
 use Rattle.nor_chip.specs.Size.{is_chip_size}
 use Rattle.nor_chip.specs.Bus.{BusState}
-use Rattle.nor_driver.specs.Looks.{Looks, Rested}
+use Rattle.nor_driver.specs.OnlyReads.{OnlyReads, Rested}
 use Rattle.nor_probe.specs.declared.table.ChipName.{ChipName}
 use Rattle.nor_call.specs.declared.refusal.Refusal.{Refusal}
 use Rattle.nor_call.specs.declared.refusal.Refusal.TheVariants.{NoProtection}
 use Rattle.nor_read.specs.declared.protection.Protection.{Protection}
-use Rattle.nor_read.specs.Finding.{IsNamed, IsFindRefusal, ReadingTells, most_status}
+use Rattle.nor_read.specs.Finding.{IsNamed, IsFindRefusal, ReadingErrors, most_status}
 
 -- Holds if the chip's protection bits are defined, and the protected addresses are exactly the `len` bytes from `start`
 -- on. An empty range starts at 0.
-pub record IsGuardedRange (chip : Chip) (start len : ℕ) : Type 0 where
+pub record IsProtectedRange (chip : Chip) (start len : ℕ) : Type 0 where
   pub defined : is_undefined (code_of chip.kept) ≡ false
-  pub exactly : (a : ℕ) → (is_guarded chip a ≡ true) ↔ ((start ≤ a) × (a < start + len))
+  pub exactly : (a : ℕ) → (is_protected chip a ≡ true) ↔ ((start ≤ a) × (a < start + len))
   pub plain : len ≡ 0 → start ≡ 0
 
 -- Holds if the report matches a chip with block protection: its protected range, or `None` if its protection bits are
@@ -24,7 +24,7 @@ pub record IsGuardedRange (chip : Chip) (start len : ℕ) : Type 0 where
 pub record IsProtection (chip : Chip) (protection : Protection) : Type 0 where
   pub scheme : chip.config.scheme ≡ true
   pub guarded : MatchOption protection.range (is_undefined (code_of chip.kept) ≡ true)
-      (λ places. IsGuardedRange chip places.0 places.1)
+      (λ places. IsProtectedRange chip places.0 places.1)
   pub lock : protection.locked ≡ is_locked chip.kept
   pub chip_size : protection.size ≡ chip.config.size
 
@@ -38,13 +38,13 @@ IsProtectionRefusal refusal = IsFindRefusal refusal
 -- The promises of `wp_status` on every bus.
 pub record ProtectionAlways (old new : BusState) (result : Result Protection Refusal) : Type 0 where
   -- No modifying command was sent, and on a well-behaved bus at most 65,541 transactions.
-  pub looks : Looks most_status old new
+  pub only_reads : OnlyReads most_status old new
   -- The size is one that a chip may have.
   pub sized : IfOk result (λ protection. is_chip_size protection.size ≡ true)
   -- An error is one of those that `wp_status` may return.
   pub refuses : IfErr result IsProtectionRefusal
   -- The call succeeds only if the last poll showed ready.
-  pub heard : OnOk result (new.heard ≡ true)
+  pub polled_ready : OnOk result (new.polled_ready ≡ true)
 
 -- The promises of `wp_status` on a well-behaved bus.
 pub record ProtectionHonest (named : Option ChipName) (old new : BusState)
@@ -55,20 +55,20 @@ pub record ProtectionHonest (named : Option ChipName) (old new : BusState)
   pub idle : OnOk result (new.chip.busy ≡ 0)
   -- After success the chip has the requested name.
   pub is : OnOk result (IsNamed named old.chip.config)
-  -- An error means what `ReadingTells` says. After any error except a stop, contents and non-volatile status bits are
+  -- An error means what `ReadingErrors` says. After any error except a stop, contents and non-volatile status bits are
   -- as before.
-  pub tells : IfErr result (ReadingTells most_status named old new)
+  pub errors : IfErr result (ReadingErrors most_status named old new)
 
--- The meaning of error 6 on a modelled bus: the chip has the requested name, and no block protection. `ReadingTells`
+-- The meaning of error 6 on a modelled bus: the chip has the requested name, and no block protection. `ReadingErrors`
 -- has the meaning of the probe's errors.
-abbrev pub ProtectionTells : Option ChipName → Chip → Refusal → Type 0
-ProtectionTells named chip NoProtection = IsNamed named chip.config × (chip.config.scheme ≡ false)
-ProtectionTells named chip _ = ⊤
+abbrev pub ProtectionErrors : Option ChipName → Chip → Refusal → Type 0
+ProtectionErrors named chip NoProtection = IsNamed named chip.config × (chip.config.scheme ≡ false)
+ProtectionErrors named chip _ = ⊤
 
 -- The promises of `wp_status` on a modelled bus.
 pub record ProtectionModelled (named : Option ChipName) (old : BusState)
     (result : Result Protection Refusal) : Type 0 where
   -- The report matches the chip.
-  pub told : IfOk result (IsProtection old.chip)
+  pub returned : IfOk result (IsProtection old.chip)
   -- Error 6 means that the chip has no block protection.
-  pub tells : IfErr result (ProtectionTells named old.chip)
+  pub errors : IfErr result (ProtectionErrors named old.chip)

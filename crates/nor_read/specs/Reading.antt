@@ -2,7 +2,7 @@
 use Rattle.std.specs.Prelude.{◌≡◌, ◌≤◌, ◌<◌, ◌+◌, ◌*◌, ◌/◌, ◌++◌, ℕ, true, if◌then◌else◌, ⊤}
 use Rattle.std.specs.Prelude.{Option, Result, IfOk, IfErr, OnOk, List, length, slice_index}
 use Rattle.nor_chip.specs.Bus.{BusState}
-use Rattle.nor_driver.specs.Looks.{Looks, Rested, RanOut, RanOutIfHonest, IsOpen}
+use Rattle.nor_driver.specs.OnlyReads.{OnlyReads, Rested, RanOut, RanOutIfHonest, IsOpen}
 use Rattle.nor_journal.specs.Vault.{VaultState, PutRefused, Refused, Accepted}
 use Rattle.nor_driver.specs.Ready.{StaysReady}
 use Rattle.nor_layout.specs.declared.ranges.Span.{Span}
@@ -13,7 +13,7 @@ use Rattle.nor_probe.specs.Found.{IsConfigOf}
 use Rattle.nor_call.specs.declared.refusal.Refusal.{Refusal}
 use Rattle.nor_call.specs.declared.refusal.Refusal.TheVariants.{RegionOutside, Stopped, Output}
 use Rattle.nor_call.specs.declared.report.Report.{Report}
-use Rattle.nor_read.specs.Finding.{IsPassed, IsTaken, ReportsPart, ReportsReads, IsFindRefusal, ReadingTells, most_read}
+use Rattle.nor_read.specs.Finding.{IsPassed, IsTaken, ReportsPart, ReportsReads, IsFindRefusal, ReadingErrors, most_read}
 
 -- the byte at an address of the copy: the chip's if the address is included, otherwise FFh
 abbrev pub copied : Option (List Span) → (ℕ → ℕ) → ℕ → ℕ
@@ -61,7 +61,7 @@ pub record ReadOutAlways (named : Option ChipName) (included : Option (List Span
     (vault vault' : VaultState) (result : Result Report Refusal) : Type 0 where
   -- No modifying command was sent, and on a well-behaved bus no more transactions than the call takes for the largest
   -- chip, of 16 MiB.
-  pub looks : Looks (most_read 16777216) old new
+  pub only_reads : OnlyReads (most_read 16777216) old new
   -- The report has a chip with the requested name, and counts no change.
   pub reports : IfOk result (ReportsPart named)
   -- No included address is past the end of the chip that was found.
@@ -71,7 +71,7 @@ pub record ReadOutAlways (named : Option ChipName) (included : Option (List Span
   -- An error is one of those that `read_out` may return, and error 19 has the number of bytes that the vault accepted.
   pub refuses : IfErr result (IsReadRefusal vault vault')
   -- The call succeeds only if the last poll showed ready.
-  pub heard : OnOk result (new.heard ≡ true)
+  pub polled_ready : OnOk result (new.polled_ready ≡ true)
 
 -- The promises of `read_out` on a well-behaved bus.
 pub record ReadOutHonest (named : Option ChipName) (included : Option (List Span)) (old new : BusState)
@@ -79,9 +79,9 @@ pub record ReadOutHonest (named : Option ChipName) (included : Option (List Span
   -- Each sector with an included address was read once, contents and non-volatile status bits are as before, and the
   -- chip is idle.
   pub reports : IfOk result (λ report. ReportsReads (sectors_included included report.found.size) old new report)
-  -- An error means what `ReadingTells` says. After any error except a stop, contents and non-volatile status bits are
+  -- An error means what `ReadingErrors` says. After any error except a stop, contents and non-volatile status bits are
   -- as before.
-  pub tells : IfErr result (ReadingTells (most_read 16777216) named old new)
+  pub errors : IfErr result (ReadingErrors (most_read 16777216) named old new)
 
 -- Holds if the vault refused a piece, though the chip has the requested name and all included addresses. A `telling`
 -- vault then has the first `written` bytes of the copy, at most the size of the chip.
@@ -91,19 +91,19 @@ pub record BreaksOff (named : Option ChipName) (included : Option (List Span)) (
   pub within : written ≤ old.chip.config.size
   pub copy : vault.telling ≡ true → Copies included old.chip.bytes written vault vault'
 
--- The meaning of errors on a modelled bus. `ReadingTells` has the meaning of the probe's errors.
-abbrev pub ReadOutTells : Option ChipName → Option (List Span) → (old new : BusState) → (vault vault' : VaultState)
+-- The meaning of errors on a modelled bus. `ReadingErrors` has the meaning of the probe's errors.
+abbrev pub ReadOutErrors : Option ChipName → Option (List Span) → (old new : BusState) → (vault vault' : VaultState)
     → Refusal → Type 0
-ReadOutTells named included old new vault vault' RegionOutside = IsPassed named included old.chip.config
-ReadOutTells named included old new vault vault' Stopped = RanOut (most_read old.chip.config.size) old new
-ReadOutTells named included old new vault vault' (Output written) = BreaksOff named included written old vault vault'
-ReadOutTells named included old new vault vault' _ = ⊤
+ReadOutErrors named included old new vault vault' RegionOutside = IsPassed named included old.chip.config
+ReadOutErrors named included old new vault vault' Stopped = RanOut (most_read old.chip.config.size) old new
+ReadOutErrors named included old new vault vault' (Output written) = BreaksOff named included written old vault vault'
+ReadOutErrors named included old new vault vault' _ = ⊤
 
 -- The promises of `read_out` on a modelled bus.
 pub record ReadOutModelled (named : Option ChipName) (included : Option (List Span)) (old new : BusState)
     (vault vault' : VaultState) (result : Result Report Refusal) : Type 0 where
   -- No more transactions were sent than the call takes for a chip of this size.
-  pub looks : Looks (most_read old.chip.config.size) old new
+  pub only_reads : OnlyReads (most_read old.chip.config.size) old new
   -- The report has the chip's configuration.
   pub config : IfOk result (λ report. IsConfigOf old.chip.config report.found)
   -- A `telling` vault has the chip's included bytes, and FFh for all others.
@@ -111,7 +111,7 @@ pub record ReadOutModelled (named : Option ChipName) (included : Option (List Sp
       → Copies included old.chip.bytes old.chip.config.size vault vault')
   -- Error 5 means that an included address isn't on the chip, error 12 that too few transactions were left. Error 19
   -- has the number of bytes that were copied.
-  pub tells : IfErr result (ReadOutTells named included old new vault vault')
+  pub errors : IfErr result (ReadOutErrors named included old new vault vault')
 
 -- ---- piece by piece, and each of these sector by sector
 
@@ -120,7 +120,7 @@ pub record ReadOutModelled (named : Option ChipName) (included : Option (List Sp
 pub record ReadsPart (included : Option (List Span)) (sector : ℕ) (bytes : List ℕ) (old new : BusState)
     (reads : ℕ) : Type 0 where
   pub counted : reads ≡ (if has_in_sector (includes included) sector then 1 else 0)
-  pub heard : StaysReady old new
+  pub polled_ready : StaysReady old new
   pub rested : old.honest ≡ true → Rested old new
   pub fell : old.honest ≡ true → old.left ≡ new.left + reads
   pub right : old.honest ≡ true → old.chip.busy ≡ 0 → 4096 * (sector + 1) ≤ old.chip.config.size
@@ -133,7 +133,7 @@ pub record ReadsPiece (included : Option (List Span)) (piece : ℕ) (bytes : Lis
   pub counted : count_below (16 * piece + 16) (has_in_sector (includes included))
       ≡ count_below (16 * piece) (has_in_sector (includes included)) + reads
   pub most : reads ≤ 16
-  pub heard : StaysReady old new
+  pub polled_ready : StaysReady old new
   pub rested : old.honest ≡ true → Rested old new
   pub fell : old.honest ≡ true → old.left ≡ new.left + reads
   pub right : old.honest ≡ true → old.chip.busy ≡ 0 → 65536 * (piece + 1) ≤ old.chip.config.size
@@ -143,7 +143,7 @@ pub record ReadsPiece (included : Option (List Span)) (piece : ℕ) (bytes : Lis
 pub record ReadsAll (included : Option (List Span)) (size : ℕ) (old new : BusState) (vault vault' : VaultState)
     (reads : ℕ) : Type 0 where
   pub counted : reads ≡ sectors_included included size
-  pub heard : StaysReady old new
+  pub polled_ready : StaysReady old new
   pub rested : old.honest ≡ true → Rested old new
   pub fell : old.honest ≡ true → old.left ≡ new.left + reads
   pub took : TakesWhole size vault vault'
@@ -158,14 +158,14 @@ pub record BreaksCopy (included : Option (List Span)) (size written : ℕ) (old 
   pub copy : IsOpen size old → vault.telling ≡ true → Copies included old.chip.bytes written vault vault'
 
 -- The meaning of an error of the copy. After a stop the vault has refused nothing.
-abbrev pub CopyTells : Option (List Span) → ℕ → (old new : BusState) → (vault vault' : VaultState) → Refusal → Type 0
-CopyTells included size old new vault vault' Stopped = RanOutIfHonest (size / 4096) old new × Accepted vault vault'
-CopyTells included size old new vault vault' (Output written) = BreaksCopy included size written old new vault vault'
-CopyTells included size old new vault vault' _ = ⊥
+abbrev pub CopyErrors : Option (List Span) → ℕ → (old new : BusState) → (vault vault' : VaultState) → Refusal → Type 0
+CopyErrors included size old new vault vault' Stopped = RanOutIfHonest (size / 4096) old new × Accepted vault vault'
+CopyErrors included size old new vault vault' (Output written) = BreaksCopy included size written old new vault vault'
+CopyErrors included size old new vault vault' _ = ⊥
 
 -- The meaning of an error when a piece is appended. `written` counts the bytes of the earlier pieces and those that the
 -- vault accepted of this one.
-abbrev pub PutTells : ℕ → List ℕ → (old new : VaultState) → Refusal → Type 0
-PutTells piece bytes old new (Output written) =
+abbrev pub PutErrors : ℕ → List ℕ → (old new : VaultState) → Refusal → Type 0
+PutErrors piece bytes old new (Output written) =
     (kept : ℕ) × (written ≡ 65536 * piece + kept) × PutRefused old bytes kept new
-PutTells piece bytes old new _ = ⊥
+PutErrors piece bytes old new _ = ⊥

@@ -4,7 +4,7 @@ use Rattle.std.specs.Prelude.{Option, Result, IfOk, IfErr, OnOk, List, length, s
 use Rattle.nor_chip.specs.declared.config.Config.{Config}
 use Rattle.nor_chip.specs.Chip.{Chip}
 use Rattle.nor_chip.specs.Bus.{BusState}
-use Rattle.nor_driver.specs.Looks.{Looks, Rested, RanOut, IsOpen}
+use Rattle.nor_driver.specs.OnlyReads.{OnlyReads, Rested, RanOut, IsOpen}
 use Rattle.nor_driver.specs.Ready.{StaysReady}
 use Rattle.nor_layout.specs.declared.ranges.Span.{Span}
 use Rattle.nor_layout.specs.Sectors.{includes, has_in_sector, sectors_included, FitsInto}
@@ -15,7 +15,7 @@ use Rattle.nor_call.specs.declared.refusal.Refusal.TheVariants.{ImageSize, Regio
 use Rattle.nor_call.specs.declared.report.Report.{Report}
 use Rattle.nor_read.specs.declared.verifying.Compared.{Compared}
 use Rattle.nor_read.specs.Finding.{IsNamed, IsPassed, IsTaken, most_read}
-use Rattle.nor_read.specs.Finding.{ReportsPart, ReportsReads, IsFindRefusal, ReadingTells}
+use Rattle.nor_read.specs.Finding.{ReportsPart, ReportsReads, IsFindRefusal, ReadingErrors}
 
 -- Holds if each included byte from `from` up to but not including `to` equals the image's.
 abbrev pub AgreeIn : Option (List Span) → List ℕ → (ℕ → ℕ) → (from to : ℕ) → Type 0
@@ -61,7 +61,7 @@ pub record VerifyAlways (named : Option ChipName) (included : Option (List Span)
     (result : Result Report Refusal) : Type 0 where
   -- No modifying command was sent, and on a well-behaved bus no more transactions than the call takes for the largest
   -- chip, of 16 MiB.
-  pub looks : Looks (most_read 16777216) old new
+  pub only_reads : OnlyReads (most_read 16777216) old new
   -- The report has a chip with the requested name, and counts no change.
   pub reports : IfOk result (ReportsPart named)
   -- No included address is past the end of the chip that was found.
@@ -71,7 +71,7 @@ pub record VerifyAlways (named : Option ChipName) (included : Option (List Span)
   -- An error is one of those that `verify` may return.
   pub refuses : IfErr result IsVerifyRefusal
   -- The call succeeds only if the last poll showed ready.
-  pub heard : OnOk result (new.heard ≡ true)
+  pub polled_ready : OnOk result (new.polled_ready ≡ true)
 
 -- The promises of `verify` on a well-behaved bus.
 pub record VerifyHonest (named : Option ChipName) (included : Option (List Span)) (old new : BusState)
@@ -79,54 +79,54 @@ pub record VerifyHonest (named : Option ChipName) (included : Option (List Span)
   -- Each sector with an included address was read once, contents and non-volatile status bits are as before, and the
   -- chip is idle.
   pub reports : IfOk result (λ report. ReportsReads (sectors_included included report.found.size) old new report)
-  -- An error means what `ReadingTells` says. After any error except a stop, contents and non-volatile status bits are
+  -- An error means what `ReadingErrors` says. After any error except a stop, contents and non-volatile status bits are
   -- as before.
-  pub tells : IfErr result (ReadingTells (most_read 16777216) named old new)
+  pub errors : IfErr result (ReadingErrors (most_read 16777216) named old new)
 
--- The meaning of errors on a modelled bus. `ReadingTells` has the meaning of the probe's errors.
-abbrev pub VerifyTells : Option ChipName → Option (List Span) → List ℕ → (old new : BusState) → Refusal → Type 0
-VerifyTells named included image old new (ImageSize chip len) = IsOtherSize named image old.chip.config chip len
-VerifyTells named included image old new RegionOutside =
+-- The meaning of errors on a modelled bus. `ReadingErrors` has the meaning of the probe's errors.
+abbrev pub VerifyErrors : Option ChipName → Option (List Span) → List ℕ → (old new : BusState) → Refusal → Type 0
+VerifyErrors named included image old new (ImageSize chip len) = IsOtherSize named image old.chip.config chip len
+VerifyErrors named included image old new RegionOutside =
     IsPassed named included old.chip.config × (length image ≡ old.chip.config.size)
-VerifyTells named included image old new Stopped = RanOut (most_read old.chip.config.size) old new
-VerifyTells named included image old new (Mismatch address) = IsMismatch named included image old.chip address
-VerifyTells named included image old new _ = ⊤
+VerifyErrors named included image old new Stopped = RanOut (most_read old.chip.config.size) old new
+VerifyErrors named included image old new (Mismatch address) = IsMismatch named included image old.chip address
+VerifyErrors named included image old new _ = ⊤
 
 -- The promises of `verify` on a modelled bus.
 pub record VerifyModelled (named : Option ChipName) (included : Option (List Span)) (image : List ℕ)
     (old new : BusState) (result : Result Report Refusal) : Type 0 where
   -- No more transactions were sent than the call takes for a chip of this size.
-  pub looks : Looks (most_read old.chip.config.size) old new
+  pub only_reads : OnlyReads (most_read old.chip.config.size) old new
   -- The report has the chip's configuration.
   pub config : IfOk result (λ report. IsConfigOf old.chip.config report.found)
   -- Each included byte equals the image's.
   pub equal : IfOk result (λ report. AgreeIn included image old.chip.bytes 0 old.chip.config.size)
   -- Error 4 means that the image has another size, error 5 that an included address isn't on the chip, error 12 that
   -- too few transactions were left. Error 14 has the first included address that differs.
-  pub tells : IfErr result (VerifyTells named included image old new)
+  pub errors : IfErr result (VerifyErrors named included image old new)
 
 -- ---- sector by sector
 
 -- Holds if the result is the first difference in this range, or `None` if there is none.
-abbrev pub TellsFirst : Option (List Span) → List ℕ → (ℕ → ℕ) → (from to : ℕ) → Option ℕ → Type 0
-TellsFirst included image content from to first =
+abbrev pub FindsFirst : Option (List Span) → List ℕ → (ℕ → ℕ) → (from to : ℕ) → Option ℕ → Type 0
+FindsFirst included image content from to first =
     MatchOption first (AgreeIn included image content from to) (IsFirstOther included image content from to)
 
 -- Holds after a sector was compared, with one transaction if it has an included address and with none otherwise.
 pub record ComparesPart (included : Option (List Span)) (image : List ℕ) (sector : ℕ) (old new : BusState)
     (compared : Compared) : Type 0 where
   pub counted : compared.reads ≡ (if has_in_sector (includes included) sector then 1 else 0)
-  pub heard : StaysReady old new
+  pub polled_ready : StaysReady old new
   pub rested : old.honest ≡ true → Rested old new
   pub fell : old.honest ≡ true → old.left ≡ new.left + compared.reads
-  pub tells : old.honest ≡ true → old.chip.busy ≡ 0 → 4096 * (sector + 1) ≤ old.chip.config.size
-      → TellsFirst included image old.chip.bytes (4096 * sector) (4096 * (sector + 1)) compared.first
+  pub errors : old.honest ≡ true → old.chip.busy ≡ 0 → 4096 * (sector + 1) ≤ old.chip.config.size
+      → FindsFirst included image old.chip.bytes (4096 * sector) (4096 * (sector + 1)) compared.first
 
 -- Holds after all sectors were compared.
 pub record ComparesAll (included : Option (List Span)) (image : List ℕ) (size : ℕ) (old new : BusState)
     (compared : Compared) : Type 0 where
   pub counted : compared.reads ≡ sectors_included included size
-  pub heard : StaysReady old new
+  pub polled_ready : StaysReady old new
   pub rested : old.honest ≡ true → Rested old new
   pub fell : old.honest ≡ true → old.left ≡ new.left + compared.reads
-  pub tells : IsOpen size old → TellsFirst included image old.chip.bytes 0 size compared.first
+  pub errors : IsOpen size old → FindsFirst included image old.chip.bytes 0 size compared.first

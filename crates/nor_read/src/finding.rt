@@ -1,8 +1,8 @@
 //! How each call begins and ends: it finds the chip, and makes its report.
 ghost use Rattle.std.specs.Prelude.{◌≡◌, ◌≤◌, ◌+◌, IfOk, IfErr};
-ghost use Rattle.nor_driver.specs.Looks.{Looks};
+ghost use Rattle.nor_driver.specs.OnlyReads.{OnlyReads};
 ghost use Rattle.nor_probe.specs.Found.{most_probe};
-ghost use Rattle.nor_call.specs.Tells.{OpeningTells};
+ghost use Rattle.nor_call.specs.Tells.{IdentificationErrors};
 ghost use Rattle.nor_read.specs.Finding.{HasFound};
 
 use nor_call::{Refusal, Report};
@@ -14,9 +14,9 @@ use nor_probe::{ChipName, Probed, probe_counted};
 /// Returns error 1 (no chip), 2 (unknown chip), 3 (other name), 12 (the bus stopped) or 13 with address 0 (the chip
 /// stayed busy; not on a well-behaved bus).
 pub fn find<B: Bus>(bus: &mut B, named: Option<ChipName>) -> Result<Probed, Refusal>
-    ensures leaves { Looks most_probe (B.state bus.old) (B.state bus.new) }
+    ensures leaves { OnlyReads most_probe (B.state bus.old) (B.state bus.new) }
     ensures finds { IfOk result (HasFound named (B.state bus.old) (B.state bus.new)) }
-    ensures tells { IfErr result (OpeningTells most_probe named (B.state bus.old) (B.state bus.new)) }
+    ensures errors { IfErr result (IdentificationErrors most_probe named (B.state bus.old) (B.state bus.new)) }
 {
     let probed = probe_counted(bus, named)?;
     Ok(probed)

@@ -5,7 +5,7 @@ ghost use Rattle.nor_read.specs.Protecting.{ProtectionAlways, ProtectionHonest, 
 
 use crate::finding::find;
 use nor_call::Refusal;
-use nor_chip::{Bus, Status, guarded_range};
+use nor_chip::{Bus, Status, protected_range};
 use nor_driver::read_status2;
 use nor_probe::ChipName;
 
@@ -39,7 +39,7 @@ pub fn wp_status<B: Bus>(bus: &mut B, named: Option<ChipName>) -> Result<Protect
     }
     let status = Status::of([found.status1, status2]);
     Ok(Protection {
-        range: guarded_range(status, found.size),
+        range: protected_range(status, found.size),
         locked: status.is_locked(),
         size: found.size,
     })

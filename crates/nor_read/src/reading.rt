@@ -1,11 +1,11 @@
 //! Copies a chip to a vault.
 ghost use Rattle.std.specs.Prelude.{◌≡◌, ◌<◌, ◌/◌, true, false, length, IfOk, IfErr, OnOk, OnErr, IsTrue, option_copied};
 ghost use Rattle.nor_chip.specs.Size.{is_chip_size};
-ghost use Rattle.nor_driver.specs.Looks.{Looks, RanOutIfHonest};
+ghost use Rattle.nor_driver.specs.OnlyReads.{OnlyReads, RanOutIfHonest};
 ghost use Rattle.nor_journal.specs.Vault.{Took};
 ghost use Rattle.nor_read.specs.Finding.{IsModelled};
 ghost use Rattle.nor_read.specs.Reading.{ReadOutAlways, ReadOutHonest, ReadOutModelled};
-ghost use Rattle.nor_read.specs.Reading.{ReadsPart, ReadsPiece, ReadsAll, CopyTells, PutTells};
+ghost use Rattle.nor_read.specs.Reading.{ReadsPart, ReadsPiece, ReadsAll, CopyErrors, PutErrors};
 
 use crate::finding::{find, report};
 use nor_call::{Refusal, Report};
@@ -59,10 +59,10 @@ fn copy_all<B: Bus, V: Vault>(
 ) -> Result<u32, Refusal>
     requires sized { IsTrue (is_chip_size size) }
     requires unsealed { (V.state out.old).sealed ≡ false }
-    ensures leaves { Looks (size / 4096) (B.state bus.old) (B.state bus.new) }
+    ensures leaves { OnlyReads (size / 4096) (B.state bus.old) (B.state bus.new) }
     ensures reads { IfOk result (ReadsAll (option_copied included.entry) size
         (B.state bus.old) (B.state bus.new) (V.state out.old) (V.state out.new)) }
-    ensures tells { IfErr result (CopyTells (option_copied included.entry) size
+    ensures errors { IfErr result (CopyErrors (option_copied included.entry) size
         (B.state bus.old) (B.state bus.new) (V.state out.old) (V.state out.new)) }
 {
     let mut reads = 0;
@@ -82,7 +82,7 @@ fn read_piece<B: Bus>(
     bytes: &mut [u8; PIECE_LEN],
 ) -> Result<u32, Stopped>
     requires { piece < 256 }
-    ensures leaves { Looks 16 (B.state bus.old) (B.state bus.new) }
+    ensures leaves { OnlyReads 16 (B.state bus.old) (B.state bus.new) }
     ensures reads { IfOk result
         (ReadsPiece (option_copied included.entry) piece bytes.new (B.state bus.old) (B.state bus.new)) }
     ensures stops { OnErr result (RanOutIfHonest 16 (B.state bus.old) (B.state bus.new)) }
@@ -105,7 +105,7 @@ fn read_part<B: Bus>(
 ) -> Result<u32, Stopped>
     requires reachable { sector < 4096 }
     requires whole { length bytes.old ≡ 4096 }
-    ensures leaves { Looks 1 (B.state bus.old) (B.state bus.new) }
+    ensures leaves { OnlyReads 1 (B.state bus.old) (B.state bus.new) }
     ensures reads { IfOk result
         (ReadsPart (option_copied included.entry) sector bytes.new (B.state bus.old) (B.state bus.new)) }
     ensures stops { OnErr result (RanOutIfHonest 1 (B.state bus.old) (B.state bus.new)) }
@@ -124,7 +124,7 @@ fn put_piece<V: Vault>(out: &mut V, piece: u32, bytes: &[u8; PIECE_LEN]) -> Resu
     requires reachable { piece < 256 }
     requires unsealed { (V.state out.old).sealed ≡ false }
     ensures takes { OnOk result (Took (V.state out.old) bytes.now (V.state out.new)) }
-    ensures tells { IfErr result (PutTells piece bytes.now (V.state out.old) (V.state out.new)) }
+    ensures errors { IfErr result (PutErrors piece bytes.now (V.state out.old) (V.state out.new)) }
 {
     out.put(bytes).map_err(|fault| Refusal::Output {
         written: PIECE_LEN as u64 * u64::from(piece) + fault.kept as u64,

@@ -1,11 +1,11 @@
 //! Compares a chip with an image.
 ghost use Rattle.std.specs.Prelude.{◌≡◌, ◌<◌, ◌≤◌, ◌+◌, ◌*◌, ◌/◌, ℕ, true, length, IfOk, OnErr, IsTrue, option_copied};
 ghost use Rattle.nor_chip.specs.Size.{is_chip_size};
-ghost use Rattle.nor_driver.specs.Looks.{Looks, RanOutIfHonest};
+ghost use Rattle.nor_driver.specs.OnlyReads.{OnlyReads, RanOutIfHonest};
 ghost use Rattle.nor_layout.specs.Sectors.{AreOfSector};
 ghost use Rattle.nor_read.specs.Finding.{IsModelled};
 ghost use Rattle.nor_read.specs.Verifying.{VerifyAlways, VerifyHonest, VerifyModelled};
-ghost use Rattle.nor_read.specs.Verifying.{ComparesPart, ComparesAll, TellsFirst};
+ghost use Rattle.nor_read.specs.Verifying.{ComparesPart, ComparesAll, FindsFirst};
 
 use crate::finding::{find, report};
 use nor_call::{Refusal, Report};
@@ -69,7 +69,7 @@ fn compare_all<B: Bus>(
 ) -> Result<Compared, Stopped>
     requires sized { IsTrue (is_chip_size size) }
     requires whole { length image.now ≡ size }
-    ensures leaves { Looks (size / 4096) (B.state bus.old) (B.state bus.new) }
+    ensures leaves { OnlyReads (size / 4096) (B.state bus.old) (B.state bus.new) }
     ensures compares { IfOk result
         (ComparesAll (option_copied included.entry) image.now size (B.state bus.old) (B.state bus.new)) }
     ensures stops { OnErr result (RanOutIfHonest (size / 4096) (B.state bus.old) (B.state bus.new)) }
@@ -95,7 +95,7 @@ fn compare_part<B: Bus>(
 ) -> Result<Compared, Stopped>
     requires reachable { sector < 4096 }
     requires inside { 4096 * sector + 4096 ≤ length image.now }
-    ensures leaves { Looks 1 (B.state bus.old) (B.state bus.new) }
+    ensures leaves { OnlyReads 1 (B.state bus.old) (B.state bus.new) }
     ensures compares { IfOk result
         (ComparesPart (option_copied included.entry) image.now sector (B.state bus.old) (B.state bus.new)) }
     ensures stops { OnErr result (RanOutIfHonest 1 (B.state bus.old) (B.state bus.new)) }
@@ -122,7 +122,7 @@ fn first_other(
     requires reachable { sector < 4096 }
     requires inside { 4096 * sector + 4096 ≤ length image.now }
     ensures { (content : ℕ → ℕ) → AreOfSector content sector bytes.old
-        → TellsFirst (option_copied included.entry) image.now content (4096 * sector) (4096 * (sector + 1)) result }
+        → FindsFirst (option_copied included.entry) image.now content (4096 * sector) (4096 * (sector + 1)) result }
 {
     let start = (SECTOR_LEN * sector) as usize;
     let part = &image[start..start + SECTOR_LEN as usize];

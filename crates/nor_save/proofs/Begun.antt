@@ -4,7 +4,7 @@ use Rattle.std.proofs.lemmas.Bool.Decides.{nat_tests}
 use Rattle.std.specs.Prelude.{Result, Ok, Err, IfErr, IsErrAnd}
 use Rattle.std.specs.Option.{is_some}
 use Rattle.nor_journal.specs.declared.writer.Writer.{Writer}
-use Rattle.nor_journal.specs.Text.{Content, MayFollow, SameHead, next_number, empty_content, with_sector}
+use Rattle.nor_journal.specs.Text.{Content, MayFollow, SameHeader, next_number, empty_content, with_sector}
 use Rattle.nor_journal.specs.Vault.{VaultState, Accepted}
 use Rattle.nor_journal.specs.Saved.{Saves, HasOneMore, IsWholeSector, is_saved}
 use Rattle.nor_journal.specs.Writer.{vault_of, vault_seen, HasWritten, HasPutSectors}
@@ -13,7 +13,7 @@ use Rattle.nor_journal.proofs.Saved.{next_number-with_sector}
 use Rattle.nor_journal.proofs.Saves.{Saves-same, Saves-more}
 use Rattle.nor_call.specs.declared.refusal.Refusal.{Refusal}
 use Rattle.nor_chip.specs.Bus.{BusState}
-use Rattle.nor_driver.specs.Looks.{IsOpen}
+use Rattle.nor_driver.specs.OnlyReads.{IsOpen}
 use Rattle.nor_save.specs.Scanning.{HasBegun, HasBegunWith}
 use Rattle.nor_plan.specs.SectorSet.{none}
 
@@ -23,13 +23,13 @@ pub record HasAdded {V : Type 0} (state : V → VaultState) (writer : Writer V) 
     (chip : ℕ → ℕ) (saved : ℕ → Bool) (n : ℕ) : Type 0 where
   pub content : Content
   pub written : HasWritten state writer content
-  pub same : SameHead first content
+  pub same : SameHeader first content
   pub next : next_number content ≤ n
   pub set : ((s : ℕ) → is_saved first s ≡ false) → (s : ℕ) → is_saved content s ≡ saved s
   pub saves : known → Saves chip none first → Saves chip saved content
 
 -- Equal headers have the same size.
-size_of : (one other : Content) → SameHead one other → one.size ≡ other.size
+size_of : (one other : Content) → SameHeader one other → one.size ≡ other.size
 size_of one other same = ap (λ (c : Content). c.size) same
 
 -- Holds if the writer has the same vault as before, which refused nothing. If the writer had only a header before, it

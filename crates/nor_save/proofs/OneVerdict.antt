@@ -7,7 +7,7 @@ use Rattle.std.specs.Option.{is_some}
 use Rattle.std.specs.Prelude.{MatchBool, MatchOption}
 use Rattle.std.proofs.lemmas.Bool.{and_parts, both_ways, true_from_ne_false}
 use Rattle.nor_chip.specs.Chip.{Chip, is_locked}
-use Rattle.nor_chip.specs.Guard.{code_of, is_undefined, is_unit_guarded}
+use Rattle.nor_chip.specs.Guard.{code_of, is_undefined, is_block_protected}
 use Rattle.nor_chip.specs.Offer.{IsLeastCode}
 use Rattle.nor_plan.specs.Content.{is_touched}
 use Rattle.nor_layout.specs.Sectors.{ReachesPast}
@@ -19,10 +19,10 @@ use Rattle.nor_call.specs.declared.request.What.{What}
 use Rattle.nor_call.specs.declared.request.What.TheVariants.{WpRange}
 use Rattle.nor_call.specs.declared.refusal.Refusal.{Refusal}
 use Rattle.nor_call.specs.declared.refusal.Refusal.TheVariants.{NoChip, UnknownChip, OtherName, ImageSize, RegionOutside, NoProtection, UndefinedProtection, RangeNotOffered, StatusLocked, Protected}
-use Rattle.nor_call.specs.Refusal.{number_of}
+use Rattle.nor_call.specs.Refusal.{refusal_number}
 use Rattle.nor_call.specs.Request.{is_data, IsWantedCode, wanted}
-use Rattle.nor_save.specs.Saving.{AsksForNone, NeedsStatus, NoneHeld, SomeHeld, IsLeastHeld, is_held}
-use Rattle.nor_save.specs.Verdict.{IsNamed, NeedsStatusWrite, RefusalHolds, IsVerdict, IsAccepted, NoneHoldsTo, OpeningAccepts, ScanAccepts}
+use Rattle.nor_save.specs.Saving.{AsksForNone, NeedsStatus, NoneProtected, SomeProtected, IsLeastProtected, is_touched_protected}
+use Rattle.nor_save.specs.Verdict.{IsNamed, NeedsStatusWrite, RefusalHolds, IsVerdict, IsAccepted, NoneHoldsTo, IdentityAccepts, ScanAccepts}
 use Rattle.nor_save.proofs.Planned.{untouched}
 
 -- ---- what the code checks, in order
@@ -61,14 +61,14 @@ abbrev pub ScanJudges : Request → (code : ℕ) → (touched : ℕ → Bool) �
 ScanJudges request code touched chip StatusLocked =
     (is_locked chip.kept ≡ true) × NeedsStatus request.what request.unlock code touched chip
 ScanJudges request code touched chip (Protected address) =
-    (request.unlock ≡ false) × (sector : ℕ) × (address ≡ 4096 * sector) × IsLeastHeld touched chip sector
+    (request.unlock ≡ false) × (sector : ℕ) × (address ≡ 4096 * sector) × IsLeastProtected touched chip sector
 ScanJudges request code touched chip _ = ⊥
 
 -- Holds if no error of the check after the scan applies, and protection is lifted only if the request allows it and a
 -- touched sector is protected.
 pub record ScanPasses (request : Request) (code : ℕ) (touched : ℕ → Bool) (chip : Chip) (unlock : Bool) : Type 0 where
-  pub lifts : unlock ≡ true → (request.unlock ≡ true) × SomeHeld touched chip
-  pub free : unlock ≡ false → NoneHeld touched chip
+  pub lifts : unlock ≡ true → (request.unlock ≡ true) × SomeProtected touched chip
+  pub free : unlock ≡ false → NoneProtected touched chip
   pub not_locked : is_locked chip.kept ≡ true → ¬ NeedsStatus request.what request.unlock code touched chip
 
 -- ---- the request
@@ -79,14 +79,14 @@ asks_for_range (WpRange start len) chip none = refl
 asks_for_range _ chip none = absurd none
 
 none_or_code : (what : What) (chip : Chip) (code : ℕ) → AsksForNone what chip → ¬ IsWantedCode what chip code
-none_or_code (WpRange start len) chip code none wanted = none code wanted.defined wanted.guards
+none_or_code (WpRange start len) chip code none wanted = none code wanted.defined wanted.protects
 none_or_code _ chip code none wanted = none
 
 -- A range has at most one least value of the protection bits.
 one_least : (size start len x y : ℕ) → IsLeastCode size start len x → IsLeastCode size start len y → x ≡ y
 one_least size start len x y first second =
-    let above = λ (lower : x < y). second.least x lower first.defined first.guards in
-    let below = λ (lower : y < x). first.least y lower second.defined second.guards in
+    let above = λ (lower : x < y). second.least x lower first.defined first.protects in
+    let below = λ (lower : y < x). first.least y lower second.defined second.protects in
     omega arith
 
 needs_same : (what : What) (unlock : Bool) (x y : ℕ) (touched : ℕ → Bool) (chip : Chip) → IsWantedCode what chip x
@@ -127,12 +127,12 @@ pub record IsClear (request : Request) (image : List ℕ) (chip : Chip) (n : ℕ
   pub defined : 7 < n → chip.config.scheme ≡ true → is_undefined (code_of chip.kept) ≡ false
   pub offered : 8 < n → ¬ AsksForNone request.what chip
 
-number_few : (refusal : Refusal) → number_of refusal < 21
+number_few : (refusal : Refusal) → refusal_number refusal < 21
 number_few NoChip = omega arith
 number_few _ = omega arith
 
 module _ {request : Request} {image : List ℕ} {chip : Chip} where
-  none_below : {n : ℕ} (refusal : Refusal) → IsClear request image chip n → number_of refusal < n
+  none_below : {n : ℕ} (refusal : Refusal) → IsClear request image chip n → refusal_number refusal < n
       → ¬ RefusalHolds request image chip refusal
   none_below NoChip is low holds = is.there low holds
   none_below (UnknownChip fault) is low holds = is.known low fault holds
@@ -148,7 +148,7 @@ module _ {request : Request} {image : List ℕ} {chip : Chip} where
   none_below (Protected address) is low holds = let few = is.few in absurd (omega arith)
   none_below _ is low holds = holds
 
-  pub first_of : (refusal : Refusal) → IsClear request image chip (number_of refusal)
+  pub first_of : (refusal : Refusal) → IsClear request image chip (refusal_number refusal)
       → RefusalHolds request image chip refusal → IsVerdict request image chip refusal
   first_of refusal is holds = record { holds = holds; first = λ other. none_below other is }
 
@@ -168,7 +168,7 @@ module _ {request : Request} {image : List ℕ} {chip : Chip} where
   opening_judged _ named judges = absurd judges
 
   pub opening_accepted : {code : ℕ} → IsNamed request.named chip.config
-      → OpeningPasses request (length image) chip code → OpeningAccepts request image chip code
+      → OpeningPasses request (length image) chip code → IdentityAccepts request image chip code
   opening_accepted {code = code} named passes =
       let offered = λ (none : AsksForNone request.what chip).
       none_or_code request.what chip code none passes.is_wanted in
@@ -179,8 +179,8 @@ module _ {request : Request} {image : List ℕ} {chip : Chip} where
 
 -- Some touched sector is protected if and only if the first such sector was found.
 pub held_told : (touched : ℕ → Bool) (chip : Chip) (found : Option ℕ)
-    → MatchOption found (NoneHeld touched chip) (IsLeastHeld touched chip)
-    → MatchBool (is_some found) (SomeHeld touched chip) (NoneHeld touched chip)
+    → MatchOption found (NoneProtected touched chip) (IsLeastProtected touched chip)
+    → MatchBool (is_some found) (SomeProtected touched chip) (NoneProtected touched chip)
 held_told touched chip None none = none
 held_told touched chip (Some s) least = record { sector = s; held = least.is }
 
@@ -190,21 +190,21 @@ module _ (request : Request) (image : List ℕ) (chip : Chip) where
   touches = is_touched chip.bytes (wanted request image chip)
 
   -- If the request needs a status write, it needs one to set the protection bits that the identification accepted.
-  needs_code : {code : ℕ} → OpeningAccepts request image chip code → NeedsStatusWrite request image chip
+  needs_code : {code : ℕ} → IdentityAccepts request image chip code → NeedsStatusWrite request image chip
       → NeedsStatus request.what request.unlock code touches chip
   needs_code accepts needs = needs_same request.what _ needs.0 _ _ chip needs.1 accepts.is_wanted needs.2
 
   -- A request without `unlock` that touches a protected sector needs no status write.
-  never_needed : (s : ℕ) → request.unlock ≡ false → is_held touches chip s ≡ true → ¬ NeedsStatusWrite request image chip
+  never_needed : (s : ℕ) → request.unlock ≡ false → is_touched_protected touches chip s ≡ true → ¬ NeedsStatusWrite request image chip
   never_needed s off held needs =
-      let touched = (and_parts (touches s) (is_unit_guarded chip (4096 * s) 4096) held).0 in
+      let touched = (and_parts (touches s) (is_block_protected chip (4096 * s) 4096) held).0 in
       needs_unlock request.what request.unlock needs.0 _ chip (touched_data request image chip s touched) off needs.2
 
   -- No error below `n` applies if none up to 8 does, and neither 9 nor 10 applies if it is below `n`.
   scan_first : (n : ℕ) (refusal : Refusal) → NoneHoldsTo 8 request image chip
       → (9 < n → ¬ RefusalHolds request image chip StatusLocked)
       → (10 < n → (address : ℕ) → ¬ RefusalHolds request image chip (Protected address))
-      → number_of refusal < n → ¬ RefusalHolds request image chip refusal
+      → refusal_number refusal < n → ¬ RefusalHolds request image chip refusal
   scan_first n StatusLocked clear writable free low holds = writable low holds
   scan_first n (Protected address) clear writable free low holds = free low address holds
   scan_first n NoChip clear writable free low holds = clear NoChip (omega arith) holds
@@ -218,7 +218,7 @@ module _ (request : Request) (image : List ℕ) (chip : Chip) where
   scan_first n _ clear writable free low holds = holds
 
 module _ {request : Request} {image : List ℕ} {chip : Chip} {code : ℕ} {touched : ℕ → Bool}
-    (accepts : OpeningAccepts request image chip code)
+    (accepts : IdentityAccepts request image chip code)
     (same : (s : ℕ) → touched s ≡ is_touched chip.bytes (wanted request image chip) s) where
   pub scan_judged : (refusal : Refusal) → ScanJudges request code touched chip refusal
       → IsVerdict request image chip refusal
@@ -246,7 +246,7 @@ module _ {request : Request} {image : List ℕ} {chip : Chip} {code : ℕ} {touc
       record {
         accepted = λ refusal. scan_first request image chip 21 refusal accepts.clear
             (λ past locked. passes.not_locked locked.0 (needs_code request image chip accepts locked.1))
-            (λ past address held. both_ways (is_held (is_touched chip.bytes (wanted request image chip)) chip held.1)
+            (λ past address held. both_ways (is_touched_protected (is_touched chip.bytes (wanted request image chip)) chip held.1)
             (passes.free (never_lifted request.unlock unlock (λ on. (passes.lifts on).0) held.0) held.1) held.3.is)
             (number_few refusal);
         lifts = passes.lifts;

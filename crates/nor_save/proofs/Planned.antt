@@ -18,7 +18,7 @@ use Rattle.nor_call.specs.declared.request.What.{What}
 use Rattle.nor_call.specs.declared.request.What.TheVariants.{Write, Erase, WpRange}
 use Rattle.nor_call.specs.Request.{is_data, target, is_requested}
 use Rattle.nor_save.specs.Scanning.{wanted_at, ScansSector}
-use Rattle.nor_driver.specs.Looks.{IsOpen}
+use Rattle.nor_driver.specs.OnlyReads.{IsOpen}
 use Rattle.nor_count.specs.Below.{any_below}
 use Rattle.nor_count.proofs.Counting.{any_below-all}
 use Rattle.nor_count.proofs.Verdicts.{any_below-decided}
@@ -41,31 +41,31 @@ as_wanted a b same = not_from_true (a == b) (eq-eqb a b same)
 
 -- A plan's `touched` is whether some byte of the sector differs from the target; its `raised` is whether some bit must
 -- go from 0 to 1.
-verdicts : (here aim : ℕ → ℕ) (plan : SectorPlan) → IsPlan here aim 4096 plan
-    → (plan.touched ≡ any_below 4096 (λ i. is_other (here i) (aim i)))
-    × (plan.raised ≡ any_below 4096 (λ i. must_rise (here i) (aim i)))
-verdicts here aim plan is = (
-  any_below-decided 4096 plan.touched (λ i. is_other (here i) (aim i)) (λ i. here i ≡ aim i → ⊥) (λ i. here i ≡ aim i)
-      (λ i. other (here i) (aim i)) (λ i. as_wanted (here i) (aim i)) is.touched,
-  any_below-decided 4096 plan.raised (λ i. must_rise (here i) (aim i)) (λ i. bit_and (aim i) (here i) ≡ aim i → ⊥)
-      (λ i. bit_and (aim i) (here i) ≡ aim i) (λ i. other (bit_and (aim i) (here i)) (aim i))
-      (λ i. as_wanted (bit_and (aim i) (here i)) (aim i)) is.raised,
+verdicts : (here target_sectors : ℕ → ℕ) (plan : SectorPlan) → IsPlan here target_sectors 4096 plan
+    → (plan.touched ≡ any_below 4096 (λ i. is_other (here i) (target_sectors i)))
+    × (plan.raised ≡ any_below 4096 (λ i. must_rise (here i) (target_sectors i)))
+verdicts here target_sectors plan is = (
+  any_below-decided 4096 plan.touched (λ i. is_other (here i) (target_sectors i)) (λ i. here i ≡ target_sectors i → ⊥) (λ i. here i ≡ target_sectors i)
+      (λ i. other (here i) (target_sectors i)) (λ i. as_wanted (here i) (target_sectors i)) is.touched,
+  any_below-decided 4096 plan.raised (λ i. must_rise (here i) (target_sectors i)) (λ i. bit_and (target_sectors i) (here i) ≡ target_sectors i → ⊥)
+      (λ i. bit_and (target_sectors i) (here i) ≡ target_sectors i) (λ i. other (bit_and (target_sectors i) (here i)) (target_sectors i))
+      (λ i. as_wanted (bit_and (target_sectors i) (here i)) (target_sectors i)) is.raised,
 )
 
-pub planned : (content aim : ℕ → ℕ) (sector : ℕ) (plan : SectorPlan) → IsPlan (λ i. content (4096 * sector + i)) (λ i. aim (4096 * sector + i)) 4096 plan
-    → (plan.touched ≡ is_touched content aim sector) × (plan.raised ≡ is_raised content aim sector)
+pub planned : (content target_sectors : ℕ → ℕ) (sector : ℕ) (plan : SectorPlan) → IsPlan (λ i. content (4096 * sector + i)) (λ i. target_sectors (4096 * sector + i)) 4096 plan
+    → (plan.touched ≡ is_touched content target_sectors sector) × (plan.raised ≡ is_raised content target_sectors sector)
 unfolding is_touched is_raised
-planned content aim sector plan = verdicts (λ i. content (4096 * sector + i)) (λ i. aim (4096 * sector + i)) plan
+planned content target_sectors sector plan = verdicts (λ i. content (4096 * sector + i)) (λ i. target_sectors (4096 * sector + i)) plan
 
 -- A sector whose bytes equal the target is neither touched nor raised.
-pub untouched : (content aim : ℕ → ℕ) (sector : ℕ) → ((i : ℕ) → i < 4096 → aim (4096 * sector + i) ≡ content (4096 * sector + i)) → is_touched content aim sector ≡ false
+pub untouched : (content target_sectors : ℕ → ℕ) (sector : ℕ) → ((i : ℕ) → i < 4096 → target_sectors (4096 * sector + i) ≡ content (4096 * sector + i)) → is_touched content target_sectors sector ≡ false
 unfolding is_touched
-untouched content aim sector same = any_below-all 4096 _ (λ i below. as_wanted _ _ (sym (same i below)))
+untouched content target_sectors sector same = any_below-all 4096 _ (λ i below. as_wanted _ _ (sym (same i below)))
 
-pub unraised : (content aim : ℕ → ℕ) (sector : ℕ) → ((i : ℕ) → i < 4096 → aim (4096 * sector + i) ≡ content (4096 * sector + i)) → is_raised content aim sector ≡ false
+pub unraised : (content target_sectors : ℕ → ℕ) (sector : ℕ) → ((i : ℕ) → i < 4096 → target_sectors (4096 * sector + i) ≡ content (4096 * sector + i)) → is_raised content target_sectors sector ≡ false
 unfolding is_raised
-unraised content aim sector same = any_below-all 4096 _
-    (λ i below. as_wanted _ _ (ap (bit_and (aim (4096 * sector + i))) (sym (same i below)) ∙ and_self _))
+unraised content target_sectors sector same = any_below-all 4096 _
+    (λ i below. as_wanted _ _ (ap (bit_and (target_sectors (4096 * sector + i))) (sym (same i below)) ∙ and_self _))
 
 -- At addresses past the end of the chip the target byte is the present one.
 past_kept : (request : Request) (image : List ℕ) (size : ℕ) (content : ℕ → ℕ) (s : ℕ) → size % 65536 ≡ 0 → size / 4096 ≤ s
@@ -112,19 +112,19 @@ pub scans_sector : (request : Request) (size sector : ℕ) (included : Option (L
     → ((image : List ℕ) (a i : ℕ) → i < 4096 → slice_index part i ≡ slice_index image a → slice_index filled i ≡ target request.what image a)
     → ((i : ℕ) → i < 4096 → slice_index part' i ≡ (if includes included (4096 * sector + i) then slice_index filled i else slice_index bytes i))
     → ReadsSector sector old new bytes → StaysReady old new → (plan.raised ≡ true → plan.touched ≡ true)
-    → ((content aim : ℕ → ℕ) → AreBytesOf content bytes → AreBytesOf aim part' → IsPlan content aim (length bytes) plan)
+    → ((content target_sectors : ℕ → ℕ) → AreBytesOf content bytes → AreBytesOf target_sectors part' → IsPlan content target_sectors (length bytes) plan)
     → ScansSector request size sector part part' bytes old new plan
-scans_sector request size sector included part filled part' bytes old new plan about_bytes fits is_included long long' aims fills reads heard needed plans =
-    let shown = λ (is_open : IsOpen size old). reads.told is_open.honest is_open.idle (let s = is_open.same in omega arith) in
+scans_sector request size sector included part filled part' bytes old new plan about_bytes fits is_included long long' targets fills reads polled_ready needed plans =
+    let shown = λ (is_open : IsOpen size old). reads.returned is_open.honest is_open.idle (let s = is_open.same in omega arith) in
     let merged : IsOpen size old → (image : List ℕ) → ((i : ℕ) → i < 4096 → slice_index part i ≡ slice_index image (4096 * sector + i))
     → (i : ℕ) → i < 4096 → slice_index part' i ≡ wanted_at request image size old.chip.bytes (4096 * sector + i) =
     λ is_open image same i below.
     let may = may_change-included request size (4096 * sector + i) about_bytes (omega arith) in
-    let aim = aims image (4096 * sector + i) i below (same i below) in
-    fills i below ∙ rw (is_included, aim, (shown is_open).byte i below, may) refl in
+    let target_sectors = targets image (4096 * sector + i) i below (same i below) in
+    fills i below ∙ rw (is_included, target_sectors, (shown is_open).byte i below, may) refl in
     record {
       needed = needed;
-      heard = heard;
+      polled_ready = polled_ready;
       read = reads.read;
       shown = shown;
       merged = merged;

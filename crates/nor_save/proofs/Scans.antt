@@ -7,7 +7,7 @@ use Rattle.std.proofs.lemmas.Bool.Decides.{nat_tests}
 use Rattle.std.proofs.Math.Bool.{and-false}
 use Rattle.nor_chip.specs.declared.config.Config.{Config}
 use Rattle.nor_chip.specs.Bus.{BusState}
-use Rattle.nor_driver.specs.Looks.{Looks, IsOpen}
+use Rattle.nor_driver.specs.OnlyReads.{OnlyReads, IsOpen}
 use Rattle.nor_count.specs.Below.{count_below}
 use Rattle.nor_layout.specs.Sectors.{includes, has_in_sector, NoneInSector}
 use Rattle.nor_journal.specs.Saved.{IsWholeSector, HasOneMore}
@@ -36,7 +36,7 @@ pub record HasScanned (request : Request) (size n : ℕ) (image image' : List �
     (scanned : Scanned) : Type 0 where
   pub marks : AreMarks n scanned
   pub reads : scanned.reads ≡ count_below n (has_in_sector (includes request.included))
-  pub looked : HasLooked scanned.reads old new
+  pub honest_reads : HasLooked scanned.reads old new
   pub right : IsOpen size old → AreRight (wanted_at request image size old.chip.bytes) old.chip.bytes n scanned
   pub merged : IsOpen size old → (a : ℕ) → has scanned.touched (a / 4096) ≡ true
       → slice_index image' a ≡ wanted_at request image size old.chip.bytes a
@@ -100,11 +100,11 @@ pub is_at : {request : Request} {size n sectors : ℕ} {included : Option (List 
     → is_chip_size size ≡ true → (0 < sectors → (is_data request.what ≡ true) × (sectors ≡ size / 4096))
     → n < sectors → included ≡ request.included → test ≡ has_in_sector (includes included) n → test ≡ verdict
     → IsAt request size n verdict
-is_at {size = size} sized aims within same is so =
-    let aim = aims (omega arith) in
+is_at {size = size} sized targets within same is so =
+    let target_sectors = targets (omega arith) in
     record {
-      about_bytes = aim.0;
-      below = omega (arith, aim.1);
+      about_bytes = target_sectors.0;
+      below = omega (arith, target_sectors.1);
       small = (is_chip_size-in_blocks size sized).small;
       included = rw (← same) (sym is ∙ so);
     }
@@ -119,7 +119,7 @@ nothing_scanned request size image state scanned blank = record {
     count = blank.count ∙ sym (count_below-none 4096 (has scanned.touched) (λ s below. blank.touched s));
   };
   reads = blank.reads ∙ sym (count_below-zero (has_in_sector (includes request.included)));
-  looked = rw blank.reads (has_looked-none state);
+  honest_reads = rw blank.reads (has_looked-none state);
   right = λ is_open. record {
     touched = λ s. rw (blank.touched s) (grind (arith, nat_tests));
     raised = λ s. rw (blank.raised s) (grind (arith, nat_tests));
@@ -129,10 +129,10 @@ nothing_scanned request size image state scanned blank = record {
 }
 
 pub opened_later : (size reads : ℕ) (old mid : BusState) → IsOpen size old → HasLooked reads old mid → IsOpen size mid
-opened_later size reads old mid is_open looked =
-    let was = (looked.rested is_open.honest).unchanged in let busy = was.busy in let idle = is_open.idle in
+opened_later size reads old mid is_open honest_reads =
+    let was = (honest_reads.rested is_open.honest).unchanged in let busy = was.busy in let idle = is_open.idle in
     record {
-      honest = looked.nature.honest ∙ is_open.honest;
+      honest = honest_reads.nature.honest ∙ is_open.honest;
       idle = omega arith;
       same = ap (λ (config : Config). config.size) was.same.config ∙ is_open.same;
     }
@@ -146,8 +146,8 @@ module _ {request : Request} {size n : ℕ} {image image' : List ℕ} {old mid :
       → HasScanned request size (n + 1) image image' old mid scanned
   skipped at excluded =
       let content = old.chip.bytes in
-      let aim = wanted_at request image size content in
-      let kept : (i : ℕ) → i < 4096 → aim (4096 * n + i) ≡ content (4096 * n + i) = λ i below.
+      let target_sectors = wanted_at request image size content in
+      let kept : (i : ℕ) → i < 4096 → target_sectors (4096 * n + i) ≡ content (4096 * n + i) = λ i below.
       let within = at.below in
       wanted-kept request image size content (4096 * n + i)
       (may_change-included request size (4096 * n + i) at.about_bytes (omega arith) ∙ excluded i below) in
@@ -158,11 +158,11 @@ module _ {request : Request} {size n : ℕ} {image image' : List ℕ} {old mid :
           count = was.marks.count;
         };
         reads = was.reads ∙ sym (count_below-without n (has_in_sector (includes request.included)) at.included);
-        looked = was.looked;
+        honest_reads = was.honest_reads;
         right = λ is_open. record {
-          touched = λ s. tested n s (is_touched content aim) (sym (untouched content aim n kept))
+          touched = λ s. tested n s (is_touched content target_sectors) (sym (untouched content target_sectors n kept))
               ((was.right is_open).touched s) refl;
-          raised = λ s. tested n s (is_raised content aim) (sym (unraised content aim n kept))
+          raised = λ s. tested n s (is_raised content target_sectors) (sym (unraised content target_sectors n kept))
               ((was.right is_open).raised s) refl;
         };
         merged = was.merged;
@@ -170,10 +170,10 @@ module _ {request : Request} {size n : ℕ} {image image' : List ℕ} {old mid :
       }
 
   later : IsOpen size old → IsOpen size mid
-  later is_open = opened_later size scanned.reads old mid is_open was.looked
+  later is_open = opened_later size scanned.reads old mid is_open was.honest_reads
 
   same_before : IsOpen size old → mid.chip.bytes ≡ old.chip.bytes
-  same_before is_open = fun_ext (was.looked.rested is_open.honest).unchanged.same.bytes
+  same_before is_open = fun_ext (was.honest_reads.rested is_open.honest).unchanged.same.bytes
 
   -- a sector was read, and its part of the image filled
   module _ {width : ℕ} {part' bytes : List ℕ} {plan : SectorPlan} {new : BusState} (at : IsAt request size n true)
@@ -197,33 +197,33 @@ module _ {request : Request} {size n : ℕ} {image image' : List ℕ} {old mid :
     }
 
     -- `HasScanned` still holds after one more sector was scanned.
-    pub scanned_more : {next : Scanned} → Looks 1 mid new → HasMarked n plan scanned next → length part' ≡ 4096
+    pub scanned_more : {next : Scanned} → OnlyReads 1 mid new → HasMarked n plan scanned next → length part' ≡ 4096
         → length image' ≡ size
         → HasScanned request size (n + 1) image (put_mid (4096 * n) width image' part') old new next
-    scanned_more {next = next} looks marked whole long =
+    scanned_more {next = next} only_reads marked whole long =
         let within = at.below in let small = at.small in
         let put = put_back n width image' part' exact whole (omega arith) in
         let content = old.chip.bytes in
-        let aim = wanted_at request image size content in
+        let target_sectors = wanted_at request image size content in
         record {
           marks = marks_more n plan scanned next (omega arith) scans.needed was.marks marked;
           reads =
               let next = count_below-with n (has_in_sector (includes request.included)) at.included in
               omega (arith, was.reads, marked.reads);
-          looked = rw marked.reads (has_looked-more scanned.reads old mid new was.looked looks scans.read scans.heard);
+          honest_reads = rw marked.reads (has_looked-more scanned.reads old mid new was.honest_reads only_reads scans.read scans.polled_ready);
           right = λ is_open.
               let plans = planned_before is_open in
               record {
                 touched = λ s.
-                    tested n s (is_touched content aim) plans.0 ((was.right is_open).touched s) (marked.touched s);
+                    tested n s (is_touched content target_sectors) plans.0 ((was.right is_open).touched s) (marked.touched s);
                 raised = λ s.
-                    tested n s (is_raised content aim) plans.1 ((was.right is_open).raised s) (marked.raised s);
+                    tested n s (is_raised content target_sectors) plans.1 ((was.right is_open).raised s) (marked.raised s);
               };
           merged = λ is_open a is. elim (cases_eq (a / 4096) n) [
             | inl here ↦
                 let place : 4096 * n + a % 4096 ≡ a = omega arith in
                 let below : a % 4096 < 4096 = omega arith in
-                subst (λ (k : ℕ). slice_index (put_mid (4096 * n) width image' part') k ≡ aim k) place
+                subst (λ (k : ℕ). slice_index (put_mid (4096 * n) width image' part') k ≡ target_sectors k) place
                 (put.inside (a % 4096) below ∙ rw (same_before is_open) at
                 (scans.merged (later is_open) image of_image _ below))
             | inr other ↦
@@ -257,9 +257,9 @@ module _ {request : Request} {size n : ℕ} {image image' : List ℕ} {old mid :
     marks = marks;
     reads = reads;
     few = few;
-    heard = was.looked.heard;
-    rested = was.looked.rested;
-    sent = was.looked.sent;
+    polled_ready = was.honest_reads.polled_ready;
+    rested = was.honest_reads.rested;
+    sent = was.honest_reads.sent;
     right = right;
     merged = was.merged;
   }
@@ -276,8 +276,8 @@ module _ {request : Request} {size n : ℕ} {image image' : List ℕ} {old mid :
       → Scans request size image image' old mid scanned
   none_to_scan other at_first few =
       let content = old.chip.bytes in
-      let aim = wanted_at request image size content in
-      let kept : (a : ℕ) → aim a ≡ content a = λ a. wanted-kept request image size content a
+      let target_sectors = wanted_at request image size content in
+      let kept : (a : ℕ) → target_sectors a ≡ content a = λ a. wanted-kept request image size content a
       (and_left (is_data request.what) (nat_lt a size && includes request.included a) other) in
       let free : (s : ℕ) → has scanned.touched s ≡ false = λ s. absent n scanned was.marks s (omega arith) in
       let flat : (s : ℕ) → has scanned.raised s ≡ false =
@@ -287,6 +287,6 @@ module _ {request : Request} {size n : ℕ} {image image' : List ℕ} {old mid :
         inside = was.marks.inside;
         count = was.marks.count;
       }) (rw other (rw at_first at was.reads ∙ count_below-zero _)) (λ is_open. record {
-        touched = λ s. rw (free s, untouched content aim s (λ i below. kept (4096 * s + i)), and-false) refl;
-        raised = λ s. rw (flat s, unraised content aim s (λ i below. kept (4096 * s + i)), and-false) refl;
+        touched = λ s. rw (free s, untouched content target_sectors s (λ i below. kept (4096 * s + i)), and-false) refl;
+        raised = λ s. rw (flat s, unraised content target_sectors s (λ i below. kept (4096 * s + i)), and-false) refl;
       })

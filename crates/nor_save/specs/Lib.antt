@@ -1,5 +1,5 @@
 pub mod Scanning
-pub mod Opening
+pub mod Identity
 pub mod Judging
 pub mod Saving
 pub mod SavedScan

@@ -1,14 +1,14 @@
 -- The effect of a scan that writes a journal.
 use Rattle.std.specs.Prelude.{◌≡◌, ◌≢◌, ◌/◌, ◌&&◌, ℕ, Bool, true, nat_lt, List, slice_index, Result, Ok, Err, ⊤}
-use Rattle.nor_journal.specs.Text.{Content, IsContent, SameHead, front, text}
+use Rattle.nor_journal.specs.Text.{Content, IsContent, SameHeader, front, text}
 use Rattle.nor_chip.specs.Chip.{Chip}
 use Rattle.nor_chip.specs.Bus.{BusState}
-use Rattle.nor_driver.specs.Looks.{RanOutIfHonest}
+use Rattle.nor_driver.specs.OnlyReads.{RanOutIfHonest}
 use Rattle.nor_plan.specs.Content.{is_touched, is_raised}
-use Rattle.nor_journal.specs.Saved.{Saves, JournalSaves, BeginsText, is_saved}
+use Rattle.nor_journal.specs.Saved.{Saves, JournalSaves, IsJournalPrefix, is_saved}
 use Rattle.nor_journal.specs.Vault.{VaultState, Refused, Completed, Accepted}
 use Rattle.nor_plan.specs.SectorSet.{has}
-use Rattle.nor_save.specs.declared.opening.Opening.{Opening}
+use Rattle.nor_save.specs.declared.identity.Identity.{Identity}
 use Rattle.nor_save.specs.declared.saving.SavedScan.{SavedScan}
 use Rattle.nor_call.specs.declared.request.Request.{Request}
 use Rattle.nor_call.specs.declared.refusal.Refusal.{Refusal}
@@ -16,8 +16,8 @@ use Rattle.nor_call.specs.declared.refusal.Refusal.TheVariants.{StatusLocked, Pr
 use Rattle.nor_call.specs.Request.{wanted, scanned_sectors}
 use Rattle.nor_save.specs.Scanning.{Scans}
 use Rattle.nor_save.specs.Judging.{Lifts}
-use Rattle.nor_save.specs.Saving.{IsOpening, Shows, head_of}
-use Rattle.nor_save.specs.Verdict.{IsVerdict, OpeningAccepts, ScanAccepts}
+use Rattle.nor_save.specs.Saving.{IsIdentityOf, HasIdleChip, header_of}
+use Rattle.nor_save.specs.Verdict.{IsVerdict, IdentityAccepts, ScanAccepts}
 
 -- Holds for the vault after `save`: it was sealed after success, and not sealed after an error. Its count of refusals
 -- is one higher after error 11, and else as it was.
@@ -37,7 +37,7 @@ pub record IsJournalOf (head : Content) (sectors : ℕ → Bool) (bytes : List �
   pub content : Content
   pub is : IsContent content
   pub same : bytes ≡ text content
-  pub head_same : SameHead head content
+  pub head_same : SameHeader head content
   pub saved : (s : ℕ) → is_saved content s ≡ sectors s
 
 -- Holds if the vault, once sealed and if it is `telling`, has the encoding of a journal. This is promised on every bus.
@@ -51,55 +51,55 @@ pub record HasSavedChip (request : Request) (code : ℕ) (image image' : List �
     (chip : Chip) (vault : VaultState) (saved : SavedScan) : Type 0 where
   pub touched : (s : ℕ) → has saved.scanned.touched s ≡ is_touched chip.bytes (wanted request image chip) s
   pub raised : (s : ℕ) → has saved.scanned.raised s ≡ is_raised chip.bytes (wanted request image chip) s
-  pub accepts : OpeningAccepts request image chip code → ScanAccepts request image chip saved.unlock
+  pub accepts : IdentityAccepts request image chip code → ScanAccepts request image chip saved.unlock
   pub merged : (a : ℕ) → has saved.scanned.touched (a / 4096) ≡ true
       → slice_index image' a ≡ wanted request image chip a
   pub journal : vault.telling ≡ true
-      → JournalSaves (head_of chip) chip.bytes (is_touched chip.bytes (wanted request image chip)) vault.bytes
+      → JournalSaves (header_of chip) chip.bytes (is_touched chip.bytes (wanted request image chip)) vault.bytes
 
 -- Holds after `save` succeeded. The clause `chip` is for a well-behaved bus that shows an idle chip with this
 -- identification.
-pub record HasSaved (request : Request) (opening : Opening) (code : ℕ) (image image' : List ℕ)
+pub record HasSaved (request : Request) (identity : Identity) (code : ℕ) (image image' : List ℕ)
     (old new : BusState) (vault : VaultState) (saved : SavedScan) : Type 0 where
   pub lifts : Lifts request saved.scanned.touched saved.unlock
-  pub scans : Scans request opening.found.size image image' old new saved.scanned
-  pub chip : (chip : Chip) → IsOpening chip opening → Shows chip old
+  pub scans : Scans request identity.found.size image image' old new saved.scanned
+  pub chip : (chip : Chip) → IsIdentityOf chip identity → HasIdleChip chip old
       → HasSavedChip request code image image' chip vault saved
 
 -- Holds if the error is the verdict for the chip that the bus shows, if that chip is idle and has this identification,
 -- and the identification accepted the request.
-abbrev pub JudgesChip : Request → Opening → ℕ → List ℕ → BusState → Refusal → Type 0
-JudgesChip request opening code image old refusal =
-    (chip : Chip) → IsOpening chip opening → Shows chip old → OpeningAccepts request image chip code
+abbrev pub JudgesChip : Request → Identity → ℕ → List ℕ → BusState → Refusal → Type 0
+JudgesChip request identity code image old refusal =
+    (chip : Chip) → IsIdentityOf chip identity → HasIdleChip chip old → IdentityAccepts request image chip code
     → IsVerdict request image chip refusal
 
-abbrev pub SaveTells : Request → Opening → ℕ → List ℕ → (old new : BusState) → Refusal → Type 0
-SaveTells request opening code image old new Stopped =
-    RanOutIfHonest (scanned_sectors request opening.found.size) old new
-SaveTells request opening code image old new Vault = ⊤
-SaveTells request opening code image old new StatusLocked = JudgesChip request opening code image old StatusLocked
-SaveTells request opening code image old new (Protected address) =
-    JudgesChip request opening code image old (Protected address)
-SaveTells request opening code image old new _ = ⊥
+abbrev pub SaveErrors : Request → Identity → ℕ → List ℕ → (old new : BusState) → Refusal → Type 0
+SaveErrors request identity code image old new Stopped =
+    RanOutIfHonest (scanned_sectors request identity.found.size) old new
+SaveErrors request identity code image old new Vault = ⊤
+SaveErrors request identity code image old new StatusLocked = JudgesChip request identity code image old StatusLocked
+SaveErrors request identity code image old new (Protected address) =
+    JudgesChip request identity code image old (Protected address)
+SaveErrors request identity code image old new _ = ⊥
 
 -- Holds if the bytes are the header of a journal and the records of the touched sectors below some bound.
-pub record BeginsJournal (head : Content) (old : ℕ → ℕ) (touched : ℕ → Bool) (bytes : List ℕ) : Type 0 where
+pub record HasWholeRecords (head : Content) (old : ℕ → ℕ) (touched : ℕ → Bool) (bytes : List ℕ) : Type 0 where
   pub content : Content
   pub bound : ℕ
-  pub same : SameHead head content
+  pub same : SameHeader head content
   pub saves : Saves old (λ s. nat_lt s bound && touched s) content
   pub is : bytes ≡ front content
 
 -- Holds if a `telling` vault, after any error including 11, has a prefix of the journal of the chip that the bus shows,
 -- if that chip has this identification.
-abbrev pub SaveCuts : Request → Opening → List ℕ → BusState → VaultState → Type 0
-SaveCuts request opening image old vault = vault.telling ≡ true
-    → (chip : Chip) → IsOpening chip opening → Shows chip old
-    → BeginsText (head_of chip) chip.bytes (is_touched chip.bytes (wanted request image chip)) vault.bytes
+abbrev pub SaveCuts : Request → Identity → List ℕ → BusState → VaultState → Type 0
+SaveCuts request identity image old vault = vault.telling ≡ true
+    → (chip : Chip) → IsIdentityOf chip identity → HasIdleChip chip old
+    → IsJournalPrefix (header_of chip) chip.bytes (is_touched chip.bytes (wanted request image chip)) vault.bytes
 
 -- Holds if a `telling` vault, after an error other than 11, has the header and complete records of the journal of the
 -- chip that the bus shows, if that chip has this identification.
-abbrev pub SaveBegins : Request → Opening → List ℕ → BusState → VaultState → Refusal → Type 0
-SaveBegins request opening image old vault refusal = refusal ≢ Vault → vault.telling ≡ true
-    → (chip : Chip) → IsOpening chip opening → Shows chip old
-    → BeginsJournal (head_of chip) chip.bytes (is_touched chip.bytes (wanted request image chip)) vault.bytes
+abbrev pub SaveBegins : Request → Identity → List ℕ → BusState → VaultState → Refusal → Type 0
+SaveBegins request identity image old vault refusal = refusal ≢ Vault → vault.telling ≡ true
+    → (chip : Chip) → IsIdentityOf chip identity → HasIdleChip chip old
+    → HasWholeRecords (header_of chip) chip.bytes (is_touched chip.bytes (wanted request image chip)) vault.bytes

@@ -1,10 +1,10 @@
 -- The effect of scans: which sectors are touched and raised, and what is written to the journal.
 use Rattle.std.specs.Prelude.{◌≡◌, ◌≢◌, ◌<◌, ◌≤◌, ◌+◌, ◌*◌, ◌/◌, ◌==◌, ◌&&◌, ◌||◌, ℕ, Bool, true, false, nat_lt, Result, Ok, Err, List, slice_index, if◌then◌else◌, ⊤}
 use Rattle.nor_chip.specs.Bus.{BusState}
-use Rattle.nor_driver.specs.Looks.{Rested, RanOutIfHonest, IsOpen}
+use Rattle.nor_driver.specs.OnlyReads.{Rested, RanOutIfHonest, IsOpen}
 use Rattle.nor_journal.specs.declared.writer.Writer.{Writer}
-use Rattle.nor_journal.specs.Text.{Content, SameHead, next_number}
-use Rattle.nor_journal.specs.Saved.{is_saved, BeginsText}
+use Rattle.nor_journal.specs.Text.{Content, SameHeader, next_number}
+use Rattle.nor_journal.specs.Saved.{is_saved, IsJournalPrefix}
 use Rattle.nor_journal.specs.Vault.{VaultState, Refused, Accepted}
 use Rattle.nor_journal.specs.Writer.{HasWritten, HasPutSectors}
 use Rattle.nor_driver.specs.Ready.{StaysReady}
@@ -56,7 +56,7 @@ pub record AreRight (wanted content : ℕ → ℕ) (n : ℕ) (scanned : Scanned)
 pub record ScansSector (request : Request) (size sector : ℕ) (part part' bytes : List ℕ)
     (old new : BusState) (plan : SectorPlan) : Type 0 where
   pub needed : plan.raised ≡ true → plan.touched ≡ true
-  pub heard : StaysReady old new
+  pub polled_ready : StaysReady old new
   pub read : old.honest ≡ true → HasRead old new
   pub shown : IsOpen size old → IsSectorOf old.chip.bytes sector bytes
   pub merged : IsOpen size old → (image : List ℕ)
@@ -74,7 +74,7 @@ pub record Scans (request : Request) (size : ℕ) (image image' : List ℕ) (old
   pub marks : AreMarks (size / 4096) scanned
   pub reads : scanned.reads ≡ scanned_sectors request size
   pub few : scanned.count ≤ scanned.reads
-  pub heard : StaysReady old new
+  pub polled_ready : StaysReady old new
   pub rested : old.honest ≡ true → Rested old new
   pub sent : old.honest ≡ true → old.left ≡ new.left + scanned.reads
   pub right : IsOpen size old
@@ -84,10 +84,10 @@ pub record Scans (request : Request) (size : ℕ) (image image' : List ℕ) (old
 
 -- Holds for the errors of a scan: 12 (the bus stopped; on a well-behaved bus fewer than `most` transactions were left)
 -- and 11 (the vault failed).
-abbrev pub ScanTells : ℕ → (old new : BusState) → Refusal → Type 0
-ScanTells most old new Stopped = RanOutIfHonest most old new
-ScanTells most old new Vault = ⊤
-ScanTells most old new _ = ⊥
+abbrev pub ScanErrors : ℕ → (old new : BusState) → Refusal → Type 0
+ScanErrors most old new Stopped = RanOutIfHonest most old new
+ScanErrors most old new Vault = ⊤
+ScanErrors most old new _ = ⊥
 
 -- Holds for the vault after a scan: it accepted each piece, except after error 11.
 abbrev pub ScanPuts : {T : Type 0} → Result T Refusal → (old new : VaultState) → Type 0
@@ -98,7 +98,7 @@ ScanPuts _ old new = Accepted old new
 pub record HasBegun {V : Type 0} (state : V → VaultState) (writer : Writer V) (head : Content) (n : ℕ) : Type 0 where
   pub content : Content
   pub written : HasWritten state writer content
-  pub same : SameHead head content
+  pub same : SameHeader head content
   pub next : next_number content ≤ n
 
 -- Holds if `HasBegun` does, and the records are those of exactly these sectors.
@@ -116,7 +116,7 @@ UnlessVault (Err refusal) promise = refusal ≢ Vault → promise
 -- `total` sectors.
 abbrev pub HoldsCut : VaultState → (head : Content) → (old : ℕ → ℕ) → (touched : ℕ → Bool) → (total : ℕ) → Type 0
 HoldsCut vault head old touched total = vault.telling ≡ true
-    → BeginsText head old (λ s. nat_lt s total && touched s) vault.bytes
+    → IsJournalPrefix head old (λ s. nat_lt s total && touched s) vault.bytes
 
 -- Holds if the vault was given the header, and the records of the touched sectors below some bound, which is at most
 -- `total`.

@@ -11,9 +11,9 @@ use Rattle.nor_probe.specs.Found.{HasOtherName}
 use Rattle.nor_call.specs.declared.request.Request.{Request}
 use Rattle.nor_call.specs.declared.refusal.Refusal.{Refusal}
 use Rattle.nor_call.specs.declared.refusal.Refusal.TheVariants.{NoChip, UnknownChip, OtherName, ImageSize, RegionOutside, NoProtection, UndefinedProtection, RangeNotOffered, StatusLocked, Protected}
-use Rattle.nor_call.specs.Refusal.{number_of}
+use Rattle.nor_call.specs.Refusal.{refusal_number}
 use Rattle.nor_call.specs.Request.{is_data, IsWantedCode, wanted}
-use Rattle.nor_save.specs.Saving.{AsksForNone, NeedsStatus, IsLeastHeld, NoneHeld, SomeHeld}
+use Rattle.nor_save.specs.Saving.{AsksForNone, NeedsStatus, IsLeastProtected, NoneProtected, SomeProtected}
 
 -- Holds if the request needs a status write on the chip.
 abbrev pub NeedsStatusWrite : Request → (image : List ℕ) → Chip → Type 0
@@ -36,13 +36,13 @@ RefusalHolds request image chip RangeNotOffered = AsksForNone request.what chip
 RefusalHolds request image chip StatusLocked = (is_locked chip.kept ≡ true) × NeedsStatusWrite request image chip
 RefusalHolds request image chip (Protected address) = (request.unlock ≡ false)
     × (sector : ℕ) × (address ≡ 4096 * sector)
-    × IsLeastHeld (is_touched chip.bytes (wanted request image chip)) chip sector
+    × IsLeastProtected (is_touched chip.bytes (wanted request image chip)) chip sector
 RefusalHolds request image chip _ = ⊥
 
 -- Holds if the error is the verdict: it applies, and no error with a lower number does.
 pub record IsVerdict (request : Request) (image : List ℕ) (chip : Chip) (refusal : Refusal) : Type 0 where
   pub holds : RefusalHolds request image chip refusal
-  pub first : (other : Refusal) → number_of other < number_of refusal → ¬ RefusalHolds request image chip other
+  pub first : (other : Refusal) → refusal_number other < refusal_number refusal → ¬ RefusalHolds request image chip other
 
 -- Holds if the request is accepted: no error applies.
 abbrev pub IsAccepted : Request → (image : List ℕ) → Chip → Type 0
@@ -51,11 +51,11 @@ IsAccepted request image chip = (refusal : Refusal) → ¬ RefusalHolds request 
 -- Holds if no error with a number up to this one applies.
 abbrev pub NoneHoldsTo : (number : ℕ) → Request → (image : List ℕ) → Chip → Type 0
 NoneHoldsTo number request image chip =
-    (refusal : Refusal) → number_of refusal ≤ number → ¬ RefusalHolds request image chip refusal
+    (refusal : Refusal) → refusal_number refusal ≤ number → ¬ RefusalHolds request image chip refusal
 
 -- Holds if the identification accepts the request: none of the errors 1 to 8 applies, and `code` has the target's
 -- protection bits.
-pub record OpeningAccepts (request : Request) (image : List ℕ) (chip : Chip) (code : ℕ) : Type 0 where
+pub record IdentityAccepts (request : Request) (image : List ℕ) (chip : Chip) (code : ℕ) : Type 0 where
   pub clear : NoneHoldsTo 8 request image chip
   pub is_wanted : IsWantedCode request.what chip code
 
@@ -64,5 +64,5 @@ pub record OpeningAccepts (request : Request) (image : List ℕ) (chip : Chip) (
 pub record ScanAccepts (request : Request) (image : List ℕ) (chip : Chip) (unlock : Bool) : Type 0 where
   pub accepted : IsAccepted request image chip
   pub lifts : unlock ≡ true
-      → (request.unlock ≡ true) × SomeHeld (is_touched chip.bytes (wanted request image chip)) chip
-  pub free : unlock ≡ false → NoneHeld (is_touched chip.bytes (wanted request image chip)) chip
+      → (request.unlock ≡ true) × SomeProtected (is_touched chip.bytes (wanted request image chip)) chip
+  pub free : unlock ≡ false → NoneProtected (is_touched chip.bytes (wanted request image chip)) chip

@@ -1,15 +1,15 @@
 //! Checks whether a request is accepted, and with which error it is refused otherwise.
 ghost use Rattle.std.specs.Prelude.{◌≡◌, ◌<◌, ◌≤◌, ◌*◌, ◌/◌, ◌==◌, ℕ, Bool, true, false, length, IfOk, IfErr, IfSome, IfNone, MatchOption, MatchBool, IsTrue};
 ghost use Rattle.nor_chip.specs.Chip.{Chip, kept_in};
-ghost use Rattle.nor_chip.specs.Guard.{is_undefined, guarded_by, code_of};
+ghost use Rattle.nor_chip.specs.Guard.{is_undefined, protected_by, code_of};
 ghost use Rattle.nor_chip.specs.Size.{is_chip_size};
 ghost use Rattle.nor_plan.specs.SectorSet.{has, LiesBelow};
 ghost use Rattle.nor_call.specs.Request.{is_data};
-ghost use Rattle.nor_save.specs.Opening.{status_read};
-ghost use Rattle.nor_save.specs.Judging.{IsFoundCode, IsOpeningRefusal, IsScanRefusal, Lifts};
-ghost use Rattle.nor_save.specs.Judging.{AcceptsOpening, RefusesOpening, FindsHeld, FindsNeed, AcceptsScan, RefusesScan};
+ghost use Rattle.nor_save.specs.Identity.{status_read};
+ghost use Rattle.nor_save.specs.Judging.{IsFoundCode, IsIdentityRefusal, IsScanRefusal, Lifts};
+ghost use Rattle.nor_save.specs.Judging.{AcceptsIdentity, RefusesIdentity, FindsProtected, FindsNeed, AcceptsScan, RefusesScan};
 
-use crate::opening::Opening;
+use crate::identity::Identity;
 use crate::{Refusal, Request, What};
 use nor_chip::{SECTOR_LEN, code_for, unit_protected};
 use nor_layout::reaches_past;
@@ -22,20 +22,20 @@ use nor_plan::SectorSet;
 /// erase. Returns 6 (no block protection) or 8 (a range that no protection bits select) for a protection range. For
 /// every request it returns 7 if the chip has block protection and its protection bits are undefined.
 #[tactic(auto, using(crate::proofs::Held::code_same, crate::proofs::OneVerdict::opening_judged, crate::proofs::OneVerdict::opening_accepted))]
-pub fn judge_opening(request: &Request, opening: &Opening, image: usize) -> Result<u8, Refusal>
-    requires { IsTrue (is_chip_size opening.now.found.size) }
+pub fn judge_identity(request: &Request, identity: &Identity, image: usize) -> Result<u8, Refusal>
+    requires { IsTrue (is_chip_size identity.now.found.size) }
     ensures six_bits { IfOk result (λ code. code < 64) }
-    ensures sized { IfOk result (λ code. is_data request.now.what ≡ true → image ≡ opening.now.found.size) }
-    ensures faults { IfErr result IsOpeningRefusal }
+    ensures sized { IfOk result (λ code. is_data request.now.what ≡ true → image ≡ identity.now.found.size) }
+    ensures faults { IfErr result IsIdentityRefusal }
     ensures same_code { IfOk result (λ code. is_data request.now.what ≡ true
-        → code ≡ code_of (kept_in (status_read opening.now))) }
-    ensures found { IfOk result (IsFoundCode request.now.what opening.now) }
-    ensures accepts { AcceptsOpening request.now image opening.now result }
-    ensures tells { RefusesOpening request.now image opening.now result }
+        → code ≡ code_of (kept_in (status_read identity.now))) }
+    ensures found { IfOk result (IsFoundCode request.now.what identity.now) }
+    ensures accepts { AcceptsIdentity request.now image identity.now result }
+    ensures errors { RefusesIdentity request.now image identity.now result }
 {
-    let size = opening.found.size;
-    let code = opening.status().code();
-    let defined = !opening.found.scheme || !opening.status().is_undefined();
+    let size = identity.found.size;
+    let code = identity.status().code();
+    let defined = !identity.found.scheme || !identity.status().is_undefined();
     match request.what {
         What::Write | What::Erase => {
             if image != size as usize {
@@ -51,7 +51,7 @@ pub fn judge_opening(request: &Request, opening: &Opening, image: usize) -> Resu
             }
         }
         What::WpRange { start, len } => {
-            if !opening.found.scheme {
+            if !identity.found.scheme {
                 return Err(Refusal::NoProtection);
             }
             if !defined {
@@ -64,18 +64,18 @@ pub fn judge_opening(request: &Request, opening: &Opening, image: usize) -> Resu
 
 /// Returns the first sector of `touched` that has a protected address by the status that was read, or `None`.
 #[tactic(auto, using(crate::proofs::Held::code_same))]
-pub fn first_held(touched: &SectorSet, opening: &Opening) -> Option<u32>
-    requires sized { IsTrue (is_chip_size opening.now.found.size) }
-    requires below { LiesBelow touched.now (opening.now.found.size / 4096) }
-    ensures held { FindsHeld (has touched.now) opening.now result }
+pub fn first_protected(touched: &SectorSet, identity: &Identity) -> Option<u32>
+    requires sized { IsTrue (is_chip_size identity.now.found.size) }
+    requires below { LiesBelow touched.now (identity.now.found.size / 4096) }
+    ensures held { FindsProtected (has touched.now) identity.now result }
     ensures reachable { IfSome result (λ sector. sector < 4096) }
     ensures found { IfSome result (λ sector. has touched.now sector ≡ true) }
 {
-    if !opening.found.scheme {
+    if !identity.found.scheme {
         return None;
     }
-    let size = opening.found.size;
-    let status = [opening.found.status1, opening.status2];
+    let size = identity.found.size;
+    let status = [identity.found.status1, identity.status2];
     for sector in 0..size / SECTOR_LEN {
         let start = SECTOR_LEN * sector;
         if touched.contains(sector) && unit_protected(status, size, start, SECTOR_LEN) {
@@ -86,17 +86,17 @@ pub fn first_held(touched: &SectorSet, opening: &Opening) -> Option<u32>
 }
 
 // Returns true if the status registers must be written: the target protection bits of a range differ from the chip's,
-// or `unlock` is set and a touched sector is protected (`is_held`).
-fn needs_status(request: &Request, opening: &Opening, is_held: bool, code: u8) -> bool
-    ensures { FindsNeed request.now opening.now is_held code result }
+// or `unlock` is set and a touched sector is protected (`is_touched_protected`).
+fn needs_status(request: &Request, identity: &Identity, is_touched_protected: bool, code: u8) -> bool
+    ensures { FindsNeed request.now identity.now is_touched_protected code result }
 {
     match request.what {
-        What::WpRange { .. } => code != opening.status().code(),
-        _ => request.unlock && is_held,
+        What::WpRange { .. } => code != identity.status().code(),
+        _ => request.unlock && is_touched_protected,
     }
 }
 
-/// Checks a request against the touched sectors. `code` is the result of `judge_opening`. Returns whether protection
+/// Checks a request against the touched sectors. `code` is the result of `judge_identity`. Returns whether protection
 /// must be lifted.
 ///
 /// Returns error 9 if the status registers must be written and are locked, or 10 if a touched sector is protected and
@@ -104,20 +104,20 @@ fn needs_status(request: &Request, opening: &Opening, is_held: bool, code: u8) -
 #[tactic(auto, using(crate::proofs::OneVerdict::scan_judged, crate::proofs::OneVerdict::scan_accepted))]
 pub fn judge_scan(
     request: &Request,
-    opening: &Opening,
+    identity: &Identity,
     touched: &SectorSet,
     code: u8,
 ) -> Result<bool, Refusal>
-    requires sized { IsTrue (is_chip_size opening.now.found.size) }
-    requires below { LiesBelow touched.now (opening.now.found.size / 4096) }
+    requires sized { IsTrue (is_chip_size identity.now.found.size) }
+    requires below { LiesBelow touched.now (identity.now.found.size / 4096) }
     ensures faults { IfErr result IsScanRefusal }
     ensures lifts { IfOk result (Lifts request.now touched.now) }
-    ensures accepts { AcceptsScan request.now opening.now code (has touched.now) result }
-    ensures tells { RefusesScan request.now opening.now code (has touched.now) result }
+    ensures accepts { AcceptsScan request.now identity.now code (has touched.now) result }
+    ensures errors { RefusesScan request.now identity.now code (has touched.now) result }
 {
-    let held = first_held(touched, opening);
-    let writes = needs_status(request, opening, held.is_some(), code);
-    if writes && opening.status().is_locked() {
+    let held = first_protected(touched, identity);
+    let writes = needs_status(request, identity, held.is_some(), code);
+    if writes && identity.status().is_locked() {
         return Err(Refusal::StatusLocked);
     }
     match held {

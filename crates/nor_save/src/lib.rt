@@ -1,7 +1,7 @@
 //! The part of a session before the first modifying command: identifies the chip, checks the request, scans the
 //! sectors, and writes the touched ones to the journal. nor_session adds the changes.
 //!
-//! - `opening.rt`: the identification, for sessions and restores
+//! - `identity.rt`: the identification, for sessions and restores
 //! - `judging.rt`: checks a request against the identification, and against the touched sectors
 //! - `scanning.rt`: reads the sectors, and finds those that the session will touch
 //! - `saving.rt`: scans, checks, and seals the journal
@@ -9,7 +9,7 @@
 //! ```rust
 //! use nor_chip::{Config, Delays, Meter, SimBus};
 //! use nor_journal::MemVault;
-//! use nor_save::{Request, judge_opening, open, save};
+//! use nor_save::{Request, judge_identity, open, save};
 //!
 //! let idle = Delays { now: 0, each: 0 };
 //! let erased = vec![in rt.alloc(); 0xFF; 65536]?;
@@ -21,23 +21,23 @@
 //! let request = Request::write();
 //! let mut vault = MemVault::new(rt.alloc());
 //! let opening = open(&mut bus, request.named)?;
-//! let code = judge_opening(&request, &opening, image.len())?;
+//! let code = judge_identity(&request, &opening, image.len())?;
 //! let saved = save(&mut bus, &mut vault, &mut image, &request, &opening, code)?;
 //! assert!(rt; saved.scanned.touched.contains(0) && !saved.scanned.raised.contains(0));
 //! assert!(rt; vault.is_sealed());
 //! ```
 //!
-//! `specs/Opening.antt` defines what the identification returns, `specs/Verdict.antt` which requests are refused, and
+//! `specs/Identity.antt` defines what the identification returns, `specs/Verdict.antt` which requests are refused, and
 //! `specs/SavedScan.antt` what is saved.
 #![tactic(auto)]
 
 mod judging;
-mod opening;
+mod identity;
 mod saving;
 mod scanning;
 
-pub use judging::{first_held, judge_opening};
+pub use judging::{first_protected, judge_identity};
 pub use nor_call::{Refusal, Report, Request, What};
-pub use opening::{Opening, open, read_on};
+pub use identity::{Identity, open, read_on};
 pub use saving::{SavedScan, save};
 pub use scanning::Scanned;

@@ -1,13 +1,13 @@
 //! Reads the sectors of a chip before anything is changed, and finds those that a session will change.
 ghost use Rattle.std.specs.Prelude.{◌≡◌, ◌≢◌, ◌<◌, ◌≤◌, ◌+◌, ◌*◌, ◌/◌, true, false, length, IfOk, IfErr, OnErr, IsTrue};
 ghost use Rattle.nor_chip.specs.Size.{is_chip_size};
-ghost use Rattle.nor_driver.specs.Looks.{Looks, RanOutIfHonest, IsOpen};
+ghost use Rattle.nor_driver.specs.OnlyReads.{OnlyReads, RanOutIfHonest, IsOpen};
 ghost use Rattle.nor_journal.specs.Text.{Content};
 ghost use Rattle.nor_journal.specs.Writer.{vault_of, vault_seen, HasPutSectors};
 ghost use Rattle.nor_plan.specs.SectorSet.{has, none};
 ghost use Rattle.nor_call.specs.Request.{scanned_sectors, is_data};
 ghost use Rattle.nor_plan.specs.Content.{is_touched};
-ghost use Rattle.nor_save.specs.Scanning.{HasMarked, IsBlank, ScansSector, Scans, ScanTells, ScanPuts};
+ghost use Rattle.nor_save.specs.Scanning.{HasMarked, IsBlank, ScansSector, Scans, ScanErrors, ScanPuts};
 ghost use Rattle.nor_save.specs.Scanning.{HasBegun, HasBegunWith, UnlessVault, HoldsCut, HasKeptBelow, wanted_at};
 ghost use Rattle.nor_call.specs.declared.refusal.Refusal.TheVariants as Refusals;
 
@@ -73,7 +73,7 @@ fn scan_sector<B: Bus>(
     requires small { size ≤ 16777216 }
     requires whole { length part.old ≡ 4096 }
     requires data { is_data request.now.what ≡ true }
-    ensures leaves { Looks 1 (B.state bus.old) (B.state bus.new) }
+    ensures leaves { OnlyReads 1 (B.state bus.old) (B.state bus.new) }
     ensures scans { IfOk result
         (ScansSector request.now size sector part.old part.new bytes.new (B.state bus.old) (B.state bus.new)) }
     ensures stops { OnErr result (RanOutIfHonest 1 (B.state bus.old) (B.state bus.new)) }
@@ -100,11 +100,11 @@ pub fn scan_all<B: Bus, V: Vault>(
     requires sized { IsTrue (is_chip_size size) }
     requires whole { is_data request.now.what ≡ true → length image.old ≡ size }
     requires unsealed { (vault_seen V.state writer.old).sealed ≡ false }
-    ensures leaves { Looks (scanned_sectors request.now size) (B.state bus.old) (B.state bus.new) }
+    ensures leaves { OnlyReads (scanned_sectors request.now size) (B.state bus.old) (B.state bus.new) }
     ensures scans { IfOk result (Scans request.now size image.old image.new (B.state bus.old) (B.state bus.new)) }
     ensures same_vault { (vault_of writer.new).ghost_name ≡ (vault_of writer.old).ghost_name }
     ensures puts { ScanPuts result (vault_seen V.state writer.old) (vault_seen V.state writer.new) }
-    ensures tells { IfErr result (ScanTells (scanned_sectors request.now size) (B.state bus.old) (B.state bus.new)) }
+    ensures errors { IfErr result (ScanErrors (scanned_sectors request.now size) (B.state bus.old) (B.state bus.new)) }
     ensures keeps { IsOpen size (B.state bus.old) → (head : Content) → head.size ≡ size
         → HasPutSectors V.state writer.old head (B.state bus.old).chip.bytes none 0
         → IfOk result (λ scanned. HasPutSectors V.state writer.new head (B.state bus.old).chip.bytes

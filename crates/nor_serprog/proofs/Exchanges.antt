@@ -5,19 +5,19 @@ use Rattle.std.proofs.lemmas.List.{append-nil}
 use Rattle.std.proofs.Math.Seq.{take-length}
 use Rattle.nor_chip.specs.Chip.{Chip}
 use Rattle.nor_chip.specs.Step.{Step}
-use Rattle.nor_serprog.specs.Frame.{IsFrame, Reads, out_in, replies_in}
+use Rattle.nor_serprog.specs.Frame.{IsFrame, ReadsAs, out_in, replies_in}
 use Rattle.nor_serprog.specs.declared.command.Command.{Command}
 use Rattle.nor_serprog.specs.declared.command.Command.TheVariants.{Operate}
-use Rattle.nor_serprog.specs.Device.{Device, PortState, IsIdle, IfOperates, StepsOnce, IsCut, Operates, AnswerBegins, IsSent, IsCutOff, TakesAnswer, MissesAnswer, Exchanged, Interrupted}
+use Rattle.nor_serprog.specs.Device.{Device, PortState, IsIdle, IfOperates, StepsOnce, IsCut, OperatesFrame, AnswerBegins, IsSent, IsCutOff, TakesAnswer, MissesAnswer, Exchanged, Interrupted}
 
 -- A whole frame of O_SPIOP that reaches an idle programmer is carried out.
 pub operated : (frame : List ℕ) (old sent : PortState) → IsIdle old.device → IsFrame frame
-    → slice_index frame 0 ≡ 0x13 → IsSent frame old sent → Operates frame old.device sent.device
+    → slice_index frame 0 ≡ 0x13 → IsSent frame old sent → OperatesFrame frame old.device sent.device
 operated frame old sent idle whole opcode s =
     let e : frame ≡ old.device.begun ++ frame = sym (ap (λ (b : List ℕ). b ++ frame) idle.begun) in
     let P : List ℕ → Type 0 = λ b. IsFrame b in
     let Q : List ℕ → Type 0 = λ b. slice_index b 0 ≡ 0x13 in
-    let R : List ℕ → Type 0 = λ b. Operates b old.device sent.device in
+    let R : List ℕ → Type 0 = λ b. OperatesFrame b old.device sent.device in
     subst R (sym e) (s.done (record { whole = subst P e whole; opcode = subst Q e opcode }))
 
 -- A reply was received completely if as many bytes were received as it has.
@@ -55,7 +55,7 @@ exchanged frame out replies reply old sent new idle whole opcode goes comes s t 
 
 -- The reply to an operation begins with ACK.
 pub begins_with_ack : (frame : List ℕ) (old sent : PortState) → IsIdle old.device
-    → Operates frame old.device sent.device → AnswerBegins sent
+    → OperatesFrame frame old.device sent.device → AnswerBegins sent
 begins_with_ack frame old sent idle o =
     let e : sent.device.pending ≡ 0x06 ∷ o.answer =
     o.pending ∙ ap (λ (p : List ℕ). p ++ 0x06 ∷ o.answer) idle.pending in
@@ -101,20 +101,20 @@ missed frame out old sent new idle whole opcode goes s m =
 
 -- The lemmas `exchanged`, `cut_off` and `missed` for every command. For a command other than O_SPIOP they hold trivially.
 pub exchanged_by : (command : Command) (frame reply : List ℕ) (len : ℕ) (old sent new : PortState)
-    → IsIdle old.device → IsFrame frame → Reads frame command → IsSent frame old sent → TakesAnswer reply sent new
+    → IsIdle old.device → IsFrame frame → ReadsAs frame command → IsSent frame old sent → TakesAnswer reply sent new
     → length reply ≡ len → IfOperates command (λ out replies. len ≡ replies → Exchanged out reply old new)
 exchanged_by (Operate out replies) frame reply len old sent new idle whole reads s t has =
     λ same. exchanged frame out.now replies reply old sent new idle whole reads.0 reads.1 reads.2 s t (has ∙ same)
 exchanged_by _ frame reply len old sent new idle whole reads s t has = tt
 
 pub cut_off_by : (command : Command) (frame : List ℕ) (old new : PortState) → IsIdle old.device → IsFrame frame
-    → Reads frame command → IsCutOff frame old new → IfOperates command (λ out replies. Interrupted out old new)
+    → ReadsAs frame command → IsCutOff frame old new → IfOperates command (λ out replies. Interrupted out old new)
 cut_off_by (Operate out replies) frame old new idle whole reads c =
     cut_off frame out.now old new idle whole reads.0 reads.1 c
 cut_off_by _ frame old new idle whole reads c = tt
 
 pub missed_by : (command : Command) (frame : List ℕ) (old sent new : PortState) → IsIdle old.device → IsFrame frame
-    → Reads frame command → IsSent frame old sent → (AnswerBegins sent → MissesAnswer sent new)
+    → ReadsAs frame command → IsSent frame old sent → (AnswerBegins sent → MissesAnswer sent new)
     → IfOperates command (λ out replies. Interrupted out old new)
 missed_by (Operate out replies) frame old sent new idle whole reads s m =
     missed frame out.now old sent new idle whole reads.0 reads.1 s

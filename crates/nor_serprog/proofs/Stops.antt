@@ -11,9 +11,9 @@ use Rattle.nor_serprog.specs.Device.{PortState, Interrupted}
 use Rattle.nor_serprog.specs.Link.{is_in_step, IsSettled}
 
 -- an interrupted transaction is a stop of the bus
-stops_cut : (out : List ℕ) (old new : PortState) (sent sent' : Sent) (heard : Bool) → Interrupted out old new
-    → Stops out (over_port old sent heard) (over_port new sent' heard)
-stops_cut out old new sent sent' heard is = record {
+stops_cut : (out : List ℕ) (old new : PortState) (sent sent' : Sent) (polled_ready : Bool) → Interrupted out old new
+    → Stops out (over_port old sent polled_ready) (over_port new sent' polled_ready)
+stops_cut out old new sent sent' polled_ready is = record {
   none_left = omega (arith, is.few_left);
   left = omega (arith, is.few_left, is.few);
   at_stop = record {
@@ -24,14 +24,14 @@ stops_cut out old new sent sent' heard is = record {
     chip = is.cut.then.chip;
     worn = λ s. is.cut.then.worn s ∙ is.cut.steps.worn s;
     none = λ steady. absurd (false≢true steady);
-    still = λ steady. absurd (false≢true steady);
+    unsent = λ steady. absurd (false≢true steady);
   };
 }
 
 -- a transaction of which nothing was sent, because too few calls are left, is a stop of the bus
-stops_silent : (out : List ℕ) (port : PortState) (sent sent' : Sent) (heard : Bool) → port.left < 3
-    → Stops out (over_port port sent heard) (over_port port sent' heard)
-stops_silent out port sent sent' heard few = record {
+stops_silent : (out : List ℕ) (port : PortState) (sent sent' : Sent) (polled_ready : Bool) → port.left < 3
+    → Stops out (over_port port sent polled_ready) (over_port port sent' polled_ready)
+stops_silent out port sent sent' polled_ready few = record {
   none_left = omega (arith, few);
   left = refl;
   at_stop = record {
@@ -42,26 +42,26 @@ stops_silent out port sent sent' heard few = record {
     chip = inl refl;
     worn = λ s. sym (or-false (port.device.worn s));
     none = λ steady. refl;
-    still = λ steady. refl;
+    unsent = λ steady. refl;
   };
 }
 
 -- a transaction that failed is a stop of the bus, whether the link was in step or not
 pub stops_over : {P C : Type 0} (port : P → PortState) (out : List ℕ) (replies : ℕ) (link link' : Link P C)
-    (sent sent' : Sent) (heard : Bool) → IsSettled port link → (is_in_step link ≡ false → link' ≡ link)
+    (sent sent' : Sent) (polled_ready : Bool) → IsSettled port link → (is_in_step link ≡ false → link' ≡ link)
     → ((port link.port).honest ≡ true → (link' ≡ link) ⊎ Interrupted out (port link.port) (port link'.port))
     → (length out ≤ 260 → replies ≤ 4096 → is_in_step link' ≡ false)
-    → IsHonestFor out replies (over_port (port link.port) sent heard)
-    → Stops out (over_port (port link.port) sent heard) (over_port (port link'.port) sent' heard)
-stops_over {P} {C} port out replies link link' sent sent' heard settled silent interrupted fits honest =
+    → IsHonestFor out replies (over_port (port link.port) sent polled_ready)
+    → Stops out (over_port (port link.port) sent polled_ready) (over_port (port link'.port) sent' polled_ready)
+stops_over {P} {C} port out replies link link' sent sent' polled_ready settled silent interrupted fits honest =
     let Ends : Link P C → Type 0 = λ (now : Link P C).
-    Stops out (over_port (port link.port) sent heard) (over_port (port now.port) sent' heard) in
+    Stops out (over_port (port link.port) sent polled_ready) (over_port (port now.port) sent' polled_ready) in
     elim (cases_Bool (is_in_step link)) [
       | inr lost ↦
           subst Ends (sym (silent lost))
-          (stops_silent out (port link.port) sent sent' heard (settled.spent honest.honest lost))
+          (stops_silent out (port link.port) sent sent' polled_ready (settled.spent honest.honest lost))
       | inl in_step ↦ elim (interrupted honest.honest) [
-        | inr cut ↦ stops_cut out (port link.port) (port link'.port) sent sent' heard cut
+        | inr cut ↦ stops_cut out (port link.port) (port link'.port) sent sent' polled_ready cut
         | inl same ↦ elim honest.fits [
           | inl unlimited ↦ absurd (false≢true unlimited)
           | inr short ↦

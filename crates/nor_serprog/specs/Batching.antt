@@ -25,8 +25,8 @@ abbrev pub sent_of : {P C : Type 0} {over : Ghosts P C} → BatchingBus P C over
 sent_of batching = batching.sent
 
 -- The reply to the last poll showed that the chip is ready.
-abbrev pub heard_of : {P C : Type 0} {over : Ghosts P C} → BatchingBus P C over → Bool
-heard_of batching = batching.heard
+abbrev pub polled_ready_of : {P C : Type 0} {over : Ghosts P C} → BatchingBus P C over → Bool
+polled_ready_of batching = batching.polled_ready
 
 -- The cause of the last transaction that failed.
 abbrev pub cause_of : {P C : Type 0} {over : Ghosts P C} → BatchingBus P C over → Option (Failure C)
@@ -37,5 +37,5 @@ abbrev pub is_ready : {P C : Type 0} {over : Ghosts P C} → BatchingBus P C ove
 is_ready batching = is_in_step batching.batch.link
 
 -- The state of the bus: only what was sent, or waits, and the replies to polls are known.
-abbrev pub state_of : {P C : Type 0} {over : Ghosts P C} → BatchingBus P C over → BusState
-state_of batching = unknown_bus batching.sent batching.heard
+abbrev pub serprog_state : {P C : Type 0} {over : Ghosts P C} → BatchingBus P C over → BusState
+serprog_state batching = unknown_bus batching.sent batching.polled_ready

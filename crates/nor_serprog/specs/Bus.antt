@@ -12,8 +12,8 @@ use Rattle.nor_serprog.specs.Link.{is_in_step}
 -- The state of a bus over a port in this state. Its chip is the programmer's. A transaction takes three calls of the
 -- port: one sends the frame, one receives ACK, and one receives the reply. The bus is not steady, since a port can fail
 -- inside a transaction, and not unlimited, since a frame sends at most 260 bytes.
-abbrev pub over_port : PortState → Sent → (heard : Bool) → BusState
-over_port port sent heard = record {
+abbrev pub over_port : PortState → Sent → (polled_ready : Bool) → BusState
+over_port port sent polled_ready = record {
   chip = port.device.chip;
   left = port.left / 3;
   honest = port.honest;
@@ -21,7 +21,7 @@ over_port port sent heard = record {
   worn = port.device.worn;
   steady = false;
   unlimited = false;
-  heard = heard;
+  polled_ready = polled_ready;
 }
 
 -- The link to the programmer.
@@ -37,8 +37,8 @@ abbrev pub sent_of : {P C : Type 0} {over : Ghosts P C} → SerprogBus P C over 
 sent_of bus = bus.sent
 
 -- The reply to the last poll showed that the chip is ready. False before the first poll.
-abbrev pub heard_of : {P C : Type 0} {over : Ghosts P C} → SerprogBus P C over → Bool
-heard_of bus = bus.heard
+abbrev pub polled_ready_of : {P C : Type 0} {over : Ghosts P C} → SerprogBus P C over → Bool
+polled_ready_of bus = bus.polled_ready
 
 -- The cause of the last transaction that failed, except for those that were rejected because an earlier one failed.
 abbrev pub cause_of : {P C : Type 0} {over : Ghosts P C} → SerprogBus P C over → Option (Failure C)
@@ -49,5 +49,5 @@ abbrev pub is_ready : {P C : Type 0} {over : Ghosts P C} → SerprogBus P C over
 is_ready bus = is_in_step bus.link
 
 -- The state of the bus.
-abbrev pub state_of : {P C : Type 0} {over : Ghosts P C} → SerprogBus P C over → BusState
-state_of {over = over} bus = over_port (over.state bus.link.port) bus.sent bus.heard
+abbrev pub serprog_state : {P C : Type 0} {over : Ghosts P C} → SerprogBus P C over → BusState
+serprog_state {over = over} bus = over_port (over.state bus.link.port) bus.sent bus.polled_ready

@@ -38,7 +38,7 @@ pub record StepsOnce (out answer : List ℕ) (old new : Device) : Type 0 where
   pub worn : (s : ℕ) → new.worn s ≡ (old.worn s || wears (done_of old.chip out (length answer)) s)
 
 -- The chip may have lost its power. No sector was erased.
-pub record MayLosePower (old new : Device) : Type 0 where
+pub record MayLoseDevicePower (old new : Device) : Type 0 where
   pub chip : (new.chip ≡ old.chip) ⊎ PowerLost old.chip new.chip
   pub worn : (s : ℕ) → new.worn s ≡ old.worn s
 
@@ -49,11 +49,11 @@ pub record IsCut (out : List ℕ) (old new : Device) : Type 0 where
   pub read : List ℕ
   pub reached : Device
   pub steps : StepsOnce (take count out) read old reached
-  pub then : MayLosePower reached new
+  pub then : MayLoseDevicePower reached new
 
 -- A whole frame of O_SPIOP is carried out: the chip makes one step, and the reply is ACK and the bytes that the chip
 -- returned.
-pub record Operates (frame : List ℕ) (old new : Device) : Type 0 where
+pub record OperatesFrame (frame : List ℕ) (old new : Device) : Type 0 where
   pub answer : List ℕ
   pub len : length answer ≡ replies_in frame
   pub steps : StepsOnce (out_in frame) answer old new
@@ -69,7 +69,7 @@ pub record CompletesOperation (bytes : List ℕ) (old : Device) : Type 0 where
 -- specified here.
 pub record IsSent (bytes : List ℕ) (old new : PortState) : Type 0 where
   pub left : old.left ≡ new.left + 1
-  pub done : CompletesOperation bytes old.device → Operates (old.device.begun ++ bytes) old.device new.device
+  pub done : CompletesOperation bytes old.device → OperatesFrame (old.device.begun ++ bytes) old.device new.device
 
 -- The port failed while these bytes were sent, after any number of them. If they would complete a frame of O_SPIOP, its
 -- transaction was cut (`IsCut`): a programmer may begin it before the frame is complete.
@@ -90,7 +90,7 @@ pub record IsReceived (bytes : List ℕ) (old new : PortState) : Type 0 where
 pub record IsSilent (old new : PortState) : Type 0 where
   pub none_left : old.left ≡ 0
   pub left : new.left ≡ 0
-  pub power : MayLosePower old.device new.device
+  pub power : MayLoseDevicePower old.device new.device
 
 -- ACK and these reply bytes were received, with two calls.
 pub record TakesAnswer (reply : List ℕ) (old new : PortState) : Type 0 where
@@ -109,7 +109,7 @@ pub record AnswerBegins (port : PortState) : Type 0 where
 pub record MissesAnswer (old new : PortState) : Type 0 where
   pub few_left : old.left < 2
   pub few : new.left < 3
-  pub power : MayLosePower old.device new.device
+  pub power : MayLoseDevicePower old.device new.device
 
 -- A transaction was carried out with three calls, and the reply was received: the chip made one step.
 pub record Exchanged (out answer : List ℕ) (old new : PortState) : Type 0 where

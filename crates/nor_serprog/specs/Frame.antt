@@ -13,8 +13,8 @@ abbrev pub four_of : ℕ → List ℕ
 four_of n = n % 256 ∷ n / 256 % 256 ∷ n / 65536 % 256 ∷ n / 16777216 % 256 ∷ []
 
 -- The 24-bit number of three bytes, the lowest first.
-abbrev pub number_of : (a b c : ℕ) → ℕ
-number_of a b c = a + 256 * b + 65536 * c
+abbrev pub number_in : (a b c : ℕ) → ℕ
+number_in a b c = a + 256 * b + 65536 * c
 
 -- The frame of O_SPIOP: the opcode, the number of bytes to send, the number of reply bytes, and the bytes to send.
 abbrev pub operation_frame : (out : List ℕ) → (replies : ℕ) → List ℕ
@@ -38,13 +38,13 @@ frame_of (SetPins enabled) = 0x15 ∷ (if enabled then 1 else 0) ∷ []
 
 -- The command fits into one frame of this crate: O_SPIOP sends at most 260 bytes, and its number of reply bytes has 24
 -- bits.
-abbrev pub Fits : Command → Type 0
-Fits (Operate out replies) = (length out.now ≤ 260) × (replies < 16777216)
-Fits _ = ⊤
+abbrev pub FitsFrame : Command → Type 0
+FitsFrame (Operate out replies) = (length out.now ≤ 260) × (replies < 16777216)
+FitsFrame _ = ⊤
 
 -- The number of argument bytes after an opcode, except O_SPIOP and "write n" (0Dh): `long_len` describes their frames.
-abbrev pub arguments_of : (opcode : ℕ) → ℕ
-arguments_of opcode =
+abbrev pub argument_count : (opcode : ℕ) → ℕ
+argument_count opcode =
     if opcode == 0x12 || opcode == 0x15 then 1
     else if opcode == 0x09 then 3
     else if opcode == 0x0C || opcode == 0x0E || opcode == 0x14 then 4
@@ -54,14 +54,14 @@ arguments_of opcode =
 -- The length of a frame of O_SPIOP or "write n", from the bytes after its opcode. These begin with two numbers of three
 -- bytes, the first of which is the number of bytes that follow both.
 abbrev pub long_len : List ℕ → Option ℕ
-long_len (a ∷ b ∷ c ∷ rest) = Some (7 + number_of a b c)
+long_len (a ∷ b ∷ c ∷ rest) = Some (7 + number_in a b c)
 long_len _ = None
 
 -- The length of the frame that begins with these bytes, as a programmer reads it: `None` until the bytes determine it.
 abbrev pub frame_len : (begun : List ℕ) → Option ℕ
 frame_len [] = None
 frame_len (opcode ∷ rest) =
-    if opcode == 0x13 || opcode == 0x0D then long_len rest else Some (1 + arguments_of opcode)
+    if opcode == 0x13 || opcode == 0x0D then long_len rest else Some (1 + argument_count opcode)
 
 -- The bytes are one whole frame.
 abbrev pub IsFrame : List ℕ → Type 0
@@ -73,11 +73,11 @@ out_in frame = drop 7 frame
 
 -- The number of reply bytes that a frame of O_SPIOP requests.
 abbrev pub replies_in : List ℕ → ℕ
-replies_in frame = number_of (slice_index frame 4) (slice_index frame 5) (slice_index frame 6)
+replies_in frame = number_in (slice_index frame 4) (slice_index frame 5) (slice_index frame 6)
 
 -- A programmer that reads this frame carries out this command: the opcode is the command's, and O_SPIOP has its bytes
 -- and its number of reply bytes.
-abbrev pub Reads : List ℕ → Command → Type 0
-Reads frame (Operate out replies) =
+abbrev pub ReadsAs : List ℕ → Command → Type 0
+ReadsAs frame (Operate out replies) =
     (slice_index frame 0 ≡ 0x13) × (out_in frame ≡ out.now) × (replies_in frame ≡ replies)
-Reads frame command = frame ≡ frame_of command
+ReadsAs frame command = frame ≡ frame_of command

@@ -1,6 +1,6 @@
 -- How polls that show BUSY are paced.
 use Rattle.std.specs.Prelude.{◌+◌, ◌-◌, ◌^◌, ℕ, zero, suc, true, List, min, nat_le, if◌then◌else◌}
-use Rattle.nor_chip.specs.Heard.{heard_after}
+use Rattle.nor_chip.specs.PolledReady.{polled_ready_after}
 use Rattle.nor_serprog.specs.declared.paced.Paced.{Paced}
 
 -- The bus inside.
@@ -14,7 +14,7 @@ busy_row paced = paced.busy_polls
 -- The number of BUSY polls in a row after a transaction that sent `out` and read `answer`. Only a poll that shows BUSY
 -- continues the row.
 abbrev pub busy_row_after : (out answer : List ℕ) → (before : ℕ) → ℕ
-busy_row_after out answer before = if heard_after out answer true then 0 else min (before + 1) (2 ^ 64 - 1)
+busy_row_after out answer before = if polled_ready_after out answer true then 0 else min (before + 1) (2 ^ 64 - 1)
 
 -- The pause in milliseconds before a transaction that follows this many polls in a row which showed BUSY.
 abbrev pub pause_before : (busy_polls : ℕ) → ℕ

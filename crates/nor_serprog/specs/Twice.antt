@@ -1,7 +1,7 @@
 -- A bus that reads data twice, as contracts see it.
 use Rattle.std.specs.Prelude.{◌≡◌, ◌==◌, ℕ, Bool, false, Option, None, Some, length, List, [], ◌∷◌}
 use Rattle.std.proofs.Common.{Vec, Global}
-use Rattle.nor_serprog.specs.Reads.{address_in, part}
+use Rattle.nor_serprog.specs.ReadsAs.{address_in, part}
 use Rattle.nor_chip.specs.Bus.{BusState, Carries, unknown_bus}
 use Rattle.nor_serprog.specs.declared.twice.ReadTwice.{ReadTwice}
 
@@ -26,7 +26,7 @@ Expects twice out answer = elim twice.expected [
 
 -- The state of the bus: only what was sent over the bus inside, and the replies to polls, are known.
 abbrev pub view_of : BusState → BusState
-view_of inside = unknown_bus inside.sent inside.heard
+view_of inside = unknown_bus inside.sent inside.polled_ready
 
 -- True if a transaction reads data (03h).
 abbrev pub begins_read : (out : List ℕ) → Bool

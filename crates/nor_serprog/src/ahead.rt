@@ -1,8 +1,8 @@
 //! A bus that reads ahead.
 ghost use Rattle.std.specs.Prelude.{◌≡◌, ◌≤◌, ◌+◌, ◌-◌, true, false, length, OnOk, OnErr, IfSome};
 ghost use Rattle.std.proofs.lemmas.Bool.{false≢true};
-ghost use Rattle.nor_chip.specs.Bus.{IsHonestFor, Sends, Stops, Carries, Hears};
-ghost use Rattle.nor_serprog.specs.Reads.{reads_data, address_in, part, KeepsRecord};
+ghost use Rattle.nor_chip.specs.Bus.{IsHonestFor, Sends, Stops, Carries, RecordsPoll};
+ghost use Rattle.nor_serprog.specs.ReadsAs.{reads_data, address_in, part, KeepsRecord};
 ghost use Rattle.nor_serprog.specs.Twice.{view_of};
 
 use nor_chip::{Bus, Stopped};
@@ -16,7 +16,7 @@ const SECTOR_LEN: u32 = 4096;
 const READ_DATA: u8 = 0x03;
 
 /// A bus that reads data (03h) ahead, if reads follow each other. A read that begins where the last block ended reads a
-/// block of twice the length, up to 64 KiB. Reads inside the last block are answered from memory.
+/// block of twice the length, up to 64 KiB. ReadsAs inside the last block are answered from memory.
 ///
 /// The block is forgotten at each transaction other than a read of data, and if the bus inside stops. A block ends at a
 /// multiple of 64 KiB at the latest, so it never reaches past the end of a chip. It is never longer than the bus inside
@@ -70,7 +70,7 @@ impl<B: Bus + Drop> ReadAhead<B> {
 impl<B: Bus> ReadAhead<B> {
     ghost use Rattle.nor_serprog.specs.Ahead.{ahead_of, begin, held, block_of};
 
-    // Reads `reply` out of the block, which is read first if it does not hold all of these bytes.
+    // ReadsAs `reply` out of the block, which is read first if it does not hold all of these bytes.
     fn read(&mut self, address: u32, reply: &mut [u8]) -> Result<(), Stopped>
         requires address { address ≤ 16777215 }
         requires len { length reply.old ≤ 65536 }
@@ -84,7 +84,7 @@ impl<B: Bus> ReadAhead<B> {
         Ok(())
     }
 
-    // Reads a block that begins with these bytes, unless the block holds them.
+    // ReadsAs a block that begins with these bytes, unless the block holds them.
     fn hold(&mut self, address: u32, len: u32) -> Result<(), Stopped>
         requires address { address ≤ 16777215 }
         requires len { len ≤ 65536 }
@@ -109,7 +109,7 @@ impl<B: Bus> ReadAhead<B> {
         )
     }
 
-    // Reads a block of this length.
+    // ReadsAs a block of this length.
     fn fill(&mut self, address: u32, len: u32) -> Result<(), Stopped>
         requires address { address ≤ 16777215 }
         requires len { len ≤ 65536 }
@@ -145,7 +145,7 @@ impl<B: Bus> Bus for ReadAhead<B> {
         ensures carries { IsHonestFor out.now (length reply.old) (view_of (B.state (ahead_of self.old)))
             → OnOk result (Carries out.now reply.new
             (view_of (B.state (ahead_of self.old))) (view_of (B.state (ahead_of self.new)))) }
-        ensures hears { Hears out.now reply.new result
+        ensures records_poll { RecordsPoll out.now reply.new result
             (view_of (B.state (ahead_of self.old))) (view_of (B.state (ahead_of self.new))) }
         ensures forgets { reads_data out.now ≡ false → held self.new ≡ 0 }
     {

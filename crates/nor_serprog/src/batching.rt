@@ -1,13 +1,13 @@
 //! A bus to the chip at a serial programmer that needs few round trips.
 ghost use Rattle.std.specs.Prelude.{◌≡◌, ◌<◌, ◌⊎◌, [], true, false, length, OnOk, OnErr, IsSome, option_copied};
 ghost use Rattle.std.proofs.lemmas.Bool.{false≢true};
-ghost use Rattle.nor_chip.specs.Bus.{IsHonestFor, Sends, Hears, Stops, Carries};
+ghost use Rattle.nor_chip.specs.Bus.{IsHonestFor, Sends, RecordsPoll, Stops, Carries};
 ghost use Rattle.nor_chip.specs.Command.{begins_change};
 ghost use Rattle.nor_chip.specs.Sent.{IsNothing};
 
 use crate::batch::Batch;
 use crate::{Failure, Link, Port, Programmer, Sync};
-use nor_chip::{Bus, Sent, Stopped, heard_after};
+use nor_chip::{Bus, Sent, Stopped, polled_ready_after};
 
 /// A bus to the chip at a serial programmer, over any port, that needs fewer round trips than `SerprogBus`: a modifying
 /// command without a reply is sent together with the next transaction that reads a reply. After a modifying command
@@ -33,18 +33,18 @@ pub struct BatchingBus<P: Port + Drop> {
     programmer: Programmer,
     cause: Option<Failure<P::Cause>>,
     sent: Sent,
-    heard: bool,
+    polled_ready: bool,
 }
 
 impl<P: Port + Drop> BatchingBus<P> {
-    ghost use Rattle.nor_serprog.specs.Batching.{link_of, port_in, waiting_of, sent_of, heard_of, cause_of, is_ready};
+    ghost use Rattle.nor_serprog.specs.Batching.{link_of, port_in, waiting_of, sent_of, polled_ready_of, cause_of, is_ready};
 
     /// Returns a bus over a link whose programmer was identified (`Programmer::identify`).
     pub fn new(link: Link<P>, programmer: Programmer) -> BatchingBus<P>
         ensures link { link_of result ≡ link }
         ensures empty { waiting_of result ≡ [] }
         ensures sent { IsNothing (sent_of result) }
-        ensures heard { heard_of result ≡ false }
+        ensures polled_ready { polled_ready_of result ≡ false }
     {
         let batch = Batch::new(link, &programmer);
         BatchingBus {
@@ -52,7 +52,7 @@ impl<P: Port + Drop> BatchingBus<P> {
             programmer,
             cause: None,
             sent: Sent::new(),
-            heard: false,
+            polled_ready: false,
         }
     }
 
@@ -79,7 +79,7 @@ impl<P: Port + Drop> BatchingBus<P> {
     /// Sends what waits, and reads its acknowledgements. Returns `Stopped` if an exchange failed.
     pub fn flush(&mut self) -> Result<(), Stopped>
         ensures sent { sent_of self.new ≡ sent_of self.old }
-        ensures heard { heard_of self.new ≡ heard_of self.old }
+        ensures polled_ready { polled_ready_of self.new ≡ polled_ready_of self.old }
         ensures silent { is_ready self.old ≡ false → link_of self.new ≡ link_of self.old }
         ensures empty { waiting_of self.new ≡ [] }
     {
@@ -96,7 +96,7 @@ impl<P: Port + Drop> BatchingBus<P> {
     /// step is left alone. The record of modifying commands and polls is kept. After a failure nothing waits.
     pub fn synchronize(&mut self) -> Result<(), Failure<P::Cause>>
         ensures sent { sent_of self.new ≡ sent_of self.old }
-        ensures heard { heard_of self.new ≡ heard_of self.old }
+        ensures polled_ready { polled_ready_of self.new ≡ polled_ready_of self.old }
         ensures ok { OnOk result (is_ready self.new ≡ true) }
         ensures err { OnErr result (is_ready self.new ≡ false) }
     {
@@ -108,21 +108,21 @@ impl<P: Port + Drop> BatchingBus<P> {
 }
 
 impl<P: Port + Drop> Bus for BatchingBus<P> {
-    ghost use Rattle.nor_serprog.specs.Batching.{link_of, waiting_of, cause_of, is_ready, state_of};
+    ghost use Rattle.nor_serprog.specs.Batching.{link_of, waiting_of, cause_of, is_ready, serprog_state};
 
-    ghost state = { state_of };
+    ghost state = { serprog_state };
 
     ghost reaches = { λ batching honest. absurd (false≢true honest) };
 
     fn transfer(&mut self, out: &[u8], reply: &mut [u8]) -> Result<(), Stopped>
-        ensures sends { Sends out.now (state_of self.old) (state_of self.new) }
-        ensures stops { IsHonestFor out.now (length reply.old) (state_of self.old)
-            → OnErr result (Stops out.now (state_of self.old) (state_of self.new)) }
-        ensures unread { IsHonestFor out.now (length reply.old) (state_of self.old)
+        ensures sends { Sends out.now (serprog_state self.old) (serprog_state self.new) }
+        ensures stops { IsHonestFor out.now (length reply.old) (serprog_state self.old)
+            → OnErr result (Stops out.now (serprog_state self.old) (serprog_state self.new)) }
+        ensures unread { IsHonestFor out.now (length reply.old) (serprog_state self.old)
             → OnErr result (reply.new ≡ reply.old) }
-        ensures carries { IsHonestFor out.now (length reply.old) (state_of self.old)
-            → OnOk result (Carries out.now reply.new (state_of self.old) (state_of self.new)) }
-        ensures hears { Hears out.now reply.new result (state_of self.old) (state_of self.new) }
+        ensures carries { IsHonestFor out.now (length reply.old) (serprog_state self.old)
+            → OnOk result (Carries out.now reply.new (serprog_state self.old) (serprog_state self.new)) }
+        ensures records_poll { RecordsPoll out.now reply.new result (serprog_state self.old) (serprog_state self.new) }
         ensures silent { is_ready self.old ≡ false → link_of self.new ≡ link_of self.old }
         ensures was_ready { OnOk result (is_ready self.old ≡ true) }
         ensures ok { OnOk result (is_ready self.new ≡ true) }
@@ -136,7 +136,7 @@ impl<P: Port + Drop> Bus for BatchingBus<P> {
         let was_in_step = self.batch.link().sync() == Sync::InStep;
         match self.batch.transact(out, reply) {
             Ok(()) => {
-                self.heard = heard_after(out, reply, self.heard);
+                self.polled_ready = polled_ready_after(out, reply, self.polled_ready);
                 Ok(())
             }
             Err(cause) => {

@@ -1,12 +1,12 @@
 //! A bus to the chip at a serial programmer.
 ghost use Rattle.std.specs.Prelude.{◌≡◌, ◌≤◌, ◌⊎◌, true, false, length, OnOk, OnErr, IsSome, option_copied};
 ghost use Rattle.nor_chip.specs.Sent.{IsNothing};
-ghost use Rattle.nor_chip.specs.Bus.{IsHonestFor, Sends, Hears, Stops, Carries};
+ghost use Rattle.nor_chip.specs.Bus.{IsHonestFor, Sends, RecordsPoll, Stops, Carries};
 ghost use Rattle.nor_serprog.specs.Device.{IsIdle, Exchanged, Interrupted};
 ghost use Rattle.nor_serprog.specs.Link.{port_of, is_in_step, IsSettled};
 
 use crate::{Command, Failure, Link, Port, Programmer, Sync};
-use nor_chip::{Bus, Sent, Stopped, heard_after};
+use nor_chip::{Bus, Sent, Stopped, polled_ready_after};
 
 /// A bus to the chip at a serial programmer, over any port. One transaction is one O_SPIOP (serprog protocol,
 /// flashrom's Documentation/serprog-protocol.txt).
@@ -25,14 +25,14 @@ pub struct SerprogBus<P: Port + Drop> {
     programmer: Programmer,
     cause: Option<Failure<P::Cause>>,
     sent: Sent,
-    heard: bool,
+    polled_ready: bool,
     // If the link is in step, an honest port leads to a programmer that waits for a frame; otherwise the port has too
     // few calls left for a transaction.
     ghost idle: { IsSettled P.state link },
 }
 
 impl<P: Port + Drop> SerprogBus<P> {
-    ghost use Rattle.nor_serprog.specs.Bus.{link_of, port_in, sent_of, heard_of, cause_of, is_ready};
+    ghost use Rattle.nor_serprog.specs.Bus.{link_of, port_in, sent_of, polled_ready_of, cause_of, is_ready};
 
     /// Returns a bus over a link whose programmer was identified (`Programmer::identify`). The link must be in step.
     /// Over an honest port the programmer must be idle.
@@ -41,14 +41,14 @@ impl<P: Port + Drop> SerprogBus<P> {
         requires idle { (P.state (port_of link)).honest ≡ true → IsIdle (P.state (port_of link)).device }
         ensures link { link_of result ≡ link }
         ensures sent { IsNothing (sent_of result) }
-        ensures heard { heard_of result ≡ false }
+        ensures polled_ready { polled_ready_of result ≡ false }
     {
         SerprogBus {
             link,
             programmer,
             cause: None,
             sent: Sent::new(),
-            heard: false,
+            polled_ready: false,
         }
     }
 
@@ -78,7 +78,7 @@ impl<P: Port + Drop> SerprogBus<P> {
     /// The chip may have carried out the transaction that failed, or not.
     pub fn synchronize(&mut self) -> Result<(), Failure<P::Cause>>
         ensures sent { sent_of self.new ≡ sent_of self.old }
-        ensures heard { heard_of self.new ≡ heard_of self.old }
+        ensures polled_ready { polled_ready_of self.new ≡ polled_ready_of self.old }
         ensures ok { OnOk result (is_ready self.new ≡ true) }
         ensures err { OnErr result (is_ready self.new ≡ false) }
     {
@@ -90,21 +90,21 @@ impl<P: Port + Drop> SerprogBus<P> {
 }
 
 impl<P: Port + Drop> Bus for SerprogBus<P> {
-    ghost use Rattle.nor_serprog.specs.Bus.{link_of, cause_of, is_ready, state_of};
+    ghost use Rattle.nor_serprog.specs.Bus.{link_of, cause_of, is_ready, serprog_state};
 
-    ghost state = { state_of };
+    ghost state = { serprog_state };
 
     ghost reaches = { λ bus honest. P.reaches bus.link.port honest };
 
     fn transfer(&mut self, out: &[u8], reply: &mut [u8]) -> Result<(), Stopped>
-        ensures sends { Sends out.now (state_of self.old) (state_of self.new) }
-        ensures stops { IsHonestFor out.now (length reply.old) (state_of self.old)
-            → OnErr result (Stops out.now (state_of self.old) (state_of self.new)) }
-        ensures unread { IsHonestFor out.now (length reply.old) (state_of self.old)
+        ensures sends { Sends out.now (serprog_state self.old) (serprog_state self.new) }
+        ensures stops { IsHonestFor out.now (length reply.old) (serprog_state self.old)
+            → OnErr result (Stops out.now (serprog_state self.old) (serprog_state self.new)) }
+        ensures unread { IsHonestFor out.now (length reply.old) (serprog_state self.old)
             → OnErr result (reply.new ≡ reply.old) }
-        ensures carries { IsHonestFor out.now (length reply.old) (state_of self.old)
-            → OnOk result (Carries out.now reply.new (state_of self.old) (state_of self.new)) }
-        ensures hears { Hears out.now reply.new result (state_of self.old) (state_of self.new) }
+        ensures carries { IsHonestFor out.now (length reply.old) (serprog_state self.old)
+            → OnOk result (Carries out.now reply.new (serprog_state self.old) (serprog_state self.new)) }
+        ensures records_poll { RecordsPoll out.now reply.new result (serprog_state self.old) (serprog_state self.new) }
         ensures silent { is_ready self.old ≡ false → link_of self.new ≡ link_of self.old }
         ensures was_ready { OnOk result (is_ready self.old ≡ true) }
         ensures ok { OnOk result (is_ready self.new ≡ true) }
@@ -117,7 +117,7 @@ impl<P: Port + Drop> Bus for SerprogBus<P> {
         let was_in_step = self.link.sync() == Sync::InStep;
         match carry(&mut self.link, self.programmer.longest_read(), out, reply) {
             Ok(()) => {
-                self.heard = heard_after(out, reply, self.heard);
+                self.polled_ready = polled_ready_after(out, reply, self.polled_ready);
                 Ok(())
             }
             Err(cause) => {

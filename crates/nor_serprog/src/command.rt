@@ -1,7 +1,7 @@
 //! The commands of serprog as bytes, and the first byte of each reply.
 
 ghost use Rattle.std.specs.Prelude.{◌≡◌, ◌<◌, ◌≤◌, ◌↔◌, [], ◌++◌, ℕ, List, length, IfOk, IsOk, IsSome, if◌then◌else◌, ◌==◌};
-ghost use Rattle.nor_serprog.specs.Frame.{frame_of, operation_frame, arguments_of, Fits, IsFrame, Reads, frame_len as frame_len_of};
+ghost use Rattle.nor_serprog.specs.Frame.{frame_of, operation_frame, argument_count, FitsFrame, IsFrame, ReadsAs, frame_len as frame_len_of};
 ghost use Rattle.nor_serprog.specs.declared.command.Answer.TheVariants as Answers;
 
 use arrayvec::ArrayVec;
@@ -65,10 +65,10 @@ impl Command<'_> {
     /// A frame is always whole, a programmer reads exactly this command from it, and no longer frame begins with it
     /// (serprog protocol, flashrom's Documentation/serprog-protocol.txt).
     pub fn encode(self) -> Result<Frame, TooLong>
-        ensures fits { IsOk result ↔ Fits self.entry }
+        ensures fits { IsOk result ↔ FitsFrame self.entry }
         ensures exact { IfOk result (λ frame. frame.items ≡ frame_of self.entry) }
         ensures whole { IfOk result (λ frame. IsFrame frame.items) }
-        ensures reads { IfOk result (λ frame. Reads frame.items self.entry) }
+        ensures reads { IfOk result (λ frame. ReadsAs frame.items self.entry) }
         ensures alone { IfOk result (λ frame. (more : List ℕ) → IsFrame (frame.items ++ more) → more ≡ []) }
     {
         match self {
@@ -147,7 +147,7 @@ pub fn frame_len(begun: &[u8]) -> Option<usize>
 
 // Returns the number of argument bytes after an opcode that has a fixed number of them.
 fn arguments_len(opcode: u8) -> usize
-    ensures { result ≡ arguments_of opcode }
+    ensures { result ≡ argument_count opcode }
 {
     match opcode {
         0x12 | 0x15 => 1,

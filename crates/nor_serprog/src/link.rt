@@ -2,7 +2,7 @@
 ghost use Rattle.std.specs.Prelude.{◌≡◌, ◌≤◌, ◌+◌, ◌⊎◌, true, false, length, ◌↔◌, IsOk, IfOk, OnOk, OnErr};
 ghost use Rattle.nor_serprog.specs.Device.{IsIdle, IsSent, IsCutOff, IfOperates, Exchanged, Interrupted};
 ghost use Rattle.nor_serprog.specs.Device.{AnswerBegins, TakesAnswer, MissesAnswer};
-ghost use Rattle.nor_serprog.specs.Frame.{Fits, IsFrame, Reads};
+ghost use Rattle.nor_serprog.specs.Frame.{FitsFrame, IsFrame, ReadsAs};
 ghost use Rattle.nor_serprog.specs.Link.{port_of, sync_of, is_in_step, is_cut};
 
 use crate::{Answer, Command, Frame, Port};
@@ -115,7 +115,7 @@ impl<P: Port + Drop> Link<P> {
         ensures was_in_step { OnOk result (is_in_step self.old ≡ true) }
         ensures ok { OnOk result (is_in_step self.new ≡ true) }
         ensures err { OnErr result ((self.new ≡ self.old) ⊎ (is_in_step self.new ≡ false)) }
-        ensures fits { Fits command.entry → OnErr result (is_in_step self.new ≡ false) }
+        ensures fits { FitsFrame command.entry → OnErr result (is_in_step self.new ≡ false) }
         ensures exchanged { (P.state (port_of self.old)).honest ≡ true → IsIdle (P.state (port_of self.old)).device
             → OnOk result (IfOperates command.entry (λ out replies. length reply.old ≡ replies
             → Exchanged out reply.new (P.state (port_of self.old)) (P.state (port_of self.new)))) }
@@ -149,7 +149,7 @@ impl<P: Port + Drop> Link<P> {
         ensures nature { (P.state (port_of self.new)).honest ≡ (P.state (port_of self.old)).honest }
         ensures ok { OnOk result (is_in_step self.new ≡ true) }
         ensures err { OnErr result ((self.new ≡ self.old) ⊎ (is_in_step self.new ≡ false)) }
-        ensures fits { Fits command.entry → OnErr result (is_in_step self.new ≡ false) }
+        ensures fits { FitsFrame command.entry → OnErr result (is_in_step self.new ≡ false) }
         ensures exchanged { (P.state (port_of self.old)).honest ≡ true → IsIdle (P.state (port_of self.old)).device
             → OnOk result (IfOperates command.entry (λ out replies. length reply.old ≡ replies
             → Exchanged out reply.new (P.state (port_of self.old)) (P.state (port_of self.new)))) }
@@ -232,9 +232,9 @@ impl<P: Port + Drop> Link<P> {
 }
 
 fn encode<C>(command: Command<'_>) -> Result<Frame, Failure<C>>
-    ensures fits { IsOk result ↔ Fits command.entry }
+    ensures fits { IsOk result ↔ FitsFrame command.entry }
     ensures whole { IfOk result (λ frame. IsFrame frame.items) }
-    ensures reads { IfOk result (λ frame. Reads frame.items command.entry) }
+    ensures reads { IfOk result (λ frame. ReadsAs frame.items command.entry) }
 {
     command.encode().map_err(|_| Failure::TooLong)
 }

@@ -1,9 +1,9 @@
 //! A bus that pauses between polls of a busy chip.
 ghost use Rattle.std.specs.Prelude.{◌≡◌, ◌≤◌, true, length, OnOk, OnErr};
-ghost use Rattle.nor_chip.specs.Bus.{IsHonestFor, Sends, Stops, Carries, Hears};
+ghost use Rattle.nor_chip.specs.Bus.{IsHonestFor, Sends, Stops, Carries, RecordsPoll};
 ghost use Rattle.nor_serprog.specs.Pace.{pause_before, pauses, busy_row_after, busy_row, paced_of};
 
-use nor_chip::{Bus, Stopped, heard_after};
+use nor_chip::{Bus, Stopped, polled_ready_after};
 use std::thread;
 use std::time::{Clock, Duration};
 
@@ -81,7 +81,7 @@ impl<B: Bus, C: Clock> Bus for Paced<B, C> {
             → OnErr result (reply.new ≡ reply.old) }
         ensures carries { IsHonestFor out.now (length reply.old) (B.state (paced_of self.old))
             → OnOk result (Carries out.now reply.new (B.state (paced_of self.old)) (B.state (paced_of self.new))) }
-        ensures hears { Hears out.now reply.new result (B.state (paced_of self.old)) (B.state (paced_of self.new)) }
+        ensures records_poll { RecordsPoll out.now reply.new result (B.state (paced_of self.old)) (B.state (paced_of self.new)) }
         ensures row { OnOk result (busy_row self.new ≡ busy_row_after out.now reply.new (busy_row self.old)) }
         ensures stopped { OnErr result (busy_row self.new ≡ busy_row self.old) }
     {
@@ -90,7 +90,7 @@ impl<B: Bus, C: Clock> Bus for Paced<B, C> {
             thread::sleep(&self.clock, Duration::from_millis(millis));
         }
         self.bus.transfer(out, reply)?;
-        self.busy_polls = if heard_after(out, reply, true) {
+        self.busy_polls = if polled_ready_after(out, reply, true) {
             0
         } else {
             self.busy_polls.saturating_add(1)

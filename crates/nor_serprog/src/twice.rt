@@ -1,7 +1,7 @@
 //! A bus that reads data twice.
 ghost use Rattle.std.specs.Prelude.{◌≡◌, ◌≢◌, ◌≤◌, ◌⊎◌, true, false, ℕ, List, length, OnOk, OnErr};
 ghost use Rattle.std.proofs.lemmas.Bool.{false≢true};
-ghost use Rattle.nor_chip.specs.Bus.{IsHonestFor, Sends, Stops, Carries, Hears, unknown_bus};
+ghost use Rattle.nor_chip.specs.Bus.{IsHonestFor, Sends, Stops, Carries, RecordsPoll, unknown_bus};
 ghost use Rattle.nor_serprog.specs.Twice.{twice_of, has_differed, expected_of, Expects, begins_read};
 ghost use Rattle.nor_serprog.specs.Twice.{ReadsTwice, view_of};
 
@@ -106,7 +106,7 @@ impl<B: Bus> Bus for ReadTwice<B> {
         ensures carries { IsHonestFor out.now (length reply.old) (view_of (B.state (twice_of self.old)))
             → OnOk result (Carries out.now reply.new
             (view_of (B.state (twice_of self.old))) (view_of (B.state (twice_of self.new)))) }
-        ensures hears { Hears out.now reply.new result
+        ensures records_poll { RecordsPoll out.now reply.new result
             (view_of (B.state (twice_of self.old))) (view_of (B.state (twice_of self.new))) }
         ensures once { IsHonestFor out.now (length reply.old) (B.state (twice_of self.old))
             → begins_read out.now ≡ false

@@ -10,7 +10,7 @@ use Rattle.nor_chip.specs.Guard.{code_of}
 use Rattle.nor_chip.proofs.Kept.{kept_same}
 use Rattle.nor_chip.specs.Bus.{BusState}
 use Rattle.nor_chip.proofs.Sizes.{sized_bounds}
-use Rattle.nor_driver.specs.Looks.{Looks, Rested, IsOpen}
+use Rattle.nor_driver.specs.OnlyReads.{OnlyReads, Rested, IsOpen}
 use Rattle.nor_driver.specs.StatusWrites.{fixed_of}
 use Rattle.nor_journal.specs.Text.{Content}
 use Rattle.nor_journal.specs.Saved.{is_saved, saved_byte}
@@ -19,17 +19,17 @@ use Rattle.nor_plan.specs.declared.set.SectorSet.{SectorSet}
 use Rattle.nor_apply.specs.declared.changes.Changes.{Changes}
 use Rattle.nor_count.specs.Counts.{sector_count}
 use Rattle.nor_apply.specs.Applying.{CanApply, writes_code}
-use Rattle.nor_save.specs.declared.opening.Opening.{Opening}
+use Rattle.nor_save.specs.declared.identity.Identity.{Identity}
 use Rattle.nor_save.specs.declared.scanning.Scanned.{Scanned}
 use Rattle.nor_call.specs.declared.refusal.Refusal.TheVariants.{StatusLocked}
-use Rattle.nor_save.specs.Opening.{Opens, most_opening}
-use Rattle.nor_save.specs.Saving.{IsOpening}
+use Rattle.nor_save.specs.Identity.{ReadsIdentity, most_identity}
+use Rattle.nor_save.specs.Saving.{IsIdentityOf}
 use Rattle.nor_driver.proofs.RestsInTurn.{rested_then}
 use Rattle.nor_plan.specs.Content.{is_touched, is_raised}
 use Rattle.nor_probe.specs.Known.{IsModelled}
 use Rattle.nor_session.specs.Changing.{touched_count}
 use Rattle.nor_session.specs.Restore.{restored, NeedsStatusFrom}
-use Rattle.nor_session.specs.Prepare.{NeedsStatusWith, Fits, IsOfKindFound, FitsOpening, HasFixedRead, PrepareTells, ScansSaved, AreChanges, MayChangeStatus, IsShut, IsPreparedFor, IsPrepared}
+use Rattle.nor_session.specs.Prepare.{NeedsStatusWith, FitsJournal, IsOfTypeFound, FitsIdentity, HasFixedRead, PrepareErrors, ScansSaved, AreChanges, MayChangeStatus, IsShut, IsPreparedFor, IsPrepared}
 use Rattle.nor_save.proofs.Held.{code_same}
 use Rattle.nor_session.proofs.Changed.{writes_other}
 use Rattle.nor_session.proofs.JudgedStatus.{held_scheme, free_place, writable_for}
@@ -38,22 +38,22 @@ use Rattle.nor_session.proofs.Rescanned.{restored_saved}
 use Rattle.nor_session.proofs.RestoredBytes.{unraised_byte}
 
 -- The results of the identification and the scan of a restore.
-pub record AreRead (journal : Content) (opening : Opening) (scanned : Scanned) (old mid new : BusState) : Type 0 where
-  pub looks : Looks most_opening old mid
-  pub opens : Opens None old mid opening
-  pub kind : IsOfKindFound journal opening.found
-  pub fits : FitsOpening journal opening
-  pub fixed : HasFixedRead journal opening
+pub record AreRead (journal : Content) (identity : Identity) (scanned : Scanned) (old mid new : BusState) : Type 0 where
+  pub only_reads : OnlyReads most_identity old mid
+  pub opens : ReadsIdentity None old mid identity
+  pub kind : IsOfTypeFound journal identity.found
+  pub fits : FitsIdentity journal identity
+  pub fixed : HasFixedRead journal identity
   pub small : old.honest ≡ true → old.chip.kept.two < 128
   pub scans : ScansSaved journal mid new scanned
 
 -- ---- a status that is locked
 
-module _ {journal : Content} {opening : Opening} {scanned : Scanned} {old mid new : BusState}
-    (read : AreRead journal opening scanned old mid new) where
+module _ {journal : Content} {identity : Identity} {scanned : Scanned} {old mid new : BusState}
+    (read : AreRead journal identity scanned old mid new) where
   rested_all : old.honest ≡ true → Rested old new
   rested_all honest =
-      rested_then old mid new (read.opens.rested honest) (read.scans.rested (read.looks.nature.honest ∙ honest))
+      rested_then old mid new (read.opens.rested honest) (read.scans.rested (read.only_reads.nature.honest ∙ honest))
 
   -- the marks are those of the chip as it was before the restore
   marks_old : IsModelled old
@@ -68,29 +68,29 @@ module _ {journal : Content} {opening : Opening} {scanned : Scanned} {old mid ne
       (fun_ext (rw bytes at (read.scans.touched is_open)), fun_ext (rw bytes at (read.scans.raised is_open)))
 
   pub shut_tells : (most : ℕ)
-      → ((chip : Chip) → IsOpening chip opening → IsShut journal (has scanned.touched) chip)
-      → PrepareTells journal most old new StatusLocked
+      → ((chip : Chip) → IsIdentityOf chip identity → IsShut journal (has scanned.touched) chip)
+      → PrepareErrors journal most old new StatusLocked
   shut_tells most shut = record {
     judged = refl;
     same = λ honest. (rested_all honest).unchanged.same;
     verdict = λ modelled.
         let is = opening_of modelled read.opens in
-        let tells = rw (marks_old modelled).0 at (shut old.chip is) in
-        (read.fits old.chip (read.small modelled.honest) is, tells.locked, tells.needs);
+        let errors = rw (marks_old modelled).0 at (shut old.chip is) in
+        (read.fits old.chip (read.small modelled.honest) is, errors.locked, errors.needs);
   }
 
 -- ---- the changes can be made
 
 -- if a status write is needed, the chip has block protection
-scheme_for : (journal : Content) (touched : ℕ → Bool) (chip : Chip) → Fits journal chip
+scheme_for : (journal : Content) (touched : ℕ → Bool) (chip : Chip) → FitsJournal journal chip
     → NeedsStatusWith journal touched chip → chip.config.scheme ≡ true
 scheme_for journal touched chip fits (inr some) = held_scheme touched chip some
 scheme_for journal touched chip fits (inl differs) =
     true_from_ne_false chip.config.scheme (λ none. differs (ap code_of (fits.fixed.all none)))
 
-module _ {journal : Content} {opening : Opening} {scanned : Scanned} {changes : Changes} {old mid new : BusState}
-    (read : AreRead journal opening scanned old mid new) (are : AreChanges journal opening scanned changes)
-    (judged : (chip : Chip) → IsOpening chip opening → MayChangeStatus journal (has scanned.touched) chip changes) where
+module _ {journal : Content} {identity : Identity} {scanned : Scanned} {changes : Changes} {old mid new : BusState}
+    (read : AreRead journal identity scanned old mid new) (are : AreChanges journal identity scanned changes)
+    (judged : (chip : Chip) → IsIdentityOf chip identity → MayChangeStatus journal (has scanned.touched) chip changes) where
   below : (s : ℕ) → has changes.touched s ≡ true → s < changes.size / 4096
   below s hit = let b = read.scans.marks.below s (rw are.touched at hit) in omega arith
 
@@ -101,11 +101,11 @@ module _ {journal : Content} {opening : Opening} {scanned : Scanned} {changes : 
   rises_touched s hit = rw are.touched (read.scans.marks.inside s (rw are.raised at hit))
 
   prepared_for : (sent : ℕ) → IsModelled old → IsPreparedFor journal old.chip new.chip
-      record { found = opening.found; changes = changes; touched = scanned.count; transactions = sent }
+      record { found = identity.found; changes = changes; touched = scanned.count; transactions = sent }
   prepared_for sent modelled =
       let is = opening_of modelled read.opens in
       let fits = read.fits old.chip (read.small modelled.honest) is in
-      let content = old.chip.bytes in let aim = restored journal content in
+      let content = old.chip.bytes in let target_sectors = restored journal content in
       let marks = marks_old read modelled in
       let touched : (s : ℕ) → has changes.touched s ≡ is_touched old.chip.bytes (restored journal old.chip.bytes) s
       = λ s. ap (λ (set : ℕ → Bool). set s) (ap has are.touched ∙ marks.0) in
@@ -122,11 +122,11 @@ module _ {journal : Content} {opening : Opening} {scanned : Scanned} {changes : 
         | inr off ↦ inl (λ same. writes_other changes off writes (status ∙ same ∙ sym are.code))
       ] in
       let shown = read.opens.shown modelled.honest in
-      let told = told_idle None opening old mid modelled.honest read.opens in
+      let returned = told_idle None identity old mid modelled.honest read.opens in
       let can : CanApply changes (saved_byte journal) new.chip = record {
         idle =
             let idle = read.opens.idle modelled.honest in
-            let rested = read.scans.rested (read.looks.nature.honest ∙ modelled.honest) in
+            let rested = read.scans.rested (read.only_reads.nature.honest ∙ modelled.honest) in
             omega arith;
         sized = record { same = cc; same_kinds = cc };
         kept = same.kept
@@ -147,8 +147,8 @@ module _ {journal : Content} {opening : Opening} {scanned : Scanned} {changes : 
         raised = rises_touched;
         bytes = λ a hit. read.scans.bytes a (saved (a / 4096) hit);
         falls = λ a hit flat.
-            let wanted : aim a ≡ saved_byte journal a = restored_saved journal content a (saved (a / 4096) hit) in
-            let falls = unraised_byte content aim a (sym (raised (a / 4096)) ∙ flat) in
+            let wanted : target_sectors a ≡ saved_byte journal a = restored_saved journal content a (saved (a / 4096) hit) in
+            let falls = unraised_byte content target_sectors a (sym (raised (a / 4096)) ∙ flat) in
             let stays = same.bytes a in
             cc;
       } in
@@ -157,7 +157,7 @@ module _ {journal : Content} {opening : Opening} {scanned : Scanned} {changes : 
   idle_now : old.honest ≡ true → new.chip.busy ≡ 0
   idle_now honest =
       let idle = read.opens.idle honest in
-      let rested = read.scans.rested (read.looks.nature.honest ∙ honest) in
+      let rested = read.scans.rested (read.only_reads.nature.honest ∙ honest) in
       omega arith
 
   touched_if : old.honest ≡ true → old.chip.config.size ≡ journal.size → (s : ℕ)
@@ -166,22 +166,22 @@ module _ {journal : Content} {opening : Opening} {scanned : Scanned} {changes : 
       let same = (read.opens.rested honest).unchanged.same in
       let bytes : mid.chip.bytes ≡ old.chip.bytes = fun_ext same.bytes in
       let is_open : IsOpen journal.size mid = record {
-        honest = read.looks.nature.honest ∙ honest;
+        honest = read.only_reads.nature.honest ∙ honest;
         idle = read.opens.idle honest;
         same = ap (λ (config : Config). config.size) same.config ∙ sized;
       } in
       ap (λ (set : ℕ → Bool). set s) (ap has are.touched) ∙ rw bytes at (read.scans.touched is_open s)
 
-  pub prepared_all : (sent : ℕ) → sent ≡ opening.transactions + length journal.saved → IsPrepared journal old new
-      record { found = opening.found; changes = changes; touched = scanned.count; transactions = sent }
+  pub prepared_all : (sent : ℕ) → sent ≡ identity.transactions + length journal.saved → IsPrepared journal old new
+      record { found = identity.found; changes = changes; touched = scanned.count; transactions = sent }
   prepared_all sent sum =
       let part = read.opens.part.at_most in
       let count : scanned.count ≡ touched_count changes
       = read.scans.marks.count ∙ ap (λ (t : SectorSet). sector_count (has t)) (sym are.touched) in
-      let heard = read.scans.heard read.opens.heard in
+      let polled_ready = read.scans.polled_ready read.opens.polled_ready in
       let left : old.honest ≡ true → old.left ≡ new.left + sent = λ honest.
       let opened = read.opens.count honest in
-      let left = read.scans.sent (read.looks.nature.honest ∙ honest) in
+      let left = read.scans.sent (read.only_reads.nature.honest ∙ honest) in
       omega arith in
       let fixed : fixed_of (kept_in (bytes_of changes.status)) ≡ fixed_of (kept_in journal.status)
       = rw (are.one, are.two) read.fixed in

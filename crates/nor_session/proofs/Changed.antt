@@ -8,7 +8,7 @@ use Rattle.nor_chip.specs.Status.{bytes_of}
 use Rattle.nor_chip.specs.declared.config.Config.{Config}
 use Rattle.nor_chip.specs.Bus.{BusState}
 use Rattle.nor_chip.proofs.Sizes.{sized_bounds}
-use Rattle.nor_driver.specs.Looks.{Rested}
+use Rattle.nor_driver.specs.OnlyReads.{Rested}
 use Rattle.nor_count.proofs.Below.{count_below-most}
 use Rattle.nor_plan.specs.Planned.{fewest_erases, IsLeastLength}
 use Rattle.nor_plan.proofs.Fewest.{fewest_least}
@@ -67,7 +67,7 @@ pub checked : (changes : Changes) (wanted : ℕ → ℕ) (verify : Bool) (old mi
     → DoesChange changes wanted verify old new work
 checked changes wanted verify old mid new written work inside leaves does checking =
     let raised = raised_few changes inside in
-    let still = leaves.spends.nature.honest in
+    let unsent = leaves.spends.nature.honest in
     let applied = rest_applied changes wanted old mid new in
     let read : verify ≡ true → old.honest ≡ true → CanCheck (touched_in changes) old.chip
     → HasBytes (touched_in changes) wanted new.chip = λ verifies honest can a hit.
@@ -75,5 +75,5 @@ checked changes wanted verify old mid new written work inside leaves does checki
       idle = does.idle honest can.idle;
       inside = λ s is. rw (leaves.spends.nature.config honest) (can.inside s is);
     } in
-    (checking.rested (still ∙ honest)).unchanged.same.bytes a ∙ checking.same verifies (still ∙ honest) still_can a hit in
+    (checking.rested (unsent ∙ honest)).unchanged.same.bytes a ∙ checking.same verifies (unsent ∙ honest) still_can a hit in
     grind (arith, applied, read)

@@ -6,17 +6,17 @@ use Rattle.nor_chip.specs.Bus.{BusState}
 use Rattle.nor_journal.specs.Text.{Content}
 use Rattle.nor_journal.proofs.Saves.{saved_byte-is}
 use Rattle.nor_driver.specs.StatusWrites.{fixed_of}
-use Rattle.nor_driver.proofs.LooksInTurn.{same_then}
+use Rattle.nor_driver.proofs.ReadsInTurn.{same_then}
 use Rattle.nor_apply.specs.Within.{is_writable, IsWithin}
 use Rattle.nor_count.proofs.Counting.{count_below-none}
 use Rattle.nor_plan.specs.Content.{is_touched, is_raised}
 use Rattle.nor_call.specs.declared.report.Report.{Report}
 use Rattle.nor_call.specs.declared.request.Request.{Request}
 use Rattle.nor_save.proofs.Planned.{untouched, unraised}
-use Rattle.nor_session.specs.Headline.{SavesChip, open_places, CanGiveBack}
+use Rattle.nor_session.specs.Headline.{SavesChip, open_addresses, CanRestore}
 use Rattle.nor_session.specs.Restore.{restored, NeedsStatusFrom, IsRestored}
 use Rattle.nor_session.specs.InTurn.{LeavesJournal, LosesPower, MayLosePower, IsTakenUp, ChangesNothing}
-use Rattle.nor_session.proofs.GivenBack.{given_back, lost_within}
+use Rattle.nor_session.proofs.RestoredOriginal.{given_back, lost_within}
 use Rattle.nor_session.proofs.WrittenBack.{read_back, session_over}
 
 -- ---- a chip that is already equal to the saved one
@@ -47,7 +47,7 @@ changes_nothing journal first old new report saves same done =
       union = λ s. sym (none_raised journal first old.chip s saves same);
     } in
     record {
-      still = done.still touched never;
+      unsent = done.unsent touched never;
       touched = touched;
       erases = omega arith;
       programs = done.reported.programs
@@ -63,9 +63,9 @@ changes_nothing journal first old new report saves same done =
 record LeadsTo (journal : Content) (first chip : Chip) : Type 0 where
   saves : SavesChip journal first
   config : chip.config ≡ first.config
-  bytes : (a : ℕ) → open_places journal first a ≡ false → chip.bytes a ≡ first.bytes a
+  bytes : (a : ℕ) → open_addresses journal first a ≡ false → chip.bytes a ≡ first.bytes a
 
-leads_to : (journal : Content) (first : Chip) (state : BusState) → CanGiveBack journal first state → LeadsTo journal first state.chip
+leads_to : (journal : Content) (first : Chip) (state : BusState) → CanRestore journal first state → LeadsTo journal first state.chip
 leads_to journal first state can = record { saves = can.saves; config = can.within.config; bytes = can.within.bytes }
 
 -- if the journal can turn a chip into the original one, it can do so for the same chip on another bus
@@ -73,21 +73,21 @@ leads_same : (journal : Content) (first new taken : Chip) → LeadsTo journal fi
 leads_same journal first new taken leads same = search arith
 
 -- a journal that can restore a chip before a loss of power can do so after it
-pub lost_back : (journal : Content) (first : Chip) (old new : BusState) → CanGiveBack journal first old → LosesPower old new → CanGiveBack journal first new
+pub lost_back : (journal : Content) (first : Chip) (old new : BusState) → CanRestore journal first old → LosesPower old new → CanRestore journal first new
 lost_back journal first old new can loses = record {
   known = can.known;
   saves = can.saves;
-  within = lost_within (open_places journal first) first old new loses.known loses.lost can.within;
+  within = lost_within (open_addresses journal first) first old new loses.known loses.lost can.within;
 }
 
 -- a journal that can restore a chip can turn it into the original one even if it then loses its power
-leads_kept : (journal : Content) (first : Chip) (new taken : BusState) → CanGiveBack journal first new → MayLosePower new taken → LeadsTo journal first taken.chip
+leads_kept : (journal : Content) (first : Chip) (new taken : BusState) → CanRestore journal first new → MayLosePower new taken → LeadsTo journal first taken.chip
 leads_kept journal first new taken can (inl same) = leads_same journal first new.chip taken.chip (leads_to journal first new can) same
 leads_kept journal first new taken can (inr loses) = leads_to journal first taken (lost_back journal first new taken can loses)
 
 -- the journal of a session can restore the original chip from the chip that the session left (`left_back`), and from
 -- the chip with which the next run starts
-left_back : (request : Request) (image : List ℕ) (old new : BusState) (journal : Content) → LeavesJournal request image old new journal → CanGiveBack journal old.chip new
+left_back : (request : Request) (image : List ℕ) (old new : BusState) (journal : Content) → LeavesJournal request image old new journal → CanRestore journal old.chip new
 left_back request image old new journal left = search (arith, read_back)
 
 left_taken : (request : Request) (image : List ℕ) (old new taken : BusState) (journal : Content) → LeavesJournal request image old new journal → IsTakenUp old new taken
@@ -98,7 +98,7 @@ left_taken request image old new taken journal left (inr over) = search (arith, 
 
 -- the journal of a session can turn the chip into the original one even after stopped restores and between runs
 left_reached : (request : Request) (image : List ℕ) (old new taken : BusState) (journal : Content) → LeavesJournal request image old new journal
-    → IsTakenUp old new taken ⊎ CanGiveBack journal old.chip taken → LeadsTo journal old.chip taken.chip
+    → IsTakenUp old new taken ⊎ CanRestore journal old.chip taken → LeadsTo journal old.chip taken.chip
 left_reached request image old new taken journal left (inl up) = left_taken request image old new taken journal left up
 left_reached request image old new taken journal left (inr can) = leads_to journal old.chip taken can
 
@@ -116,7 +116,7 @@ idle_again p first old new within same idle =
     search arith
 
 taken_within : (request : Request) (image : List ℕ) (old mid mid' back : BusState) (journal : Content) → LeavesJournal request image old mid journal → IsTakenUp old mid mid'
-    → IsSame mid'.chip back.chip → back.chip.busy ≡ 0 → IsWithin (open_places journal old.chip) old.chip back
+    → IsSame mid'.chip back.chip → back.chip.busy ≡ 0 → IsWithin (open_addresses journal old.chip) old.chip back
 taken_within request image old mid mid' back journal left (inl (inl same)) again idle =
     idle_again _ old.chip mid back (left_back request image old mid journal left).within (same_then _ _ _ same again) idle
 taken_within request image old mid mid' back journal left (inl (inr loses)) again idle =
@@ -125,26 +125,26 @@ taken_within request image old mid mid' back journal left (inr over) again idle 
     idle_again _ old.chip mid' back
     (session_over request image old mid mid' left.vault journal left.modelled left.is left.telling left.undone left.whole left.same over).within again idle
 
-pub later_undone : (request later : Request) (image aim : List ℕ) (old mid mid' new new' back : BusState) (journal other : Content) (report : Report)
-    → LeavesJournal request image old mid journal → IsTakenUp old mid mid' → LeavesJournal later aim mid' new other → IsTakenUp mid' new new' ⊎ CanGiveBack other mid'.chip new'
-    → IsRestored other new' back report → CanGiveBack journal old.chip back
-later_undone request later image aim old mid mid' new new' back journal other report first passed second gone undone =
+pub later_undone : (request later : Request) (image target_sectors : List ℕ) (old mid mid' new new' back : BusState) (journal other : Content) (report : Report)
+    → LeavesJournal request image old mid journal → IsTakenUp old mid mid' → LeavesJournal later target_sectors mid' new other → IsTakenUp mid' new new' ⊎ CanRestore other mid'.chip new'
+    → IsRestored other new' back report → CanRestore journal old.chip back
+later_undone request later image target_sectors old mid mid' new new' back journal other report first passed second gone undone =
     let can = left_back request image old mid journal first in
-    let same = led_back other mid'.chip new' back report (left_reached later aim mid' new new' other second gone) undone in
+    let same = led_back other mid'.chip new' back report (left_reached later target_sectors mid' new new' other second gone) undone in
     record {
       known = can.known;
       saves = can.saves;
       within = taken_within request image old mid mid' back journal first passed same undone.made.idle;
     }
 
-pub both_undone : (request later : Request) (image aim : List ℕ) (old mid mid' new new' back back' end : BusState) (journal other : Content) (report last : Report)
-    → LeavesJournal request image old mid journal → IsTakenUp old mid mid' → LeavesJournal later aim mid' new other → IsTakenUp mid' new new' ⊎ CanGiveBack other mid'.chip new'
-    → IsRestored other new' back report → MayLosePower back back' ⊎ CanGiveBack journal old.chip back' → IsRestored journal back' end last → IsSame old.chip end.chip
-both_undone request later image aim old mid mid' new new' back back' end journal other report last first passed second gone undone kept again =
-    let can = later_undone request later image aim old mid mid' new new' back journal other report first passed second gone undone in
+pub both_undone : (request later : Request) (image target_sectors : List ℕ) (old mid mid' new new' back back' end : BusState) (journal other : Content) (report last : Report)
+    → LeavesJournal request image old mid journal → IsTakenUp old mid mid' → LeavesJournal later target_sectors mid' new other → IsTakenUp mid' new new' ⊎ CanRestore other mid'.chip new'
+    → IsRestored other new' back report → MayLosePower back back' ⊎ CanRestore journal old.chip back' → IsRestored journal back' end last → IsSame old.chip end.chip
+both_undone request later image target_sectors old mid mid' new new' back back' end journal other report last first passed second gone undone kept again =
+    let can = later_undone request later image target_sectors old mid mid' new new' back journal other report first passed second gone undone in
     led_back journal old.chip back' end last
     (elim kept [
       | inl may ↦ leads_kept journal old.chip back back' can may
-      | inr still ↦ leads_to journal old.chip back' still
+      | inr unsent ↦ leads_to journal old.chip back' unsent
     ])
     again

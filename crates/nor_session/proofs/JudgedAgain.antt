@@ -4,7 +4,7 @@ use Rattle.std.specs.Prelude.{if◌then◌else◌}
 use Rattle.std.proofs.lemmas.Bool.{cases_Bool, false_from_ne_true, and_parts}
 use borrow.Author.Count.{below_more}
 use Rattle.nor_chip.specs.Chip.{Chip, is_locked}
-use Rattle.nor_chip.specs.Guard.{code_of, is_unit_guarded}
+use Rattle.nor_chip.specs.Guard.{code_of, is_block_protected}
 use Rattle.nor_plan.specs.Content.{is_touched}
 use Rattle.nor_probe.specs.declared.table.ChipName.{ChipName}
 use Rattle.nor_probe.specs.declared.table.Part.{Part}
@@ -21,7 +21,7 @@ use Rattle.nor_call.specs.declared.request.What.TheVariants.{WpRange}
 use Rattle.nor_call.specs.declared.refusal.Refusal.TheVariants.{NoChip, UnknownChip, OtherName, StatusLocked, Protected}
 use Rattle.nor_call.specs.Request.{is_data, IsWantedCode, wanted}
 use Rattle.nor_save.proofs.OneVerdict.{touched_data}
-use Rattle.nor_save.specs.Saving.{NeedsStatus, NoneHeld, SomeHeld, is_held}
+use Rattle.nor_save.specs.Saving.{NeedsStatus, NoneProtected, SomeProtected, is_touched_protected}
 use Rattle.nor_save.specs.Verdict.{IsNamed, IsAccepted}
 
 -- ---- the chip type
@@ -65,21 +65,21 @@ none_least test never (suc n) s below =
 
 -- a write or an erase with `unlock` needs a status write if a touched sector is protected
 needs_lift : (what : What) (unlock : Bool) (touched : ℕ → Bool) (chip : Chip) → is_data what ≡ true → unlock ≡ true
-    → SomeHeld touched chip
+    → SomeProtected touched chip
     → IsWantedCode what chip (code_of chip.kept) × NeedsStatus what unlock (code_of chip.kept) touched chip
 needs_lift (WpRange start len) unlock touched chip is lifts some = absurd cc
 needs_lift _ unlock touched chip is lifts some = (refl, (lifts, some))
 
 -- if a request is accepted and the status is locked, no touched sector is protected
 pub accepted_free : (request : Request) (image : List ℕ) (chip : Chip) → IsAccepted request image chip
-    → is_locked chip.kept ≡ true → NoneHeld (is_touched chip.bytes (wanted request image chip)) chip
+    → is_locked chip.kept ≡ true → NoneProtected (is_touched chip.bytes (wanted request image chip)) chip
 accepted_free request image chip accepted locked s =
     let touched = is_touched chip.bytes (wanted request image chip) in
-    none_least (is_held touched chip) (λ n held least.
+    none_least (is_touched_protected touched chip) (λ n held least.
     elim (cases_Bool request.unlock) [
       | inr shut ↦ accepted (Protected (4096 * n)) (shut, n, refl, record { is = held; least = least })
       | inl lifts ↦
-          let hit = (and_parts (touched n) (is_unit_guarded chip (4096 * n) 4096) held).0 in
+          let hit = (and_parts (touched n) (is_block_protected chip (4096 * n) 4096) held).0 in
           let needs = needs_lift request.what request.unlock touched chip (touched_data request image chip n hit) lifts
           (record { sector = n; held = held }) in
           accepted StatusLocked (locked, (code_of chip.kept, needs.0, needs.1))

@@ -12,12 +12,12 @@ pub mod Naming
 pub mod JudgedStatus
 pub mod RestoredBytes
 pub mod Changeable
-pub mod GivenBack
+pub mod RestoredOriginal
 pub mod Restoring
-pub mod Aiming
+pub mod Targeting
 pub mod OfJournal
-pub mod GivesBack
-pub mod BegunBack
+pub mod RestoresOriginal
+pub mod BegunRestore
 pub mod WrittenBack
 pub mod InTurn
 pub mod RehearsedRestores

@@ -6,35 +6,35 @@ use Rattle.nor_journal.specs.Saved.{is_saved}
 use Rattle.nor_journal.specs.Vault.{VaultState}
 use Rattle.nor_apply.specs.declared.changes.Changes.{Changes}
 use Rattle.nor_apply.specs.Applying.{touched_in}
-use Rattle.nor_save.specs.declared.opening.Opening.{Opening}
+use Rattle.nor_save.specs.declared.identity.Identity.{Identity}
 use Rattle.nor_call.specs.declared.request.Request.{Request}
 use Rattle.nor_call.specs.declared.refusal.Refusal.{Refusal}
 use Rattle.nor_call.specs.declared.refusal.Refusal.TheVariants.{Stopped, StatusLocked, Protected, Timeout, Mismatch, Vault}
-use Rattle.nor_call.specs.Refusal.{number_of}
-use Rattle.nor_save.specs.SavedScan.{IsJournalOf, SaveTells}
-use Rattle.nor_save.specs.Judging.{IsOpeningRefusal}
+use Rattle.nor_call.specs.Refusal.{refusal_number}
+use Rattle.nor_save.specs.SavedScan.{IsJournalOf, SaveErrors}
+use Rattle.nor_save.specs.Judging.{IsIdentityRefusal}
 use Rattle.nor_session.specs.Changing.{NamesTouchedSector}
 use Rattle.nor_session.specs.Session.{SavesSector, NamesSector, NamesAddress}
-use Rattle.nor_session.specs.Prepare.{PrepareTells}
+use Rattle.nor_session.specs.Prepare.{PrepareErrors}
 
 -- a scan waits for no operation and verifies nothing, so it returns neither a timeout nor a mismatch
-pub save_names : (request : Request) (opening : Opening) (code : ℕ) (image : List ℕ) (old new : BusState) (refusal : Refusal)
-    → SaveTells request opening code image old new refusal → NamesSector (λ sector. ⊥) refusal
-save_names request opening code image old new (Timeout address) tells = absurd tells
-save_names request opening code image old new (Mismatch address) tells = absurd tells
-save_names request opening code image old new _ tells = tt
+pub save_names : (request : Request) (identity : Identity) (code : ℕ) (image : List ℕ) (old new : BusState) (refusal : Refusal)
+    → SaveErrors request identity code image old new refusal → NamesSector (λ sector. ⊥) refusal
+save_names request identity code image old new (Timeout address) errors = absurd errors
+save_names request identity code image old new (Mismatch address) errors = absurd errors
+save_names request identity code image old new _ errors = tt
 
 -- the errors of a scan are those of the checks of the touched sectors (9, 10), of the vault (11), or a stop (12)
-pub save_number : (request : Request) (opening : Opening) (code : ℕ) (image : List ℕ) (old new : BusState) (refusal : Refusal)
-    → SaveTells request opening code image old new refusal → (9 ≤ number_of refusal) × (number_of refusal ≤ 12)
-save_number request opening code image old new StatusLocked tells = (omega arith, omega arith)
-save_number request opening code image old new (Protected address) tells = (omega arith, omega arith)
-save_number request opening code image old new Vault tells = (omega arith, omega arith)
-save_number request opening code image old new Stopped tells = (omega arith, omega arith)
-save_number request opening code image old new _ tells = absurd tells
+pub save_number : (request : Request) (identity : Identity) (code : ℕ) (image : List ℕ) (old new : BusState) (refusal : Refusal)
+    → SaveErrors request identity code image old new refusal → (9 ≤ refusal_number refusal) × (refusal_number refusal ≤ 12)
+save_number request identity code image old new StatusLocked errors = (omega arith, omega arith)
+save_number request identity code image old new (Protected address) errors = (omega arith, omega arith)
+save_number request identity code image old new Vault errors = (omega arith, omega arith)
+save_number request identity code image old new Stopped errors = (omega arith, omega arith)
+save_number request identity code image old new _ errors = absurd errors
 
 -- the checks after the identification send no transaction, so they return neither a timeout nor a mismatch
-pub judged_names : (refusal : Refusal) → IsOpeningRefusal refusal → NamesSector (λ sector. ⊥) refusal
+pub judged_names : (refusal : Refusal) → IsIdentityRefusal refusal → NamesSector (λ sector. ⊥) refusal
 judged_names (Timeout address) is = absurd is
 judged_names (Mismatch address) is = absurd is
 judged_names _ is = tt
@@ -64,10 +64,10 @@ work_names changes head vault refusal sealed saves names = record {
 -- ---- a restore
 
 -- an error before the first change names no address in a sector: a timeout names 0
-pub prepare_names : (journal : Content) (most : ℕ) (old new : BusState) (refusal : Refusal) → PrepareTells journal most old new refusal → NamesSector (λ sector. is_saved journal sector ≡ true) refusal
-prepare_names journal most old new (Timeout address) tells = inl tells.0
-prepare_names journal most old new (Mismatch address) tells = absurd (let judged = tells.judged in cc)
-prepare_names journal most old new _ tells = tt
+pub prepare_names : (journal : Content) (most : ℕ) (old new : BusState) (refusal : Refusal) → PrepareErrors journal most old new refusal → NamesSector (λ sector. is_saved journal sector ≡ true) refusal
+prepare_names journal most old new (Timeout address) errors = inl errors.0
+prepare_names journal most old new (Mismatch address) errors = absurd (let judged = errors.judged in cc)
+prepare_names journal most old new _ errors = tt
 
 -- if an error names a sector that the journal saves, it names one that the journal's bytes save
 pub saved_names : (journal : Content) (bytes : List ℕ) (refusal : Refusal) → IsContent journal → bytes ≡ text journal → NamesSector (λ sector. is_saved journal sector ≡ true) refusal → NamesSector (λ sector. SavesSector sector bytes) refusal

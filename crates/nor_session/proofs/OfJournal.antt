@@ -7,46 +7,46 @@ use Rattle.nor_chip.specs.Guard.{code_of}
 use Rattle.nor_chip.specs.Bus.{BusState}
 use Rattle.nor_driver.specs.StatusWrites.{fixed_of}
 use Rattle.nor_plan.specs.SectorSet.{has}
-use Rattle.nor_journal.specs.Text.{Content, SameHead}
+use Rattle.nor_journal.specs.Text.{Content, SameHeader}
 use Rattle.nor_apply.specs.declared.changes.Work.{Work}
 use Rattle.nor_call.specs.declared.request.Request.{Request}
 use Rattle.nor_call.specs.declared.request.What.{What}
 use Rattle.nor_call.specs.declared.request.What.TheVariants.{WpRange}
 use Rattle.nor_call.specs.Request.{is_data}
-use Rattle.nor_save.specs.declared.opening.Opening.{Opening}
+use Rattle.nor_save.specs.declared.identity.Identity.{Identity}
 use Rattle.nor_save.specs.declared.saving.SavedScan.{SavedScan}
-use Rattle.nor_save.specs.Opening.{status_read}
-use Rattle.nor_save.specs.Saving.{head_found, kept_read}
+use Rattle.nor_save.specs.Identity.{status_read}
+use Rattle.nor_save.specs.Saving.{header_found, kept_read}
 use Rattle.nor_save.specs.Judging.{IsFoundCode}
 use Rattle.nor_save.specs.SavedScan.{IsJournal, IsJournalOf}
 use Rattle.nor_session.specs.Changing.{LeavesChange, DoesChange}
 use Rattle.nor_session.specs.Prepare.{IsPrepared}
 use Rattle.nor_session.specs.Session.{IsSavedCode, IsWrittenCode, SendsSaved, SendsCounted}
 use Rattle.nor_session.specs.declared.prepare.Prepared.{Prepared}
-use Rattle.nor_session.proofs.Aiming.{AreOfJournal, change_sends}
+use Rattle.nor_session.proofs.Targeting.{AreOfJournal, change_sends}
 use Rattle.nor_session.proofs.Ready.{Ready, changes_of, lifts_none}
 
 -- ---- the status in the header of a journal
 
-kept_fixed : (opening : Opening) → fixed_of (kept_in (kept_read opening)) ≡ fixed_of (kept_in (status_read opening))
-kept_fixed opening =
-    let first : opening.found.status1 / 4 * 4 / 4 / 32 ≡ opening.found.status1 / 4 / 32 = omega arith in
-    let second : opening.status2 % 128 % 128 % 64 ≡ opening.status2 % 128 % 64 = omega arith in
+kept_fixed : (identity : Identity) → fixed_of (kept_in (kept_read identity)) ≡ fixed_of (kept_in (status_read identity))
+kept_fixed identity =
+    let first : identity.found.status1 / 4 * 4 / 4 / 32 ≡ identity.found.status1 / 4 / 32 = omega arith in
+    let second : identity.status2 % 128 % 128 % 64 ≡ identity.status2 % 128 % 64 = omega arith in
     rw (first, second) refl
 
-kept_code : (opening : Opening) → code_of (kept_in (kept_read opening)) ≡ code_of (kept_in (status_read opening))
-kept_code opening = omega arith
+kept_code : (identity : Identity) → code_of (kept_in (kept_read identity)) ≡ code_of (kept_in (status_read identity))
+kept_code identity = omega arith
 
 -- ---- a session
 
 -- the protection bits that a session leaves are among those that it may write
-found_written : (what : What) (opening : Opening) (journal : Content) (code : ℕ) → SameHead (head_found opening) journal
-    → IsFoundCode what opening code → IsWrittenCode what journal code
-found_written (WpRange start len) opening journal code same is =
+found_written : (what : What) (identity : Identity) (journal : Content) (code : ℕ) → SameHeader (header_found identity) journal
+    → IsFoundCode what identity code → IsWrittenCode what journal code
+found_written (WpRange start len) identity journal code same is =
     let size = ap (λ (c : Content). c.size) same in rw (← size) is
-found_written _ opening journal code same is =
+found_written _ identity journal code same is =
     let status = ap (λ (c : Content). c.status) same in
-    inr (is ∙ sym (kept_code opening) ∙ ap (λ (bytes : List ℕ). code_of (kept_in bytes)) status)
+    inr (is ∙ sym (kept_code identity) ∙ ap (λ (bytes : List ℕ). code_of (kept_in bytes)) status)
 
 -- protection is lifted only for a write or an erase
 lifted_written : (what : What) (journal : Content) (lifted : Bool) → (is_data what ≡ false → lifted ≡ false)
@@ -54,35 +54,35 @@ lifted_written : (what : What) (journal : Content) (lifted : Bool) → (is_data 
 lifted_written (WpRange start len) journal lifted none lifts = absurd (true≢false (sym lifts ∙ none refl))
 lifted_written _ journal lifted none lifts = inl refl
 
-module _ {request : Request} {opening : Opening} {status : Status} {code : ℕ} {kept : SavedScan} {old mid : BusState}
-    (is : Ready request opening status code kept old mid) (small : code < 64)
-    (found : IsFoundCode request.what opening code) where
+module _ {request : Request} {identity : Identity} {status : Status} {code : ℕ} {kept : SavedScan} {old mid : BusState}
+    (is : Ready request identity status code kept old mid) (small : code < 64)
+    (found : IsFoundCode request.what identity code) where
   pub session_of_journal : {bytes : List ℕ}
-      → (journal : IsJournalOf (head_found opening) (has kept.scanned.touched) bytes)
-      → AreOfJournal (IsWrittenCode request.what journal.content) journal.content (changes_of opening kept status code)
+      → (journal : IsJournalOf (header_found identity) (has kept.scanned.touched) bytes)
+      → AreOfJournal (IsWrittenCode request.what journal.content) journal.content (changes_of identity kept status code)
   session_of_journal journal =
       let same = journal.head_same in
-      let read : fixed_of (kept_in (bytes_of status)) ≡ fixed_of (kept_in (status_read opening))
+      let read : fixed_of (kept_in (bytes_of status)) ≡ fixed_of (kept_in (status_read identity))
       = ap (λ (bytes : List ℕ). fixed_of (kept_in bytes)) is.is_status in
-      let head : fixed_of (kept_in (kept_read opening)) ≡ fixed_of (kept_in journal.content.status)
+      let head : fixed_of (kept_in (kept_read identity)) ≡ fixed_of (kept_in journal.content.status)
       = ap (λ (c : Content). fixed_of (kept_in c.status)) same in
       record {
         sized = sym (ap (λ (c : Content). c.size) same);
         saved = λ s touched. journal.saved s ∙ touched;
         raised = is.marks.inside;
-        fixed = read ∙ sym (kept_fixed opening) ∙ head;
+        fixed = read ∙ sym (kept_fixed identity) ∙ head;
         small = small;
         lifted = lifted_written request.what journal.content kept.unlock (lifts_none is);
-        code = found_written request.what opening journal.content code same found;
+        code = found_written request.what identity journal.content code same found;
       }
 
   pub session_sends : {bytes : List ℕ} {wanted : ℕ → ℕ} {new : BusState} → mid.sent ≡ old.sent
-      → LeavesChange (changes_of opening kept status code) wanted mid new
-      → IsJournalOf (head_found opening) (has kept.scanned.touched) bytes
+      → LeavesChange (changes_of identity kept status code) wanted mid new
+      → IsJournalOf (header_found identity) (has kept.scanned.touched) bytes
       → (journal : IsJournal bytes) × SendsSaved (IsWrittenCode request.what journal.content) 1 journal.content old new
-  session_sends still leaves journal = (
+  session_sends unsent leaves journal = (
     record { content = journal.content; is = journal.is; same = journal.same },
-    change_sends old still leaves _ journal.content (session_of_journal journal),
+    change_sends old unsent leaves _ journal.content (session_of_journal journal),
   )
 
 -- ---- a restore
@@ -105,5 +105,5 @@ restore_of_journal is = record {
 pub counted : {changes : _} {wanted : ℕ → ℕ} {verify : Bool} (old : BusState) {mid new : BusState} {work : Work}
     → mid.sent ≡ old.sent → DoesChange changes wanted verify mid new work
     → SendsCounted work.erases work.programs old new
-counted old still does =
-    record { erased = rw (← still) does.exactly.erased; programmed = rw (← still) does.exactly.programmed }
+counted old unsent does =
+    record { erased = rw (← unsent) does.exactly.erased; programmed = rw (← unsent) does.exactly.programmed }

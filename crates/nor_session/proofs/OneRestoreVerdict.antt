@@ -8,23 +8,23 @@ use Rattle.nor_probe.specs.declared.probes.ProbeFault.TheVariants as Probes
 use Rattle.nor_probe.specs.Known.{shown_as}
 use Rattle.nor_call.specs.declared.refusal.Refusal.{Refusal}
 use Rattle.nor_call.specs.declared.refusal.Refusal.TheVariants.{NoChip, UnknownChip, StatusLocked, OtherChip, OtherUnit, StatusDiffers}
-use Rattle.nor_call.specs.Refusal.{number_of}
+use Rattle.nor_call.specs.Refusal.{refusal_number}
 use Rattle.nor_save.specs.Verdict.{IsNamed}
-use Rattle.nor_session.specs.Headline.{IsOfKind}
-use Rattle.nor_session.specs.Restore.{IsOfOtherUnit, FitsStatus, NeedsStatusFrom, RestoreHolds, judged_in_turn, place_in, IsRestoreVerdict, IsRestorable}
+use Rattle.nor_session.specs.Headline.{IsOfType}
+use Rattle.nor_session.specs.Restore.{IsOfOtherDevice, FitsStatus, NeedsStatusFrom, RestoreHolds, checked_in_order, index_in, IsRestoreVerdict, IsRestorable}
 use Rattle.nor_session.specs.Prepare.{RestoreJudges, RestoreAccepts}
 
 -- Holds if none of the errors before this position applies.
 record IsClear (journal : Content) (chip : Chip) (n : ℕ) : Type 0 where
   there : 0 < n → shown_as chip.config ≢ Err Probes.NoChip
   named : 1 < n → IsNamed None chip.config
-  kind : 2 < n → IsOfKind journal chip.config
-  unit : 3 < n → ¬ IsOfOtherUnit journal chip.config
+  kind : 2 < n → IsOfType journal chip.config
+  unit : 3 < n → ¬ IsOfOtherDevice journal chip.config
   fixed : 4 < n → FitsStatus journal chip
   writable : 5 < n → is_locked chip.kept ≡ true → ¬ NeedsStatusFrom journal chip
 
 module _ {journal : Content} {chip : Chip} where
-  none_before : {n : ℕ} (other : Refusal) → IsClear journal chip n → place_in judged_in_turn (number_of other) < n
+  none_before : {n : ℕ} (other : Refusal) → IsClear journal chip n → index_in checked_in_order (refusal_number other) < n
       → ¬ RestoreHolds journal chip other
   none_before NoChip is before holds = is.there before holds
   none_before (UnknownChip fault) is before holds = let shown = (is.named before).shown in cc
@@ -34,11 +34,11 @@ module _ {journal : Content} {chip : Chip} where
   none_before StatusLocked is before holds = is.writable before holds.0 holds.1
   none_before _ is before holds = holds
 
-  first_of : (refusal : Refusal) → IsClear journal chip (place_in judged_in_turn (number_of refusal))
+  first_of : (refusal : Refusal) → IsClear journal chip (index_in checked_in_order (refusal_number refusal))
       → RestoreHolds journal chip refusal → IsRestoreVerdict journal chip refusal
   first_of refusal is holds = record { holds = holds; first = λ other. none_before other is }
 
-place_few : (refusal : Refusal) → place_in judged_in_turn (number_of refusal) < 7
+place_few : (refusal : Refusal) → index_in checked_in_order (refusal_number refusal) < 7
 place_few NoChip = omega arith
 place_few _ = omega arith
 

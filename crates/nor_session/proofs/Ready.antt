@@ -9,7 +9,7 @@ use Rattle.nor_chip.specs.declared.status.Status.{Status}
 use Rattle.nor_chip.specs.Status.{bytes_of}
 use Rattle.nor_chip.specs.Bus.{BusState}
 use Rattle.nor_chip.proofs.Nature.{nature_then}
-use Rattle.nor_driver.specs.Looks.{Looks, RanOut}
+use Rattle.nor_driver.specs.OnlyReads.{OnlyReads, RanOut}
 use Rattle.nor_layout.specs.Sectors.{includes, has_in_sector}
 use Rattle.nor_count.proofs.Below.{count_below-most}
 use Rattle.nor_plan.specs.SectorSet.{has}
@@ -19,14 +19,14 @@ use Rattle.nor_apply.specs.declared.changes.Work.{Work}
 use Rattle.nor_apply.specs.Spending.{Spends}
 use Rattle.nor_apply.specs.Applying.{status_writes}
 use Rattle.nor_apply.proofs.ProgrammingWhole.{room}
-use Rattle.nor_save.specs.declared.opening.Opening.{Opening}
+use Rattle.nor_save.specs.declared.identity.Identity.{Identity}
 use Rattle.nor_save.specs.declared.saving.SavedScan.{SavedScan}
 use Rattle.nor_save.specs.declared.scanning.Scanned.{Scanned}
 use Rattle.nor_call.specs.declared.request.Request.{Request}
 use Rattle.nor_call.specs.declared.request.What.{What}
 use Rattle.nor_call.specs.declared.request.What.TheVariants.{WpRange}
 use Rattle.nor_call.specs.Request.{is_data, scanned_sectors}
-use Rattle.nor_save.specs.Opening.{status_read, Opens, most_opening}
+use Rattle.nor_save.specs.Identity.{status_read, ReadsIdentity, most_identity}
 use Rattle.nor_save.specs.Judging.{Lifts}
 use Rattle.nor_save.specs.Scanning.{AreMarks}
 use Rattle.nor_save.specs.SavedScan.{HasSaved}
@@ -37,45 +37,45 @@ use Rattle.nor_session.specs.Session.{most_status_writes, IsWithinBound}
 use Rattle.nor_session.proofs.Changed.{two_writes, write_once}
 
 -- the changes to a chip with this identification, after a scan whose result is `kept` saved the touched sectors
-abbrev pub changes_of : Opening → SavedScan → Status → ℕ → Changes
-changes_of opening kept status code =
+abbrev pub changes_of : Identity → SavedScan → Status → ℕ → Changes
+changes_of identity kept status code =
     record {
       touched = kept.scanned.touched;
       raised = kept.scanned.raised;
-      kinds = opening.found.kinds;
-      size = opening.found.size;
+      kinds = identity.found.kinds;
+      size = identity.found.size;
       status = status;
       unlock = kept.unlock;
       code = code;
     }
 
-pub record Ready (request : Request) (opening : Opening) (status : Status) (code : ℕ) (kept : SavedScan) (old mid : BusState) : Type 0 where
-  pub part : IsPart opening.found
-  pub looked : HasLooked (opening.transactions + kept.scanned.reads) old mid
-  pub least : 4 ≤ opening.transactions
-  pub few : opening.transactions ≤ most_opening
-  pub reads : kept.scanned.reads ≡ scanned_sectors request opening.found.size
-  pub marks : AreMarks (opening.found.size / 4096) kept.scanned
+pub record Ready (request : Request) (identity : Identity) (status : Status) (code : ℕ) (kept : SavedScan) (old mid : BusState) : Type 0 where
+  pub part : IsPart identity.found
+  pub honest_reads : HasLooked (identity.transactions + kept.scanned.reads) old mid
+  pub least : 4 ≤ identity.transactions
+  pub few : identity.transactions ≤ most_identity
+  pub reads : kept.scanned.reads ≡ scanned_sectors request identity.found.size
+  pub marks : AreMarks (identity.found.size / 4096) kept.scanned
   pub fewer : kept.scanned.count ≤ kept.scanned.reads
   pub lifts : Lifts request kept.scanned.touched kept.unlock
-  pub is_status : bytes_of status ≡ status_read opening
-  pub same_code : is_data request.what ≡ true → code ≡ code_of (kept_in (status_read opening))
+  pub is_status : bytes_of status ≡ status_read identity
+  pub same_code : is_data request.what ≡ true → code ≡ code_of (kept_in (status_read identity))
 
 -- ---- the identification, and the readings after it
 
-pub has_opened : {named : _} {opening : Opening} {old mid : BusState} → Looks most_opening old mid
-    → Opens named old mid opening → HasLooked opening.transactions old mid
-has_opened looks opens = search rules
+pub has_opened : {named : _} {identity : Identity} {old mid : BusState} → OnlyReads most_identity old mid
+    → ReadsIdentity named old mid identity → HasLooked identity.transactions old mid
+has_opened only_reads opens = search rules
 
-pub ready : {request : Request} {opening : Opening} {status : Status} {code most : ℕ} {image image' : List ℕ}
-    {vault : _} {kept : SavedScan} {old mid new : BusState} → Looks most_opening old mid
-    → Opens request.named old mid opening → Looks most mid new
-    → HasSaved request opening code image image' mid new vault kept
-    → bytes_of status ≡ status_read opening → (is_data request.what ≡ true → code ≡ code_of (kept_in (status_read opening)))
-    → Ready request opening status code kept old new
-ready {opening = opening} {kept = kept} {old = old} {mid = mid} {new = new} looks opens more keeps is_status same_code =
-    let looked : HasLooked (opening.transactions + kept.scanned.reads) old new
-    = grind (arith, nature_then old mid new more.nature looks.nature, rested_then old mid new) in
+pub ready : {request : Request} {identity : Identity} {status : Status} {code most : ℕ} {image image' : List ℕ}
+    {vault : _} {kept : SavedScan} {old mid new : BusState} → OnlyReads most_identity old mid
+    → ReadsIdentity request.named old mid identity → OnlyReads most mid new
+    → HasSaved request identity code image image' mid new vault kept
+    → bytes_of status ≡ status_read identity → (is_data request.what ≡ true → code ≡ code_of (kept_in (status_read identity)))
+    → Ready request identity status code kept old new
+ready {identity = identity} {kept = kept} {old = old} {mid = mid} {new = new} only_reads opens more keeps is_status same_code =
+    let honest_reads : HasLooked (identity.transactions + kept.scanned.reads) old new
+    = grind (arith, nature_then old mid new more.nature only_reads.nature, rested_then old mid new) in
     search rules
 
 -- ---- the number of sectors
@@ -94,9 +94,9 @@ pub spends_more : {m n : ℕ} {old new : BusState} → m ≤ n → Spends m old 
 spends_more fits spends =
     record { nature = spends.nature; falls = λ honest. let falls = spends.falls honest in omega arith }
 
-pub spends_looks : {m n : ℕ} {old new : BusState} → m ≤ n → Looks m old new → Spends n old new
-spends_looks fits looks =
-    spends_more fits (record { nature = looks.nature; falls = λ honest. (looks.looked honest).falls })
+pub spends_looks : {m n : ℕ} {old new : BusState} → m ≤ n → OnlyReads m old new → Spends n old new
+spends_looks fits only_reads =
+    spends_more fits (record { nature = only_reads.nature; falls = λ honest. (only_reads.honest_reads honest).falls })
 
 -- ---- the number of status writes
 
@@ -115,21 +115,21 @@ writes_by : (what : What) (unlock lifted : Bool) (writes : ℕ) → writes ≤ 2
 writes_by (WpRange start len) unlock lifted writes two lifts none one = one refl
 writes_by _ unlock lifted writes two lifts none one = let zero = none refl in grind (arith, nat_tests)
 
-module _ {request : Request} {opening : Opening} {status : Status} {code : ℕ} {kept : SavedScan} {old mid : BusState}
-    (is : Ready request opening status code kept old mid) where
+module _ {request : Request} {identity : Identity} {status : Status} {code : ℕ} {kept : SavedScan} {old mid : BusState}
+    (is : Ready request identity status code kept old mid) where
   -- the changes that follow the reads keep the bound of a session
-  pub spends_ready : {new : BusState} → Spends (most_changed (changes_of opening kept status code)) mid new
-      → Spends (most_of (scanned_sectors request opening.found.size)) old new
+  pub spends_ready : {new : BusState} → Spends (most_changed (changes_of identity kept status code)) mid new
+      → Spends (most_of (scanned_sectors request identity.found.size)) old new
   spends_ready {new} spends = record {
-    nature = nature_then old mid new spends.nature is.looked.nature;
+    nature = nature_then old mid new spends.nature is.honest_reads.nature;
     falls = λ honest.
-        let sent = is.looked.sent honest in let falls = spends.falls (is.looked.nature.honest ∙ honest) in omega arith;
+        let sent = is.honest_reads.sent honest in let falls = spends.falls (is.honest_reads.nature.honest ∙ honest) in omega arith;
   }
 
   pub ran_out_ready : {new : BusState} → old.honest ≡ true
-      → RanOut (most_changed (changes_of opening kept status code)) mid new
-      → RanOut (most_of (scanned_sectors request opening.found.size)) old new
-  ran_out_ready honest ran = let sent = is.looked.sent honest in omega arith
+      → RanOut (most_changed (changes_of identity kept status code)) mid new
+      → RanOut (most_of (scanned_sectors request identity.found.size)) old new
+  ran_out_ready honest ran = let sent = is.honest_reads.sent honest in omega arith
 
   -- if the request is for a protection range, no protection is lifted
   pub lifts_none : is_data request.what ≡ false → kept.unlock ≡ false
@@ -138,9 +138,9 @@ module _ {request : Request} {opening : Opening} {status : Status} {code : ℕ} 
       let about_bytes = touched_data request _ some.0 is.part.at_most is.marks is.fewer is.reads some.1 in
       cc)
 
-  pub writes_few : status_writes (changes_of opening kept status code) ≤ most_status_writes request.what request.unlock
+  pub writes_few : status_writes (changes_of identity kept status code) ≤ most_status_writes request.what request.unlock
   writes_few =
-      let changes = changes_of opening kept status code in
+      let changes = changes_of identity kept status code in
       writes_by request.what request.unlock kept.unlock (status_writes changes) (two_writes changes)
       (λ lifted. (is.lifts lifted).0)
       (λ about_bytes off.
@@ -151,12 +151,12 @@ module _ {request : Request} {opening : Opening} {status : Status} {code : ℕ} 
 -- ---- the report
 
 -- the report is within the bound for at most `most` status writes
-pub bounded_by : (request : Request) (opening : Opening) (status : Status) (code : ℕ) (kept : SavedScan) (old mid new : BusState) (wanted : ℕ → ℕ) (verify : Bool) (work : Work) (sent most : ℕ) → sent ≡ kept.scanned.reads
-    → Ready request opening status code kept old mid → status_writes (changes_of opening kept status code) ≤ most
-    → DoesChange (changes_of opening kept status code) wanted verify mid new work
-    → IsWithinBound (scanned_sectors request opening.found.size) most verify
-    (record { found = opening.found; touched = kept.scanned.count; erases = work.erases; programs = work.programs; transactions = opening.transactions + sent + work.transactions })
-bounded_by request opening status code kept old mid new wanted verify work sent most is_sent is writes does =
-    let checks : (if verify then kept.scanned.count else 0) ≡ read_back (changes_of opening kept status code) verify
+pub bounded_by : (request : Request) (identity : Identity) (status : Status) (code : ℕ) (kept : SavedScan) (old mid new : BusState) (wanted : ℕ → ℕ) (verify : Bool) (work : Work) (sent most : ℕ) → sent ≡ kept.scanned.reads
+    → Ready request identity status code kept old mid → status_writes (changes_of identity kept status code) ≤ most
+    → DoesChange (changes_of identity kept status code) wanted verify mid new work
+    → IsWithinBound (scanned_sectors request identity.found.size) most verify
+    (record { found = identity.found; touched = kept.scanned.count; erases = work.erases; programs = work.programs; transactions = identity.transactions + sent + work.transactions })
+bounded_by request identity status code kept old mid new wanted verify work sent most is_sent is writes does =
+    let checks : (if verify then kept.scanned.count else 0) ≡ read_back (changes_of identity kept status code) verify
     = ap (λ (n : ℕ). if verify then n else 0) is.marks.count in
     omega arith

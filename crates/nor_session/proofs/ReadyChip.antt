@@ -6,33 +6,33 @@ use Rattle.nor_chip.specs.declared.config.Config.{Config}
 use Rattle.nor_chip.specs.Chip.{KeptBits, status1_of}
 use Rattle.nor_chip.specs.Bus.{BusState}
 use Rattle.nor_driver.specs.Reads.{unique_of}
-use Rattle.nor_driver.specs.Looks.{Looks}
-use Rattle.nor_driver.proofs.LooksInTurn.{same_then}
-use Rattle.nor_journal.specs.Vault.{VaultState, Rose}
+use Rattle.nor_driver.specs.OnlyReads.{OnlyReads}
+use Rattle.nor_driver.proofs.ReadsInTurn.{same_then}
+use Rattle.nor_journal.specs.Vault.{VaultState, CountsRefusal}
 use Rattle.nor_probe.specs.declared.probes.Found.{Found}
 use Rattle.nor_probe.specs.declared.table.ChipName.{ChipName}
 use Rattle.nor_probe.specs.Found.{IsConfigOf, part_in}
-use Rattle.nor_save.specs.declared.opening.Opening.{Opening}
+use Rattle.nor_save.specs.declared.identity.Identity.{Identity}
 use Rattle.nor_call.specs.declared.request.Request.{Request}
 use Rattle.nor_call.specs.declared.refusal.Refusal.{Refusal}
 use Rattle.nor_call.specs.declared.refusal.Refusal.TheVariants.{NoChip, UnknownChip, OtherName, StatusLocked, Protected, Vault, Stopped, Timeout}
-use Rattle.nor_call.specs.Refusal.{number_of}
+use Rattle.nor_call.specs.Refusal.{refusal_number}
 use Rattle.nor_call.specs.Request.{scanned_sectors}
-use Rattle.nor_save.specs.Opening.{Opens, most_opening}
-use Rattle.nor_call.specs.Tells.{OpeningTells}
-use Rattle.nor_save.specs.Saving.{IsOpening, Shows}
-use Rattle.nor_save.specs.SavedScan.{SavePuts, SaveTells}
+use Rattle.nor_save.specs.Identity.{ReadsIdentity, most_identity}
+use Rattle.nor_call.specs.Tells.{IdentificationErrors}
+use Rattle.nor_save.specs.Saving.{IsIdentityOf, HasIdleChip}
+use Rattle.nor_save.specs.SavedScan.{SavePuts, SaveErrors}
 use Rattle.nor_probe.specs.Known.{IsModelled}
 use Rattle.nor_session.specs.Bounds.{most_of}
-use Rattle.nor_save.specs.Verdict.{IsNamed, IsVerdict, OpeningAccepts}
-use Rattle.nor_session.specs.Session.{SessionTells, HonestTells}
+use Rattle.nor_save.specs.Verdict.{IsNamed, IsVerdict, IdentityAccepts}
+use Rattle.nor_session.specs.Session.{SessionErrors, HonestErrors}
 use Rattle.nor_save.proofs.OneVerdict.{first_of}
 use Rattle.nor_session.proofs.Ready.{scanned_most, scanned_few}
 
 -- ---- the identification shows the chip from before it
 
-pub opening_of : {named : Option ChipName} {opening : Opening} {old mid : BusState} → IsModelled old
-    → Opens named old mid opening → IsOpening old.chip opening
+pub opening_of : {named : Option ChipName} {identity : Identity} {old mid : BusState} → IsModelled old
+    → ReadsIdentity named old mid identity → IsIdentityOf old.chip identity
 opening_of is opens =
     let same = (opens.rested is.honest).unchanged.same in
     record {
@@ -42,28 +42,28 @@ opening_of is opens =
       unique = opens.unique is.honest ∙ ap unique_of same.config;
     }
 
-pub is_opening : (request : Request) (opening : Opening) (old mid : BusState) → IsModelled old
-    → Opens request.named old mid opening → IsOpening old.chip opening
-is_opening request opening old mid = opening_of
+pub is_opening : (request : Request) (identity : Identity) (old mid : BusState) → IsModelled old
+    → ReadsIdentity request.named old mid identity → IsIdentityOf old.chip identity
+is_opening request identity old mid = opening_of
 
 -- if the chip was idle before the identification, the status 1 that was read is the chip's, with the write enable latch
-pub told_idle : (named : Option ChipName) (opening : Opening) (old mid : BusState) → old.honest ≡ true → Opens named old mid opening → old.chip.busy ≡ 0 → opening.found.status1 ≡ status1_of old.chip
-told_idle named opening old mid honest opens idle =
+pub told_idle : (named : Option ChipName) (identity : Identity) (old mid : BusState) → old.honest ≡ true → ReadsIdentity named old mid identity → old.chip.busy ≡ 0 → identity.found.status1 ≡ status1_of old.chip
+told_idle named identity old mid honest opens idle =
     let rested = opens.rested honest in let latch = rested.idle_latch idle in
     opens.status1 honest ∙ (let now = opens.idle honest in let same = ap (λ (bits : KeptBits). bits.one) rested.unchanged.same.kept in cc)
 
-pub shows : (request : Request) (opening : Opening) (old mid : BusState) → IsModelled old → Looks most_opening old mid → Opens request.named old mid opening → Shows old.chip mid
-shows request opening old mid is looks opens =
+pub shows : (request : Request) (identity : Identity) (old mid : BusState) → IsModelled old → OnlyReads most_identity old mid → ReadsIdentity request.named old mid identity → HasIdleChip old.chip mid
+shows request identity old mid is only_reads opens =
     let rested = opens.rested is.honest in let idle = opens.idle is.honest in search rules
 
 -- if the non-volatile bits of status 2 are in range after the identification, they were in range before it
-pub small_first : {named : Option ChipName} {opening : Opening} {old mid : BusState} → old.honest ≡ true
-    → Opens named old mid opening → mid.chip.kept.two < 128 → old.chip.kept.two < 128
+pub small_first : {named : Option ChipName} {identity : Identity} {old mid : BusState} → old.honest ≡ true
+    → ReadsIdentity named old mid identity → mid.chip.kept.two < 128 → old.chip.kept.two < 128
 small_first honest opens small =
     let same = ap (λ (bits : KeptBits). bits.two) (opens.rested honest).unchanged.same.kept in omega arith
 
-pub named : (request : Request) (opening : Opening) (old mid : BusState) → IsModelled old → Opens request.named old mid opening → IsNamed request.named old.chip.config
-named request opening old mid is opens = record { part = part_in opening.found; shown = opens.shown is.honest; wanted = opens.wanted }
+pub named : (request : Request) (identity : Identity) (old mid : BusState) → IsModelled old → ReadsIdentity request.named old mid identity → IsNamed request.named old.chip.config
+named request identity old mid is opens = record { part = part_in identity.found; shown = opens.shown is.honest; wanted = opens.wanted }
 
 -- the bound for the sectors that are scanned is at most the bound for a chip of this size
 pub most_sized : (request : Request) {config : Config} {found : Found} → IsConfigOf config found
@@ -73,18 +73,18 @@ most_sized request {found = found} is =
 
 -- ---- the errors of the scan
 
-pub save_gives_up : (request : Request) (image : List ℕ) (opening : Opening) (code few : ℕ) (old mid new : BusState)
-    (refusal : Refusal) → old.honest ≡ true → Looks most_opening old mid → Opens request.named old mid opening
-    → Looks few mid new → SaveTells request opening code image mid new refusal
-    → HonestTells (most_of 4096) (λ refusal. number_of refusal ≤ 11) old new refusal
-save_gives_up request image opening code few old mid new Stopped honest looks opens more tells =
-    let ran = tells (looks.nature.honest ∙ honest) in let count = opens.count honest in
-    let sectors = scanned_few request opening.found.size opens.part.at_most in
+pub save_gives_up : (request : Request) (image : List ℕ) (identity : Identity) (code few : ℕ) (old mid new : BusState)
+    (refusal : Refusal) → old.honest ≡ true → OnlyReads most_identity old mid → ReadsIdentity request.named old mid identity
+    → OnlyReads few mid new → SaveErrors request identity code image mid new refusal
+    → HonestErrors (most_of 4096) (λ refusal. refusal_number refusal ≤ 11) old new refusal
+save_gives_up request image identity code few old mid new Stopped honest only_reads opens more errors =
+    let ran = errors (only_reads.nature.honest ∙ honest) in let count = opens.count honest in
+    let sectors = scanned_few request identity.found.size opens.part.at_most in
     omega arith
-save_gives_up request image opening code few old mid new (Timeout address) honest looks opens more tells = tells
-save_gives_up request image opening code few old mid new _ honest looks opens more tells = λ early.
+save_gives_up request image identity code few old mid new (Timeout address) honest only_reads opens more errors = errors
+save_gives_up request image identity code few old mid new _ honest only_reads opens more errors = λ early.
     same_then old.chip mid.chip new.chip (opens.rested honest).unchanged.same
-    ((more.looked (looks.nature.honest ∙ honest)).stays.calm (inr (opens.idle honest)))
+    ((more.honest_reads (only_reads.nature.honest ∙ honest)).stays.steady_or_idle (inr (opens.idle honest)))
 
 -- after an error a vault is faithful and sealed exactly if it was so before
 pub refused_puts : (refusal : Refusal) (old new : VaultState) → SavePuts (Err refusal) old new
@@ -92,38 +92,38 @@ pub refused_puts : (refusal : Refusal) (old new : VaultState) → SavePuts (Err 
 refused_puts Vault old new puts = (puts.telling, puts.sealed)
 refused_puts _ old new puts = (puts.telling, puts.sealed)
 
-pub save_tells : (request : Request) (image : List ℕ) (opening : Opening) (code : ℕ) (old mid new : BusState) (vault vault' : VaultState) (refusal : Refusal)
-    → IsModelled old → Looks most_opening old mid → Opens request.named old mid opening → OpeningAccepts request image old.chip code
-    → (refusal ≡ Vault → Rose vault vault') → SaveTells request opening code image mid new refusal → SessionTells request image old new vault vault' refusal
-save_tells request image opening code old mid new vault vault' Vault is looks opens accepts rose tells = rose refl
-save_tells request image opening code old mid new vault vault' Stopped is looks opens accepts rose tells =
-    let ran = tells (looks.nature.honest ∙ is.honest) in let count = opens.count is.honest in
-    let most = scanned_most request opening.found.size in let size = (opens.genuine is).size in
+pub save_tells : (request : Request) (image : List ℕ) (identity : Identity) (code : ℕ) (old mid new : BusState) (vault vault' : VaultState) (refusal : Refusal)
+    → IsModelled old → OnlyReads most_identity old mid → ReadsIdentity request.named old mid identity → IdentityAccepts request image old.chip code
+    → (refusal ≡ Vault → CountsRefusal vault vault') → SaveErrors request identity code image mid new refusal → SessionErrors request image old new vault vault' refusal
+save_tells request image identity code old mid new vault vault' Vault is only_reads opens accepts rose errors = rose refl
+save_tells request image identity code old mid new vault vault' Stopped is only_reads opens accepts rose errors =
+    let ran = errors (only_reads.nature.honest ∙ is.honest) in let count = opens.count is.honest in
+    let most = scanned_most request identity.found.size in let size = (opens.genuine is).size in
     omega arith
-save_tells request image opening code old mid new vault vault' StatusLocked is looks opens accepts rose tells =
-    tells old.chip (opening_of is opens) (shows request opening old mid is looks opens) accepts
-save_tells request image opening code old mid new vault vault' (Protected address) is looks opens accepts rose tells =
-    tells old.chip (opening_of is opens) (shows request opening old mid is looks opens) accepts
-save_tells request image opening code old mid new vault vault' _ is looks opens accepts rose tells = absurd tells
+save_tells request image identity code old mid new vault vault' StatusLocked is only_reads opens accepts rose errors =
+    errors old.chip (opening_of is opens) (shows request identity old mid is only_reads opens) accepts
+save_tells request image identity code old mid new vault vault' (Protected address) is only_reads opens accepts rose errors =
+    errors old.chip (opening_of is opens) (shows request identity old mid is only_reads opens) accepts
+save_tells request image identity code old mid new vault vault' _ is only_reads opens accepts rose errors = absurd errors
 
 -- ---- the errors of the identification
 
 pub open_tells : (request : Request) (image : List ℕ) (old new : BusState) (vault vault' : VaultState) (refusal : Refusal) → IsModelled old
-    → OpeningTells most_opening request.named old new refusal → SessionTells request image old new vault vault' refusal
-open_tells request image old new vault vault' NoChip is tells =
-    first_of NoChip (search (rules, arith)) (tells is.honest).0
-open_tells request image old new vault vault' (UnknownChip fault) is tells =
-    let shown = (tells is.honest).0 in first_of (UnknownChip fault) (search (rules, arith)) shown
-open_tells request image old new vault vault' OtherName is tells =
-    let other = (tells is.honest).0 in first_of OtherName (search (rules, arith)) other
-open_tells request image old new vault vault' Stopped is tells = let ran = tells is.honest in omega arith
-open_tells request image old new vault vault' (Timeout address) is tells = absurd (tells.1 is.honest)
-open_tells request image old new vault vault' _ is tells = absurd tells
+    → IdentificationErrors most_identity request.named old new refusal → SessionErrors request image old new vault vault' refusal
+open_tells request image old new vault vault' NoChip is errors =
+    first_of NoChip (search (rules, arith)) (errors is.honest).0
+open_tells request image old new vault vault' (UnknownChip fault) is errors =
+    let shown = (errors is.honest).0 in first_of (UnknownChip fault) (search (rules, arith)) shown
+open_tells request image old new vault vault' OtherName is errors =
+    let other = (errors is.honest).0 in first_of OtherName (search (rules, arith)) other
+open_tells request image old new vault vault' Stopped is errors = let ran = errors is.honest in omega arith
+open_tells request image old new vault vault' (Timeout address) is errors = absurd (errors.1 is.honest)
+open_tells request image old new vault vault' _ is errors = absurd errors
 
--- the verdict of the checks after the identification is an error that `SessionTells` allows
+-- the verdict of the checks after the identification is an error that `SessionErrors` allows
 pub judge_tells : (request : Request) (image : List ℕ) (old new : BusState) (vault vault' : VaultState)
     (refusal : Refusal) → IsVerdict request image old.chip refusal
-    → SessionTells request image old new vault vault' refusal
+    → SessionErrors request image old new vault vault' refusal
 judge_tells request image old new vault vault' Vault verdict = absurd verdict.holds
 judge_tells request image old new vault vault' Stopped verdict = absurd verdict.holds
 judge_tells request image old new vault vault' refusal verdict = verdict

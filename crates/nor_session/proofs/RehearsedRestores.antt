@@ -5,7 +5,7 @@ use Rattle.std.proofs.lemmas.Bool.{cases_eq}
 use Rattle.nor_chip.specs.Chip.{Chip}
 use Rattle.nor_chip.specs.Bus.{BusState, Allows}
 use Rattle.nor_chip.proofs.Nature.{nature_then}
-use Rattle.nor_journal.specs.Text.{Content, IsContent, SameHead, text}
+use Rattle.nor_journal.specs.Text.{Content, IsContent, SameHeader, text}
 use Rattle.nor_journal.specs.declared.fault.JournalFault.{JournalFault}
 use Rattle.nor_journal.specs.Saved.{Saves, JournalSaves}
 use Rattle.nor_journal.proofs.Saves.{Saves-set}
@@ -16,17 +16,17 @@ use Rattle.nor_call.specs.declared.request.Request.{Request}
 use Rattle.nor_call.specs.declared.report.Report.{Report}
 use Rattle.nor_call.specs.declared.refusal.Refusal.{Refusal}
 use Rattle.nor_call.specs.declared.refusal.Refusal.TheVariants.{Stopped, Timeout, BadJournal}
-use Rattle.nor_save.specs.Saving.{head_of}
+use Rattle.nor_save.specs.Saving.{header_of}
 use Rattle.nor_session.specs.Bounds.{most_of}
-use Rattle.nor_session.specs.Headline.{CanGiveBack, GivesBack}
+use Rattle.nor_session.specs.Headline.{CanRestore, RestoresOriginal}
 use Rattle.nor_session.specs.Restore.{RestoreAlways, RestoreHonest, RestoreModelled}
-use Rattle.nor_session.specs.Session.{HonestTells}
-use Rattle.nor_session.specs.Rehearsal.{IsNoHalt}
-use Rattle.nor_session.specs.Rehearsing.{LeadsBack, ShowsSession, LeavesRestores, ShowsRestore, ShowsRestores, StopsRestores, Undoes, WearsSaved, SendsText, RefusesUndo}
+use Rattle.nor_session.specs.Session.{HonestErrors}
+use Rattle.nor_session.specs.Rehearsal.{IsNoBusError}
+use Rattle.nor_session.specs.Rehearsing.{CanUndo, RunsSession, LeavesRestores, RunsRestore, RunsRestores, StopsRestores, Undoes, WearsSaved, SendsFromJournal, RefusesUndo}
 use Rattle.nor_session.proofs.Rescanned.{unraised_other}
 use Rattle.nor_session.specs.Session.{IsSavedCode}
-use Rattle.nor_session.proofs.Aiming.{none_sent, sends_then, sends_most, none_written}
-use Rattle.nor_session.proofs.GivesBack.{can_give_back}
+use Rattle.nor_session.proofs.Targeting.{none_sent, sends_then, sends_most, none_written}
+use Rattle.nor_session.proofs.RestoresOriginal.{can_give_back}
 use Rattle.nor_session.proofs.Naming.{saved_names}
 use Rattle.nor_session.proofs.SavedBytes.{saved_room, saved_count}
 
@@ -50,14 +50,14 @@ restores_then journal m n most old mid new fits before after =
 
 -- on a well-behaved bus, an error other than a stop isn't a timeout either
 pub no_halt : (most : ℕ) (IsEarly : Refusal → Type 0) (old new : BusState) (refusal : Refusal) → (refusal ≡ Stopped → ⊥)
-    → HonestTells most IsEarly old new refusal → IsNoHalt refusal
-no_halt most IsEarly old new Stopped never tells = absurd (never refl)
-no_halt most IsEarly old new (Timeout address) never tells = absurd tells
-no_halt most IsEarly old new _ never tells = refl
+    → HonestErrors most IsEarly old new refusal → IsNoBusError refusal
+no_halt most IsEarly old new Stopped never errors = absurd (never refl)
+no_halt most IsEarly old new (Timeout address) never errors = absurd errors
+no_halt most IsEarly old new _ never errors = refl
 
 -- one restore that is allowed `n` transactions
 module _ {n : ℕ} {journal : Content} {old mid new : BusState} (allows : Allows n old mid) where
-  pub under_leaves : {result : Result Report Refusal} → (IsModelled mid → GivesBack journal mid new result)
+  pub under_leaves : {result : Result Report Refusal} → (IsModelled mid → RestoresOriginal journal mid new result)
       → RestoreAlways journal mid new result → (IsModelled mid → RestoreModelled journal mid new result)
       → LeavesRestores journal 1 old new
   under_leaves gives always promise =
@@ -65,19 +65,19 @@ module _ {n : ℕ} {journal : Content} {old mid new : BusState} (allows : Allows
       (search (arith, modelled_at, unraised_other))
 
   -- the restore ended
-  pub under_ends : (report : Report) → (IsModelled mid → GivesBack journal mid new (Ok report))
+  pub under_ends : (report : Report) → (IsModelled mid → RestoresOriginal journal mid new (Ok report))
       → RestoreAlways journal mid new (Ok report)
       → (mid.honest ≡ true → RestoreHonest journal mid new (Ok report))
-      → (IsModelled mid → RestoreModelled journal mid new (Ok report)) → ShowsRestore journal n old new true
-  under_ends report gives always told promise =
+      → (IsModelled mid → RestoreModelled journal mid new (Ok report)) → RunsRestore journal n old new true
+  under_ends report gives always returned promise =
       let leaves = allow_leaves journal old mid allows in search (arith, allows.chip)
 
   -- the restore returned an error other than a stop
-  pub under_refuses : (refusal : Refusal) → (IsModelled mid → GivesBack journal mid new (Err refusal))
+  pub under_refuses : (refusal : Refusal) → (IsModelled mid → RestoresOriginal journal mid new (Err refusal))
       → RestoreAlways journal mid new (Err refusal)
       → (mid.honest ≡ true → RestoreHonest journal mid new (Err refusal)) → (refusal ≡ Stopped → ⊥)
       → StopsRestores journal old refusal
-  under_refuses refusal gives always told never =
+  under_refuses refusal gives always returned never =
       let leaves = allow_leaves journal old mid allows in search (arith, no_halt)
 
 -- ---- restores in turn
@@ -94,7 +94,7 @@ module _ {journal : Content} {stops : List ℕ} {old now : BusState} {n : ℕ} (
   pub leaves_more : {most : ℕ} → n + 1 ≤ most → LeavesRestores journal 1 now new → LeavesRestores journal most old new
   leaves_more fits leaves = restores_then journal n 1 _ old now new fits before.leaves leaves
 
-  pub stopped_more : LeavesRestores journal 1 now new → ShowsRestore journal (slice_index stops n) now new false
+  pub stopped_more : LeavesRestores journal 1 now new → RunsRestore journal (slice_index stops n) now new false
       → AreStopped journal stops old new (n + 1)
   stopped_more leaves shows = record {
     leaves = leaves_more (omega arith) leaves;
@@ -107,7 +107,7 @@ module _ {journal : Content} {stops : List ℕ} {old now : BusState} {n : ℕ} (
 
   -- the next restore ended, so the restores in turn ended
   pub ended_at : (restores : ℕ) → restores ≡ n + 1 → n < length stops
-      → ShowsRestore journal (slice_index stops n) now new true → ShowsRestores journal stops old new restores
+      → RunsRestore journal (slice_index stops n) now new true → RunsRestores journal stops old new restores
   ended_at restores is inside shows = search arith
 
 -- an error that a later restore returns is also one that `StopsRestores` allows for the first
@@ -117,7 +117,7 @@ refuses_before refusal leaves refuses = search arith
 
 -- a restore that is allowed the most transactions that any call needs isn't stopped on a well-behaved bus
 pub last_ends : {journal : Content} {now new : BusState} {most : ℕ} → most ≡ most_of 4096
-    → ShowsRestore journal most now new false → StopsRestores journal now Stopped
+    → RunsRestore journal most now new false → StopsRestores journal now Stopped
 last_ends {journal = journal} is shows = search (arith, saved_room)
 
 -- restores were run, but no call was stopped: the session ended, and so did the only restore
@@ -131,17 +131,17 @@ unstopped restores false some most = absurd (omega arith)
 -- the bytes are the encoding of this journal, and reading them returns this journal
 module _ {bytes : List ℕ} {journal : Content} (is : IsContent journal) (same : bytes ≡ text journal)
     (reads : (head : Content) (chip : ℕ → ℕ) (saved : ℕ → Bool) → JournalSaves head chip saved bytes
-    → SameHead head journal × Saves chip saved journal)
+    → SameHeader head journal × Saves chip saved journal)
     (old : BusState) where
   -- if the bytes can restore a chip, the journal can
-  can_back : (saved : ℕ → Bool) (first : Chip) → LeadsBack saved first bytes old → CanGiveBack journal first old
+  can_back : (saved : ℕ → Bool) (first : Chip) → CanUndo saved first bytes old → CanRestore journal first old
   can_back saved first leads =
-      can_give_back saved first bytes old journal leads (reads (head_of first) first.bytes saved leads.journal)
+      can_give_back saved first bytes old journal leads (reads (header_of first) first.bytes saved leads.journal)
 
-  saves_all : (saved : ℕ → Bool) (first : Chip) → LeadsBack saved first bytes old → Saves first.bytes saved journal
-  saves_all saved first leads = (reads (head_of first) first.bytes saved leads.journal).1
+  saves_all : (saved : ℕ → Bool) (first : Chip) → CanUndo saved first bytes old → Saves first.bytes saved journal
+  saves_all saved first leads = (reads (header_of first) first.bytes saved leads.journal).1
 
-  pub undoes : {stops : List ℕ} {new : BusState} (restores : ℕ) → ShowsRestores journal stops old new restores
+  pub undoes : {stops : List ℕ} {new : BusState} (restores : ℕ) → RunsRestores journal stops old new restores
       → Undoes bytes stops old new restores
   undoes restores shows = record {
     some = shows.some;
@@ -160,7 +160,7 @@ module _ {bytes : List ℕ} {journal : Content} (is : IsContent journal) (same :
         (sym (Saves-set first.bytes saved journal s (saves_all saved first leads)) ∙ other)
 
     -- the bytes are the encoding of no journal except the one that was read
-    pub undo_sends : SendsText bytes n old new
+    pub undo_sends : SendsFromJournal bytes n old new
     undo_sends other =
         rw (is_read bytes (Ok journal) other.content (is, same) tt other.is other.same) at leaves.sends
 
@@ -168,17 +168,17 @@ module _ {bytes : List ℕ} {journal : Content} (is : IsContent journal) (same :
   undo_refuses refusal refuses = record {
     answers = λ whole. refuses.answers;
     names = saved_names journal bytes refusal is same refuses.names;
-    halts = refuses.halts (saved_room journal is);
+    fails = refuses.fails (saved_room journal is);
     never = λ modelled saved first leads. refuses.never modelled first (can_back saved first leads);
   }
 
 -- a session and its only restore ended: the latch is set only if it was set before
 pub latch_alone : {request : Request} {image bytes stops : List ℕ} {allowance : ℕ} {old mid new : BusState}
-    {vault : VaultState} {ended : Bool} (restores : ℕ) → ShowsSession request image allowance old mid vault ended
+    {vault : VaultState} {ended : Bool} (restores : ℕ) → RunsSession request image allowance old mid vault ended
     → Undoes bytes stops mid new restores → IsModelled old → IsModelled mid → restores ≤ (if ended then 1 else 0)
     → new.chip.latch ≡ true → old.chip.latch ≡ true
-latch_alone {ended = ended} restores shows undoes modelled still few set =
-    let (done, one) = unstopped restores ended undoes.some few in shows.latch modelled done (undoes.latch still one set)
+latch_alone {ended = ended} restores shows undoes modelled unsent few set =
+    let (done, one) = unstopped restores ended undoes.some few in shows.latch modelled done (undoes.latch unsent one set)
 
 -- bytes that are a journal, or can restore a chip, are read without an error
 pub unread : (bytes : List ℕ) (old : BusState) (fault : JournalFault) → ((content : Content) → IsContent content → bytes ≡ text content → ⊥)

@@ -11,7 +11,7 @@ use Rattle.nor_call.specs.declared.request.Request.{Request}
 use Rattle.nor_call.specs.declared.report.Report.{Report}
 use Rattle.nor_call.specs.declared.refusal.Refusal.{Refusal}
 use Rattle.nor_call.specs.declared.refusal.Refusal.TheVariants.{Vault, Stopped}
-use Rattle.nor_call.specs.Refusal.{number_of}
+use Rattle.nor_call.specs.Refusal.{refusal_number}
 use Rattle.nor_call.specs.Request.{wanted, scanned_sectors}
 use Rattle.nor_save.specs.SavedScan.{IsJournal}
 use Rattle.nor_probe.specs.Known.{IsModelled}
@@ -19,29 +19,29 @@ use Rattle.nor_probe.proofs.Configs.{shown_config}
 use Rattle.nor_session.specs.Bounds.{most_of}
 use Rattle.nor_session.specs.Made.{AreFewestErases}
 use Rattle.nor_save.specs.Verdict.{IsAccepted}
-use Rattle.nor_session.specs.Headline.{KeepsFirst}
-use Rattle.nor_session.specs.Session.{SessionAlways, SessionHonest, SessionModelled, SessionTells, HonestTells, IsDone, NamesAddress, IsSavedCode, IsWrittenCode, most_status_writes, SendsSaved, WritesStatusAtMost}
-use Rattle.nor_session.specs.Rehearsal.{IsRehearsedCode, CanEnd, IsRehearsalRefusal, RehearsalTells, first_allowance, least_needed}
-use Rattle.nor_session.specs.Rehearsing.{HasWantedBits, LeadsBack, LeavesSession, ShowsSession, RefusesSession, LeavesUndo, RefusesUndo}
+use Rattle.nor_session.specs.Headline.{KeepsOriginal}
+use Rattle.nor_session.specs.Session.{SessionAlways, SessionHonest, SessionModelled, SessionErrors, HonestErrors, IsDone, NamesAddress, IsSavedCode, IsWrittenCode, most_status_writes, SendsSaved, WritesStatusAtMost}
+use Rattle.nor_session.specs.Rehearsal.{IsRehearsedCode, CanEnd, IsRehearsalRefusal, RehearsalErrors, first_allowance, least_needed}
+use Rattle.nor_session.specs.Rehearsing.{HasWantedBits, CanUndo, LeavesSession, RunsSession, RefusesSession, LeavesUndo, RefusesUndo}
 use Rattle.nor_session.proofs.RestoredBytes.{untouched_unraised}
-use Rattle.nor_session.proofs.GivesBack.{leads_back}
-use Rattle.nor_session.proofs.Aiming.{none_sent, sends_then, sends_most, sends_wider}
+use Rattle.nor_session.proofs.RestoresOriginal.{restorable}
+use Rattle.nor_session.proofs.Targeting.{none_sent, sends_then, sends_most, sends_wider}
 use Rattle.nor_session.proofs.RehearsedRestores.{modelled_at, no_halt}
 
 -- ---- the session
 
--- an error of the session other than a stop is an error that `RehearsalTells` allows
-told : (request : Request) (image : List ℕ) (old new : BusState) (before after : VaultState) (refusal : Refusal) → (refusal ≡ Stopped → ⊥)
-    → SessionTells request image old new before after refusal → RehearsalTells request image old.chip before after refusal
-told request image old new before after Vault never tells = tells
-told request image old new before after Stopped never tells = absurd (never refl)
-told request image old new before after _ never tells = tells
+-- an error of the session other than a stop is an error that `RehearsalErrors` allows
+returned : (request : Request) (image : List ℕ) (old new : BusState) (before after : VaultState) (refusal : Refusal) → (refusal ≡ Stopped → ⊥)
+    → SessionErrors request image old new before after refusal → RehearsalErrors request image old.chip before after refusal
+returned request image old new before after Vault never errors = errors
+returned request image old new before after Stopped never errors = absurd (never refl)
+returned request image old new before after _ never errors = errors
 
--- an error that `RehearsalTells` allows is one of 1 to 11, so bytes and non-volatile status bits are as they were
-early : (request : Request) (image : List ℕ) (old new : BusState) (before after : VaultState) (refusal : Refusal) → RehearsalTells request image old.chip before after refusal
-    → (number_of refusal ≤ 11) × (HonestTells (most_of 4096) (λ refusal. number_of refusal ≤ 11) old new refusal → IsSame old.chip new.chip)
-early request image old new before after Vault tells = (omega arith, λ same. same (omega arith))
-early request image old new before after _ tells = search (arith, tells.holds)
+-- an error that `RehearsalErrors` allows is one of 1 to 11, so bytes and non-volatile status bits are as they were
+early : (request : Request) (image : List ℕ) (old new : BusState) (before after : VaultState) (refusal : Refusal) → RehearsalErrors request image old.chip before after refusal
+    → (refusal_number refusal ≤ 11) × (HonestErrors (most_of 4096) (λ refusal. refusal_number refusal ≤ 11) old new refusal → IsSame old.chip new.chip)
+early request image old new before after Vault errors = (omega arith, λ same. same (omega arith))
+early request image old new before after _ errors = search (arith, errors.holds)
 
 can_end : (request : Request) (image : List ℕ) (n : ℕ) (chip : Chip) → IsAccepted request image chip → (erases : ℕ)
     → AreFewestErases chip.config chip.bytes (wanted request image chip) erases → least_needed request image chip erases ≤ n
@@ -59,13 +59,13 @@ module _ {n : ℕ} {old mid : BusState} (allows : Allows n old mid) where
 
   module _ (request : Request) (image : List ℕ) (new : BusState) {before after : VaultState} where
     pub session_leaves : {result : Result Report Refusal} → after.telling ≡ true → (mid.honest ≡ true → IsChip mid.chip)
-        → KeepsFirst mid new after → SessionAlways request mid new before after result
+        → KeepsOriginal mid new after → SessionAlways request mid new before after result
         → (IsModelled mid → SessionModelled request image mid new before after result)
         → LeavesSession request image old new after
     session_leaves telling reaches keeps always promise = record {
       nature = nature_then old mid new always.spends.nature allows.nature;
-      same = λ modelled calm unsealed. let is = modelled_mid modelled in search (arith, allows.chip, allows.nature.steady);
-      back = λ modelled sealed. let is = modelled_mid modelled in search (arith, ← allows.chip, leads_back);
+      same = λ modelled steady_or_idle unsealed. let is = modelled_mid modelled in search (arith, allows.chip, allows.nature.steady);
+      back = λ modelled sealed. let is = modelled_mid modelled in search (arith, ← allows.chip, restorable);
       accepted = λ modelled sealed. let is = modelled_mid modelled in search (arith, allows.chip);
       wears = λ modelled s other.
           let is = modelled_mid modelled in
@@ -73,12 +73,12 @@ module _ {n : ℕ} {old mid : BusState} (allows : Allows n old mid) where
             | inl sealed ↦
                 ((promise is).undo sealed).changes.worn s
                 (untouched_unraised mid.chip.bytes (wanted request image mid.chip) s (rw allows.chip other)) ∙ allows.worn s
-            | inr unsealed ↦ ((always.looks unsealed).looked is.honest).stays.worn s ∙ allows.worn s
+            | inr unsealed ↦ ((always.only_reads unsealed).honest_reads is.honest).stays.worn s ∙ allows.worn s
           ];
       latch = λ modelled unsealed.
           let is = modelled_mid modelled in
-          rw allows.chip at (((always.looks unsealed).looked is.honest).latch);
-      still = search arith;
+          rw allows.chip at (((always.only_reads unsealed).honest_reads is.honest).latch);
+      unsent = search arith;
       sends = λ sealed.
           let (journal, sent) = always.sends sealed telling in
           let IsCode = IsWrittenCode request.what journal.content in (
@@ -93,8 +93,8 @@ module _ {n : ℕ} {old mid : BusState} (allows : Allows n old mid) where
     pub session_ends : (report : Report) → SessionAlways request mid new before after (Ok report)
         → (mid.honest ≡ true → SessionHonest request image mid new (Ok report))
         → (IsModelled mid → SessionModelled request image mid new before after (Ok report))
-        → ShowsSession request image n old new after true
-    session_ends report always told promise =
+        → RunsSession request image n old new after true
+    session_ends report always returned promise =
         let ends = always.ends in
         let done = λ (modelled : IsModelled old). (promise (modelled_mid modelled)).done in
         record {
@@ -102,7 +102,7 @@ module _ {n : ℕ} {old mid : BusState} (allows : Allows n old mid) where
           can = λ modelled ended.
               let is = modelled_mid modelled in let done = done modelled in
               let undone = (promise is).undo ends.sealed in
-              let left = allows.left modelled.honest in let sent = (told is.honest).counted in
+              let left = allows.left modelled.honest in let sent = (returned is.honest).counted in
               let least = ends.bounded.least in let programs = done.reported.programs in
               let size = (shown_config mid.chip.config report.found is.genuine done.reported.shown).size in
               let scanned = ap (scanned_sectors request) size in
@@ -128,7 +128,7 @@ module _ {n : ℕ} {old mid : BusState} (allows : Allows n old mid) where
         → (mid.honest ≡ true → SessionHonest request image mid new (Err refusal))
         → (IsModelled mid → SessionModelled request image mid new before after (Err refusal))
         → (refusal ≡ Stopped → n ≡ most_of 4096) → RefusesSession request image old new before after refusal
-    session_refuses refusal always told_of promise all = search (arith, early, no_halt, told)
+    session_refuses refusal always reply_digits promise all = search (arith, early, no_halt, returned)
 
 -- without stops the session is allowed the most transactions that any call needs
 pub unlimited : (stops : List ℕ) → length stops ≡ 0 → first_allowance stops ≡ most_of 4096
@@ -159,13 +159,13 @@ module _ {request : Request} {image text later : List ℕ} {old mid new : BusSta
     {result : Result ℕ Refusal} (session : LeavesSession request image old mid vault) (sealed : vault.sealed ≡ true)
     (is : text ≡ vault.bytes) (undone : LeavesUndo text later mid new result) where
   -- a modelled bus is still modelled, and the bytes can restore the chip
-  pub led : IsModelled old → IsModelled mid × LeadsBack (is_touched old.chip.bytes (wanted request image old.chip)) old.chip text mid
+  pub led : IsModelled old → IsModelled mid × CanUndo (is_touched old.chip.bytes (wanted request image old.chip)) old.chip text mid
   led modelled = search (arith, modelled_at)
 
   -- on a modelled bus, the session and the restores erase only sectors that the session touches
   pub both_wear : IsModelled old → (s : ℕ) → is_touched old.chip.bytes (wanted request image old.chip) s ≡ false → new.worn s ≡ old.worn s
   both_wear modelled s other =
-      let (still, leads) = led modelled in undone.wears still _ _ leads s other ∙ session.wears modelled s other
+      let (unsent, leads) = led modelled in undone.wears unsent _ _ leads s other ∙ session.wears modelled s other
 
   -- all that the session and the restores sent fits the journal in the vault
   pub both_send : (stops : List ℕ) → later ≡ drop 1 stops → (journal : IsJournal vault.bytes)

@@ -11,15 +11,15 @@ use Rattle.nor_probe.specs.declared.probes.ProbeFault.{ProbeFault}
 use Rattle.nor_probe.specs.declared.probes.ProbeFault.TheVariants as Probes
 use Rattle.nor_probe.specs.declared.probes.Found.{Found}
 use Rattle.nor_probe.specs.Known.{shown_as, IsKnown, IsModelled}
-use Rattle.nor_probe.specs.Found.{BlamesName, Tells, IsConfigOf}
+use Rattle.nor_probe.specs.Found.{BlamesName, ProbeErrors, IsConfigOf}
 use Rattle.nor_call.specs.declared.refusal.Refusal.{Refusal}
 use Rattle.nor_call.specs.declared.refusal.Refusal.TheVariants.{OtherUnit, StatusDiffers}
 use Rattle.nor_call.specs.Refusal.{of_probe}
-use Rattle.nor_save.specs.Opening.{most_opening}
+use Rattle.nor_save.specs.Identity.{most_identity}
 use Rattle.nor_save.specs.Verdict.{IsNamed}
-use Rattle.nor_session.specs.Headline.{IsOfKind}
-use Rattle.nor_session.specs.Restore.{IsOfOtherUnit}
-use Rattle.nor_session.specs.Prepare.{RestoreJudges, IsOfKindFound, IsUnitRefusal, PrepareTells}
+use Rattle.nor_session.specs.Headline.{IsOfType}
+use Rattle.nor_session.specs.Restore.{IsOfOtherDevice}
+use Rattle.nor_session.specs.Prepare.{RestoreJudges, IsOfTypeFound, IsDeviceRefusal, PrepareErrors}
 
 -- ---- the chip is named
 
@@ -34,27 +34,27 @@ named_known chip known = named_by chip (shown_as chip.config) refl known.shown
 
 -- ---- the device (unique ID)
 
-pub other_unit : (journal : Content) (config : Config) (unique : List ℕ) → journal.unique ≡ Some unique → unique ≢ unique_of config → IsOfOtherUnit journal config
+pub other_unit : (journal : Content) (config : Config) (unique : List ℕ) → journal.unique ≡ Some unique → unique ≢ unique_of config → IsOfOtherDevice journal config
 other_unit journal config unique is other = rw is other
 
-pub no_unit : (journal : Content) (config : Config) → journal.unique ≡ None → ¬ IsOfOtherUnit journal config
+pub no_unit : (journal : Content) (config : Config) → journal.unique ≡ None → ¬ IsOfOtherDevice journal config
 no_unit journal config is other = rw is at other
 
-pub same_unit : (journal : Content) (config : Config) (unique : List ℕ) → journal.unique ≡ Some unique → unique ≡ unique_of config → ¬ IsOfOtherUnit journal config
+pub same_unit : (journal : Content) (config : Config) (unique : List ℕ) → journal.unique ≡ Some unique → unique ≡ unique_of config → ¬ IsOfOtherDevice journal config
 same_unit journal config unique is same other = (rw is at other) same
 
 -- ---- errors
 
 -- an error of the probe means what the preparation of a restore promises
-pub probe_tells : (journal : Content) (old new : BusState) (fault : ProbeFault) → BlamesName None fault → (old.honest ≡ true → Tells None old new fault) → PrepareTells journal most_opening old new (of_probe fault)
-probe_tells journal old new Probes.OtherName blames tells = absurd blames
-probe_tells journal old new Probes.Stopped blames tells = search arith
-probe_tells journal old new Probes.Timeout blames tells = (refl, tells)
-probe_tells journal old new _ blames tells = search arith
+pub probe_tells : (journal : Content) (old new : BusState) (fault : ProbeFault) → BlamesName None fault → (old.honest ≡ true → ProbeErrors None old new fault) → PrepareErrors journal most_identity old new (of_probe fault)
+probe_tells journal old new Probes.OtherName blames errors = absurd blames
+probe_tells journal old new Probes.Stopped blames errors = search arith
+probe_tells journal old new Probes.Timeout blames errors = (refl, errors)
+probe_tells journal old new _ blames errors = search arith
 
 -- error 20 (another device) or 17 (other status bits) means what the preparation of a restore promises
-pub unit_tells : (journal : Content) (most : ℕ) (old new : BusState) (refusal : Refusal) → IsUnitRefusal refusal → (old.honest ≡ true → IsSame old.chip new.chip)
-    → (IsModelled old → RestoreJudges journal old.chip refusal) → PrepareTells journal most old new refusal
+pub unit_tells : (journal : Content) (most : ℕ) (old new : BusState) (refusal : Refusal) → IsDeviceRefusal refusal → (old.honest ≡ true → IsSame old.chip new.chip)
+    → (IsModelled old → RestoreJudges journal old.chip refusal) → PrepareErrors journal most old new refusal
 unit_tells journal most old new OtherUnit is same verdict = record { judged = refl; same = same; verdict = verdict }
 unit_tells journal most old new StatusDiffers is same verdict = record { judged = refl; same = same; verdict = verdict }
 unit_tells journal most old new _ is same verdict = absurd is
@@ -62,5 +62,5 @@ unit_tells journal most old new _ is same verdict = absurd is
 -- ---- ID and size
 
 pub kind_of : {journal : Content} {found : Found} {config : Config} → IsConfigOf config found
-    → IsOfKindFound journal found → IsOfKind journal config
+    → IsOfTypeFound journal found → IsOfType journal config
 kind_of is kind = record { id = kind.id ∙ is.id; size = kind.size ∙ is.size }

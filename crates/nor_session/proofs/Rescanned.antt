@@ -6,7 +6,7 @@ use Rattle.std.proofs.lemmas.Bool.{and_left, both_ways}
 use Rattle.std.proofs.lemmas.Bool.Decides.{nat_tests}
 use Rattle.nor_chip.proofs.Sizes.{is_chip_size-in_blocks}
 use Rattle.nor_chip.specs.Bus.{BusState}
-use Rattle.nor_driver.specs.Looks.{Looks, IsOpen}
+use Rattle.nor_driver.specs.OnlyReads.{OnlyReads, IsOpen}
 use Rattle.nor_journal.specs.Text.{SavedSector, Content, IsContent, least_after}
 use Rattle.nor_journal.specs.Saved.{saved_in, is_saved, saved_byte}
 use Rattle.nor_journal.proofs.Saved.{saved_in-nil, saved_in-take_more, saved_in-at, rising_at, take-next, take-all_sectors, least_within, saved_few}
@@ -32,7 +32,7 @@ pub record HasRescanned (journal : Content) (i : ℕ) (old new : BusState) (scan
   pub marks : AreMarks (least_after 0 (take i journal.saved)) scanned
   pub reads : scanned.reads ≡ i
   pub few : scanned.count ≤ i
-  pub looked : HasLooked i old new
+  pub honest_reads : HasLooked i old new
   pub saved : (s : ℕ) → has scanned.touched s ≡ true → saved_before journal i s ≡ true
   pub bytes : (s : ℕ) (bytes : List ℕ) → saved_in (take i journal.saved) s ≡ Some bytes → (k : ℕ) → slice_index bytes k < 256
   pub touched : IsOpen journal.size old → (s : ℕ) → has scanned.touched s ≡ (saved_before journal i s && is_touched old.chip.bytes (restored journal old.chip.bytes) s)
@@ -78,31 +78,31 @@ restored_at journal content s saved i is below = search (arith, byte_at, is_save
 planned_from : (journal : Content) (s : ℕ) (saved bytes : List ℕ) (old mid new : BusState) (plan : SectorPlan) (i : ℕ) → saved_in journal.saved s ≡ Some saved → s < journal.size / 4096
     → length saved ≡ 4096 → IsOpen journal.size old → HasLooked i old mid → PlansSaved s saved bytes mid new plan
     → (plan.touched ≡ is_touched old.chip.bytes (restored journal old.chip.bytes) s) × (plan.raised ≡ is_raised old.chip.bytes (restored journal old.chip.bytes) s)
-planned_from journal s saved bytes old mid new plan i is place whole is_open looked plans =
+planned_from journal s saved bytes old mid new plan i is place whole is_open honest_reads plans =
     let long = plans.whole in
-    let later = opened_later journal.size i old mid is_open looked in
-    let same = (looked.rested is_open.honest).unchanged.same.bytes in
-    let shown = plans.read.told later.honest later.idle (let size = later.same in omega arith) in
+    let later = opened_later journal.size i old mid is_open honest_reads in
+    let same = (honest_reads.rested is_open.honest).unchanged.same.bytes in
+    let shown = plans.read.returned later.honest later.idle (let size = later.same in omega arith) in
     let content = old.chip.bytes in
-    let aim = restored journal content in
-    planned content aim s plan
-    (plans.planned (λ k. content (4096 * s + k)) (λ k. aim (4096 * s + k))
+    let target_sectors = restored journal content in
+    planned content target_sectors s plan
+    (plans.planned (λ k. content (4096 * s + k)) (λ k. target_sectors (4096 * s + k))
     (λ k below. shown.byte k (omega arith) ∙ same (4096 * s + k))
     (λ k below. restored_at journal content s saved k is (omega arith)))
 
 pub rescanned_more : {journal : Content} {i s : ℕ} {saved bytes : List ℕ} {old mid new : BusState} {plan : SectorPlan}
     {scanned next : Scanned} → IsContent journal
     → slice_get journal.saved i ≡ Some (record { number = s; bytes = saved }) → length saved ≡ 4096
-    → HasRescanned journal i old mid scanned → Looks 1 mid new → PlansSaved s saved bytes mid new plan
+    → HasRescanned journal i old mid scanned → OnlyReads 1 mid new → PlansSaved s saved bytes mid new plan
     → HasMarked s plan scanned next → HasRescanned journal (i + 1) old new next
 rescanned_more {journal = journal} {i = i} {s = s} {saved = saved} {bytes = bytes} {old = old} {mid = mid} {new = new}
-    {plan = plan} {scanned = scanned} {next = next} is at whole was looks plans marked =
+    {plan = plan} {scanned = scanned} {next = next} is at whole was only_reads plans marked =
     let one : SavedSector = record { number = s; bytes = saved } in
     let is_in = saved_in-at (journal.size / 4096) 0 journal.saved i one is.saved at in
     let place = (rising_at (journal.size / 4096) 0 journal.saved i one is.saved at).0.place in
     let next_least = take-next journal i one is at in
     let plans_are = λ (is_open : IsOpen journal.size old).
-    planned_from journal s saved bytes old mid new plan i is_in place whole is_open was.looked plans in
+    planned_from journal s saved bytes old mid new plan i is_in place whole is_open was.honest_reads plans in
     let most = (is_chip_size-in_blocks journal.size is.size).small in
     let more = λ (t : ℕ). more_before journal i s saved t is at in
     record {
@@ -110,11 +110,11 @@ rescanned_more {journal = journal} {i = i} {s = s} {saved = saved} {bytes = byte
           (marks_more s plan scanned next (omega arith) plans.needed (later_marks next_least.0 was.marks) marked);
       reads = marked.reads ∙ ap (λ (n : ℕ). n + 1) was.reads;
       few = let count = at_most_one plan.touched in omega arith;
-      looked = has_looked-more i old mid new was.looked looks plans.read.read plans.heard;
+      honest_reads = has_looked-more i old mid new was.honest_reads only_reads plans.read.read plans.polled_ready;
       saved = λ t hit.
           let now = more t in let mark = marked.touched t in let before = was.saved t in
           grind (arith, nat_tests);
-      bytes = λ t these told k.
+      bytes = λ t these returned k.
           let now = saved_in-take_more journal i one t is at in
           let before = λ (had : saved_in (take i journal.saved) t ≡ Some these). was.bytes t these had k in
           let small = plans.small k in

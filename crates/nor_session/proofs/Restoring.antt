@@ -4,8 +4,8 @@ use mathlib.Core.Path.{fun_ext}
 use Rattle.nor_chip.specs.Chip.{Chip, IsSame}
 use Rattle.nor_chip.specs.Bus.{BusState}
 use Rattle.nor_chip.proofs.Nature.{nature_then}
-use Rattle.nor_driver.specs.Looks.{LooksHonest, Looks, IsCalm}
-pub use Rattle.nor_driver.proofs.LooksInTurn.{looks_more as looks_most}
+use Rattle.nor_driver.specs.OnlyReads.{OnlyReadsHonest, OnlyReads, IsSteadyOrIdle}
+pub use Rattle.nor_driver.proofs.ReadsInTurn.{looks_more as looks_most}
 use Rattle.nor_journal.specs.Text.{Content}
 use Rattle.nor_journal.specs.Saved.{saved_byte}
 use Rattle.nor_apply.specs.declared.changes.Changes.{Changes}
@@ -24,67 +24,67 @@ use Rattle.nor_call.specs.declared.refusal.Refusal.{Refusal}
 use Rattle.nor_call.specs.declared.refusal.Refusal.TheVariants.{Stopped, Timeout, Mismatch}
 use Rattle.nor_session.specs.declared.prepare.Prepared.{Prepared}
 use Rattle.nor_probe.specs.Known.{IsModelled}
-use Rattle.nor_save.specs.Opening.{most_opening}
+use Rattle.nor_save.specs.Identity.{most_identity}
 use Rattle.nor_session.specs.Bounds.{most_of}
-use Rattle.nor_session.specs.Session.{HonestTells, IsWithinBound}
-use Rattle.nor_session.specs.Changing.{HasBytes, LeavesChange, DoesChange, ChangeTells}
-use Rattle.nor_session.specs.Headline.{CanGiveBack}
-use Rattle.nor_session.specs.Restore.{restored, NeedsStatusFrom, IsJudgedFirst, IsRestoreRefusal, RestoreTells, LeavesRestore, IsRestored}
-use Rattle.nor_session.specs.Prepare.{PrepareTells, IsPrepared}
+use Rattle.nor_session.specs.Session.{HonestErrors, IsWithinBound}
+use Rattle.nor_session.specs.Changing.{HasBytes, LeavesChange, DoesChange, ChangeErrors}
+use Rattle.nor_session.specs.Headline.{CanRestore}
+use Rattle.nor_session.specs.Restore.{restored, NeedsStatusFrom, IsCheckedFirst, IsRestoreRefusal, RestoreErrors, LeavesRestore, IsRestored}
+use Rattle.nor_session.specs.Prepare.{PrepareErrors, IsPrepared}
 use Rattle.nor_session.proofs.OneRestoreVerdict.{judged_verdict, accepted_restorable}
 use Rattle.nor_session.proofs.Changed.{two_writes, no_write, fewest_at}
 use Rattle.nor_session.proofs.Rescanned.{restored_saved}
 use Rattle.nor_session.proofs.RestoredBytes.{touched_saved, written_restored, pages_same}
-use Rattle.nor_session.proofs.GivenBack.{looked_within, change_within, given_back}
+use Rattle.nor_session.proofs.RestoredOriginal.{looked_within, change_within, given_back}
 
 -- ---- the errors before any change
 
-pub looks_spend : (few most : ℕ) (old new : BusState) → few ≤ most → Looks few old new → Spends most old new
-looks_spend few most old new fits looks = search (arith, looks_most)
+pub looks_spend : (few most : ℕ) (old new : BusState) → few ≤ most → OnlyReads few old new → Spends most old new
+looks_spend few most old new fits only_reads = search (arith, looks_most)
 
 module _ (journal : Content) (most : ℕ) (old new : BusState) where
-  pub prepare_answers : (refusal : Refusal) → PrepareTells journal most old new refusal → IsRestoreRefusal refusal
-  prepare_answers Stopped tells = refl
-  prepare_answers (Timeout address) tells = refl
-  prepare_answers (Mismatch address) tells = refl
-  prepare_answers _ tells = tells.judged
+  pub prepare_answers : (refusal : Refusal) → PrepareErrors journal most old new refusal → IsRestoreRefusal refusal
+  prepare_answers Stopped errors = refl
+  prepare_answers (Timeout address) errors = refl
+  prepare_answers (Mismatch address) errors = refl
+  prepare_answers _ errors = errors.judged
 
   pub prepare_gives_up : (refusal : Refusal) → most ≤ most_of (length journal.saved) → old.honest ≡ true
-      → PrepareTells journal most old new refusal
-      → HonestTells (most_of (length journal.saved)) IsJudgedFirst old new refusal
-  prepare_gives_up Stopped fits honest tells = let out = tells honest in omega arith
-  prepare_gives_up (Timeout address) fits honest tells = tells.1 honest
-  prepare_gives_up _ fits honest tells = λ first. tells.same honest
+      → PrepareErrors journal most old new refusal
+      → HonestErrors (most_of (length journal.saved)) IsCheckedFirst old new refusal
+  prepare_gives_up Stopped fits honest errors = let out = errors honest in omega arith
+  prepare_gives_up (Timeout address) fits honest errors = errors.1 honest
+  prepare_gives_up _ fits honest errors = λ first. errors.same honest
 
   pub prepare_tells : (refusal : Refusal) → most ≤ most_of (length journal.saved) → IsModelled old
-      → PrepareTells journal most old new refusal → RestoreTells journal old new refusal
-  prepare_tells Stopped fits modelled tells = let out = tells modelled.honest in omega arith
-  prepare_tells (Timeout address) fits modelled tells = absurd (tells.1 modelled.honest)
-  prepare_tells refusal fits modelled tells = judged_verdict journal old.chip refusal (tells.verdict modelled)
+      → PrepareErrors journal most old new refusal → RestoreErrors journal old new refusal
+  prepare_tells Stopped fits modelled errors = let out = errors modelled.honest in omega arith
+  prepare_tells (Timeout address) fits modelled errors = absurd (errors.1 modelled.honest)
+  prepare_tells refusal fits modelled errors = judged_verdict journal old.chip refusal (errors.verdict modelled)
 
-  pub looks_leave : LooksHonest most old new → LeavesRestore journal old new
-  looks_leave looked =
-      let fixed = λ (calm : IsCalm old). ap fixed_of (looked.stays.calm calm).kept in search arith
+  pub looks_leave : OnlyReadsHonest most old new → LeavesRestore journal old new
+  looks_leave honest_reads =
+      let fixed = λ (steady_or_idle : IsSteadyOrIdle old). ap fixed_of (honest_reads.stays.steady_or_idle steady_or_idle).kept in search arith
 
 -- on a well-behaved bus, a chip that can be restored before a call that only reads can be restored after it
-pub looks_back : (journal : Content) (first : Chip) (most : ℕ) (old new : BusState) → old.honest ≡ true → Looks most old new → CanGiveBack journal first old → CanGiveBack journal first new
-looks_back journal first most old new honest looks can =
-    assumption (looked_within _ first most old new looks.nature.steady (looks.looked honest) can.within)
+pub looks_back : (journal : Content) (first : Chip) (most : ℕ) (old new : BusState) → old.honest ≡ true → OnlyReads most old new → CanRestore journal first old → CanRestore journal first new
+looks_back journal first most old new honest only_reads can =
+    assumption (looked_within _ first most old new only_reads.nature.steady (only_reads.honest_reads honest) can.within)
 
 -- ---- the changes after the preparation
 
 -- The results of a restore's preparation, and the state that its changes left.
 pub record AreChanged (journal : Content) (prepared : Prepared) (old mid new : BusState) : Type 0 where
   pub room : length journal.saved ≤ 4096
-  pub looks : Looks (most_opening + length journal.saved) old mid
+  pub only_reads : OnlyReads (most_identity + length journal.saved) old mid
   pub is : IsPrepared journal old mid prepared
   pub leaves : LeavesChange prepared.changes (saved_byte journal) mid new
 
-pub changed_back : (journal : Content) (first : Chip) (prepared : Prepared) (old mid new : BusState) → AreChanged journal prepared old mid new → IsModelled old → CanGiveBack journal first old → CanGiveBack journal first new
+pub changed_back : (journal : Content) (first : Chip) (prepared : Prepared) (old mid new : BusState) → AreChanged journal prepared old mid new → IsModelled old → CanRestore journal first old → CanRestore journal first new
 changed_back journal first prepared old mid new are modelled can =
     let for = are.is.modelled modelled in
-    let may = are.leaves.reached (are.looks.nature.honest ∙ modelled.honest) for.can in
-    let before = looks_back journal first (most_opening + length journal.saved) old mid modelled.honest are.looks can in
+    let may = are.leaves.reached (are.only_reads.nature.honest ∙ modelled.honest) for.can in
+    let before = looks_back journal first (most_identity + length journal.saved) old mid modelled.honest are.only_reads can in
     assumption (change_within journal first _ _ (saved_byte journal) old mid new can before.within for.touched may)
 
 module _ (journal : Content) (prepared : Prepared) (old mid new : BusState) where
@@ -93,40 +93,40 @@ module _ (journal : Content) (prepared : Prepared) (old mid new : BusState) wher
 
   pub changed_leaves : AreChanged journal prepared old mid new → IsModelled old → LeavesRestore journal old new
   changed_leaves are modelled =
-      let may = are.leaves.reached (are.looks.nature.honest ∙ modelled.honest) (are.is.modelled modelled).can in
-      let stays = (are.looks.looked modelled.honest).stays in
-      let fixed = λ (calm : IsCalm old). may.within.fixed ∙ ap fixed_of (stays.calm calm).kept in
+      let may = are.leaves.reached (are.only_reads.nature.honest ∙ modelled.honest) (are.is.modelled modelled).can in
+      let stays = (are.only_reads.honest_reads modelled.honest).stays in
+      let fixed = λ (steady_or_idle : IsSteadyOrIdle old). may.within.fixed ∙ ap fixed_of (stays.steady_or_idle steady_or_idle).kept in
       search (arith, narrower)
 
   -- ---- the changes weren't finished
 
   pub change_gives_up : (refusal : Refusal) → AreChanged journal prepared old mid new → old.honest ≡ true
-      → ChangeTells prepared.changes (saved_byte journal) mid new refusal
-      → HonestTells (most_of (length journal.saved)) IsJudgedFirst old new refusal
-  change_gives_up Stopped are honest tells = search arith
-  change_gives_up (Timeout address) are honest tells = tells (are.looks.nature.honest ∙ honest)
-  change_gives_up (Mismatch address) are honest tells = λ first. absurd (true≢false (sym first))
-  change_gives_up _ are honest tells = absurd tells
+      → ChangeErrors prepared.changes (saved_byte journal) mid new refusal
+      → HonestErrors (most_of (length journal.saved)) IsCheckedFirst old new refusal
+  change_gives_up Stopped are honest errors = search arith
+  change_gives_up (Timeout address) are honest errors = errors (are.only_reads.nature.honest ∙ honest)
+  change_gives_up (Mismatch address) are honest errors = λ first. absurd (true≢false (sym first))
+  change_gives_up _ are honest errors = absurd errors
 
   pub change_tells : (refusal : Refusal) → AreChanged journal prepared old mid new → IsModelled old
-      → ChangeTells prepared.changes (saved_byte journal) mid new refusal → RestoreTells journal old new refusal
-  change_tells Stopped are modelled tells = change_gives_up Stopped are modelled.honest tells
-  change_tells (Timeout address) are modelled tells = absurd (tells (are.looks.nature.honest ∙ modelled.honest))
-  change_tells (Mismatch address) are modelled tells =
-      absurd (tells (are.looks.nature.honest ∙ modelled.honest) (are.is.modelled modelled).can)
-  change_tells _ are modelled tells = absurd tells
+      → ChangeErrors prepared.changes (saved_byte journal) mid new refusal → RestoreErrors journal old new refusal
+  change_tells Stopped are modelled errors = change_gives_up Stopped are modelled.honest errors
+  change_tells (Timeout address) are modelled errors = absurd (errors (are.only_reads.nature.honest ∙ modelled.honest))
+  change_tells (Mismatch address) are modelled errors =
+      absurd (errors (are.only_reads.nature.honest ∙ modelled.honest) (are.is.modelled modelled).can)
+  change_tells _ are modelled errors = absurd errors
 
-pub change_answers : (changes : Changes) (wanted : ℕ → ℕ) (old new : BusState) (refusal : Refusal) → ChangeTells changes wanted old new refusal → IsRestoreRefusal refusal
-change_answers changes wanted old new Stopped tells = refl
-change_answers changes wanted old new (Timeout address) tells = refl
-change_answers changes wanted old new (Mismatch address) tells = refl
-change_answers changes wanted old new _ tells = absurd tells
+pub change_answers : (changes : Changes) (wanted : ℕ → ℕ) (old new : BusState) (refusal : Refusal) → ChangeErrors changes wanted old new refusal → IsRestoreRefusal refusal
+change_answers changes wanted old new Stopped errors = refl
+change_answers changes wanted old new (Timeout address) errors = refl
+change_answers changes wanted old new (Mismatch address) errors = refl
+change_answers changes wanted old new _ errors = absurd errors
 
-pub change_not_judged : (changes : Changes) (wanted : ℕ → ℕ) (old new : BusState) (refusal : Refusal) → ChangeTells changes wanted old new refusal → ¬ IsJudgedFirst refusal
-change_not_judged changes wanted old new Stopped tells judged = true≢false (sym judged)
-change_not_judged changes wanted old new (Timeout address) tells judged = true≢false (sym judged)
-change_not_judged changes wanted old new (Mismatch address) tells judged = true≢false (sym judged)
-change_not_judged changes wanted old new _ tells judged = tells
+pub change_not_judged : (changes : Changes) (wanted : ℕ → ℕ) (old new : BusState) (refusal : Refusal) → ChangeErrors changes wanted old new refusal → ¬ IsCheckedFirst refusal
+change_not_judged changes wanted old new Stopped errors judged = true≢false (sym judged)
+change_not_judged changes wanted old new (Timeout address) errors judged = true≢false (sym judged)
+change_not_judged changes wanted old new (Mismatch address) errors judged = true≢false (sym judged)
+change_not_judged changes wanted old new _ errors judged = errors
 
 -- ---- the changes were finished
 
@@ -172,19 +172,19 @@ module _ (journal : Content) (prepared : Prepared) (old mid new : BusState) (wor
     pub restored_checked : old.honest ≡ true → old.chip.config.size ≡ journal.size
         → HasBytes (is_touched old.chip.bytes (restored journal old.chip.bytes)) (restored journal old.chip.bytes) new.chip
     restored_checked honest sized a hit =
-        let config = are.looks.nature.config honest in
+        let config = are.only_reads.nature.config honest in
         let touched : touched_in prepared.changes (a / 4096) ≡ true = are.is.touched honest sized (a / 4096) ∙ hit in
         let can : CanCheck (touched_in prepared.changes) mid.chip = record {
           idle = are.is.idle honest;
           inside = λ s is. rw config
               (let inside = are.is.inside s is in let same = are.is.sized in omega arith);
         } in
-        does.checked refl (are.looks.nature.honest ∙ honest) can a touched
+        does.checked refl (are.only_reads.nature.honest ∙ honest) can a touched
         ∙ sym (restored_saved journal old.chip.bytes a (are.is.saved (a / 4096) touched))
 
     pub restored_done : IsModelled old → IsRestored journal old new (report_of prepared work sent)
     restored_done modelled =
-        let honest = are.looks.nature.honest ∙ modelled.honest in
+        let honest = are.only_reads.nature.honest ∙ modelled.honest in
         let rested = are.is.rested modelled.honest in let same = rested.unchanged.same in
         let for = are.is.modelled modelled in
         let changes = prepared.changes in
@@ -206,7 +206,7 @@ module _ (journal : Content) (prepared : Prepared) (old mid new : BusState) (wor
             worn = λ s. cc (rested.unchanged.worn s, applied.worn s);
             shown = for.shown;
             status1 = for.status1;
-            told = for.told;
+            returned = for.returned;
             sectors = are.is.count ∙ ap sector_count touched;
             erases = fewest_at old.chip.config _ work.erases
                 (λ s is. let inside = are.is.inside s (are.is.raised s (for.raised s ∙ is)) in let size = for.size in omega arith)
@@ -221,11 +221,11 @@ module _ (journal : Content) (prepared : Prepared) (old mid new : BusState) (wor
           };
           kept = applied.kept
               ∙ rw (for.code, same.kept) (told_coded journal.status old.chip.kept for.accepted.fits.fixed.fixed);
-          still = λ none never.
+          unsent = λ none never.
               let writes = no_write changes (λ needed. never (for.needed needed)) in let count = are.is.count in
-              does.still (omega arith) ∙ are.looks.sent;
+              does.unsent (omega arith) ∙ are.only_reads.sent;
         }
 
 -- a restore that succeeds leaves the original chip
-pub restored_back : (journal : Content) (first : Chip) (old new : BusState) (report : Report) → CanGiveBack journal first old → IsRestored journal old new report → IsSame first new.chip
+pub restored_back : (journal : Content) (first : Chip) (old new : BusState) (report : Report) → CanRestore journal first old → IsRestored journal old new report → IsSame first new.chip
 restored_back journal first old new report can done = search (arith, given_back)

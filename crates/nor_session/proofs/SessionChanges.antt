@@ -10,13 +10,13 @@ use Rattle.nor_chip.proofs.Kept.{kept_same}
 use Rattle.nor_chip.specs.Chip.{Chip, status1_of, kept_in}
 use Rattle.nor_chip.specs.Guard.{code_of}
 use Rattle.nor_chip.specs.Bus.{BusState}
-use Rattle.nor_driver.specs.Looks.{Rested}
+use Rattle.nor_driver.specs.OnlyReads.{Rested}
 use Rattle.nor_plan.specs.Content.{is_touched, is_raised}
 use Rattle.nor_plan.specs.SectorSet.{has}
 use Rattle.nor_apply.specs.Within.{is_writable}
 use Rattle.nor_apply.specs.Applying.{CanApply, status_writes, writes_code}
 use Rattle.nor_journal.specs.Vault.{VaultState}
-use Rattle.nor_save.specs.declared.opening.Opening.{Opening}
+use Rattle.nor_save.specs.declared.identity.Identity.{Identity}
 use Rattle.nor_save.specs.declared.saving.SavedScan.{SavedScan}
 use Rattle.nor_call.specs.declared.request.Request.{Request}
 use Rattle.nor_call.specs.declared.request.What.{What}
@@ -24,14 +24,14 @@ use Rattle.nor_call.specs.declared.request.What.TheVariants.{WpRange}
 use Rattle.nor_call.specs.declared.refusal.Refusal.{Refusal}
 use Rattle.nor_call.specs.declared.refusal.Refusal.TheVariants.{Stopped, Timeout, Mismatch}
 use Rattle.nor_call.specs.Request.{is_data, wanted}
-use Rattle.nor_save.specs.Opening.{status_read}
-use Rattle.nor_call.specs.Refusal.{number_of}
+use Rattle.nor_save.specs.Identity.{status_read}
+use Rattle.nor_call.specs.Refusal.{refusal_number}
 use Rattle.nor_session.specs.Bounds.{most_of}
-use Rattle.nor_save.specs.Saving.{IsOpening, SomeHeld, NeedsStatus}
+use Rattle.nor_save.specs.Saving.{IsIdentityOf, SomeProtected, NeedsStatus}
 use Rattle.nor_call.specs.declared.refusal.Refusal.TheVariants.{NoProtection, StatusLocked}
-use Rattle.nor_session.specs.Changing.{ChangeTells}
-use Rattle.nor_session.specs.Session.{HonestTells, SessionTells}
-use Rattle.nor_save.specs.Verdict.{NeedsStatusWrite, OpeningAccepts, ScanAccepts}
+use Rattle.nor_session.specs.Changing.{ChangeErrors}
+use Rattle.nor_session.specs.Session.{HonestErrors, SessionErrors}
+use Rattle.nor_save.specs.Verdict.{NeedsStatusWrite, IdentityAccepts, ScanAccepts}
 use Rattle.nor_session.proofs.Changed.{no_write, writes_other}
 use Rattle.nor_save.proofs.Held.{code_same}
 use Rattle.nor_session.proofs.JudgedStatus.{held_scheme, free_place, writable_for}
@@ -40,12 +40,12 @@ use Rattle.nor_session.proofs.Ready.{Ready, changes_of, lifts_none, ran_out_read
 use Rattle.nor_session.proofs.ReadyChip.{most_sized}
 
 -- All that is known about the chip on a modelled bus after its touched sectors are saved.
-pub record ReadyChip (request : Request) (image image' : List ℕ) (opening : Opening) (code : ℕ) (kept : SavedScan) (old mid : BusState) : Type 0 where
+pub record ReadyChip (request : Request) (image image' : List ℕ) (identity : Identity) (code : ℕ) (kept : SavedScan) (old mid : BusState) : Type 0 where
   pub honest : old.honest ≡ true
-  pub is : IsOpening old.chip opening
-  pub shown : shown_as old.chip.config ≡ Ok (part_in opening.found)
-  pub told : old.chip.busy ≡ 0 → opening.found.status1 ≡ status1_of old.chip
-  pub accepts : OpeningAccepts request image old.chip code
+  pub is : IsIdentityOf old.chip identity
+  pub shown : shown_as old.chip.config ≡ Ok (part_in identity.found)
+  pub returned : old.chip.busy ≡ 0 → identity.found.status1 ≡ status1_of old.chip
+  pub accepts : IdentityAccepts request image old.chip code
   pub idle : mid.chip.busy ≡ 0
   pub rested : Rested old mid
   pub touched : (s : ℕ) → has kept.scanned.touched s ≡ is_touched old.chip.bytes (wanted request image old.chip) s
@@ -58,7 +58,7 @@ pub record ReadyChip (request : Request) (image image' : List ℕ) (opening : Op
 -- ---- the status is written only if it can be
 
 needs_by : (what : What) (unlock lifted : Bool) (code : ℕ) (touched : ℕ → Bool) (chip : Chip)
-    → (lifted ≡ true → (unlock ≡ true) × SomeHeld touched chip) → (is_data what ≡ false → lifted ≡ false)
+    → (lifted ≡ true → (unlock ≡ true) × SomeProtected touched chip) → (is_data what ≡ false → lifted ≡ false)
     → (is_data what ≡ true → code ≡ code_of chip.kept) → (lifted ≡ false → code ≢ code_of chip.kept)
     → NeedsStatus what unlock code touched chip
 needs_by (WpRange start len) unlock lifted code touched chip lifts off same other = other (off refl)
@@ -71,26 +71,26 @@ scheme_needed _ unlock code touched chip scheme need = held_scheme touched chip 
 
 -- ---- the changes can be made
 
-module _ (request : Request) (image image' : List ℕ) (opening : Opening) (status : Status) (code : ℕ)
-    (kept : SavedScan) (old mid : BusState) (is : Ready request opening status code kept old mid)
-    (of : ReadyChip request image image' opening code kept old mid) where
+module _ (request : Request) (image image' : List ℕ) (identity : Identity) (status : Status) (code : ℕ)
+    (kept : SavedScan) (old mid : BusState) (is : Ready request identity status code kept old mid)
+    (of : ReadyChip request image image' identity code kept old mid) where
   -- if the changes write the status, the request needs a status write
-  pub needs : (kept.unlock || writes_code (changes_of opening kept status code)) ≡ true
+  pub needs : (kept.unlock || writes_code (changes_of identity kept status code)) ≡ true
       → NeedsStatus request.what request.unlock code (is_touched old.chip.bytes (wanted request image old.chip)) old.chip
   needs writes =
-      let read : code_of (kept_in (bytes_of status)) ≡ code_of (kept_in (status_read opening)) = ap (λ (bytes : List ℕ). code_of (kept_in bytes)) is.is_status in
+      let read : code_of (kept_in (bytes_of status)) ≡ code_of (kept_in (status_read identity)) = ap (λ (bytes : List ℕ). code_of (kept_in bytes)) is.is_status in
       let chip = code_same of.is in
       needs_by request.what request.unlock kept.unlock code _ old.chip of.scan.lifts
       (lifts_none is) (λ about_bytes. is.same_code about_bytes ∙ chip)
-      (λ off same. writes_other (changes_of opening kept status code) off writes (read ∙ chip ∙ sym same))
+      (λ off same. writes_other (changes_of identity kept status code) off writes (read ∙ chip ∙ sym same))
 
   -- if the request needs no status write, the changes write no status
   pub never_written : ¬ NeedsStatusWrite request image old.chip
-      → status_writes (changes_of opening kept status code) ≤ 0
+      → status_writes (changes_of identity kept status code) ≤ 0
   never_written none =
-      no_write (changes_of opening kept status code) (λ writes. none (code, of.accepts.is_wanted, needs writes))
+      no_write (changes_of identity kept status code) (λ writes. none (code, of.accepts.is_wanted, needs writes))
 
-  writable : (kept.unlock || writes_code (changes_of opening kept status code)) ≡ true → is_writable mid.chip ≡ true
+  writable : (kept.unlock || writes_code (changes_of identity kept status code)) ≡ true → is_writable mid.chip ≡ true
   writable writes =
       let need = needs writes in
       writable_for of.rested.unchanged.same
@@ -104,12 +104,12 @@ module _ (request : Request) (image image' : List ℕ) (opening : Opening) (stat
       → bit_and (wanted request image old.chip a) (old.chip.bytes a) ≡ wanted request image old.chip a
   falls a touched low = unraised_byte old.chip.bytes (wanted request image old.chip) a low
 
-  pub can_apply : CanApply (changes_of opening kept status code) (λ a. slice_index image' a) mid.chip
+  pub can_apply : CanApply (changes_of identity kept status code) (λ a. slice_index image' a) mid.chip
   can_apply =
       let same = of.rested.unchanged.same in
-      let size : mid.chip.config.size ≡ opening.found.size = cc in
-      let one : status.one.0 ≡ opening.found.status1 = (let read = is.is_status in cc) in
-      let two : status.two.0 ≡ opening.status2 = (let read = is.is_status in cc) in
+      let size : mid.chip.config.size ≡ identity.found.size = cc in
+      let one : status.one.0 ≡ identity.found.status1 = (let read = is.is_status in cc) in
+      let two : status.two.0 ≡ identity.status2 = (let read = is.is_status in cc) in
       record {
         idle = of.idle;
         sized = record { same = size; same_kinds = cc };
@@ -129,25 +129,25 @@ module _ (request : Request) (image image' : List ℕ) (opening : Opening) (stat
 
 -- ---- the errors of the changes
 
-pub change_gives_up : (request : Request) (opening : Opening) (status : Status) (code : ℕ) (kept : SavedScan) (aim : ℕ → ℕ) (old mid new : BusState) (refusal : Refusal) → old.honest ≡ true
-    → Ready request opening status code kept old mid → ChangeTells (changes_of opening kept status code) aim mid new refusal → HonestTells (most_of 4096) (λ refusal. number_of refusal ≤ 11) old new refusal
-change_gives_up request opening status code kept aim old mid new Stopped honest is tells =
-    let ran = ran_out_ready is honest (tells (is.looked.nature.honest ∙ honest)) in
-    let few = scanned_few request opening.found.size is.part.at_most in
+pub change_gives_up : (request : Request) (identity : Identity) (status : Status) (code : ℕ) (kept : SavedScan) (target_sectors : ℕ → ℕ) (old mid new : BusState) (refusal : Refusal) → old.honest ≡ true
+    → Ready request identity status code kept old mid → ChangeErrors (changes_of identity kept status code) target_sectors mid new refusal → HonestErrors (most_of 4096) (λ refusal. refusal_number refusal ≤ 11) old new refusal
+change_gives_up request identity status code kept target_sectors old mid new Stopped honest is errors =
+    let ran = ran_out_ready is honest (errors (is.honest_reads.nature.honest ∙ honest)) in
+    let few = scanned_few request identity.found.size is.part.at_most in
     omega arith
-change_gives_up request opening status code kept aim old mid new (Timeout address) honest is tells = tells (is.looked.nature.honest ∙ honest)
-change_gives_up request opening status code kept aim old mid new (Mismatch address) honest is tells =
+change_gives_up request identity status code kept target_sectors old mid new (Timeout address) honest is errors = errors (is.honest_reads.nature.honest ∙ honest)
+change_gives_up request identity status code kept target_sectors old mid new (Mismatch address) honest is errors =
     λ judged. absurd (omega arith)
-change_gives_up request opening status code kept aim old mid new _ honest is tells = absurd tells
+change_gives_up request identity status code kept target_sectors old mid new _ honest is errors = absurd errors
 
-pub change_tells : (request : Request) (image image' : List ℕ) (opening : Opening) (status : Status) (code : ℕ) (kept : SavedScan) (old mid new : BusState) (vault vault' : VaultState) (refusal : Refusal)
-    → Ready request opening status code kept old mid → ReadyChip request image image' opening code kept old mid
-    → ChangeTells (changes_of opening kept status code) (λ a. slice_index image' a) mid new refusal → SessionTells request image old new vault vault' refusal
-change_tells request image image' opening status code kept old mid new vault vault' Stopped is of tells =
-    let ran = ran_out_ready is of.honest (tells (is.looked.nature.honest ∙ of.honest)) in
+pub change_tells : (request : Request) (image image' : List ℕ) (identity : Identity) (status : Status) (code : ℕ) (kept : SavedScan) (old mid new : BusState) (vault vault' : VaultState) (refusal : Refusal)
+    → Ready request identity status code kept old mid → ReadyChip request image image' identity code kept old mid
+    → ChangeErrors (changes_of identity kept status code) (λ a. slice_index image' a) mid new refusal → SessionErrors request image old new vault vault' refusal
+change_tells request image image' identity status code kept old mid new vault vault' Stopped is of errors =
+    let ran = ran_out_ready is of.honest (errors (is.honest_reads.nature.honest ∙ of.honest)) in
     let sized = most_sized request of.is.config in
     omega arith
-change_tells request image image' opening status code kept old mid new vault vault' (Timeout address) is of tells = absurd (tells (is.looked.nature.honest ∙ of.honest))
-change_tells request image image' opening status code kept old mid new vault vault' (Mismatch address) is of tells =
-    absurd (tells (is.looked.nature.honest ∙ of.honest) (can_apply request image image' opening status code kept old mid is of))
-change_tells request image image' opening status code kept old mid new vault vault' _ is of tells = absurd tells
+change_tells request image image' identity status code kept old mid new vault vault' (Timeout address) is of errors = absurd (errors (is.honest_reads.nature.honest ∙ of.honest))
+change_tells request image image' identity status code kept old mid new vault vault' (Mismatch address) is of errors =
+    absurd (errors (is.honest_reads.nature.honest ∙ of.honest) (can_apply request image image' identity status code kept old mid is of))
+change_tells request image image' identity status code kept old mid new vault vault' _ is of errors = absurd errors

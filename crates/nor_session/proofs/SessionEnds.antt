@@ -4,7 +4,7 @@ use mathlib.Core.Path.{fun_ext}
 use Rattle.std.specs.Prelude.{slice_index}
 use Rattle.nor_chip.specs.declared.status.Status.{Status}
 use Rattle.nor_chip.specs.Bus.{BusState}
-use Rattle.nor_driver.specs.Looks.{Looks, IsOpen}
+use Rattle.nor_driver.specs.OnlyReads.{OnlyReads, IsOpen}
 use Rattle.nor_journal.specs.Vault.{VaultState}
 use Rattle.nor_plan.specs.SectorSet.{has}
 use Rattle.nor_apply.specs.declared.changes.Work.{Work}
@@ -13,12 +13,12 @@ use Rattle.nor_plan.specs.Content.{once_erased, is_touched, is_raised}
 use Rattle.nor_apply.proofs.Changing.{same_change, change_as, change_then}
 use Rattle.nor_driver.specs.StatusWrites.{fixed_of, with_code}
 use Rattle.nor_apply.proofs.Kept.{fixed_coded}
-use Rattle.nor_save.specs.declared.opening.Opening.{Opening}
+use Rattle.nor_save.specs.declared.identity.Identity.{Identity}
 use Rattle.nor_save.specs.declared.saving.SavedScan.{SavedScan}
 use Rattle.nor_call.specs.declared.request.Request.{Request}
 use Rattle.nor_call.specs.Request.{wanted, scanned_sectors}
-use Rattle.nor_save.specs.Opening.{Opens, most_opening}
-use Rattle.nor_save.specs.Saving.{IsOpening}
+use Rattle.nor_save.specs.Identity.{ReadsIdentity, most_identity}
+use Rattle.nor_save.specs.Saving.{IsIdentityOf}
 use Rattle.nor_save.specs.SavedScan.{HasSaved}
 use Rattle.nor_chip.proofs.Sizes.{sized_bounds}
 use Rattle.nor_save.proofs.Planned.{touched_past, only_inside, raised_inside}
@@ -28,65 +28,65 @@ use Rattle.nor_chip.specs.declared.config.Config.{Config}
 use Rattle.nor_probe.specs.Known.{IsModelled}
 use Rattle.nor_session.specs.Changing.{HasBytes, LeavesChange, DoesChange}
 use Rattle.nor_session.specs.Session.{IsWithinBound, IsDone, CanBeUndone}
-use Rattle.nor_session.specs.Made.{IsMade}
-use Rattle.nor_save.specs.Verdict.{NeedsStatusWrite, OpeningAccepts}
+use Rattle.nor_session.specs.Made.{IsTargetChip}
+use Rattle.nor_save.specs.Verdict.{NeedsStatusWrite, IdentityAccepts}
 use Rattle.nor_session.proofs.Changed.{no_write, fewest_at}
 use Rattle.nor_session.proofs.Ready.{Ready, changes_of, bounded_by}
 use Rattle.nor_session.proofs.ReadyChip.{is_opening, told_idle, shows, named}
 use Rattle.nor_session.proofs.SessionChanges.{ReadyChip, can_apply, needs}
 use Rattle.nor_session.proofs.RestoredBytes.{untouched_byte, pages_same}
 
-module _ (request : Request) (image image' : List ℕ) (opening : Opening) (status : Status) (code : ℕ)
+module _ (request : Request) (image image' : List ℕ) (identity : Identity) (status : Status) (code : ℕ)
     (kept : SavedScan) (old mid : BusState) where
-  pub ready_chip : (new : BusState) (vault : VaultState) → IsModelled old → Looks most_opening old mid
-      → Opens request.named old mid opening → Ready request opening status code kept old new
-      → (IsOpening old.chip opening → OpeningAccepts request image old.chip code)
-      → HasSaved request opening code image image' mid new vault kept → ((a : ℕ) → slice_index image' a < 256)
-      → old.chip.kept.two < 128 → ReadyChip request image image' opening code kept old new
-  ready_chip new vault modelled looks opens is accepts keeps bytes small =
+  pub ready_chip : (new : BusState) (vault : VaultState) → IsModelled old → OnlyReads most_identity old mid
+      → ReadsIdentity request.named old mid identity → Ready request identity status code kept old new
+      → (IsIdentityOf old.chip identity → IdentityAccepts request image old.chip code)
+      → HasSaved request identity code image image' mid new vault kept → ((a : ℕ) → slice_index image' a < 256)
+      → old.chip.kept.two < 128 → ReadyChip request image image' identity code kept old new
+  ready_chip new vault modelled only_reads opens is accepts keeps bytes small =
       search (arith, is_opening, named, shows, told_idle)
 
   -- ---- once the vault is sealed
 
-  pub can_be_undone : (ready new : BusState) (vault : VaultState) → IsModelled old → Looks most_opening old mid
-      → Opens request.named old mid opening → HasSaved request opening code image image' mid ready vault kept
-      → Ready request opening status code kept old ready → ReadyChip request image image' opening code kept old ready
-      → LeavesChange (changes_of opening kept status code) (λ a. slice_index image' a) ready new
+  pub can_be_undone : (ready new : BusState) (vault : VaultState) → IsModelled old → OnlyReads most_identity old mid
+      → ReadsIdentity request.named old mid identity → HasSaved request identity code image image' mid ready vault kept
+      → Ready request identity status code kept old ready → ReadyChip request image image' identity code kept old ready
+      → LeavesChange (changes_of identity kept status code) (λ a. slice_index image' a) ready new
       → CanBeUndone request image old new vault
-  can_be_undone ready new vault modelled looks opens keeps is of leaves =
-      let opened = is_opening request opening old mid modelled opens in
-      let chip = keeps.chip old.chip opened (shows request opening old mid modelled looks opens) in
-      let honest = is.looked.nature.honest ∙ modelled.honest in
+  can_be_undone ready new vault modelled only_reads opens keeps is of leaves =
+      let opened = is_opening request identity old mid modelled opens in
+      let chip = keeps.chip old.chip opened (shows request identity old mid modelled only_reads opens) in
+      let honest = is.honest_reads.nature.honest ∙ modelled.honest in
       let unchanged = of.rested.unchanged in
-      let can = can_apply request image image' opening status code kept old ready is of in
+      let can = can_apply request image image' identity status code kept old ready is of in
       record {
         accepted = of.scan.accepted;
         journal = chip.journal;
         -- `MayChange` holds from the original chip to the target
-        changes = change_then is.looked.nature.steady (same_change unchanged.same of.idle unchanged.worn)
+        changes = change_then is.honest_reads.nature.steady (same_change unchanged.same of.idle unchanged.worn)
             (change_as (λ s hit. sym (of.touched s) ∙ hit) (λ s hit. sym (of.raised s) ∙ hit)
             (λ a plain hit. of.merged a hit) (leaves.reached honest can));
         spent =
-            let sent = is.looked.sent modelled.honest in let fell = (leaves.spends.falls honest).fell in
+            let sent = is.honest_reads.sent modelled.honest in let fell = (leaves.spends.falls honest).fell in
             let least = is.least in let reads = is.reads ∙ ap (scanned_sectors request) opened.config.size in
             omega arith;
       }
 
   -- ---- at the end
 
-  pub done : (new : BusState) (verify : Bool) (work : Work) (sent : ℕ) → Ready request opening status code kept old mid
-      → ReadyChip request image image' opening code kept old mid
-      → DoesChange (changes_of opening kept status code) (λ a. slice_index image' a) verify mid new work
-      → IsDone request image old new (record { found = opening.found; touched = kept.scanned.count; erases = work.erases; programs = work.programs; transactions = opening.transactions + sent + work.transactions })
+  pub done : (new : BusState) (verify : Bool) (work : Work) (sent : ℕ) → Ready request identity status code kept old mid
+      → ReadyChip request image image' identity code kept old mid
+      → DoesChange (changes_of identity kept status code) (λ a. slice_index image' a) verify mid new work
+      → IsDone request image old new (record { found = identity.found; touched = kept.scanned.count; erases = work.erases; programs = work.programs; transactions = identity.transactions + sent + work.transactions })
   done new verify work sent is of does =
-      let honest = is.looked.nature.honest ∙ of.honest in
-      let can = can_apply request image image' opening status code kept old mid is of in
+      let honest = is.honest_reads.nature.honest ∙ of.honest in
+      let can = can_apply request image image' identity status code kept old mid is of in
       let applied = does.done honest can in
       let same = of.rested.unchanged.same in
       let blocks = is.part.in_blocks in let size = of.is.config.size in
       let fixed = ap fixed_of applied.kept ∙ fixed_coded code mid.chip.kept ∙ ap fixed_of same.kept in
-      let made : IsMade (wanted request image old.chip) old.chip new.chip = search (arith, untouched_byte) in
-      let aim = wanted request image old.chip in
+      let made : IsTargetChip (wanted request image old.chip) old.chip new.chip = search (arith, untouched_byte) in
+      let target_sectors = wanted request image old.chip in
       let touched : has kept.scanned.touched ≡ is_touched old.chip.bytes (wanted request image old.chip) = fun_ext of.touched in
       let raised : has kept.scanned.raised ≡ is_raised old.chip.bytes (wanted request image old.chip) = fun_ext of.raised in
       let bytes : mid.chip.bytes ≡ old.chip.bytes = fun_ext same.bytes in
@@ -96,7 +96,7 @@ module _ (request : Request) (image image' : List ℕ) (opening : Opening) (stat
           worn = λ s. cc (of.rested.unchanged.worn s, applied.worn s);
           shown = of.shown;
           status1 = of.is.one;
-          told = of.told;
+          returned = of.returned;
           sectors = is.marks.count ∙ ap sector_count touched;
           -- a raised sector lies inside the chip
           erases = fewest_at old.chip.config _ work.erases
@@ -104,61 +104,61 @@ module _ (request : Request) (image image' : List ℕ) (opening : Opening) (stat
               (let erases = does.erases in let kinds = of.is.config.kinds in let size = of.is.config.size in cc);
           programs = (let programs = does.programs honest can in
               let merged = pages_same (has kept.scanned.touched)
-              (once_erased (has kept.scanned.raised) mid.chip.bytes) (λ a. slice_index image' a) aim of.merged in
+              (once_erased (has kept.scanned.raised) mid.chip.bytes) (λ a. slice_index image' a) target_sectors of.merged in
               cc);
         };
         code = code;
         is_wanted = of.accepts.is_wanted;
         kept = applied.kept ∙ ap (with_code code) same.kept;
-        still = λ none never.
-            let writes = no_write (changes_of opening kept status code) (λ needed. never (code, of.accepts.is_wanted, needs request image image' opening status code kept old mid is of needed)) in
+        unsent = λ none never.
+            let writes = no_write (changes_of identity kept status code) (λ needed. never (code, of.accepts.is_wanted, needs request image image' identity status code kept old mid is of needed)) in
             let count = is.marks.count in
-            does.still (omega arith) ∙ is.looked.same_sent;
+            does.unsent (omega arith) ∙ is.honest_reads.same_sent;
       }
 
   -- after a check on a well-behaved bus the touched sectors have the target bytes: they were read back and compared
-  pub session_checked : (opened new : BusState) (work : Work) → Looks most_opening old opened
-      → Opens request.named old opened opening → Scans request opening.found.size image image' opened mid kept.scanned
-      → Ready request opening status code kept old mid
-      → DoesChange (changes_of opening kept status code) (λ a. slice_index image' a) request.verify mid new work
-      → request.verify ≡ true → old.honest ≡ true → old.chip.config.size ≡ opening.found.size
+  pub session_checked : (opened new : BusState) (work : Work) → OnlyReads most_identity old opened
+      → ReadsIdentity request.named old opened identity → Scans request identity.found.size image image' opened mid kept.scanned
+      → Ready request identity status code kept old mid
+      → DoesChange (changes_of identity kept status code) (λ a. slice_index image' a) request.verify mid new work
+      → request.verify ≡ true → old.honest ≡ true → old.chip.config.size ≡ identity.found.size
       → HasBytes (is_touched old.chip.bytes (wanted request image old.chip)) (wanted request image old.chip) new.chip
-  session_checked opened new work looks opens scans is does verifies honest sized a hit =
+  session_checked opened new work only_reads opens scans is does verifies honest sized a hit =
       let same = (opens.rested honest).unchanged.same in
       let bytes : opened.chip.bytes ≡ old.chip.bytes = fun_ext same.bytes in
-      let is_open : IsOpen opening.found.size opened = record {
-        honest = looks.nature.honest ∙ honest;
+      let is_open : IsOpen identity.found.size opened = record {
+        honest = only_reads.nature.honest ∙ honest;
         idle = opens.idle honest;
         same = ap (λ (config : Config). config.size) same.config ∙ sized;
       } in
-      let aim = wanted_at request image opening.found.size old.chip.bytes in
-      let hit : is_touched old.chip.bytes aim (a / 4096) ≡ true =
+      let target_sectors = wanted_at request image identity.found.size old.chip.bytes in
+      let hit : is_touched old.chip.bytes target_sectors (a / 4096) ≡ true =
       subst (λ (n : ℕ). is_touched old.chip.bytes (wanted_at request image n old.chip.bytes) (a / 4096) ≡ true) sized hit in
-      let past = touched_past request image opening.found.size old.chip.bytes (a / 4096) is.part.in_blocks in
+      let past = touched_past request image identity.found.size old.chip.bytes (a / 4096) is.part.in_blocks in
       let marked : has kept.scanned.touched (a / 4096) ≡ true =
       rw bytes at ((scans.right is_open).touched (a / 4096))
-      ∙ only_inside (is_touched old.chip.bytes aim) (opening.found.size / 4096) (a / 4096) past ∙ hit in
+      ∙ only_inside (is_touched old.chip.bytes target_sectors) (identity.found.size / 4096) (a / 4096) past ∙ hit in
       let can : CanCheck (has kept.scanned.touched) mid.chip = record {
         idle =
-            let rested = scans.rested (looks.nature.honest ∙ honest) in
+            let rested = scans.rested (only_reads.nature.honest ∙ honest) in
             let idle = opens.idle honest in omega arith;
         inside = λ s is_touched.
             let below = is.marks.below s is_touched in
-            let config = ap (λ (config : Config). config.size) (is.looked.nature.config honest) in omega arith;
+            let config = ap (λ (config : Config). config.size) (is.honest_reads.nature.config honest) in omega arith;
       } in
-      let wanted_byte : slice_index image' a ≡ aim a = rw bytes at (scans.merged is_open a marked) in
-      let read = does.checked verifies (is.looked.nature.honest ∙ honest) can a marked in
+      let wanted_byte : slice_index image' a ≡ target_sectors a = rw bytes at (scans.merged is_open a marked) in
+      let read = does.checked verifies (is.honest_reads.nature.honest ∙ honest) can a marked in
       read ∙ wanted_byte ∙ sym (ap (λ (n : ℕ). wanted_at request image n old.chip.bytes a) sized)
 
   -- if the request needs no status write, the bound on the report's transactions includes none
-  pub spared : (new : BusState) (aim : ℕ → ℕ) (verify : Bool) (work : Work) (sent : ℕ) → sent ≡ kept.scanned.reads
-      → Ready request opening status code kept old mid → ReadyChip request image image' opening code kept old mid
+  pub spared : (new : BusState) (target_sectors : ℕ → ℕ) (verify : Bool) (work : Work) (sent : ℕ) → sent ≡ kept.scanned.reads
+      → Ready request identity status code kept old mid → ReadyChip request image image' identity code kept old mid
       → ¬ NeedsStatusWrite request image old.chip
-      → DoesChange (changes_of opening kept status code) aim verify mid new work
+      → DoesChange (changes_of identity kept status code) target_sectors verify mid new work
       → IsWithinBound (scanned_sectors request old.chip.config.size) 0 verify
-      (record { found = opening.found; touched = kept.scanned.count; erases = work.erases; programs = work.programs; transactions = opening.transactions + sent + work.transactions })
-  spared new aim verify work sent is_sent is of none does =
-      let never = no_write (changes_of opening kept status code) (λ writes. none (code, of.accepts.is_wanted, needs request image image' opening status code kept old mid is of writes)) in
-      subst (λ (n : ℕ). IsWithinBound (scanned_sectors request n) 0 verify (record { found = opening.found; touched = kept.scanned.count; erases = work.erases; programs = work.programs; transactions = opening.transactions + sent + work.transactions }))
+      (record { found = identity.found; touched = kept.scanned.count; erases = work.erases; programs = work.programs; transactions = identity.transactions + sent + work.transactions })
+  spared new target_sectors verify work sent is_sent is of none does =
+      let never = no_write (changes_of identity kept status code) (λ writes. none (code, of.accepts.is_wanted, needs request image image' identity status code kept old mid is of writes)) in
+      subst (λ (n : ℕ). IsWithinBound (scanned_sectors request n) 0 verify (record { found = identity.found; touched = kept.scanned.count; erases = work.erases; programs = work.programs; transactions = identity.transactions + sent + work.transactions }))
       of.is.config.size
-      (bounded_by request opening status code kept old mid new aim verify work sent 0 is_sent is never does)
+      (bounded_by request identity status code kept old mid new target_sectors verify work sent 0 is_sent is never does)

@@ -7,19 +7,19 @@ use Rattle.nor_driver.specs.StatusWrites.{fixed_of}
 use Rattle.nor_chip.proofs.Kept.{kept_same}
 use Rattle.nor_call.specs.Request.{wanted}
 use Rattle.nor_plan.specs.Content.{is_touched}
-use Rattle.nor_journal.specs.Text.{Content, IsContent, SameHead, text}
+use Rattle.nor_journal.specs.Text.{Content, IsContent, SameHeader, text}
 use Rattle.nor_journal.specs.Saved.{JournalSaves, Saves}
 use Rattle.nor_journal.specs.Vault.{VaultState}
 use Rattle.nor_journal.proofs.OneForm.{one_text}
 use Rattle.nor_apply.specs.Within.{IsWithin, is_writable}
 use Rattle.nor_apply.proofs.Changing.{idle_within}
-use Rattle.nor_save.specs.Saving.{head_of}
+use Rattle.nor_save.specs.Saving.{header_of}
 use Rattle.nor_call.specs.declared.request.Request.{Request}
 use Rattle.nor_probe.specs.Known.{IsModelled}
-use Rattle.nor_session.specs.Headline.{CanGiveBack, open_places}
+use Rattle.nor_session.specs.Headline.{CanRestore, open_addresses}
 use Rattle.nor_session.specs.Session.{CanBeUndone}
 use Rattle.nor_session.specs.WrittenOver.{IsWrittenOver}
-use Rattle.nor_session.proofs.GivesBack.{can_give_back, leads_back}
+use Rattle.nor_session.proofs.RestoresOriginal.{can_give_back, restorable}
 
 -- ---- one chip written over with another
 
@@ -58,8 +58,8 @@ within_both places first old new opened over before after =
 
 -- if the journal can restore the chip before and the chip after, it can restore each chip that is opened while the
 -- files are overwritten from one to the other
-pub restore_over : (journal : Content) (first : Chip) (old new opened : BusState) → CanGiveBack journal first old
-    → CanGiveBack journal first new → IsWrittenOver old.chip new.chip opened.chip → CanGiveBack journal first opened
+pub restore_over : (journal : Content) (first : Chip) (old new opened : BusState) → CanRestore journal first old
+    → CanRestore journal first new → IsWrittenOver old.chip new.chip opened.chip → CanRestore journal first opened
 restore_over journal first old new opened before after over = search (arith, within_both)
 
 -- if both are the same chip, the chip that was opened is the same too
@@ -70,7 +70,7 @@ same_over old new opened same over = let kept = kept_over old.kept over refl sam
 
 -- the journal that is read from the bytes saves the same sectors as the journal that was written
 read_kept : (head : Content) (bytes : ℕ → ℕ) (saved : ℕ → Bool) (journal : Content) (kept : List ℕ) → JournalSaves head bytes saved kept
-    → IsContent journal → kept ≡ text journal → SameHead head journal × Saves bytes saved journal
+    → IsContent journal → kept ≡ text journal → SameHeader head journal × Saves bytes saved journal
 read_kept head bytes saved journal kept saves is read =
     let same : saves.content ≡ journal =
     (one_text saves.content journal [] [] saves.saves.is is
@@ -79,11 +79,11 @@ read_kept head bytes saved journal kept saves is read =
 
 pub read_back : (request : Request) (image : List ℕ) (old new : BusState) (vault : VaultState) (journal : Content)
     → IsModelled old → IsChip old.chip → vault.telling ≡ true → CanBeUndone request image old new vault
-    → IsContent journal → vault.bytes ≡ text journal → CanGiveBack journal old.chip new
+    → IsContent journal → vault.bytes ≡ text journal → CanRestore journal old.chip new
 read_back request image old new vault journal modelled is telling undone sound read =
     can_give_back (is_touched old.chip.bytes (wanted request image old.chip)) old.chip vault.bytes new journal
-    (leads_back request image old new vault is modelled.genuine telling undone)
-    (read_kept (head_of old.chip) old.chip.bytes _ journal vault.bytes (undone.journal telling) sound read)
+    (restorable request image old new vault is modelled.genuine telling undone)
+    (read_kept (header_of old.chip) old.chip.bytes _ journal vault.bytes (undone.journal telling) sound read)
 
 -- the same bus with an idle chip
 abbrev idle : BusState → BusState
@@ -92,12 +92,12 @@ idle state = record state { chip = record state.chip { busy = 0 } }
 pub session_over : (request : Request) (image : List ℕ) (old new opened : BusState) (vault : VaultState) (journal : Content)
     → IsModelled old → IsChip old.chip → vault.telling ≡ true → CanBeUndone request image old new vault
     → IsContent journal → vault.bytes ≡ text journal → IsWrittenOver old.chip new.chip opened.chip
-    → CanGiveBack journal old.chip opened
+    → CanRestore journal old.chip opened
 session_over request image old new opened vault journal modelled is telling undone sound read over =
     let after = read_back request image old new vault journal modelled is telling undone sound read in
     record {
       known = after.known;
       saves = after.saves;
-      within = within_both (open_places journal old.chip) old.chip (idle old) new opened (assumption over)
+      within = within_both (open_addresses journal old.chip) old.chip (idle old) new opened (assumption over)
           (idle_within refl (λ a out. refl) refl refl) after.within;
     }

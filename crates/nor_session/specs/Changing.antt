@@ -3,7 +3,7 @@ use Rattle.std.specs.Prelude.{◌≡◌, ◌≤◌, ◌+◌, ◌*◌, ◌/◌, �
 use Rattle.nor_chip.specs.Chip.{Chip}
 use Rattle.nor_chip.specs.Bus.{BusState}
 use Rattle.nor_driver.specs.Ready.{StaysReady}
-use Rattle.nor_driver.specs.Looks.{Rested, RanOut, RanOutIfHonest}
+use Rattle.nor_driver.specs.OnlyReads.{Rested, RanOut, RanOutIfHonest}
 use Rattle.nor_driver.specs.Limits.{SendsWithin, SendsExactly}
 use Rattle.nor_driver.specs.Operations.{most_operation}
 use Rattle.nor_count.specs.Below.{count_below}
@@ -41,8 +41,8 @@ pub record DoesCheck (changes : Changes) (wanted : ℕ → ℕ) (verify : Bool) 
   pub erases : work.erases ≡ written.erases
   pub programs : work.programs ≡ written.programs
   pub transactions : work.transactions ≡ written.transactions + read_back changes verify
-  pub still : new.sent ≡ old.sent
-  pub heard : StaysReady old new
+  pub unsent : new.sent ≡ old.sent
+  pub polled_ready : StaysReady old new
   pub sent : old.honest ≡ true → old.left ≡ new.left + read_back changes verify
   pub rested : old.honest ≡ true → Rested old new
   pub same : verify ≡ true → old.honest ≡ true → CanCheck (touched_in changes) old.chip
@@ -87,9 +87,9 @@ pub record DoesChange (changes : Changes) (wanted : ℕ → ℕ) (verify : Bool)
       + most_operation * (work.erases + work.programs + status_writes changes)
   pub least : 3 * (work.erases + work.programs + status_writes changes) + read_back changes verify ≤ work.transactions
   pub exactly : SendsExactly work.erases work.programs (status_writes changes) old new
-  pub heard : StaysReady old new
+  pub polled_ready : StaysReady old new
   pub sent : old.honest ≡ true → old.left ≡ new.left + work.transactions
-  pub still : touched_count changes + status_writes changes ≡ 0 → new.sent ≡ old.sent
+  pub unsent : touched_count changes + status_writes changes ≡ 0 → new.sent ≡ old.sent
   pub done : old.honest ≡ true → CanApply changes wanted old.chip → HasApplied changes wanted old new
   pub programs : old.honest ≡ true → CanApply changes wanted old.chip
       → work.programs ≡ count_below 65536
@@ -100,11 +100,11 @@ pub record DoesChange (changes : Changes) (wanted : ℕ → ℕ) (verify : Bool)
 -- Holds if the changes and their check may fail with this error. On a well-behaved bus `Stopped` means that fewer
 -- transactions were left than they may need, `Timeout` does not occur, and `Mismatch` does not occur if `CanApply` held
 -- at the start.
-abbrev pub ChangeTells : Changes → (ℕ → ℕ) → (old new : BusState) → Refusal → Type 0
-ChangeTells changes wanted old new Stopped = old.honest ≡ true → RanOut (most_changed changes) old new
-ChangeTells changes wanted old new (Timeout address) = old.honest ≡ true → ⊥
-ChangeTells changes wanted old new (Mismatch address) = old.honest ≡ true → CanApply changes wanted old.chip → ⊥
-ChangeTells changes wanted old new _ = ⊥
+abbrev pub ChangeErrors : Changes → (ℕ → ℕ) → (old new : BusState) → Refusal → Type 0
+ChangeErrors changes wanted old new Stopped = old.honest ≡ true → RanOut (most_changed changes) old new
+ChangeErrors changes wanted old new (Timeout address) = old.honest ≡ true → ⊥
+ChangeErrors changes wanted old new (Mismatch address) = old.honest ≡ true → CanApply changes wanted old.chip → ⊥
+ChangeErrors changes wanted old new _ = ⊥
 
 -- Holds on every bus: a timeout names an address in a touched sector, or 0 if the status is written; a mismatch names
 -- an address in a touched sector.

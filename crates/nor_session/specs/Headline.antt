@@ -2,9 +2,9 @@
 use Rattle.std.specs.Prelude.{◌≡◌, ◌/◌, ◌&&◌, ℕ, Bool, true, false, not, List, Result, IfErr, IfSome, OnOk}
 use Rattle.nor_chip.specs.declared.config.Config.{Config}
 use Rattle.nor_chip.specs.Chip.{Chip, IsSame, is_locked, kept_in}
-use Rattle.nor_chip.specs.Guard.{is_guarded}
+use Rattle.nor_chip.specs.Guard.{is_protected}
 use Rattle.nor_chip.specs.Bus.{BusState}
-use Rattle.nor_driver.specs.Looks.{IsCalm}
+use Rattle.nor_driver.specs.OnlyReads.{IsSteadyOrIdle}
 use Rattle.nor_driver.specs.Reads.{id_of, unique_of}
 use Rattle.nor_journal.specs.Text.{Content}
 use Rattle.nor_journal.specs.Vault.{VaultState}
@@ -19,52 +19,52 @@ use Rattle.nor_save.specs.SavedScan.{IsJournal}
 -- ---- which chip a journal can restore
 
 -- Holds if the journal has the ID and the size of this configuration.
-pub record IsOfKind (journal : Content) (config : Config) : Type 0 where
+pub record IsOfType (journal : Content) (config : Config) : Type 0 where
   pub id : journal.id ≡ id_of config
   pub size : journal.size ≡ config.size
 
 -- Holds if the journal saves this chip: its unique ID, if the journal has one; its non-volatile status bits; the bytes
 -- of the saved sectors.
 pub record SavesChip (journal : Content) (first : Chip) : Type 0 where
-  pub kind : IsOfKind journal first.config
+  pub kind : IsOfType journal first.config
   pub unit : IfSome journal.unique (λ unique. unique ≡ unique_of first.config)
   pub bits : first.kept ≡ kept_in journal.status
   pub sectors : Saves first.bytes (is_saved journal) journal
 
 -- true at the addresses at which a chip may differ from the original one (`first`): those in saved sectors, except the
 -- protected ones if the status of the original chip is locked
-abbrev pub open_places : Content → Chip → ℕ → Bool
-open_places journal first a = is_saved journal (a / 4096) && not (is_locked first.kept && is_guarded first a)
+abbrev pub open_addresses : Content → Chip → ℕ → Bool
+open_addresses journal first a = is_saved journal (a / 4096) && not (is_locked first.kept && is_protected first a)
 
 -- Holds if the journal can restore the original chip (`first`) on this bus. It saves that chip, which is known, and the
 -- bus's chip differs from that chip only in bytes and bits that a restore can write.
-pub record CanGiveBack (journal : Content) (first : Chip) (state : BusState) : Type 0 where
+pub record CanRestore (journal : Content) (first : Chip) (state : BusState) : Type 0 where
   pub known : IsKnown first.config
   pub saves : SavesChip journal first
-  pub within : IsWithin (open_places journal first) first state
+  pub within : IsWithin (open_addresses journal first) first state
 
 -- Holds if these bytes are the encoding of a journal that can restore the original chip (`first`) on this bus.
-pub record HasWayBack (bytes : List ℕ) (first : Chip) (state : BusState) : Type 0 where
+pub record CanRestoreFrom (bytes : List ℕ) (first : Chip) (state : BusState) : Type 0 where
   pub journal : IsJournal bytes
-  pub back : CanGiveBack journal.content first state
+  pub back : CanRestore journal.content first state
 
 -- ---- what the calls promise
 
 -- The promise of a session at every exit, wherever it ended or was stopped.
-pub record KeepsFirst (old new : BusState) (vault : VaultState) : Type 0 where
+pub record KeepsOriginal (old new : BusState) (vault : VaultState) : Type 0 where
   -- if the vault isn't sealed, no modifying command was sent, on every bus
-  pub still : vault.sealed ≡ false → new.sent ≡ old.sent
+  pub unsent : vault.sealed ≡ false → new.sent ≡ old.sent
   -- if the vault isn't sealed, bytes and non-volatile status bits are as they were, on a well-behaved bus that is
   -- steady or whose chip was idle
-  pub same : vault.sealed ≡ false → old.honest ≡ true → IsCalm old → IsSame old.chip new.chip
+  pub same : vault.sealed ≡ false → old.honest ≡ true → IsSteadyOrIdle old → IsSame old.chip new.chip
   -- if a faithful vault is sealed, its bytes are a journal that can restore the original chip, on a modelled bus
-  pub leads_back : vault.sealed ≡ true → vault.telling ≡ true → IsModelled old → HasWayBack vault.bytes old.chip new
+  pub restorable : vault.sealed ≡ true → vault.telling ≡ true → IsModelled old → CanRestoreFrom vault.bytes old.chip new
 
 -- The promise of a restore on a modelled bus, for each chip `first` that the journal can restore at the start.
-pub record GivesBack (journal : Content) (old new : BusState) (result : Result Report Refusal) : Type 0 where
+pub record RestoresOriginal (journal : Content) (old new : BusState) (result : Result Report Refusal) : Type 0 where
   -- at every exit the journal can still restore that chip
-  pub within : (first : Chip) → CanGiveBack journal first old → CanGiveBack journal first new
+  pub within : (first : Chip) → CanRestore journal first old → CanRestore journal first new
   -- a restore that succeeds has restored that chip
-  pub back : (first : Chip) → CanGiveBack journal first old → OnOk result (IsSame first new.chip)
+  pub back : (first : Chip) → CanRestore journal first old → OnOk result (IsSame first new.chip)
   -- the only possible error is a stop
-  pub only_stops : (first : Chip) → CanGiveBack journal first old → IfErr result (λ refusal. refusal ≡ Stopped)
+  pub only_stops : (first : Chip) → CanRestore journal first old → IfErr result (λ refusal. refusal ≡ Stopped)

@@ -42,7 +42,7 @@ IsTakenUp old new taken = MayLosePower new taken ⊎ IsWrittenOver old.chip new.
 -- Holds if a restore changed nothing: it sent no modifying command, no sector was touched, erased or programmed, and no
 -- status write was needed.
 pub record ChangesNothing (journal : Content) (old new : BusState) (report : Report) : Type 0 where
-  pub still : new.sent ≡ old.sent
+  pub unsent : new.sent ≡ old.sent
   pub touched : report.touched ≡ 0
   pub erases : report.erases ≡ 0
   pub programs : report.programs ≡ 0

@@ -24,7 +24,7 @@ pages_of old wanted =
 
 -- Holds if the chip has the target bytes, the status bits that flashnor never changes are as they were, and the chip is
 -- idle. The write enable latch is set only if it was set before.
-pub record IsMade (wanted : ℕ → ℕ) (old new : Chip) : Type 0 where
+pub record IsTargetChip (wanted : ℕ → ℕ) (old new : Chip) : Type 0 where
   pub config : new.config ≡ old.config
   pub bytes : (a : ℕ) → new.bytes a ≡ wanted a
   pub fixed : fixed_of new.kept ≡ fixed_of old.kept
@@ -38,7 +38,7 @@ pub record IsReported (wanted : ℕ → ℕ) (old new : BusState) (report : Repo
   pub worn : (s : ℕ) → new.worn s ≡ (old.worn s || is_raised old.chip.bytes wanted s)
   pub shown : shown_as old.chip.config ≡ Ok (part_in report.found)
   pub status1 : report.found.status1 / 4 ≡ old.chip.kept.one
-  pub told : old.chip.busy ≡ 0 → report.found.status1 ≡ status1_of old.chip
+  pub returned : old.chip.busy ≡ 0 → report.found.status1 ≡ status1_of old.chip
   pub sectors : report.touched ≡ sector_count (is_touched old.chip.bytes wanted)
   pub erases : AreFewestErases old.chip.config old.chip.bytes wanted report.erases
   pub programs : report.programs ≡ pages_of old.chip.bytes wanted

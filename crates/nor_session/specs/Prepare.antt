@@ -4,8 +4,8 @@ use Rattle.nor_chip.specs.Guard.{code_of}
 use Rattle.nor_chip.specs.Chip.{Chip, IsSame, is_locked, status1_of, kept_in}
 use Rattle.nor_chip.specs.Status.{bytes_of}
 use Rattle.nor_chip.specs.Bus.{BusState}
-use Rattle.nor_save.specs.Opening.{status_read}
-use Rattle.nor_driver.specs.Looks.{Rested, RanOutIfHonest, IsOpen}
+use Rattle.nor_save.specs.Identity.{status_read}
+use Rattle.nor_driver.specs.OnlyReads.{Rested, RanOutIfHonest, IsOpen}
 use Rattle.nor_driver.specs.Ready.{StaysReady}
 use Rattle.nor_driver.specs.StatusWrites.{fixed_of}
 use Rattle.nor_driver.specs.Reads.{ReadsSector}
@@ -21,100 +21,100 @@ use Rattle.nor_probe.specs.Known.{shown_as, IsModelled}
 use Rattle.nor_probe.specs.Found.{part_in}
 use Rattle.nor_apply.specs.declared.changes.Changes.{Changes}
 use Rattle.nor_apply.specs.Applying.{writes_code, CanApply}
-use Rattle.nor_save.specs.declared.opening.Opening.{Opening}
+use Rattle.nor_save.specs.declared.identity.Identity.{Identity}
 use Rattle.nor_save.specs.declared.scanning.Scanned.{Scanned}
 use Rattle.nor_call.specs.declared.refusal.Refusal.{Refusal}
 use Rattle.nor_call.specs.declared.refusal.Refusal.TheVariants.{NoChip, UnknownChip, StatusLocked, Stopped, Timeout, OtherChip, OtherUnit, StatusDiffers}
 use Rattle.nor_save.specs.Scanning.{AreMarks}
-use Rattle.nor_save.specs.Saving.{IsOpening, NoneHeld, SomeHeld}
+use Rattle.nor_save.specs.Saving.{IsIdentityOf, NoneProtected, SomeProtected}
 use Rattle.nor_session.specs.declared.prepare.Prepared.{Prepared}
-use Rattle.nor_session.specs.Bounds.{most_looked}
+use Rattle.nor_session.specs.Bounds.{most_reads}
 use Rattle.nor_session.specs.Changing.{touched_count}
-use Rattle.nor_session.specs.Headline.{IsOfKind}
+use Rattle.nor_session.specs.Headline.{IsOfType}
 use Rattle.nor_save.specs.Verdict.{IsNamed}
-use Rattle.nor_session.specs.Restore.{IsOfOtherUnit, FitsStatus, NeedsStatusFrom, IsJudgedFirst, restored}
+use Rattle.nor_session.specs.Restore.{IsOfOtherDevice, FitsStatus, NeedsStatusFrom, IsCheckedFirst, restored}
 
 -- ---- the checks, in the order of the code
 
 -- Holds if the chip is known, and the journal fits it.
-pub record Fits (journal : Content) (chip : Chip) : Type 0 where
+pub record FitsJournal (journal : Content) (chip : Chip) : Type 0 where
   pub named : IsNamed None chip.config
-  pub kind : IsOfKind journal chip.config
-  pub unit : ¬ IsOfOtherUnit journal chip.config
+  pub kind : IsOfType journal chip.config
+  pub unit : ¬ IsOfOtherDevice journal chip.config
   pub fixed : FitsStatus journal chip
 
 -- Holds if a check of a restore fails with this error, and the checks before it, in the order of the code, passed.
 abbrev pub RestoreJudges : Content → Chip → Refusal → Type 0
 RestoreJudges journal chip NoChip = shown_as chip.config ≡ Err Probes.NoChip
 RestoreJudges journal chip (UnknownChip fault) = shown_as chip.config ≡ Err (Probes.UnknownChip fault)
-RestoreJudges journal chip OtherChip = IsNamed None chip.config × (¬ IsOfKind journal chip.config)
+RestoreJudges journal chip OtherChip = IsNamed None chip.config × (¬ IsOfType journal chip.config)
 RestoreJudges journal chip OtherUnit =
-    IsNamed None chip.config × IsOfKind journal chip.config × IsOfOtherUnit journal chip.config
+    IsNamed None chip.config × IsOfType journal chip.config × IsOfOtherDevice journal chip.config
 RestoreJudges journal chip StatusDiffers =
-    IsNamed None chip.config × IsOfKind journal chip.config × (¬ IsOfOtherUnit journal chip.config)
+    IsNamed None chip.config × IsOfType journal chip.config × (¬ IsOfOtherDevice journal chip.config)
     × (¬ FitsStatus journal chip)
 RestoreJudges journal chip StatusLocked =
-    Fits journal chip × (is_locked chip.kept ≡ true) × NeedsStatusFrom journal chip
+    FitsJournal journal chip × (is_locked chip.kept ≡ true) × NeedsStatusFrom journal chip
 RestoreJudges journal chip _ = ⊥
 
 -- Holds if all checks of a restore pass.
 pub record RestoreAccepts (journal : Content) (chip : Chip) : Type 0 where
-  pub fits : Fits journal chip
+  pub fits : FitsJournal journal chip
   pub not_locked : is_locked chip.kept ≡ true → ¬ NeedsStatusFrom journal chip
 
 -- ---- the identification
 
 -- Holds if the chip that was found has the journal's ID and size.
-pub record IsOfKindFound (journal : Content) (found : Found) : Type 0 where
+pub record IsOfTypeFound (journal : Content) (found : Found) : Type 0 where
   pub id : journal.id ≡ found.id
   pub size : journal.size ≡ found.size
 
 -- Holds if the status bits that flashnor never changes were read as the journal has them.
-abbrev pub HasFixedRead : Content → Opening → Type 0
-HasFixedRead journal opening = fixed_of (kept_in (status_read opening)) ≡ fixed_of (kept_in journal.status)
+abbrev pub HasFixedRead : Content → Identity → Type 0
+HasFixedRead journal identity = fixed_of (kept_in (status_read identity)) ≡ fixed_of (kept_in journal.status)
 
 -- Holds for the errors of the checks of the unique ID (20) and of the status bits that a restore can't write (17).
-abbrev pub IsUnitRefusal : Refusal → Type 0
-IsUnitRefusal OtherUnit = ⊤
-IsUnitRefusal StatusDiffers = ⊤
-IsUnitRefusal _ = ⊥
+abbrev pub IsDeviceRefusal : Refusal → Type 0
+IsDeviceRefusal OtherUnit = ⊤
+IsDeviceRefusal StatusDiffers = ⊤
+IsDeviceRefusal _ = ⊥
 
 -- Holds if the journal fits each chip with this identification.
-abbrev pub FitsOpening : Content → Opening → Type 0
-FitsOpening journal opening = (chip : Chip) → chip.kept.two < 128 → IsOpening chip opening → Fits journal chip
+abbrev pub FitsIdentity : Content → Identity → Type 0
+FitsIdentity journal identity = (chip : Chip) → chip.kept.two < 128 → IsIdentityOf chip identity → FitsJournal journal chip
 
 -- Holds if `shown` says correctly, for each chip with this identification, whether the status bits that a restore can't
 -- write are the journal's.
-abbrev pub ShowsFixed : Content → Opening → Bool → Type 0
-ShowsFixed journal opening shown = (chip : Chip) → chip.kept.two < 128 → IsOpening chip opening
+abbrev pub ShowsFixed : Content → Identity → Bool → Type 0
+ShowsFixed journal identity shown = (chip : Chip) → chip.kept.two < 128 → IsIdentityOf chip identity
     → MatchBool shown (FitsStatus journal chip) (¬ FitsStatus journal chip)
 
 -- Holds if acceptance is right: if the check accepts the unique ID and status bits, the journal fits each chip that has
 -- this identification and the journal's ID and size.
-abbrev pub AcceptsUnit : Content → Opening → Result Unit Refusal → Type 0
-AcceptsUnit journal opening judged = (chip : Chip) → chip.kept.two < 128 → IsOpening chip opening
-    → IsOfKind journal chip.config → OnOk judged (Fits journal chip)
+abbrev pub AcceptsDevice : Content → Identity → Result Unit Refusal → Type 0
+AcceptsDevice journal identity judged = (chip : Chip) → chip.kept.two < 128 → IsIdentityOf chip identity
+    → IsOfType journal chip.config → OnOk judged (FitsJournal journal chip)
 
 -- Holds if a refusal is right. If the check refuses the unique ID or status bits, its error is that of the first failed
 -- check, for each chip that has this identification and the journal's ID and size.
-abbrev pub RefusesUnit : Content → Opening → Result Unit Refusal → Type 0
-RefusesUnit journal opening judged = (chip : Chip) → chip.kept.two < 128 → IsOpening chip opening
-    → IsOfKind journal chip.config → IfErr judged (RestoreJudges journal chip)
+abbrev pub RefusesDevice : Content → Identity → Result Unit Refusal → Type 0
+RefusesDevice journal identity judged = (chip : Chip) → chip.kept.two < 128 → IsIdentityOf chip identity
+    → IsOfType journal chip.config → IfErr judged (RestoreJudges journal chip)
 
 -- Holds for the error of a failed check. On a well-behaved bus contents and non-volatile status bits are as they were,
 -- and on a modelled bus the error is that of the first failed check.
 pub record IsRefusedFor (journal : Content) (old new : BusState) (refusal : Refusal) : Type 0 where
-  pub judged : IsJudgedFirst refusal
+  pub judged : IsCheckedFirst refusal
   pub same : old.honest ≡ true → IsSame old.chip new.chip
   pub verdict : IsModelled old → RestoreJudges journal old.chip refusal
 
 -- The meaning of an error before the first change. After a stop on a well-behaved bus, fewer than `most` transactions
 -- were left. A timeout names address 0, and does not occur on a well-behaved bus. Any other error is that of a failed
 -- check.
-abbrev pub PrepareTells : Content → ℕ → (old new : BusState) → Refusal → Type 0
-PrepareTells journal most old new Stopped = RanOutIfHonest most old new
-PrepareTells journal most old new (Timeout address) = (address ≡ 0) × (old.honest ≡ true → ⊥)
-PrepareTells journal most old new refusal = IsRefusedFor journal old new refusal
+abbrev pub PrepareErrors : Content → ℕ → (old new : BusState) → Refusal → Type 0
+PrepareErrors journal most old new Stopped = RanOutIfHonest most old new
+PrepareErrors journal most old new (Timeout address) = (address ≡ 0) × (old.honest ≡ true → ⊥)
+PrepareErrors journal most old new refusal = IsRefusedFor journal old new refusal
 
 -- ---- the scan
 
@@ -123,7 +123,7 @@ pub record PlansSaved (sector : ℕ) (saved bytes : List ℕ) (old new : BusStat
   pub small : (k : ℕ) → slice_index saved k < 256
   pub read : ReadsSector sector old new bytes
   pub whole : length bytes ≡ 4096
-  pub heard : StaysReady old new
+  pub polled_ready : StaysReady old new
   pub needed : plan.raised ≡ true → plan.touched ≡ true
   pub planned : (content wanted : ℕ → ℕ) → AreBytesOf content bytes → AreBytesOf wanted saved
       → IsPlan content wanted 4096 plan
@@ -137,7 +137,7 @@ pub record ScansSaved (journal : Content) (old new : BusState) (scanned : Scanne
   pub reads : scanned.reads ≡ length journal.saved
   pub few : scanned.count ≤ scanned.reads
   pub room : length journal.saved ≤ 4096
-  pub heard : StaysReady old new
+  pub polled_ready : StaysReady old new
   pub rested : old.honest ≡ true → Rested old new
   pub sent : old.honest ≡ true → old.left ≡ new.left + length journal.saved
   pub touched : IsOpen journal.size old → (s : ℕ)
@@ -148,25 +148,25 @@ pub record ScansSaved (journal : Content) (old new : BusState) (scanned : Scanne
 -- ---- the changes
 
 -- Holds if the changes are those that the scan found, with the journal's protection bits as the target.
-pub record AreChanges (journal : Content) (opening : Opening) (scanned : Scanned) (changes : Changes) : Type 0 where
+pub record AreChanges (journal : Content) (identity : Identity) (scanned : Scanned) (changes : Changes) : Type 0 where
   pub touched : changes.touched ≡ scanned.touched
   pub raised : changes.raised ≡ scanned.raised
-  pub kinds : changes.kinds ≡ opening.found.kinds
-  pub size : changes.size ≡ opening.found.size
-  pub one : changes.status.one.0 ≡ opening.found.status1
-  pub two : changes.status.two.0 ≡ opening.status2
+  pub kinds : changes.kinds ≡ identity.found.kinds
+  pub size : changes.size ≡ identity.found.size
+  pub one : changes.status.one.0 ≡ identity.found.status1
+  pub two : changes.status.two.0 ≡ identity.status2
   pub code : changes.code ≡ code_of (kept_in journal.status)
   pub six_bits : changes.code < 64
 
 -- Holds if a status write is needed when these sectors are touched: the protection bits differ from the journal's, or a
 -- touched sector is protected.
 abbrev pub NeedsStatusWith : Content → (touched : ℕ → Bool) → Chip → Type 0
-NeedsStatusWith journal touched chip = (code_of chip.kept ≢ code_of (kept_in journal.status)) ⊎ SomeHeld touched chip
+NeedsStatusWith journal touched chip = (code_of chip.kept ≢ code_of (kept_in journal.status)) ⊎ SomeProtected touched chip
 
 -- Holds if protection is lifted exactly when a touched sector is protected, and a locked status isn't written.
 pub record MayChangeStatus (journal : Content) (touched : ℕ → Bool) (chip : Chip) (changes : Changes) : Type 0 where
-  pub lifts : changes.unlock ≡ true → SomeHeld touched chip
-  pub free : changes.unlock ≡ true ⊎ NoneHeld touched chip
+  pub lifts : changes.unlock ≡ true → SomeProtected touched chip
+  pub free : changes.unlock ≡ true ⊎ NoneProtected touched chip
   pub not_locked : is_locked chip.kept ≡ true → ¬ NeedsStatusWith journal touched chip
 
 -- Holds if the status is locked, and would have to be written.
@@ -175,15 +175,15 @@ pub record IsShut (journal : Content) (touched : ℕ → Bool) (chip : Chip) : T
   pub needs : NeedsStatusWith journal touched chip
 
 -- Holds if changes are returned only when the status of each chip with this identification may be changed accordingly.
-abbrev pub MakesChanges : Content → Opening → (ℕ → Bool) → Result Changes Refusal → Type 0
-MakesChanges journal opening touched judged =
-    (chip : Chip) → IsOpening chip opening → IfOk judged (MayChangeStatus journal touched chip)
+abbrev pub MakesChanges : Content → Identity → (ℕ → Bool) → Result Changes Refusal → Type 0
+MakesChanges journal identity touched judged =
+    (chip : Chip) → IsIdentityOf chip identity → IfOk judged (MayChangeStatus journal touched chip)
 
 -- Holds if an error is returned only when the status of each chip with this identification is locked and must be
 -- written.
-abbrev pub RefusesShut : Content → Opening → (ℕ → Bool) → Result Changes Refusal → Type 0
-RefusesShut journal opening touched judged =
-    (chip : Chip) → IsOpening chip opening → OnErr judged (IsShut journal touched chip)
+abbrev pub RefusesShut : Content → Identity → (ℕ → Bool) → Result Changes Refusal → Type 0
+RefusesShut journal identity touched judged =
+    (chip : Chip) → IsIdentityOf chip identity → OnErr judged (IsShut journal touched chip)
 
 -- ---- the preparation as a whole
 
@@ -193,7 +193,7 @@ pub record IsPreparedFor (journal : Content) (old new : Chip) (prepared : Prepar
   pub accepted : RestoreAccepts journal old
   pub shown : shown_as old.config ≡ Ok (part_in prepared.found)
   pub status1 : prepared.found.status1 / 4 ≡ old.kept.one
-  pub told : old.busy ≡ 0 → prepared.found.status1 ≡ status1_of old
+  pub returned : old.busy ≡ 0 → prepared.found.status1 ≡ status1_of old
   pub kinds : prepared.changes.kinds ≡ old.config.kinds
   pub size : prepared.changes.size ≡ old.config.size
   pub code : prepared.changes.code ≡ code_of (kept_in journal.status)
@@ -217,8 +217,8 @@ pub record IsPrepared (journal : Content) (old new : BusState) (prepared : Prepa
   pub few : prepared.touched ≤ length journal.saved
   pub room : length journal.saved ≤ 4096
   pub least : 4 + length journal.saved ≤ prepared.transactions
-  pub most : prepared.transactions ≤ most_looked (length journal.saved)
-  pub heard : new.heard ≡ true
+  pub most : prepared.transactions ≤ most_reads (length journal.saved)
+  pub polled_ready : new.polled_ready ≡ true
   pub rested : old.honest ≡ true → Rested old new
   pub idle : old.honest ≡ true → new.chip.busy ≡ 0
   pub sent : old.honest ≡ true → old.left ≡ new.left + prepared.transactions

@@ -3,7 +3,7 @@ use Rattle.std.specs.Prelude.{◌≡◌, ◌≤◌, ◌<◌, ◌+◌, ◌-◌, �
 use Rattle.std.specs.List.{list_any}
 use Rattle.nor_chip.specs.Chip.{Chip, IsSame}
 use Rattle.nor_chip.specs.Bus.{BusState, KeepsNature}
-use Rattle.nor_journal.specs.Vault.{VaultState, Rose}
+use Rattle.nor_journal.specs.Vault.{VaultState, CountsRefusal}
 use Rattle.nor_journal.specs.Saved.{JournalSaves}
 use Rattle.nor_count.specs.Counts.{sector_count}
 use Rattle.nor_plan.specs.Content.{is_touched}
@@ -12,15 +12,15 @@ use Rattle.nor_call.specs.declared.request.Request.{Request}
 use Rattle.nor_call.specs.declared.request.What.{What}
 use Rattle.nor_call.specs.declared.refusal.Refusal.{Refusal}
 use Rattle.nor_call.specs.declared.refusal.Refusal.TheVariants.{Vault}
-use Rattle.nor_call.specs.Refusal.{number_of}
+use Rattle.nor_call.specs.Refusal.{refusal_number}
 use Rattle.nor_call.specs.Request.{wanted, scanned_sectors}
-use Rattle.nor_save.specs.Saving.{head_of}
+use Rattle.nor_save.specs.Saving.{header_of}
 use Rattle.nor_save.specs.SavedScan.{IsJournal}
 use Rattle.nor_session.specs.declared.rehearsals.Rehearsal.{Rehearsal}
-use Rattle.nor_session.specs.Bounds.{most_looked, most_of}
+use Rattle.nor_session.specs.Bounds.{most_reads, most_of}
 use Rattle.nor_session.specs.Made.{AreFewestErases, pages_of}
 use Rattle.nor_save.specs.Verdict.{IsVerdict, IsAccepted}
-use Rattle.nor_session.specs.Session.{AnswersSession, NamesAddress, IsSavedCode, IsWrittenCode, most_status_writes, SendsSaved, WritesStatusAtMost}
+use Rattle.nor_session.specs.Session.{SessionReturns, NamesAddress, IsSavedCode, IsWrittenCode, most_status_writes, SendsSaved, WritesStatusAtMost}
 use Rattle.nor_session.specs.Restore.{IsRestoreRefusal}
 
 -- the number of transactions that the session of a rehearsal is allowed: the first stop or, without stops, the most
@@ -58,7 +58,7 @@ pub record CanEnd (request : Request) (image : List ℕ) (allowance : ℕ) (chip
 -- sealed, the allowance was less than these may need.
 pub record SealFits (request : Request) (allowance : ℕ) (chip : Chip) (seal : Bool) : Type 0 where
   pub enough : seal ≡ true → 4 + scanned_sectors request chip.config.size ≤ allowance
-  pub below : seal ≡ false → allowance < most_looked (scanned_sectors request chip.config.size)
+  pub below : seal ≡ false → allowance < most_reads (scanned_sectors request chip.config.size)
 
 -- Holds if `restores` restores from a journal of `sectors` sectors were run, with these stops in turn. Each one before
 -- the last was stopped, so its stop was below the bound. The last one ended, so its stop, if it had one, was enough for
@@ -78,21 +78,21 @@ FitsLastStop sectors stops left restores =
 pub record LeavesRefused (old new : BusState) (vault : VaultState) : Type 0 where
   pub same : IsSame old.chip new.chip
   pub latch : new.chip.latch ≡ true → old.chip.latch ≡ true
-  pub still : new.sent ≡ old.sent
+  pub unsent : new.sent ≡ old.sent
   pub unsealed : vault.sealed ≡ false
 
 -- Holds on every bus for the errors of a rehearsal: those of its session, and after the seal those of a restore.
 abbrev pub IsRehearsalRefusal : (old new : VaultState) → Refusal → Type 0
-IsRehearsalRefusal old new refusal = AnswersSession old new refusal ⊎ ((new.sealed ≡ true) × IsRestoreRefusal refusal)
+IsRehearsalRefusal old new refusal = SessionReturns old new refusal ⊎ ((new.sealed ≡ true) × IsRestoreRefusal refusal)
 
 -- Holds if the error is neither 12 (the bus stopped) nor 13 (the chip stayed busy).
-abbrev pub IsNoHalt : Refusal → Type 0
-IsNoHalt refusal = list_any (λ n. number_of refusal == n) (12 ∷ 13 ∷ []) ≡ false
+abbrev pub IsNoBusError : Refusal → Type 0
+IsNoBusError refusal = list_any (λ n. refusal_number refusal == n) (12 ∷ 13 ∷ []) ≡ false
 
 -- Holds if the error is the verdict on the session's request, or the vault failed.
-abbrev pub RehearsalTells : Request → List ℕ → Chip → (old new : VaultState) → Refusal → Type 0
-RehearsalTells request image chip old new Vault = Rose old new
-RehearsalTells request image chip old new refusal = IsVerdict request image chip refusal
+abbrev pub RehearsalErrors : Request → List ℕ → Chip → (old new : VaultState) → Refusal → Type 0
+RehearsalErrors request image chip old new Vault = CountsRefusal old new
+RehearsalErrors request image chip old new refusal = IsVerdict request image chip refusal
 
 -- Holds if the session of a rehearsal, or one of its restores, may write these protection bits.
 abbrev pub IsRehearsedCode : What → Content → (code : ℕ) → Type 0
@@ -112,9 +112,9 @@ pub record RehearsalAlways (request : Request) (stops : List ℕ) (old new : Bus
   -- an error names an address in a sector that the journal saves, or 0
   pub names : IfErr result (NamesAddress vault')
   -- if the vault was sealed, the rehearsal succeeds only if the last poll showed that the chip is ready
-  pub heard : IfOk result (λ rehearsal. rehearsal.sealed ≡ true → new.heard ≡ true)
+  pub polled_ready : IfOk result (λ rehearsal. rehearsal.sealed ≡ true → new.polled_ready ≡ true)
   -- if the vault isn't sealed, no modifying command was sent
-  pub still : vault'.sealed ≡ false → new.sent ≡ old.sent
+  pub unsent : vault'.sealed ≡ false → new.sent ≡ old.sent
   -- after the seal, all that was sent fits the journal in the vault (`SendsSaved`)
   pub sends : vault'.sealed ≡ true → (journal : IsJournal vault'.bytes)
       × SendsSaved (IsRehearsedCode request.what journal.content) (1 + max 1 (length stops)) journal.content old new
@@ -130,12 +130,12 @@ pub record RehearsalModelled (request : Request) (image stops : List ℕ) (old n
   -- after an error bytes and non-volatile status bits are as they were, and the vault isn't sealed
   pub refuses : OnErr result (LeavesRefused old new vault')
   -- an error is the verdict on the session's request, or the vault failed
-  pub tells : IfErr result (RehearsalTells request image old.chip vault vault')
+  pub errors : IfErr result (RehearsalErrors request image old.chip vault vault')
   -- the vault is sealed only if the request is accepted
   pub accepts : vault'.sealed ≡ true → IsAccepted request image old.chip
   -- a sealed vault holds the journal of the original chip, which saves exactly the touched sectors
   pub saves : vault'.sealed ≡ true
-      → JournalSaves (head_of old.chip) old.chip.bytes
+      → JournalSaves (header_of old.chip) old.chip.bytes
       (is_touched old.chip.bytes (wanted request image old.chip)) vault'.bytes
   -- if the rehearsal succeeds, and its session was allowed at least the bound of a session on a chip of this size, the
   -- session ended

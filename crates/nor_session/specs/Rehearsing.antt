@@ -2,7 +2,7 @@
 use Rattle.std.specs.Prelude.{◌≡◌, ◌≤◌, ◌<◌, ◌+◌, ◌*◌, ◌/◌, ℕ, Bool, true, false, List, Result, IfOk, IfErr, OnOk, length}
 use Rattle.nor_chip.specs.Chip.{Chip, IsChip, IsSame, is_locked}
 use Rattle.nor_chip.specs.Bus.{BusState, KeepsNature}
-use Rattle.nor_driver.specs.Looks.{IsCalm}
+use Rattle.nor_driver.specs.OnlyReads.{IsSteadyOrIdle}
 use Rattle.nor_driver.specs.StatusWrites.{with_code}
 use Rattle.nor_journal.specs.Text.{Content}
 use Rattle.nor_journal.specs.Vault.{VaultState}
@@ -10,19 +10,19 @@ use Rattle.nor_journal.specs.Saved.{is_saved, JournalSaves}
 use Rattle.nor_probe.specs.Known.{IsKnown, IsModelled}
 use Rattle.nor_count.specs.Counts.{sector_count}
 use Rattle.nor_plan.specs.Content.{is_touched}
-use Rattle.nor_apply.specs.Within.{IsWithin, places_of}
+use Rattle.nor_apply.specs.Within.{IsWithin, addresses_of}
 use Rattle.nor_call.specs.declared.request.Request.{Request}
 use Rattle.nor_call.specs.declared.request.What.{What}
 use Rattle.nor_call.specs.declared.refusal.Refusal.{Refusal}
 use Rattle.nor_call.specs.Request.{wanted, IsWantedCode}
-use Rattle.nor_save.specs.Saving.{head_of, NoneHeld}
+use Rattle.nor_save.specs.Saving.{header_of, NoneProtected}
 use Rattle.nor_save.specs.SavedScan.{IsJournal}
 use Rattle.nor_session.specs.Bounds.{most_of}
 use Rattle.nor_save.specs.Verdict.{IsAccepted}
-use Rattle.nor_session.specs.Session.{AnswersSession, SavesSector, NamesSector, NamesAddress, IsSavedCode, IsWrittenCode, most_status_writes, SendsSaved, WritesStatusAtMost}
-use Rattle.nor_session.specs.Headline.{CanGiveBack}
+use Rattle.nor_session.specs.Session.{SessionReturns, SavesSector, NamesSector, NamesAddress, IsSavedCode, IsWrittenCode, most_status_writes, SendsSaved, WritesStatusAtMost}
+use Rattle.nor_session.specs.Headline.{CanRestore}
 use Rattle.nor_session.specs.Restore.{IsRestoreRefusal}
-use Rattle.nor_session.specs.Rehearsal.{CanEnd, SealFits, AreRestores, FitsLastStop, LeavesRefused, IsNoHalt, RehearsalTells}
+use Rattle.nor_session.specs.Rehearsal.{CanEnd, SealFits, AreRestores, FitsLastStop, LeavesRefused, IsNoBusError, RehearsalErrors}
 
 -- ---- the session
 
@@ -30,13 +30,13 @@ use Rattle.nor_session.specs.Rehearsal.{CanEnd, SealFits, AreRestores, FitsLastS
 -- journal, which saves exactly these sectors. All of them lie inside the chip, and none is protected if the status is
 -- locked. The bus's chip differs from the original one only in these sectors and in protection bits that can be
 -- written.
-pub record LeadsBack (saved : ℕ → Bool) (first : Chip) (text : List ℕ) (state : BusState) : Type 0 where
+pub record CanUndo (saved : ℕ → Bool) (first : Chip) (text : List ℕ) (state : BusState) : Type 0 where
   pub is : IsChip first
   pub known : IsKnown first.config
-  pub journal : JournalSaves (head_of first) first.bytes saved text
+  pub journal : JournalSaves (header_of first) first.bytes saved text
   pub inside : (s : ℕ) → saved s ≡ true → s < first.config.size / 4096
-  pub free : is_locked first.kept ≡ true → NoneHeld saved first
-  pub within : IsWithin (places_of saved) first state
+  pub free : is_locked first.kept ≡ true → NoneProtected saved first
+  pub within : IsWithin (addresses_of saved) first state
 
 -- At every exit of the session. On a modelled bus: if the vault isn't sealed, the chip is as it was, and the latch is
 -- set only if it was set before; if the vault is sealed, it can restore the chip, and the request is accepted; only
@@ -44,14 +44,14 @@ pub record LeadsBack (saved : ℕ → Bool) (first : Chip) (text : List ℕ) (st
 -- journal that saves the sectors that were targeted.
 pub record LeavesSession (request : Request) (image : List ℕ) (old new : BusState) (vault : VaultState) : Type 0 where
   pub nature : KeepsNature old new
-  pub same : IsModelled old → IsCalm old → vault.sealed ≡ false → IsSame old.chip new.chip
+  pub same : IsModelled old → IsSteadyOrIdle old → vault.sealed ≡ false → IsSame old.chip new.chip
   pub back : IsModelled old → vault.sealed ≡ true
-      → LeadsBack (is_touched old.chip.bytes (wanted request image old.chip)) old.chip vault.bytes new
+      → CanUndo (is_touched old.chip.bytes (wanted request image old.chip)) old.chip vault.bytes new
   pub accepted : IsModelled old → vault.sealed ≡ true → IsAccepted request image old.chip
   pub wears : IsModelled old → (s : ℕ) → is_touched old.chip.bytes (wanted request image old.chip) s ≡ false
       → new.worn s ≡ old.worn s
   pub latch : IsModelled old → vault.sealed ≡ false → new.chip.latch ≡ true → old.chip.latch ≡ true
-  pub still : vault.sealed ≡ false → new.sent ≡ old.sent
+  pub unsent : vault.sealed ≡ false → new.sent ≡ old.sent
   pub sends : vault.sealed ≡ true → (journal : IsJournal vault.bytes)
       × SendsSaved (IsWrittenCode request.what journal.content) 1 journal.content old new
   pub writes : WritesStatusAtMost (most_status_writes request.what request.unlock) old new
@@ -64,7 +64,7 @@ pub record HasWantedBits (what : What) (old new : Chip) : Type 0 where
 
 -- The session was allowed this many transactions. It ended, and the chip is the target; or it was stopped because the
 -- allowance was too small, and no transaction is left. If it ended, the latch is set only if it was set before.
-pub record ShowsSession (request : Request) (image : List ℕ) (allowance : ℕ) (old new : BusState) (vault : VaultState)
+pub record RunsSession (request : Request) (image : List ℕ) (allowance : ℕ) (old new : BusState) (vault : VaultState)
     (ended : Bool) : Type 0 where
   pub seals : ended ≡ true → vault.sealed ≡ true
   pub can : IsModelled old → ended ≡ true → CanEnd request image allowance old.chip
@@ -79,10 +79,10 @@ pub record ShowsSession (request : Request) (image : List ℕ) (allowance : ℕ)
 -- neither a stop nor a timeout.
 pub record RefusesSession (request : Request) (image : List ℕ) (old new : BusState) (before after : VaultState)
     (refusal : Refusal) : Type 0 where
-  pub answers : AnswersSession before after refusal
+  pub answers : SessionReturns before after refusal
   pub names : NamesAddress after refusal
-  pub halts : old.honest ≡ true → IsNoHalt refusal
-  pub tells : IsModelled old → RehearsalTells request image old.chip before after refusal
+  pub fails : old.honest ≡ true → IsNoBusError refusal
+  pub errors : IsModelled old → RehearsalErrors request image old.chip before after refusal
   pub leaves : IsModelled old → LeavesRefused old new after
 
 -- ---- the restores
@@ -93,7 +93,7 @@ pub record RefusesSession (request : Request) (image : List ℕ) (old new : BusS
 pub record LeavesRestores (journal : Content) (restores : ℕ) (old new : BusState) : Type 0 where
   pub nature : KeepsNature old new
   pub modelled : IsModelled old → IsModelled new
-  pub can : IsModelled old → (first : Chip) → CanGiveBack journal first old → CanGiveBack journal first new
+  pub can : IsModelled old → (first : Chip) → CanRestore journal first old → CanRestore journal first new
   pub worn : IsModelled old → (s : ℕ) → is_saved journal s ≡ false → new.worn s ≡ old.worn s
   pub sends : SendsSaved (IsSavedCode journal) restores journal old new
   pub writes : WritesStatusAtMost (2 * restores) old new
@@ -101,8 +101,8 @@ pub record LeavesRestores (journal : Content) (restores : ℕ) (old new : BusSta
 -- One restore was allowed this many transactions. It ended, and restored each chip that the journal could restore; or
 -- it was stopped because the allowance was too small, and no transaction is left. If it ended, the latch is set only if
 -- it was set before.
-pub record ShowsRestore (journal : Content) (allowance : ℕ) (old new : BusState) (ended : Bool) : Type 0 where
-  pub back : IsModelled old → ended ≡ true → (first : Chip) → CanGiveBack journal first old → IsSame first new.chip
+pub record RunsRestore (journal : Content) (allowance : ℕ) (old new : BusState) (ended : Bool) : Type 0 where
+  pub back : IsModelled old → ended ≡ true → (first : Chip) → CanRestore journal first old → IsSame first new.chip
   pub latch : IsModelled old → ended ≡ true → new.chip.latch ≡ true → old.chip.latch ≡ true
   pub enough : IsModelled old → ended ≡ true → new.left + (4 + length journal.saved) ≤ allowance
   pub none_left : old.honest ≡ true → ended ≡ false → new.left ≡ 0
@@ -110,13 +110,13 @@ pub record ShowsRestore (journal : Content) (allowance : ℕ) (old new : BusStat
 
 -- Restores in turn ended, and restored each chip that the journal could restore. If none was stopped, the latch is set
 -- only if it was set before.
-pub record ShowsRestores (journal : Content) (stops : List ℕ) (old new : BusState) (restores : ℕ) : Type 0 where
+pub record RunsRestores (journal : Content) (stops : List ℕ) (old new : BusState) (restores : ℕ) : Type 0 where
   pub some : 1 ≤ restores
   pub most : restores ≤ length stops + 1
   pub latch : IsModelled old → restores ≡ 1 → new.chip.latch ≡ true → old.chip.latch ≡ true
   pub are : IsModelled old → AreRestores (length journal.saved) stops restores
   pub last : IsModelled old → FitsLastStop (length journal.saved) stops new.left restores
-  pub back : IsModelled old → (first : Chip) → CanGiveBack journal first old → IsSame first new.chip
+  pub back : IsModelled old → (first : Chip) → CanRestore journal first old → IsSame first new.chip
 
 -- Holds if a restore returned this error. On a modelled bus that never occurs for a chip that the journal can restore.
 -- On a well-behaved bus the error is neither a stop nor a timeout, since a journal has no more sectors than the largest
@@ -124,8 +124,8 @@ pub record ShowsRestores (journal : Content) (stops : List ℕ) (old new : BusSt
 pub record StopsRestores (journal : Content) (old : BusState) (refusal : Refusal) : Type 0 where
   pub answers : IsRestoreRefusal refusal
   pub names : NamesSector (λ sector. is_saved journal sector ≡ true) refusal
-  pub halts : length journal.saved ≤ 4096 → old.honest ≡ true → IsNoHalt refusal
-  pub never : IsModelled old → (first : Chip) → CanGiveBack journal first old → ⊥
+  pub fails : length journal.saved ≤ 4096 → old.honest ≡ true → IsNoBusError refusal
+  pub never : IsModelled old → (first : Chip) → CanRestore journal first old → ⊥
 
 -- ---- restores from bytes
 
@@ -135,20 +135,20 @@ pub record Undoes (text : List ℕ) (stops : List ℕ) (old new : BusState) (res
   pub some : 1 ≤ restores
   pub most : restores ≤ length stops + 1
   pub latch : IsModelled old → restores ≡ 1 → new.chip.latch ≡ true → old.chip.latch ≡ true
-  pub same : IsModelled old → (saved : ℕ → Bool) (first : Chip) → LeadsBack saved first text old → IsSame first new.chip
-  pub are : IsModelled old → (saved : ℕ → Bool) (first : Chip) → LeadsBack saved first text old
+  pub same : IsModelled old → (saved : ℕ → Bool) (first : Chip) → CanUndo saved first text old → IsSame first new.chip
+  pub are : IsModelled old → (saved : ℕ → Bool) (first : Chip) → CanUndo saved first text old
       → AreRestores (sector_count saved) stops restores
-  pub last : IsModelled old → (saved : ℕ → Bool) (first : Chip) → LeadsBack saved first text old
+  pub last : IsModelled old → (saved : ℕ → Bool) (first : Chip) → CanUndo saved first text old
       → FitsLastStop (sector_count saved) stops new.left restores
 
 -- Holds if, on a modelled bus, only sectors that the bytes save were erased.
 abbrev pub WearsSaved : List ℕ → (old new : BusState) → Type 0
-WearsSaved text old new = IsModelled old → (saved : ℕ → Bool) (first : Chip) → LeadsBack saved first text old
+WearsSaved text old new = IsModelled old → (saved : ℕ → Bool) (first : Chip) → CanUndo saved first text old
     → (s : ℕ) → saved s ≡ false → new.worn s ≡ old.worn s
 
 -- Holds on every bus: if the bytes are a journal, all that this number of restores sent fits it (`SendsSaved`).
-abbrev pub SendsText : List ℕ → (restores : ℕ) → (old new : BusState) → Type 0
-SendsText text restores old new =
+abbrev pub SendsFromJournal : List ℕ → (restores : ℕ) → (old new : BusState) → Type 0
+SendsFromJournal text restores old new =
     (journal : IsJournal text) → SendsSaved (IsSavedCode journal.content) restores journal.content old new
 
 -- Holds if the restores returned this error. If the bytes are a journal, it is an error of a restore. On a well-behaved
@@ -156,8 +156,8 @@ SendsText text restores old new =
 pub record RefusesUndo (text : List ℕ) (old : BusState) (refusal : Refusal) : Type 0 where
   pub answers : IsJournal text → IsRestoreRefusal refusal
   pub names : NamesSector (λ sector. SavesSector sector text) refusal
-  pub halts : old.honest ≡ true → IsNoHalt refusal
-  pub never : IsModelled old → (saved : ℕ → Bool) (first : Chip) → LeadsBack saved first text old → ⊥
+  pub fails : old.honest ≡ true → IsNoBusError refusal
+  pub never : IsModelled old → (saved : ℕ → Bool) (first : Chip) → CanUndo saved first text old → ⊥
 
 -- The effect of restores from these bytes with these stops, at every exit.
 pub record LeavesUndo (text stops : List ℕ) (old new : BusState) (result : Result ℕ Refusal) : Type 0 where
@@ -166,12 +166,12 @@ pub record LeavesUndo (text stops : List ℕ) (old new : BusState) (result : Res
   -- at every exit on a modelled bus, only sectors that the bytes save were erased
   pub wears : WearsSaved text old new
   -- if the bytes are a journal, all that was sent fits it (`SendsSaved`)
-  pub sends : SendsText text (length stops + 1) old new
+  pub sends : SendsFromJournal text (length stops + 1) old new
   -- each restore wrote the status at most twice, and at most one ran without a stop
   pub writes : WritesStatusAtMost (2 * (length stops + 1)) old new
   -- if the restores ended on a modelled bus, they restored the original chip
   pub undoes : IfOk result (Undoes text stops old new)
   -- the restores succeed only if the last poll showed that the chip is ready
-  pub heard : OnOk result (new.heard ≡ true)
+  pub polled_ready : OnOk result (new.polled_ready ≡ true)
   -- an error means what `RefusesUndo` says
   pub refuses : IfErr result (RefusesUndo text old)

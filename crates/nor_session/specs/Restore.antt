@@ -5,7 +5,7 @@ use Rattle.nor_chip.specs.declared.config.Config.{Config}
 use Rattle.nor_chip.specs.Chip.{Chip, is_locked, kept_in}
 use Rattle.nor_chip.specs.Guard.{code_of}
 use Rattle.nor_chip.specs.Bus.{BusState}
-use Rattle.nor_driver.specs.Looks.{IsCalm, Looks, RanOut}
+use Rattle.nor_driver.specs.OnlyReads.{IsSteadyOrIdle, OnlyReads, RanOut}
 use Rattle.nor_driver.specs.Reads.{unique_of}
 use Rattle.nor_driver.specs.StatusWrites.{fixed_of}
 use Rattle.nor_journal.specs.Text.{Content}
@@ -17,13 +17,13 @@ use Rattle.nor_apply.specs.Spending.{Spends}
 use Rattle.nor_call.specs.declared.report.Report.{Report}
 use Rattle.nor_call.specs.declared.refusal.Refusal.{Refusal}
 use Rattle.nor_call.specs.declared.refusal.Refusal.TheVariants.{NoChip, UnknownChip, StatusLocked, Stopped, OtherChip, OtherUnit, StatusDiffers}
-use Rattle.nor_call.specs.Refusal.{number_of}
-use Rattle.nor_save.specs.Saving.{SomeHeld}
-use Rattle.nor_session.specs.Bounds.{most_looked, most_of}
-use Rattle.nor_session.specs.Made.{IsMade, IsReported}
+use Rattle.nor_call.specs.Refusal.{refusal_number}
+use Rattle.nor_save.specs.Saving.{SomeProtected}
+use Rattle.nor_session.specs.Bounds.{most_reads, most_of}
+use Rattle.nor_session.specs.Made.{IsTargetChip, IsReported}
 use Rattle.nor_session.specs.Changing.{HasBytes}
-use Rattle.nor_session.specs.Headline.{IsOfKind}
-use Rattle.nor_session.specs.Session.{NamesSector, IsWithinBound, IsSavedCode, SendsSaved, SendsCounted, WritesStatusAtMost, HonestTells}
+use Rattle.nor_session.specs.Headline.{IsOfType}
+use Rattle.nor_session.specs.Session.{NamesSector, IsWithinBound, IsSavedCode, SendsSaved, SendsCounted, WritesStatusAtMost, HonestErrors}
 
 -- ---- the target
 
@@ -34,8 +34,8 @@ restored journal old a = if is_saved journal (a / 4096) then saved_byte journal 
 -- ---- the verdict
 
 -- Holds if the journal has the unique ID of another device. A journal of format 1 has no unique ID.
-abbrev pub IsOfOtherUnit : Content → Config → Type 0
-IsOfOtherUnit journal config = IsSomeAnd journal.unique (λ unique. unique ≢ unique_of config)
+abbrev pub IsOfOtherDevice : Content → Config → Type 0
+IsOfOtherDevice journal config = IsSomeAnd journal.unique (λ unique. unique ≢ unique_of config)
 
 -- Holds if the status bits that a restore may not write are the journal's: those that flashnor never changes, and
 -- without block protection all non-volatile bits.
@@ -46,36 +46,36 @@ pub record FitsStatus (journal : Content) (chip : Chip) : Type 0 where
 -- Holds if a status write is needed: the protection bits differ from the journal's, or a touched sector is protected.
 abbrev pub NeedsStatusFrom : Content → Chip → Type 0
 NeedsStatusFrom journal chip = (code_of chip.kept ≢ code_of (kept_in journal.status))
-    ⊎ SomeHeld (is_touched chip.bytes (restored journal chip.bytes)) chip
+    ⊎ SomeProtected (is_touched chip.bytes (restored journal chip.bytes)) chip
 
 -- Holds if the error applies to the journal and the chip, regardless of other errors.
 abbrev pub RestoreHolds : Content → Chip → Refusal → Type 0
 RestoreHolds journal chip NoChip = shown_as chip.config ≡ Err Probes.NoChip
 RestoreHolds journal chip (UnknownChip fault) = shown_as chip.config ≡ Err (Probes.UnknownChip fault)
-RestoreHolds journal chip OtherChip = ¬ IsOfKind journal chip.config
-RestoreHolds journal chip OtherUnit = IsOfOtherUnit journal chip.config
+RestoreHolds journal chip OtherChip = ¬ IsOfType journal chip.config
+RestoreHolds journal chip OtherUnit = IsOfOtherDevice journal chip.config
 RestoreHolds journal chip StatusDiffers = ¬ FitsStatus journal chip
 RestoreHolds journal chip StatusLocked = (is_locked chip.kept ≡ true) × NeedsStatusFrom journal chip
 RestoreHolds journal chip _ = ⊥
 
 -- the numbers of the errors that a restore checks first, in the order in which it checks them
-abbrev pub judged_in_turn : List ℕ
-judged_in_turn = 1 ∷ 2 ∷ 16 ∷ 20 ∷ 17 ∷ 9 ∷ []
+abbrev pub checked_in_order : List ℕ
+checked_in_order = 1 ∷ 2 ∷ 16 ∷ 20 ∷ 17 ∷ 9 ∷ []
 
 -- Holds for the errors that a restore checks before it sends a modifying command.
-abbrev pub IsJudgedFirst : Refusal → Type 0
-IsJudgedFirst refusal = list_any (λ n. number_of refusal == n) judged_in_turn ≡ true
+abbrev pub IsCheckedFirst : Refusal → Type 0
+IsCheckedFirst refusal = list_any (λ n. refusal_number refusal == n) checked_in_order ≡ true
 
 -- the number of elements of a list before `n`
-abbrev pub place_in : List ℕ → ℕ → ℕ
-place_in [] n = 0
-place_in (first ∷ later) n = if first == n then 0 else 1 + place_in later n
+abbrev pub index_in : List ℕ → ℕ → ℕ
+index_in [] n = 0
+index_in (first ∷ later) n = if first == n then 0 else 1 + index_in later n
 
 -- Holds if the error is the verdict: it applies, and none that is checked before it does.
 pub record IsRestoreVerdict (journal : Content) (chip : Chip) (refusal : Refusal) : Type 0 where
   pub holds : RestoreHolds journal chip refusal
   pub first : (other : Refusal)
-      → place_in judged_in_turn (number_of other) < place_in judged_in_turn (number_of refusal)
+      → index_in checked_in_order (refusal_number other) < index_in checked_in_order (refusal_number refusal)
       → ¬ RestoreHolds journal chip other
 
 -- Holds if the chip is accepted for a restore: no error applies.
@@ -87,33 +87,33 @@ IsRestorable journal chip = (refusal : Refusal) → ¬ RestoreHolds journal chip
 -- Holds for the errors that a restore may return: those that it checks first, and 12 (stop), 13 (timeout) and 14
 -- (mismatch).
 abbrev pub IsRestoreRefusal : Refusal → Type 0
-IsRestoreRefusal refusal = list_any (λ n. number_of refusal == n) (12 ∷ 13 ∷ 14 ∷ judged_in_turn) ≡ true
+IsRestoreRefusal refusal = list_any (λ n. refusal_number refusal == n) (12 ∷ 13 ∷ 14 ∷ checked_in_order) ≡ true
 
 -- ---- on a modelled bus
 
 -- Holds on a modelled bus: the error is the verdict; or the bus stopped, and fewer transactions were left than the
 -- bound.
-abbrev pub RestoreTells : Content → (old new : BusState) → Refusal → Type 0
-RestoreTells journal old new Stopped = RanOut (most_of (length journal.saved)) old new
-RestoreTells journal old new refusal = IsRestoreVerdict journal old.chip refusal
+abbrev pub RestoreErrors : Content → (old new : BusState) → Refusal → Type 0
+RestoreErrors journal old new Stopped = RanOut (most_of (length journal.saved)) old new
+RestoreErrors journal old new refusal = IsRestoreVerdict journal old.chip refusal
 
 -- Holds at every exit of a restore on a modelled bus, with any journal. If the bus is steady or the chip was idle, the
 -- bytes outside the saved sectors and the status bits that flashnor never changes are as they were. In any case only
 -- sectors in which a bit had to go from 0 to 1 were erased.
 pub record LeavesRestore (journal : Content) (old new : BusState) : Type 0 where
   pub config : new.chip.config ≡ old.chip.config
-  pub bytes : IsCalm old → (a : ℕ) → is_saved journal (a / 4096) ≡ false → new.chip.bytes a ≡ old.chip.bytes a
-  pub fixed : IsCalm old → fixed_of new.chip.kept ≡ fixed_of old.chip.kept
+  pub bytes : IsSteadyOrIdle old → (a : ℕ) → is_saved journal (a / 4096) ≡ false → new.chip.bytes a ≡ old.chip.bytes a
+  pub fixed : IsSteadyOrIdle old → fixed_of new.chip.kept ≡ fixed_of old.chip.kept
   pub worn : (s : ℕ) → is_raised old.chip.bytes (restored journal old.chip.bytes) s ≡ false → new.worn s ≡ old.worn s
 
 -- Holds after a restore succeeded on a modelled bus. The chip has the saved bytes and the journal's non-volatile status
 -- bits, and the report counts what was done. If nothing had to be changed, no modifying command was sent.
 pub record IsRestored (journal : Content) (old new : BusState) (report : Report) : Type 0 where
   pub accepted : IsRestorable journal old.chip
-  pub made : IsMade (restored journal old.chip.bytes) old.chip new.chip
+  pub made : IsTargetChip (restored journal old.chip.bytes) old.chip new.chip
   pub kept : new.chip.kept ≡ kept_in journal.status
   pub reported : IsReported (restored journal old.chip.bytes) old new report
-  pub still : report.touched ≡ 0 → (¬ NeedsStatusFrom journal old.chip) → new.sent ≡ old.sent
+  pub unsent : report.touched ≡ 0 → (¬ NeedsStatusFrom journal old.chip) → new.sent ≡ old.sent
 
 -- ---- the promises of a restore
 
@@ -132,18 +132,18 @@ pub record RestoreAlways (journal : Content) (old new : BusState) (result : Resu
   pub names : IfErr result (NamesSector (λ sector. is_saved journal sector ≡ true))
   -- after an error that is checked first, no modifying command was sent, and on a well-behaved bus at most the
   -- transactions of identifying and scanning the largest chip
-  pub looks : IfErr result (λ refusal. IsJudgedFirst refusal → Looks (most_looked 4096) old new)
+  pub only_reads : IfErr result (λ refusal. IsCheckedFirst refusal → OnlyReads (most_reads 4096) old new)
   -- after success the report is within its bounds, and counts the erases and page programs that were sent
   pub bounded : IfOk result (IsWithinBound (length journal.saved) 2 true)
   pub reported : IfOk result (λ report. SendsCounted report.erases report.programs old new)
   -- a restore succeeds only if the last poll showed that the chip is ready
-  pub heard : OnOk result (new.heard ≡ true)
+  pub polled_ready : OnOk result (new.polled_ready ≡ true)
 
 -- The promises of a restore on a well-behaved bus.
 pub record RestoreHonest (journal : Content) (old new : BusState) (result : Result Report Refusal) : Type 0 where
   -- a timeout does not occur, a stop occurs only if no transaction is left, and after an error that is checked first
   -- bytes and non-volatile status bits are as they were
-  pub gives_up : IfErr result (HonestTells (most_of (length journal.saved)) IsJudgedFirst old new)
+  pub fails_session : IfErr result (HonestErrors (most_of (length journal.saved)) IsCheckedFirst old new)
   -- the report counts exactly the transactions that were sent
   pub counted : IfOk result (λ report. old.left ≡ new.left + report.transactions)
   -- after success, if the chip has the journal's size, each saved sector in which a byte differed has the saved bytes;
@@ -154,7 +154,7 @@ pub record RestoreHonest (journal : Content) (old new : BusState) (result : Resu
 -- The promises of a restore on a modelled bus: a well-behaved one whose chip is what its ID or SFDP says.
 pub record RestoreModelled (journal : Content) (old new : BusState) (result : Result Report Refusal) : Type 0 where
   -- an error is the verdict, or a stop because too few transactions were left
-  pub tells : IfErr result (RestoreTells journal old new)
+  pub errors : IfErr result (RestoreErrors journal old new)
   -- at every exit, if the bus is steady or the chip was idle, only saved sectors and the protection bits may have
   -- changed; in any case only sectors in which a bit had to go from 0 to 1 were erased
   pub leaves : LeavesRestore journal old new

@@ -3,17 +3,17 @@ use Rattle.std.specs.Prelude.{◌≡◌, ◌∷◌, ◌%◌, ◌≢◌, ◌≤�
 use Rattle.nor_chip.specs.Chip.{Chip, IsSame, kept_in}
 use Rattle.nor_chip.specs.Guard.{code_of}
 use Rattle.nor_chip.specs.Offer.{IsLeastCode}
-use Rattle.nor_chip.specs.Sent.{is_aimed_at, has_written, is_strange, erases_of, programs_of, status_writes_of}
+use Rattle.nor_chip.specs.Sent.{is_targeted, has_written, has_unknown, erases_of, programs_of, status_writes_of}
 use Rattle.nor_chip.specs.Bus.{BusState}
-use Rattle.nor_driver.specs.Looks.{Looks, Falls, RanOut}
+use Rattle.nor_driver.specs.OnlyReads.{OnlyReads, Falls, RanOut}
 use Rattle.nor_driver.specs.StatusWrites.{fixed_of, with_code}
 use Rattle.nor_driver.specs.Limits.{CountsUp}
 use Rattle.nor_count.specs.Counts.{sector_count}
 use Rattle.nor_driver.specs.Operations.{most_operation}
 use Rattle.nor_plan.specs.Content.{is_touched, is_raised}
 use Rattle.nor_journal.specs.Text.{Content}
-use Rattle.nor_journal.specs.Vault.{VaultState, Rose}
-use Rattle.nor_journal.specs.Saved.{JournalSaves, BeginsText, is_saved}
+use Rattle.nor_journal.specs.Vault.{VaultState, CountsRefusal}
+use Rattle.nor_journal.specs.Saved.{JournalSaves, IsJournalPrefix, is_saved}
 use Rattle.nor_apply.specs.Change.{MayChange}
 use Rattle.nor_apply.specs.Spending.{Spends}
 use Rattle.nor_call.specs.declared.request.Request.{Request}
@@ -22,12 +22,12 @@ use Rattle.nor_call.specs.declared.request.What.{What}
 use Rattle.nor_call.specs.declared.request.What.TheVariants.{WpRange}
 use Rattle.nor_call.specs.declared.refusal.Refusal.{Refusal}
 use Rattle.nor_call.specs.declared.refusal.Refusal.TheVariants.{Vault, Stopped, Timeout, Mismatch}
-use Rattle.nor_call.specs.Refusal.{number_of}
+use Rattle.nor_call.specs.Refusal.{refusal_number}
 use Rattle.nor_call.specs.Request.{wanted, scanned_sectors, IsWantedCode}
-use Rattle.nor_save.specs.Saving.{head_of}
-use Rattle.nor_save.specs.SavedScan.{IsJournal, BeginsJournal, HoldsJournal}
-use Rattle.nor_session.specs.Bounds.{most_looked, most_of}
-use Rattle.nor_session.specs.Made.{IsMade, IsReported}
+use Rattle.nor_save.specs.Saving.{header_of}
+use Rattle.nor_save.specs.SavedScan.{IsJournal, HasWholeRecords, HoldsJournal}
+use Rattle.nor_session.specs.Bounds.{most_reads, most_of}
+use Rattle.nor_session.specs.Made.{IsTargetChip, IsReported}
 use Rattle.nor_session.specs.Changing.{HasBytes}
 use Rattle.nor_save.specs.Verdict.{IsNamed, NeedsStatusWrite, IsVerdict, IsAccepted}
 
@@ -35,11 +35,11 @@ use Rattle.nor_save.specs.Verdict.{IsNamed, NeedsStatusWrite, IsVerdict, IsAccep
 
 -- Holds for the errors of a session, which are 1 to 14. Error 11 occurs only if the vault failed. After errors 1 to 11
 -- the vault isn't sealed, and after errors 1 to 8, which the identification decides, the vault is as it was.
-pub record AnswersSession (old new : VaultState) (refusal : Refusal) : Type 0 where
-  pub own : number_of refusal ≤ 14
-  pub vault : refusal ≡ Vault → Rose old new
-  pub unsealed : number_of refusal ≤ 11 → new.sealed ≡ false
-  pub unused : number_of refusal ≤ 8 → new ≡ old
+pub record SessionReturns (old new : VaultState) (refusal : Refusal) : Type 0 where
+  pub own : refusal_number refusal ≤ 14
+  pub vault : refusal ≡ Vault → CountsRefusal old new
+  pub unsealed : refusal_number refusal ≤ 11 → new.sealed ≡ false
+  pub unused : refusal_number refusal ≤ 8 → new ≡ old
 
 -- Holds if the bytes are a journal that saves this sector.
 abbrev pub SavesSector : (sector : ℕ) → (bytes : List ℕ) → Type 0
@@ -66,7 +66,7 @@ most_status_writes _ unlock = if unlock then 2 else 0
 
 -- Holds if the journal saves a whole chip, and the sector lies past the chip's end. The erase of a whole chip names no
 -- address, so it counts as targeting such a sector too.
-pub record IsBehindWhole (journal : Content) (sector : ℕ) : Type 0 where
+pub record IsPastChipEnd (journal : Content) (sector : ℕ) : Type 0 where
   pub whole : (s : ℕ) → s < journal.size / 4096 → is_saved journal s ≡ true
   pub behind : journal.size / 4096 ≤ sector
 
@@ -95,20 +95,20 @@ pub record WritesOnly (IsCode : (code : ℕ) → Type 0) (journal : Content) (on
 -- Each status write has bytes that had been written before, or is as `WritesOnly` says. Nothing was sent that the model
 -- does not know.
 pub record SendsSaved (IsCode : ℕ → Type 0) (calls : ℕ) (journal : Content) (old new : BusState) : Type 0 where
-  pub aimed : (s : ℕ) → (is_aimed_at new.sent s ≡ is_aimed_at old.sent s)
-      ⊎ ((is_saved journal s ≡ true) ⊎ IsBehindWhole journal s)
+  pub targeted : (s : ℕ) → (is_targeted new.sent s ≡ is_targeted old.sent s)
+      ⊎ ((is_saved journal s ≡ true) ⊎ IsPastChipEnd journal s)
   pub written : (one two : ℕ) → (has_written new.sent one two ≡ has_written old.sent one two)
       ⊎ WritesOnly IsCode journal one two
   pub erases : erases_of new.sent ≤ erases_of old.sent + calls * sector_count (is_saved journal)
   pub programs : programs_of new.sent ≤ programs_of old.sent + calls * (16 * sector_count (is_saved journal))
-  pub strange : is_strange new.sent ≡ is_strange old.sent
+  pub unknown : has_unknown new.sent ≡ has_unknown old.sent
 
 -- Holds if no more erases and page programs were sent than the largest chip has sectors and pages, and nothing that the
 -- model does not know.
 pub record SendsFew (old new : BusState) : Type 0 where
   pub erases : erases_of new.sent ≤ erases_of old.sent + 4096
   pub programs : programs_of new.sent ≤ programs_of old.sent + 65536
-  pub strange : is_strange new.sent ≡ is_strange old.sent
+  pub unknown : has_unknown new.sent ≡ has_unknown old.sent
 
 -- Holds if these numbers of erases and page programs were sent, as far as their counts fit in a u64.
 pub record SendsCounted (erases programs : ℕ) (old new : BusState) : Type 0 where
@@ -127,7 +127,7 @@ pub record IsWithinBound (scanned writes : ℕ) (verify : Bool) (report : Report
   pub erases : report.erases ≤ scanned
   pub programs : report.programs ≤ 16 * scanned
   pub few : report.transactions
-      ≤ most_looked scanned + report.touched + (if verify then report.touched else 0)
+      ≤ most_reads scanned + report.touched + (if verify then report.touched else 0)
       + most_operation * (report.erases + report.programs + writes)
   pub least : 4 + scanned + (if verify then report.touched else 0) + 3 * (report.erases + report.programs)
       ≤ report.transactions
@@ -147,29 +147,29 @@ pub record EndsSealed (request : Request) (old new : BusState) (vault vault' : V
 -- The meaning of errors on a well-behaved bus. A stop occurs only if no transaction is left and fewer were left at the
 -- start than the call may need; a timeout does not occur. After an early error, one from before the first modifying
 -- command, bytes and non-volatile status bits are as they were.
-abbrev pub HonestTells : (most : ℕ) → (IsEarly : Refusal → Type 0) → (old new : BusState) → Refusal → Type 0
-HonestTells most IsEarly old new Stopped = RanOut most old new
-HonestTells most IsEarly old new (Timeout address) = ⊥
-HonestTells most IsEarly old new refusal = IsEarly refusal → IsSame old.chip new.chip
+abbrev pub HonestErrors : (most : ℕ) → (IsEarly : Refusal → Type 0) → (old new : BusState) → Refusal → Type 0
+HonestErrors most IsEarly old new Stopped = RanOut most old new
+HonestErrors most IsEarly old new (Timeout address) = ⊥
+HonestErrors most IsEarly old new refusal = IsEarly refusal → IsSame old.chip new.chip
 
 -- ---- on a modelled bus
 
 -- Holds on a modelled bus: the error is the verdict on the request; or the vault failed; or the bus stopped, and fewer
 -- transactions were left than the bound.
-abbrev pub SessionTells : Request → List ℕ → (old new : BusState) → (vault vault' : VaultState) → Refusal → Type 0
-SessionTells request image old new vault vault' Vault = Rose vault vault'
-SessionTells request image old new vault vault' Stopped = RanOut (most_of (old.chip.config.size / 4096)) old new
-SessionTells request image old new vault vault' refusal = IsVerdict request image old.chip refusal
+abbrev pub SessionErrors : Request → List ℕ → (old new : BusState) → (vault vault' : VaultState) → Refusal → Type 0
+SessionErrors request image old new vault vault' Vault = CountsRefusal vault vault'
+SessionErrors request image old new vault vault' Stopped = RanOut (most_of (old.chip.config.size / 4096)) old new
+SessionErrors request image old new vault vault' refusal = IsVerdict request image old.chip refusal
 
 -- Holds after a session succeeded on a modelled bus. The chip has the target bytes and the target protection bits, and
 -- the report counts what was done. If nothing had to be changed, no modifying command was sent.
 pub record IsDone (request : Request) (image : List ℕ) (old new : BusState) (report : Report) : Type 0 where
-  pub made : IsMade (wanted request image old.chip) old.chip new.chip
+  pub made : IsTargetChip (wanted request image old.chip) old.chip new.chip
   pub code : ℕ
   pub is_wanted : IsWantedCode request.what old.chip code
   pub kept : new.chip.kept ≡ with_code code old.chip.kept
   pub reported : IsReported (wanted request image old.chip) old new report
-  pub still : report.touched ≡ 0 → ¬ NeedsStatusWrite request image old.chip → new.sent ≡ old.sent
+  pub unsent : report.touched ≡ 0 → ¬ NeedsStatusWrite request image old.chip → new.sent ≡ old.sent
 
 -- Holds at every exit after the seal, on a modelled bus. The request is accepted. A faithful vault holds the journal of
 -- the original chip, which saves exactly the touched sectors. The chip changed only as `MayChange` allows: in bytes of
@@ -178,7 +178,7 @@ pub record IsDone (request : Request) (image : List ℕ) (old new : BusState) (r
 pub record CanBeUndone (request : Request) (image : List ℕ) (old new : BusState) (vault : VaultState) : Type 0 where
   pub accepted : IsAccepted request image old.chip
   pub journal : vault.telling ≡ true
-      → JournalSaves (head_of old.chip) old.chip.bytes
+      → JournalSaves (header_of old.chip) old.chip.bytes
       (is_touched old.chip.bytes (wanted request image old.chip)) vault.bytes
   pub changes : MayChange (is_touched old.chip.bytes (wanted request image old.chip))
       (is_raised old.chip.bytes (wanted request image old.chip))
@@ -190,7 +190,7 @@ pub record CanBeUndone (request : Request) (image : List ℕ) (old new : BusStat
 abbrev pub HoldsBegun : Request → (image : List ℕ) → Chip → (bytes : List ℕ) → Type 0
 HoldsBegun request image chip bytes = (bytes ≡ [])
     ⊎ (IsNamed request.named chip.config
-    × BeginsText (head_of chip) chip.bytes (is_touched chip.bytes (wanted request image chip)) bytes)
+    × IsJournalPrefix (header_of chip) chip.bytes (is_touched chip.bytes (wanted request image chip)) bytes)
 
 -- ---- the promises of a session
 
@@ -199,7 +199,7 @@ pub record SessionAlways (request : Request) (old new : BusState) (vault vault' 
     (result : Result Report Refusal) : Type 0 where
   -- if the vault isn't sealed, the session only read; on a well-behaved bus it sent at most the transactions of
   -- identifying and scanning the largest chip
-  pub looks : vault'.sealed ≡ false → Looks (most_looked 4096) old new
+  pub only_reads : vault'.sealed ≡ false → OnlyReads (most_reads 4096) old new
   -- at every exit on a well-behaved bus, no more transactions were sent than a session on the largest chip may need
   pub spends : Spends (most_of 4096) old new
   -- at every exit on every bus, no more erases and page programs were sent than the largest chip has sectors and pages
@@ -214,20 +214,20 @@ pub record SessionAlways (request : Request) (old new : BusState) (vault vault' 
   -- if a faithful vault is sealed, it holds a journal
   pub holds : HoldsJournal vault'
   -- an error is one that a session returns
-  pub answers : IfErr result (AnswersSession vault vault')
+  pub answers : IfErr result (SessionReturns vault vault')
   -- an error names an address in a sector that the journal of a faithful vault saves, or 0
   pub names : IfErr result (NamesAddress vault')
   -- after success the vault is sealed and did not fail, and the report is within its bounds and counts what was sent
   pub ends : IfOk result (EndsSealed request old new vault vault')
   -- a session succeeds only if the last poll showed that the chip is ready
-  pub heard : OnOk result (new.heard ≡ true)
+  pub polled_ready : OnOk result (new.polled_ready ≡ true)
 
 -- The promises of a session on a well-behaved bus.
 pub record SessionHonest (request : Request) (image : List ℕ) (old new : BusState)
     (result : Result Report Refusal) : Type 0 where
   -- a timeout does not occur, a stop occurs only if no transaction is left, and after errors 1 to 11 bytes and
   -- non-volatile status bits are as they were
-  pub gives_up : IfErr result (HonestTells (most_of 4096) (λ refusal. number_of refusal ≤ 11) old new)
+  pub fails_session : IfErr result (HonestErrors (most_of 4096) (λ refusal. refusal_number refusal ≤ 11) old new)
   -- the report counts exactly the transactions that were sent
   pub counted : IfOk result (λ report. old.left ≡ new.left + report.transactions)
   -- after success, if the request asks for a check and the chip has the size that was found, each touched sector has
@@ -241,7 +241,7 @@ pub record SessionModelled (request : Request) (image : List ℕ) (old new : Bus
   -- at every exit no more transactions were sent than a session on a chip of this size may need
   pub falls : Falls (most_of (old.chip.config.size / 4096)) old new
   -- an error is the verdict on the request, a failure of the vault, or a stop because too few transactions were left
-  pub tells : IfErr result (SessionTells request image old new vault vault')
+  pub errors : IfErr result (SessionErrors request image old new vault vault')
   -- after success the chip is what the request asked for
   pub done : IfOk result (IsDone request image old new)
   -- if the request needs no status write, none was sent
@@ -251,12 +251,12 @@ pub record SessionModelled (request : Request) (image : List ℕ) (old new : Bus
       → IfOk result (IsWithinBound (scanned_sectors request old.chip.config.size) 0 request.verify)
   -- a stop before the seal occurs only if fewer transactions were left than the identification and the scan may need
   pub early : vault'.sealed ≡ false → IfErr result (λ refusal. refusal ≡ Stopped
-      → old.left < most_looked (scanned_sectors request old.chip.config.size))
+      → old.left < most_reads (scanned_sectors request old.chip.config.size))
   -- after an error other than 11 an unsealed faithful vault is empty, or holds the header and complete records of the
   -- only journal that the session could have written
   pub begins : vault'.sealed ≡ false → vault'.telling ≡ true → IfErr result (λ refusal. refusal ≢ Vault
       → (vault'.bytes ≡ [])
-      ⊎ BeginsJournal (head_of old.chip) old.chip.bytes
+      ⊎ HasWholeRecords (header_of old.chip) old.chip.bytes
       (is_touched old.chip.bytes (wanted request image old.chip)) vault'.bytes)
   -- after any error, even 11, an unsealed faithful vault is empty, or holds a prefix of the only journal that the
   -- session could have written

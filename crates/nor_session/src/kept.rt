@@ -3,10 +3,10 @@
 //! Only `Kept` changes a chip, and it is constructed only with evidence of a sealed vault or of a journal that was
 //! read.
 ghost use Rattle.std.specs.Prelude.{◌≡◌, ◌<◌, ◌≤◌, ◌/◌, ℕ, Bool, true, IfOk, IfErr};
-ghost use Rattle.nor_driver.specs.Looks.{Looks};
+ghost use Rattle.nor_driver.specs.OnlyReads.{OnlyReads};
 ghost use Rattle.nor_plan.specs.SectorSet.{has, LiesBelow};
 ghost use Rattle.nor_apply.specs.Applying.{most_applied};
-ghost use Rattle.nor_session.specs.Changing.{touched_count, LeavesChange, DoesChange, ChangeTells, NamesTouchedSector, DoesCheck, CheckRefuses};
+ghost use Rattle.nor_session.specs.Changing.{touched_count, LeavesChange, DoesChange, ChangeErrors, NamesTouchedSector, DoesCheck, CheckRefuses};
 
 use nor_apply::{Changes, Source, Work, apply, check_all};
 use nor_chip::Bus;
@@ -14,19 +14,19 @@ use nor_journal::{Journal, Vault};
 use nor_save::Refusal;
 
 /// Evidence that the journal is in a sealed vault, or was read.
-pub(crate) struct WayBack(());
+pub(crate) struct Restorer(());
 
-impl WayBack {
+impl Restorer {
     /// Returns the evidence, given that the vault with the journal is sealed.
-    pub(crate) fn in_vault<V: Vault>(_vault: &V) -> WayBack
+    pub(crate) fn in_vault<V: Vault>(_vault: &V) -> Restorer
         requires { (V.state _vault.now).sealed ≡ true }
     {
-        WayBack(())
+        Restorer(())
     }
 
     /// Returns the evidence, given the journal that was read.
-    pub(crate) fn in_journal(_journal: &Journal<'_>) -> WayBack {
-        WayBack(())
+    pub(crate) fn in_journal(_journal: &Journal<'_>) -> Restorer {
+        Restorer(())
     }
 }
 
@@ -36,7 +36,7 @@ pub(crate) struct Kept<'a, B: Bus, S: Source> {
     pub(crate) bus: &'a mut B,
     pub(crate) source: &'a S,
     pub(crate) changes: &'a Changes,
-    pub(crate) way_back: WayBack,
+    pub(crate) way_back: Restorer,
 }
 
 impl<'a, B: Bus, S: Source> Kept<'a, B, S> {
@@ -51,7 +51,7 @@ impl<'a, B: Bus, S: Source> Kept<'a, B, S> {
             (B.state self.entry.bus.now) (B.state self.exit.0.now) }
         ensures does { IfOk result (DoesChange self.entry.changes.now (S.wanted self.entry.source.now) verify
             (B.state self.entry.bus.now) (B.state self.exit.0.now)) }
-        ensures tells { IfErr result (ChangeTells self.entry.changes.now (S.wanted self.entry.source.now)
+        ensures errors { IfErr result (ChangeErrors self.entry.changes.now (S.wanted self.entry.source.now)
             (B.state self.entry.bus.now) (B.state self.exit.0.now)) }
         ensures names { IfErr result (NamesTouchedSector self.entry.changes.now) }
     {
@@ -59,7 +59,7 @@ impl<'a, B: Bus, S: Source> Kept<'a, B, S> {
             bus,
             source,
             changes,
-            way_back: WayBack(()),
+            way_back: Restorer(()),
         } = self;
         let work = apply(bus, source, changes)?;
         let done = Done {
@@ -85,12 +85,12 @@ impl<'a, B: Bus, S: Source> Done<'a, B, S> {
     fn check(self, verify: bool) -> Result<Work, Refusal>
         requires fits { self.work.transactions ≤ most_applied 4096 }
         requires sourced { (s : ℕ) → has self.changes.now.touched s ≡ true → S.has self.source.now s ≡ true }
-        ensures leaves { Looks (touched_count self.entry.changes.now) (B.state self.entry.bus.now)
+        ensures leaves { OnlyReads (touched_count self.entry.changes.now) (B.state self.entry.bus.now)
             (B.state self.exit.0.now) }
         ensures does { IfOk result
             (DoesCheck self.entry.changes.now (S.wanted self.entry.source.now) verify self.entry.work
             (B.state self.entry.bus.now) (B.state self.exit.0.now)) }
-        ensures tells { IfErr result (CheckRefuses self.entry.changes.now (S.wanted self.entry.source.now)
+        ensures errors { IfErr result (CheckRefuses self.entry.changes.now (S.wanted self.entry.source.now)
             (B.state self.entry.bus.now) (B.state self.exit.0.now)) }
         ensures names { IfErr result (NamesTouchedSector self.entry.changes.now) }
     {

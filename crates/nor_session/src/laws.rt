@@ -9,7 +9,7 @@ ghost use Rattle.nor_call.specs.declared.report.Report.{Report};
 ghost use Rattle.nor_call.specs.declared.request.Request.{Request};
 ghost use Rattle.nor_probe.specs.Known.{IsModelled};
 ghost use Rattle.nor_session.specs.InTurn.{LeavesJournal, LosesPower, MayLosePower, IsTakenUp, ChangesNothing};
-ghost use Rattle.nor_session.specs.Headline.{SavesChip, CanGiveBack};
+ghost use Rattle.nor_session.specs.Headline.{SavesChip, CanRestore};
 ghost use Rattle.nor_session.specs.Restore.{IsRestored};
 ghost use Rattle.nor_session.specs.Session.{CanBeUndone, HoldsBegun};
 ghost use Rattle.nor_session.specs.WrittenOver.{IsWrittenOver};
@@ -23,22 +23,22 @@ pub fn restored_stays()
 
 /// If a journal can restore a chip before it loses its power, it can restore the chip afterwards. So the power may fail
 /// between a session that was stopped and its restore, and between restores.
-pub fn power_lost_gives_back()
+pub fn power_lost_restores_original()
     ensures { (journal : Content) (first : Chip) (old new : BusState)
-        → CanGiveBack journal first old → LosesPower old new → CanGiveBack journal first new }
+        → CanRestore journal first old → LosesPower old new → CanRestore journal first new }
 {}
 
 /// After two sessions, one after the other, the earlier journal can restore its chip as soon as a restore from the
 /// later journal has succeeded. Each run has a bus of its own. Other restores from the later journal may have been
 /// stopped before: then that journal can still restore its chip. Between two runs a chip may lose its power, or be in
 /// files that were not overwritten to their end.
-pub fn undone_leads_back()
-    ensures { (request later : Request) (image aim : List ℕ) (old mid mid' new new' back : BusState)
+pub fn undone_is_restorable()
+    ensures { (request later : Request) (image target_sectors : List ℕ) (old mid mid' new new' back : BusState)
         (journal other : Content) (report : Report)
         → LeavesJournal request image old mid journal → IsTakenUp old mid mid'
-        → LeavesJournal later aim mid' new other
-        → IsTakenUp mid' new new' ⊎ CanGiveBack other mid'.chip new'
-        → IsRestored other new' back report → CanGiveBack journal old.chip back }
+        → LeavesJournal later target_sectors mid' new other
+        → IsTakenUp mid' new new' ⊎ CanRestore other mid'.chip new'
+        → IsRestored other new' back report → CanRestore journal old.chip back }
 {}
 
 /// Two sessions, one after the other, are undone by restores from their journals in the reverse order. Each run has a
@@ -46,32 +46,32 @@ pub fn undone_leads_back()
 /// journal can still restore its chip. Between two runs a chip may lose its power, or, after a session, be in files
 /// that were not overwritten to their end.
 pub fn undone_in_turn()
-    ensures { (request later : Request) (image aim : List ℕ) (old mid mid' new new' back back' end : BusState)
+    ensures { (request later : Request) (image target_sectors : List ℕ) (old mid mid' new new' back back' end : BusState)
         (journal other : Content) (report last : Report)
         → LeavesJournal request image old mid journal → IsTakenUp old mid mid'
-        → LeavesJournal later aim mid' new other
-        → IsTakenUp mid' new new' ⊎ CanGiveBack other mid'.chip new'
+        → LeavesJournal later target_sectors mid' new other
+        → IsTakenUp mid' new new' ⊎ CanRestore other mid'.chip new'
         → IsRestored other new' back report
-        → MayLosePower back back' ⊎ CanGiveBack journal old.chip back'
+        → MayLosePower back back' ⊎ CanRestore journal old.chip back'
         → IsRestored journal back' end last → IsSame old.chip end.chip }
 {}
 
 /// After a session the journal that is read from its sealed vault can restore the original chip. So what `session`
 /// promises is what `restore` needs.
-pub fn read_gives_back()
+pub fn read_restores_original()
     ensures { (request : Request) (image : List ℕ) (old new : BusState) (vault : VaultState) (journal : Content)
         → IsModelled old → IsChip old.chip → vault.telling ≡ true → CanBeUndone request image old new vault
-        → IsContent journal → vault.bytes ≡ text journal → CanGiveBack journal old.chip new }
+        → IsContent journal → vault.bytes ≡ text journal → CanRestore journal old.chip new }
 {}
 
 /// A vault that was never sealed may hold the whole journal, for example if only its seal failed. If its bytes are read
 /// as a journal, that journal can restore the original chip from an idle chip with the same bytes and non-volatile
 /// status bits.
-pub fn begun_gives_back()
+pub fn begun_restores_original()
     ensures { (request : Request) (image : List ℕ) (old new : BusState) (bytes : List ℕ) (journal : Content)
         → IsModelled old → IsChip old.chip → HoldsBegun request image old.chip bytes
         → IsContent journal → bytes ≡ text journal → IsSame old.chip new.chip → new.chip.busy ≡ 0
-        → CanGiveBack journal old.chip new }
+        → CanRestore journal old.chip new }
 {}
 
 /// After a session its journal can restore the original chip from files that held the chip before the session and were
@@ -80,15 +80,15 @@ pub fn session_written_over()
     ensures { (request : Request) (image : List ℕ) (old new opened : BusState) (vault : VaultState) (journal : Content)
         → IsModelled old → IsChip old.chip → vault.telling ≡ true → CanBeUndone request image old new vault
         → IsContent journal → vault.bytes ≡ text journal → IsWrittenOver old.chip new.chip opened.chip
-        → CanGiveBack journal old.chip opened }
+        → CanRestore journal old.chip opened }
 {}
 
 /// A journal that can restore a chip before a restore and after it can restore that chip from files that were being
 /// overwritten from the one to the other.
 pub fn restore_written_over()
     ensures { (journal : Content) (first : Chip) (old new opened : BusState)
-        → CanGiveBack journal first old → CanGiveBack journal first new → IsWrittenOver old.chip new.chip opened.chip
-        → CanGiveBack journal first opened }
+        → CanRestore journal first old → CanRestore journal first new → IsWrittenOver old.chip new.chip opened.chip
+        → CanRestore journal first opened }
 {}
 
 /// Files that are overwritten with the chip that they hold have that chip at each moment.

@@ -36,8 +36,8 @@ mod sessions;
 mod sources;
 
 pub use laws::{
-    power_lost_gives_back, read_gives_back, restore_written_over, restored_stays,
-    same_written_over, session_written_over, undone_in_turn, undone_leads_back,
+    power_lost_restores_original, read_restores_original, restore_written_over, restored_stays,
+    same_written_over, session_written_over, undone_in_turn, undone_is_restorable,
 };
 pub use nor_call::{Refusal, Report, Request, What};
 pub use rehearsals::{Rehearsal, rehearse};

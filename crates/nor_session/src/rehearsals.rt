@@ -1,14 +1,14 @@
 //! A rehearsal: runs a session that is stopped on purpose, and restores from its journal.
 ghost use Rattle.std.specs.Prelude.{◌≡◌, ◌≤◌, ◌+◌, true, length, drop, IfOk, IfErr, OnOk};
 ghost use Rattle.nor_chip.specs.Chip.{IsSame};
-ghost use Rattle.nor_driver.specs.Looks.{IsCalm};
+ghost use Rattle.nor_driver.specs.OnlyReads.{IsSteadyOrIdle};
 ghost use Rattle.nor_journal.specs.Vault.{IsFresh};
 ghost use Rattle.nor_journal.specs.MemVault.{held_by};
 ghost use Rattle.nor_probe.specs.Known.{IsModelled};
 ghost use Rattle.nor_session.specs.Bounds.{most_of};
-ghost use Rattle.nor_session.specs.Rehearsing.{LeavesSession, ShowsSession, RefusesSession, LeavesRestores, ShowsRestore, ShowsRestores};
+ghost use Rattle.nor_session.specs.Rehearsing.{LeavesSession, RunsSession, RefusesSession, LeavesRestores, RunsRestore, RunsRestores};
 ghost use Rattle.nor_session.specs.Rehearsing.{LeavesUndo, StopsRestores};
-ghost use Rattle.nor_session.specs.Rehearsal.{RehearsalAlways, RehearsalModelled, IsNoHalt, first_allowance};
+ghost use Rattle.nor_session.specs.Rehearsal.{RehearsalAlways, RehearsalModelled, IsNoBusError, first_allowance};
 
 use crate::restores::restore;
 use crate::sessions::session;
@@ -45,11 +45,11 @@ pub fn rehearse<B: Meter>(
 ) -> Result<Rehearsal, Refusal>
     requires few { length stops.now ≤ 64 }
     requires fresh { IsFresh (held_by vault.old) }
-    ensures gives_back { IsModelled (B.state bus.old) → IsCalm (B.state bus.old)
+    ensures restores_original { IsModelled (B.state bus.old) → IsSteadyOrIdle (B.state bus.old)
         → IsSame (B.state bus.old).chip (B.state bus.new).chip }
     ensures always { RehearsalAlways request.now stops.now (B.state bus.old) (B.state bus.new) (held_by vault.old)
         (held_by vault.new) result }
-    ensures honest { (B.state bus.old).honest ≡ true → IfErr result IsNoHalt }
+    ensures honest { (B.state bus.old).honest ≡ true → IfErr result IsNoBusError }
     ensures modelled { IsModelled (B.state bus.old) → RehearsalModelled request.now image.old stops.now
         (B.state bus.old) (B.state bus.new) (held_by vault.old) (held_by vault.new) result }
 {
@@ -116,7 +116,7 @@ fn stopped_session<B: Meter>(
     ensures leaves { LeavesSession request.now image.old (B.state bus.old) (B.state bus.new) (held_by vault.new) }
     ensures whole { length stops.now ≡ 0 → IfOk result (λ ended. ended ≡ true) }
     ensures shows { IfOk result
-        (ShowsSession request.now image.old (first_allowance stops.now) (B.state bus.old) (B.state bus.new)
+        (RunsSession request.now image.old (first_allowance stops.now) (B.state bus.old) (B.state bus.new)
         (held_by vault.new)) }
     ensures refuses { IfErr result
         (RefusesSession request.now image.old (B.state bus.old) (B.state bus.new) (held_by vault.old)
@@ -149,8 +149,8 @@ fn restore_in_turn<B: Meter>(
 ) -> Result<u32, Refusal>
     requires few { length stops.now ≤ 64 }
     ensures leaves { LeavesRestores journal.now (length stops.now + 1) (B.state bus.old) (B.state bus.new) }
-    ensures shows { IfOk result (ShowsRestores journal.now stops.now (B.state bus.old) (B.state bus.new)) }
-    ensures heard { OnOk result ((B.state bus.new).heard ≡ true) }
+    ensures shows { IfOk result (RunsRestores journal.now stops.now (B.state bus.old) (B.state bus.new)) }
+    ensures polled_ready { OnOk result ((B.state bus.new).polled_ready ≡ true) }
     ensures refuses { IfErr result (StopsRestores journal.now (B.state bus.old)) }
 {
     let mut restores = 0;
@@ -169,8 +169,8 @@ fn restore_in_turn<B: Meter>(
 // Restores with this many transactions allowed. Returns whether the restore ended; if not, the bus stopped.
 fn ends_under<B: Meter>(bus: &mut B, journal: &Journal<'_>, allowance: u64) -> Result<bool, Refusal>
     ensures leaves { LeavesRestores journal.now 1 (B.state bus.old) (B.state bus.new) }
-    ensures shows { IfOk result (ShowsRestore journal.now allowance (B.state bus.old) (B.state bus.new)) }
-    ensures heard { IfOk result (λ ended. ended ≡ true → (B.state bus.new).heard ≡ true) }
+    ensures shows { IfOk result (RunsRestore journal.now allowance (B.state bus.old) (B.state bus.new)) }
+    ensures polled_ready { IfOk result (λ ended. ended ≡ true → (B.state bus.new).polled_ready ≡ true) }
     ensures refuses { IfErr result (StopsRestores journal.now (B.state bus.old)) }
 {
     bus.allow(allowance);

@@ -1,10 +1,10 @@
 //! A restore: makes the chip again what a journal saved.
 ghost use Rattle.std.specs.Prelude.{◌≡◌, true};
 ghost use Rattle.nor_probe.specs.Known.{IsModelled};
-ghost use Rattle.nor_session.specs.Headline.{GivesBack};
+ghost use Rattle.nor_session.specs.Headline.{RestoresOriginal};
 ghost use Rattle.nor_session.specs.Restore.{RestoreAlways, RestoreHonest, RestoreModelled};
 
-use crate::kept::{Kept, WayBack};
+use crate::kept::{Kept, Restorer};
 use crate::prepare::prepare;
 use crate::sources::Saved;
 use nor_chip::Bus;
@@ -23,8 +23,8 @@ use nor_save::{Refusal, Report};
 /// 9 (status locked), checked in this order before anything is modified. Also returns 12 (the bus stopped), 13 (the
 /// chip stayed busy; not on a well-behaved bus) or 14 (the bytes that were read back differ).
 pub fn restore<B: Bus>(bus: &mut B, journal: &Journal<'_>) -> Result<Report, Refusal>
-    ensures gives_back { IsModelled (B.state bus.old)
-        → GivesBack journal.now (B.state bus.old) (B.state bus.new) result }
+    ensures restores_original { IsModelled (B.state bus.old)
+        → RestoresOriginal journal.now (B.state bus.old) (B.state bus.new) result }
     ensures always { RestoreAlways journal.now (B.state bus.old) (B.state bus.new) result }
     ensures honest { (B.state bus.old).honest ≡ true
         → RestoreHonest journal.now (B.state bus.old) (B.state bus.new) result }
@@ -36,7 +36,7 @@ pub fn restore<B: Bus>(bus: &mut B, journal: &Journal<'_>) -> Result<Report, Ref
         bus,
         source: &Saved { journal },
         changes: &prepared.changes,
-        way_back: WayBack::in_journal(journal),
+        way_back: Restorer::in_journal(journal),
     };
     let work = kept.finish(true)?;
     Ok(Report {

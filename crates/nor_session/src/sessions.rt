@@ -5,14 +5,14 @@ ghost use Rattle.nor_journal.specs.Vault.{IsFresh};
 ghost use Rattle.nor_call.specs.declared.request.Request.{Request};
 ghost use Rattle.nor_call.specs.declared.refusal.Refusal.{Refusal};
 ghost use Rattle.nor_probe.specs.Known.{IsModelled};
-ghost use Rattle.nor_session.specs.Headline.{KeepsFirst};
+ghost use Rattle.nor_session.specs.Headline.{KeepsOriginal};
 ghost use Rattle.nor_save.specs.Verdict.{IsVerdict, IsAccepted};
 ghost use Rattle.nor_session.specs.Session.{SessionAlways, SessionHonest, SessionModelled};
 
 use crate::judged::Judged;
 use nor_chip::Bus;
 use nor_journal::Vault;
-use nor_save::{Refusal, Report, Request, judge_opening, open};
+use nor_save::{Refusal, Report, Request, judge_identity, open};
 
 /// Saves each sector that it will touch to `vault`, and then makes the chip what `request` asks for.
 ///
@@ -35,7 +35,7 @@ pub fn session<B: Bus, V: Vault>(
     request: &Request,
 ) -> Result<Report, Refusal>
     requires { IsFresh (V.state vault.old) }
-    ensures keeps { KeepsFirst (B.state bus.old) (B.state bus.new) (V.state vault.new) }
+    ensures keeps { KeepsOriginal (B.state bus.old) (B.state bus.new) (V.state vault.new) }
     ensures always { SessionAlways request.now (B.state bus.old) (B.state bus.new) (V.state vault.old)
         (V.state vault.new) result }
     ensures honest { (B.state bus.old).honest ≡ true
@@ -43,14 +43,14 @@ pub fn session<B: Bus, V: Vault>(
     ensures modelled { IsModelled (B.state bus.old) → SessionModelled request.now image.old
         (B.state bus.old) (B.state bus.new) (V.state vault.old) (V.state vault.new) result }
 {
-    let opening = open(bus, request.named)?;
-    let code = judge_opening(request, &opening, image.len())?;
+    let identity = open(bus, request.named)?;
+    let code = judge_identity(request, &identity, image.len())?;
     let judged = Judged {
         bus,
         vault,
         image,
         request,
-        opening,
+        identity,
         code,
     };
     judged.answer()

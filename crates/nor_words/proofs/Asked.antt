@@ -16,10 +16,10 @@ use Rattle.nor_words.proofs.Sound.{cases}
 not-words : (a b c d e f g h : Bool) (error : Error) → first_fault (cases a b c d e f g h) ≡ Some (why.Words error) → ⊥
 not-words a b c d e f g h error is = grind arith
 
-fault-told : (words : List Text) (fault : UsageFault) → refusals_of words ≡ []
+fault-returned : (words : List Text) (fault : UsageFault) → refusals_of words ≡ []
     → first_fault (usage_faults (given_by words)) ≡ Some fault → IsFault words fault
-fault-told words (why.Words error) taken h = absurd (not-words _ _ _ _ _ _ _ _ error h)
-fault-told words _ taken h = search
+fault-returned words (why.Words error) taken h = absurd (not-words _ _ _ _ _ _ _ _ error h)
+fault-returned words _ taken h = search
 
 -- the job or fault of the options that the arguments give is that of the arguments
 pub asked-by_words : (words : List Text) (given : Texts) (r : Result Job UsageFault) → refusals_of words ≡ []
@@ -29,4 +29,4 @@ pub asked-by_words : (words : List Text) (given : Texts) (r : Result Job UsageFa
     → MatchResult r (IsJob words) (IsFault words)
 asked-by_words words given (Ok job) taken same h =
     record { taken = taken; sound = rw same at h.0; asked = rw same at h.1 }
-asked-by_words words given (Err fault) taken same h = fault-told words fault taken (rw same at h)
+asked-by_words words given (Err fault) taken same h = fault-returned words fault taken (rw same at h)

@@ -10,7 +10,7 @@ use Rattle.std.proofs.lemmas.List.Folds.{list_all_at}
 use Rattle.std.proofs.lemmas.List.Sums.{sum_by-cons}
 use Rattle.std.proofs.lemmas.Slice.Eq.{bytes_eq-Decides}
 use Rattle.nor_words.specs.Programmer.{are_settings, has_key, is_alone_in, is_setting, value_in}
-use Rattle.nor_words.specs.Settings.{Adds, EachKey, OfKey, IsRefused, PutsAt}
+use Rattle.nor_words.specs.Settings.{AddsSetting, EachKey, OfKey, IsRefusedSetting, PutsAt}
 use Rattle.nor_words.specs.Text.{Text, key_of, value_of}
 use Rattle.nor_words.proofs.InTurn.{turned, ended}
 use Rattle.nor_words.specs.declared.settings.Settings.{Settings}
@@ -118,7 +118,7 @@ is_sound_in all setting = is_setting setting && is_alone_in all setting
 
 module _ (all : List Text) (n : ℕ) (setting : Text) (at : (n < length all) × (setting ≡ get_or all n setting)) where
   pub gathered-next : (old new : Settings) → Gathered all (drop n all) old → is_setting setting ≡ true
-      → Adds setting old new → Gathered all (drop (n + 1) all) new
+      → AddsSetting setting old new → Gathered all (drop (n + 1) all) new
   gathered-next old new before is adds =
       let now = rw (turned all n setting at) at before in
       record {
@@ -128,7 +128,7 @@ module _ (all : List Text) (n : ℕ) (setting : Text) (at : (n < length all) × 
       }
 
   -- if a setting can't be added, some setting has an unknown key, a wrong value, or the same key as another
-  pub gathered-refused : (said : Settings) → Gathered all (drop n all) said → IsRefused setting said
+  pub gathered-refused : (said : Settings) → Gathered all (drop n all) said → IsRefusedSetting setting said
       → are_settings all ≡ false
   gathered-refused said before refused =
       let now = rw (turned all n setting at) at before in

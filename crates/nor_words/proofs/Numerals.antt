@@ -10,7 +10,7 @@ use Rattle.std.proofs.lemmas.Bool.{and_parts, cases_Bool}
 use Rattle.std.proofs.lemmas.Bool.Decides.{nat_tests}
 use Rattle.std.proofs.lemmas.List.{at_drop_all}
 use Rattle.nor_words.specs.Text.{Text, front_of, rest_of}
-use Rattle.nor_words.specs.Numbers.{numeral, place_of, range_of}
+use Rattle.nor_words.specs.Numbers.{numeral, number_or_length, range_of}
 
 -- a text of digits has no leading plus
 without_plus : (radix : ℕ) (text : Text) → radix ≤ 36 → list_all (λ digit. is_digit digit radix) text ≡ true
@@ -61,9 +61,9 @@ numeral-parsed radix most greatest text (Err e) low fits all short parses =
 pub range_of-uncut : (text : Text) → position_or_len (λ byte. byte == 44) text ≡ length text → range_of text ≡ None
 range_of-uncut text uncut =
     let none : rest_of text ≡ [] = at_drop_all (λ (x : Text). x) text _ (omega (arith, uncut)) in
-    rw none (empty (place_of (front_of text)))
+    rw none (empty (number_or_length (front_of text)))
   where
     empty : (start : Option ℕ)
-        → option_and_then {U = ℕ × ℕ} (λ start. option_map (λ len. (start, len)) (place_of [])) start ≡ None
+        → option_and_then {U = ℕ × ℕ} (λ start. option_map (λ len. (start, len)) (number_or_length [])) start ≡ None
     empty None = refl
     empty (Some x) = refl

@@ -5,12 +5,12 @@ use Rattle.std.specs.Prelude.{option_and_then}
 use Rattle.std.proofs.lemmas.Bool.{or_parts, or_right}
 use Rattle.nor_words.specs.Text.{Text, reads}
 use Rattle.nor_words.specs.Given.{Texts, asks_change, is_new_content}
-use Rattle.nor_words.specs.Faults.{Case, first_fault, has_wrong_journal, has_wrong_regions, is_no, is_there}
+use Rattle.nor_words.specs.Faults.{Case, first_fault, has_wrong_journal, has_wrong_regions, is_no, passes_test}
 use Rattle.nor_words.specs.Faults.{usage_faults}
 use Rattle.nor_words.specs.Numbers.{range_of}
 use Rattle.nor_words.specs.Programmer.{has_stop}
 use Rattle.nor_words.specs.Stops.{stops_of}
-use Rattle.nor_words.specs.Job.{IsWantedByWords}
+use Rattle.nor_words.specs.Job.{IsWantedByArguments}
 use Rattle.nor_words.specs.declared.job.Wanted.{Wanted}
 use Rattle.nor_words.specs.declared.job.Wanted.TheVariants as want
 use Rattle.nor_words.specs.declared.words.UsageFault.TheVariants as why
@@ -25,7 +25,7 @@ pub record Sound (given : Texts) : Type 0 where
   pub range : is_no (reads range_of) given.wp_range ≡ false
   pub journal : has_wrong_journal given ≡ false
   pub regions : has_wrong_regions given ≡ false
-  pub stops : (is_no (reads stops_of) given.rehearse || (is_some given.rehearse && is_there has_stop given.programmer))
+  pub stops : (is_no (reads stops_of) given.rehearse || (is_some given.rehearse && passes_test has_stop given.programmer))
       ≡ false
 
 none-holds : (a b c d e f g h : Bool) → first_fault (cases a b c d e f g h) ≡ None
@@ -64,7 +64,7 @@ there f None x h = cc
 there f (Some text) x h = refl
 
 -- options that have a target of a change ask for a change
-change-wanted : (given : Texts) (wanted : Wanted) → IsWantedByWords given wanted → asks_change given ≡ true
+change-wanted : (given : Texts) (wanted : Wanted) → IsWantedByArguments given wanted → asks_change given ≡ true
 change-wanted given (want.Write image) is = rw is refl
 change-wanted given want.Erase is = rw (or_right (is_some given.write) given.erase is) refl
 change-wanted given (want.Range start len) is =
@@ -72,7 +72,7 @@ change-wanted given (want.Range start len) is =
 
 -- options without a fault that ask for a change, but have no journal, have stops
 pub stops-kept : {T : Type 0} (view : T → List ℕ) (given : Texts) (wanted : Wanted) (stops : Option T) → Sound given
-    → IsWantedByWords given wanted → option_and_then stops_of given.rehearse ≡ option_map view stops
+    → IsWantedByArguments given wanted → option_and_then stops_of given.rehearse ≡ option_map view stops
     → given.journal ≡ None → is_some stops ≡ true
 stops-kept view given wanted (Some stops) sound is same journal = refl
 stops-kept view given wanted None sound is same journal =

@@ -5,7 +5,7 @@ use Rattle.std.specs.Prelude.{option_and_then}
 use Rattle.std.specs.Borrow.{Bor}
 use Rattle.std.specs.Option.{IsSomeAnd, MatchOption, option_map_or}
 use Rattle.nor_words.specs.Text.{Text, reads}
-use Rattle.nor_words.specs.Faults.{is_no, is_there}
+use Rattle.nor_words.specs.Faults.{is_no, passes_test}
 use Rattle.nor_words.specs.Programmer.{IsProgrammer, has_stop, is_programmer_text}
 use Rattle.nor_words.specs.Stops.{stops_of}
 use Rattle.nor_words.specs.declared.programmer.Programmer.{Programmer}
@@ -15,7 +15,7 @@ text_at = option_map (λ t. t.now)
 
 -- Holds if the value describes this programmer, or if it describes none and this is `None`.
 abbrev pub Means : Option Text → Option Programmer → Type 0
-Means text found = MatchOption found (is_there is_programmer_text text ≡ false)
+Means text found = MatchOption found (passes_test is_programmer_text text ≡ false)
     (λ programmer. IsSomeAnd text (λ t. IsProgrammer t programmer))
 
 pub wrong-programmer : (text : Option (Bor Text)) (found : Option Programmer) → Means (text_at text) found
@@ -32,7 +32,7 @@ wrong-read f (Some t) found means = rw means refl
 
 -- the programmer has a `stop=` if and only if its text has one
 stops-beside : (text : Option Text) (found : Option Programmer) → Means text found
-    → option_map_or (λ programmer. is_some programmer.stop) found false ≡ is_there has_stop text
+    → option_map_or (λ programmer. is_some programmer.stop) found false ≡ passes_test has_stop text
 stops-beside None None means = refl
 stops-beside None (Some p) means = absurd means
 stops-beside (Some t) None means = rw means refl
@@ -46,7 +46,7 @@ pub wrong-stops : {S : Type 0} (v : S → List ℕ) (rehearse : Option (Bor Text
     (found : Option Programmer) (stops : Option S) → Means programmer found
     → option_and_then stops_of (text_at rehearse) ≡ option_map v stops
     → (is_some rehearse && (not (is_some stops) || option_map_or (λ programmer. is_some programmer.stop) found false))
-    ≡ (is_no (reads stops_of) (text_at rehearse) || (is_some (text_at rehearse) && is_there has_stop programmer))
+    ≡ (is_no (reads stops_of) (text_at rehearse) || (is_some (text_at rehearse) && passes_test has_stop programmer))
 wrong-stops v None programmer found stops means read = refl
 wrong-stops v (Some t) programmer found stops means read =
     rw (read, is_some-viewed v stops, stops-beside programmer found means) refl

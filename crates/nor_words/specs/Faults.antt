@@ -15,12 +15,12 @@ abbrev pub Case : Type 0
 Case = Bool × UsageFault
 
 -- true if there is a value, and it passes the test
-abbrev pub is_there : (Text → Bool) → Option Text → Bool
-is_there test text = option_map_or test text false
+abbrev pub passes_test : (Text → Bool) → Option Text → Bool
+passes_test test text = option_map_or test text false
 
 -- true if there is a value, and it fails the test
 abbrev pub is_no : (Text → Bool) → Option Text → Bool
-is_no test = is_there (λ text. not (test text))
+is_no test = passes_test (λ text. not (test text))
 
 -- fault 6: true if a change doesn't have exactly one of `--journal` and `--rehearse`, or anything else has one of them
 abbrev pub has_wrong_journal : Texts → Bool
@@ -44,7 +44,7 @@ usage_faults given =
     ∷ ((given.no_verify || given.unlock) && not (is_new_content given), why.Unneeded)
     ∷ (
       is_no (reads stops_of) given.rehearse
-          || (is_some given.rehearse && is_there has_stop given.programmer),
+          || (is_some given.rehearse && passes_test has_stop given.programmer),
       why.Stops,
     )
     ∷ []
@@ -57,17 +57,17 @@ first_fault (case ∷ cases) = if case.0 then Some case.1 else first_fault cases
 -- ---- messages
 
 -- the number of a fault, which its message contains
-abbrev pub number_of_usage_fault : UsageFault → ℕ
-number_of_usage_fault (why.Words error) = 1
-number_of_usage_fault why.NoProgrammer = 2
-number_of_usage_fault why.Programmer = 3
-number_of_usage_fault why.TwoOperations = 4
-number_of_usage_fault why.Range = 5
-number_of_usage_fault why.Journal = 6
-number_of_usage_fault why.Layout = 7
-number_of_usage_fault why.Unneeded = 8
-number_of_usage_fault why.Stops = 9
-number_of_usage_fault why.Memory = 10
+abbrev pub usage_fault_number : UsageFault → ℕ
+usage_fault_number (why.Words error) = 1
+usage_fault_number why.NoProgrammer = 2
+usage_fault_number why.Programmer = 3
+usage_fault_number why.TwoOperations = 4
+usage_fault_number why.Range = 5
+usage_fault_number why.Journal = 6
+usage_fault_number why.Layout = 7
+usage_fault_number why.Unneeded = 8
+usage_fault_number why.Stops = 9
+usage_fault_number why.Memory = 10
 
 -- the message of the fault with this number
 abbrev pub numbered : ℕ → List ℕ
@@ -77,4 +77,4 @@ numbered number = codes "Usage fault " ++ (decimal number ++ codes ".")
 -- `clap`
 abbrev pub usage_fault_text : UsageFault → Option (List ℕ)
 usage_fault_text (why.Words error) = None
-usage_fault_text fault = Some (numbered (number_of_usage_fault fault))
+usage_fault_text fault = Some (numbered (usage_fault_number fault))

@@ -30,10 +30,10 @@ IsRegions given None = (given.layout ≡ None) × (given.names ≡ None)
 IsRegions given (Some regions) = NamesFile given.layout regions.layout × NamesFile given.names regions.names
 
 -- Holds if the target of a change is the one that the options ask for.
-abbrev pub IsWantedByWords : Texts → Wanted → Type 0
-IsWantedByWords given (want.Write image) = NamesFile given.write image
-IsWantedByWords given want.Erase = given.erase ≡ true
-IsWantedByWords given (want.Range start len) = option_and_then range_of given.wp_range ≡ Some (start, len)
+abbrev pub IsWantedByArguments : Texts → Wanted → Type 0
+IsWantedByArguments given (want.Write image) = NamesFile given.write image
+IsWantedByArguments given want.Erase = given.erase ≡ true
+IsWantedByArguments given (want.Range start len) = option_and_then range_of given.wp_range ≡ Some (start, len)
 
 -- Holds if the journal is kept in the file named after `--journal`, or rehearsed with the stops after `--rehearse`.
 abbrev pub IsJournalUse : Texts → JournalUse → Type 0
@@ -42,7 +42,7 @@ IsJournalUse given (uses.Rehearse stops) = option_and_then stops_of given.rehear
 
 -- Holds if each field of a change has the value of its option.
 pub record IsChange (given : Texts) (change : Change) : Type 0 where
-  pub wanted : IsWantedByWords given change.wanted
+  pub wanted : IsWantedByArguments given change.wanted
   pub regions : IsRegions given change.regions
   pub unlock : change.unlock ≡ given.unlock
   pub verify : change.verify ≡ not given.no_verify

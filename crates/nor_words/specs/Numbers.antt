@@ -27,14 +27,14 @@ polls_of = numeral 10 20 65535
 
 -- an address or a length: `0x` and 1 to 8 hexadecimal digits, or 1 to 10 decimal digits with a value below 2 to the
 -- power of 32
-abbrev pub place_of : Text → Option ℕ
-place_of text = if starts_with nat_eq text (codes "0x") then numeral 16 8 4294967295 (drop 2 text)
+abbrev pub number_or_length : Text → Option ℕ
+number_or_length text = if starts_with nat_eq text (codes "0x") then numeral 16 8 4294967295 (drop 2 text)
     else numeral 10 10 4294967295 text
 
 -- a start before the first comma and a length after it
 abbrev pub range_of : Text → Option (ℕ × ℕ)
 range_of text =
-    option_and_then (λ start. option_map (λ len. (start, len)) (place_of (rest_of text))) (place_of (front_of text))
+    option_and_then (λ start. option_map (λ len. (start, len)) (number_or_length (rest_of text))) (number_or_length (front_of text))
 
 -- the eight bytes that 16 hexadecimal digits encode
 abbrev pub unique_number : Text → Option (List ℕ)

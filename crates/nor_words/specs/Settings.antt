@@ -30,10 +30,10 @@ pub record PutsAt {T : Type 0} (key : Text) (read : Text → Option T) (setting 
   pub other : has_key key setting ≡ false → new ≡ old
 
 -- Holds if the setting was added to those that were stored before.
-abbrev pub Adds : Text → (old new : Settings) → Type 0
-Adds setting old new = EachKey (λ T key is_value read place. PutsAt key read setting (place old) (place new))
+abbrev pub AddsSetting : Text → (old new : Settings) → Type 0
+AddsSetting setting old new = EachKey (λ T key is_value read place. PutsAt key read setting (place old) (place new))
 
 -- Holds if the setting can't be added: its key is unknown or already has a value, or its value isn't valid for its key.
-abbrev pub IsRefused : Text → Settings → Type 0
-IsRefused setting said = EachKey (λ T key is_value read place.
+abbrev pub IsRefusedSetting : Text → Settings → Type 0
+IsRefusedSetting setting said = EachKey (λ T key is_value read place.
     has_key key setting ≡ true → is_value (value_of setting) ≡ true → is_some (place said) ≡ true)

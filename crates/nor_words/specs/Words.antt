@@ -31,12 +31,12 @@ IsFault words why.Memory = ⊤
 IsFault words fault = (refusals_of words ≡ []) × (first_fault (usage_faults (given_by words)) ≡ Some fault)
 
 -- Holds for the usage fault that an error of `clap` becomes: `Memory` if memory ran out, otherwise `Words`.
-abbrev pub TellsError : Error → UsageFault → Type 0
-TellsError error fault =
+abbrev pub BecomesFault : Error → UsageFault → Type 0
+BecomesFault error fault =
     ((kind_of error ≡ kind.OutOfMemory) × (fault ≡ why.Memory))
     ⊎ ((kind_of error ≢ kind.OutOfMemory) × (fault ≡ why.Words error))
 
 -- Holds if the arguments ask neither for a job nor for help.
-pub record IsRefused (words : List Text) : Type 0 where
+pub record IsRefusedSetting (words : List Text) : Type 0 where
   pub no_job : (job : Job) → IsJob words job → ⊥
   pub no_help : IsAmong kind.DisplayHelp (refusals_of words) → ⊥

@@ -4,8 +4,8 @@ ghost use Rattle.std.specs.Prelude.{MatchOption, MatchResult};
 ghost use Rattle.std.specs.Option.{option_map_or};
 ghost use Rattle.clap.specs.Words.{found_of, rows_of};
 ghost use Rattle.nor_words.specs.Given.{given_in, is_set_in, operations, is_new_content, asks_change, takes_regions};
-ghost use Rattle.nor_words.specs.Faults.{first_fault, has_wrong_journal, has_wrong_regions, is_no, is_there, usage_faults};
-ghost use Rattle.nor_words.specs.Job.{IsAsked, IsJournalUse, IsRegions, IsTask, IsWantedByWords};
+ghost use Rattle.nor_words.specs.Faults.{first_fault, has_wrong_journal, has_wrong_regions, is_no, passes_test, usage_faults};
+ghost use Rattle.nor_words.specs.Job.{IsAsked, IsJournalUse, IsRegions, IsTask, IsWantedByArguments};
 ghost use Rattle.nor_words.specs.Meaning.{IsMeaning};
 ghost use Rattle.nor_words.specs.Numbers.{range_of};
 ghost use Rattle.nor_words.specs.Programmer.{has_stop, is_programmer_text};
@@ -195,7 +195,7 @@ impl<'a> Given<'a> {
     fn has_wrong_stops(&self, meaning: &Meaning<'a>) -> bool
         requires { IsMeaning (texts_of self.now) meaning.now }
         ensures { result ≡ (is_no (reads stops_of) (texts_of self.now).rehearse
-            || (is_some (texts_of self.now).rehearse && is_there has_stop (texts_of self.now).programmer)) }
+            || (is_some (texts_of self.now).rehearse && passes_test has_stop (texts_of self.now).programmer)) }
     {
         self.rehearse.is_some() && (meaning.stops.is_none() || meaning.has_stop())
     }
@@ -294,7 +294,7 @@ impl<'a> Given<'a> {
     fn wanted(&self, range: Option<(u32, u32)>) -> Option<Wanted<'a>>
         requires { option_and_then range_of (texts_of self.now).wp_range ≡ range }
         ensures { MatchOption result ((is_new_content (texts_of self.now) ≡ false) × (range ≡ None))
-            (IsWantedByWords (texts_of self.now)) }
+            (IsWantedByArguments (texts_of self.now)) }
     {
         match (self.write, range) {
             (Some(image), _) => Some(Wanted::Write { image }),

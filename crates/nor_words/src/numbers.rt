@@ -2,7 +2,7 @@
 ghost use Rattle.std.specs.Prelude.{◌≡◌, ◌≤◌, option_map};
 ghost use Rattle.std.specs.Char.{is_digit};
 ghost use Rattle.std.specs.List.{list_all};
-ghost use Rattle.nor_words.specs.Numbers.{numeral, decimal_number, polls_of, place_of, range_of, unique_number, byte_number};
+ghost use Rattle.nor_words.specs.Numbers.{numeral, decimal_number, polls_of, number_or_length, range_of, unique_number, byte_number};
 
 use hex::FromHex;
 
@@ -35,7 +35,7 @@ pub fn read_range(text: &str) -> Option<(u32, u32)>
 // Returns the address or the length that `text` is: `0x` and 1 to 8 hexadecimal digits of either case, or 1 to 10
 // decimal digits, at most the greatest `u32`. Returns `None` for any other text.
 fn read_place(text: &str) -> Option<u32>
-    ensures { result ≡ place_of text.now }
+    ensures { result ≡ number_or_length text.now }
 {
     let place = match text.strip_prefix("0x") {
         Some(digits) => read_numeral(digits, 16, 8, 0xFFFF_FFFF)?,

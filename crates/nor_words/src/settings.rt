@@ -21,13 +21,13 @@ pub struct Settings<'a> {
 }
 
 impl<'a> Settings<'a> {
-    ghost use Rattle.nor_words.specs.Settings.{Adds, IsRefused};
+    ghost use Rattle.nor_words.specs.Settings.{AddsSetting, IsRefusedSetting};
 
     /// Takes in one more setting. Returns `None` if its key is unknown or was taken in before, or if its value isn't
     /// one of this key.
     pub fn take_in(&mut self, setting: &'a str) -> Option<()>
-        ensures { MatchOption result (IsRefused setting.now self.old)
-            (λ _. (is_setting setting.now ≡ true) × Adds setting.now self.old self.new) }
+        ensures { MatchOption result (IsRefusedSetting setting.now self.old)
+            (λ _. (is_setting setting.now ≡ true) × AddsSetting setting.now self.old self.new) }
     {
         let (key, value) = split_setting(setting);
         match key {

@@ -38,11 +38,11 @@ pub enum UsageFault {
 }
 
 impl UsageFault {
-    ghost use Rattle.nor_words.specs.Faults.{number_of_usage_fault};
+    ghost use Rattle.nor_words.specs.Faults.{usage_fault_number};
 
     /// Returns the number of the fault, which its message has: 1 to 10.
     pub fn number(&self) -> u8
-        ensures { result ≡ number_of_usage_fault self.now }
+        ensures { result ≡ usage_fault_number self.now }
     {
         match self {
             UsageFault::Words(_) => 1,
@@ -84,9 +84,9 @@ impl From<AllocError> for UsageFault {
 }
 
 impl From<WordsError> for UsageFault {
-    ghost use Rattle.nor_words.specs.Words.{TellsError};
+    ghost use Rattle.nor_words.specs.Words.{BecomesFault};
 
-    ghost from_gives = { TellsError };
+    ghost from_gives = { BecomesFault };
 
     fn from(error: WordsError) -> UsageFault {
         if error.kind() == ErrorKind::OutOfMemory {

@@ -1,7 +1,7 @@
 //! The errors that end the example.
 
 use nor_chip::WrongLength;
-use nor_files::MakeFault;
+use nor_files::CreateFault;
 use nor_journal::{JournalFault, VaultFault};
 use nor_probe::ProbeFault;
 use nor_serprog::HandshakeFault;
@@ -23,7 +23,7 @@ pub enum Fault {
     #[error("a call refused: {0}")]
     Refused(#[from] Refusal),
     #[error("no new file: {0}")]
-    NewFile(#[from] MakeFault),
+    NewFile(#[from] CreateFault),
     #[error("the vault refused: {0}")]
     Vault(#[from] VaultFault),
     #[error("no journal: {0}")]

@@ -22,7 +22,7 @@ mod played;
 use device::DevicePort;
 use fault::Fault;
 use nor_chip::{Bus, Config, Delays, Meter, SimBus};
-use nor_files::{Disk, MakeFault, Store};
+use nor_files::{Disk, CreateFault, Store};
 use nor_journal::{Journal, Vault};
 use nor_probe::probe;
 use nor_read::{read_out, verify};
@@ -117,7 +117,7 @@ fn change<B: Bus>(rt: &HostRuntime, bus: &mut B, journal: &str) -> Result<Report
 fn change_again<B: Bus>(rt: &HostRuntime, bus: &mut B) -> Result<(), Fault> {
     let before = fs::read(rt, "undo.journal")?;
     match change(rt, bus, "undo.journal") {
-        Err(Fault::NewFile(MakeFault::There)) => {}
+        Err(Fault::NewFile(CreateFault::There)) => {}
         other => return other.map(|_| ()),
     }
     let after = fs::read(rt, "undo.journal")?;

@@ -2,7 +2,7 @@
 ghost use Rattle.std.proofs.lemmas.Bool.{false≢true};
 ghost use Rattle.nor_chip.specs.Bus.{unknown_bus};
 
-use nor_chip::{Bus, Sent, Stopped, heard_after};
+use nor_chip::{Bus, Sent, Stopped, polled_ready_after};
 
 /// The wires to a chip. Implement this trait for your hardware.
 pub trait Wires {
@@ -22,7 +22,7 @@ pub struct OwnBus<W: Wires + Drop> {
     pub wires: W,
     pub cause: Option<W::Cause>,
     sent: Sent,
-    heard: bool,
+    polled_ready: bool,
 }
 
 impl<W: Wires + Drop> OwnBus<W> {
@@ -31,13 +31,13 @@ impl<W: Wires + Drop> OwnBus<W> {
             wires,
             cause: None,
             sent: Sent::new(),
-            heard: false,
+            polled_ready: false,
         }
     }
 }
 
 impl<W: Wires + Drop> Bus for OwnBus<W> {
-    ghost state = { λ own. unknown_bus own.sent own.heard };
+    ghost state = { λ own. unknown_bus own.sent own.polled_ready };
 
     ghost reaches = { λ own honest. absurd (false≢true honest) };
 
@@ -45,7 +45,7 @@ impl<W: Wires + Drop> Bus for OwnBus<W> {
         self.sent.note(out);
         match self.wires.transact(out, reply) {
             Ok(()) => {
-                self.heard = heard_after(out, reply, self.heard);
+                self.polled_ready = polled_ready_after(out, reply, self.polled_ready);
                 Ok(())
             }
             Err(cause) => {

@@ -2,7 +2,7 @@
 ghost use Rattle.std.specs.Prelude.{false};
 ghost use Rattle.std.proofs.lemmas.Bool.{false≢true};
 
-use nor_chip::{Bus, Meter, SimBus, Stopped, heard_after};
+use nor_chip::{Bus, Meter, SimBus, Stopped, polled_ready_after};
 
 /// The way in which the transaction fails.
 #[derive(Clone, Copy)]
@@ -29,7 +29,7 @@ pub struct OnceBus {
     pub asked: u64,
     /// The first four bytes sent in the transaction that failed. If it sent fewer, its first byte and zeros.
     pub met: [u8; 4],
-    heard: bool,
+    polled_ready: bool,
 }
 
 impl OnceBus {
@@ -43,7 +43,7 @@ impl OnceBus {
             allowed,
             asked: 0,
             met: [0; 4],
-            heard: false,
+            polled_ready: false,
         }
     }
 
@@ -73,7 +73,7 @@ impl OnceBus {
 }
 
 impl Bus for OnceBus {
-    ghost state = { λ once. record (⟦<SimBus as Bus>⟧.state once.bus) { honest = false; heard = once.heard } };
+    ghost state = { λ once. record (⟦<SimBus as Bus>⟧.state once.bus) { honest = false; polled_ready = once.polled_ready } };
 
     ghost reaches = { λ once honest. absurd (false≢true honest) };
 
@@ -83,7 +83,7 @@ impl Bus for OnceBus {
         self.asked = self.asked.saturating_add(1);
         if !fails {
             self.bus.transfer(out, reply)?;
-            self.heard = heard_after(out, reply, self.heard);
+            self.polled_ready = polled_ready_after(out, reply, self.polled_ready);
             return Ok(());
         }
         match self.fault {
@@ -94,7 +94,7 @@ impl Bus for OnceBus {
         self.bus.allow(self.allowed);
         spoil(self.fault, reply);
         if answer.is_ok() {
-            self.heard = heard_after(out, reply, self.heard);
+            self.polled_ready = polled_ready_after(out, reply, self.polled_ready);
         }
         answer
     }

@@ -7,7 +7,7 @@ use crate::spoilt::most;
 use crate::stages::{Call, Job, Stage};
 use nor_chip::{Config, Delays, SECTOR_LEN, Status, Stopped};
 use nor_driver::{
-    Erase, EraseUnit, Halt, erase, poll, program_page, read_id, read_parameters, read_sector,
+    Erase, EraseBlock, OperationError, erase, poll, program_page, read_id, read_parameters, read_sector,
     read_status2, read_unique, wait, write_status,
 };
 use nor_journal::MemVault;
@@ -25,7 +25,7 @@ enum Command {
     Unique,
     Sfdp,
     Sector,
-    Erase(EraseUnit),
+    Erase(EraseBlock),
     Program,
     WriteStatus,
 }
@@ -35,16 +35,16 @@ impl Command {
     fn is_stopped(self, bus: &mut OnceBus) -> bool {
         match self {
             Command::Poll => poll(bus) == Err(Stopped),
-            Command::Wait => wait(bus, 0) == Err(Halt::Stopped),
+            Command::Wait => wait(bus, 0) == Err(OperationError::Stopped),
             Command::Id => read_id(bus) == Err(Stopped),
             Command::Status2 => read_status2(bus) == Err(Stopped),
             Command::Unique => read_unique(bus) == Err(Stopped),
             Command::Sfdp => read_parameters(bus, 8, &mut [0; 8]) == Err(Stopped),
             Command::Sector => read_sector(bus, 15, &mut [0; SECTOR_LEN as usize]) == Err(Stopped),
-            Command::Erase(unit) => erase(bus, Erase { unit, sector: 0 }) == Err(Halt::Stopped),
-            Command::Program => program_page(bus, 0x1080, &[0xA5; 128]) == Err(Halt::Stopped),
+            Command::Erase(unit) => erase(bus, Erase { unit, sector: 0 }) == Err(OperationError::Stopped),
+            Command::Program => program_page(bus, 0x1080, &[0xA5; 128]) == Err(OperationError::Stopped),
             Command::WriteStatus => {
-                write_status(bus, Status::of([0x04, 0x00]), 2) == Err(Halt::Stopped)
+                write_status(bus, Status::of([0x04, 0x00]), 2) == Err(OperationError::Stopped)
             }
         }
     }
@@ -73,10 +73,10 @@ const COMMANDS: [(Command, u64); 13] = [
     (Command::Unique, 1),
     (Command::Sfdp, 1),
     (Command::Sector, 1),
-    (Command::Erase(EraseUnit::Sector), 5),
-    (Command::Erase(EraseUnit::Block32), 5),
-    (Command::Erase(EraseUnit::Block64), 5),
-    (Command::Erase(EraseUnit::Chip), 5),
+    (Command::Erase(EraseBlock::Sector), 5),
+    (Command::Erase(EraseBlock::Block32), 5),
+    (Command::Erase(EraseBlock::Block64), 5),
+    (Command::Erase(EraseBlock::Chip), 5),
     (Command::Program, 5),
     (Command::WriteStatus, 5),
 ];

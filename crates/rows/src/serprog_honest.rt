@@ -1,7 +1,7 @@
 //! An honest port to a serprog programmer in memory, in front of a simulated chip.
 
 ghost use Rattle.std.specs.Prelude.{◌≡◌, ◌++◌, ◌∷◌, true, [], ℕ, List, OnOk, length};
-ghost use Rattle.nor_serprog.specs.Device.{Operates, IsCut};
+ghost use Rattle.nor_serprog.specs.Device.{OperatesFrame, IsCut};
 ghost use Rattle.nor_serprog.specs.Frame.{out_in};
 ghost use Rattle.rows.specs.InMemory.{device_over, port_over};
 
@@ -128,7 +128,7 @@ fn operate<R: Abort>(
     pending: &mut Vec<u8>,
     frame: &[u8],
 ) -> Result<(), Stopped>
-    ensures { OnOk result (Operates frame.now (device_over (⟦<SimBus as Bus>⟧.state chip.old) pending.old.items)
+    ensures { OnOk result (OperatesFrame frame.now (device_over (⟦<SimBus as Bus>⟧.state chip.old) pending.old.items)
         (device_over (⟦<SimBus as Bus>⟧.state chip.new) pending.new.items)) }
 {
     let [_, _, _, _, low, middle, high, ..] = frame else {

@@ -93,10 +93,10 @@ pub fn guards_some(code: u8, size: u32, sector: u32) -> bool {
 /// Returns the least defined value of the protection bits that protects exactly `len` bytes from `start` on. If `len`
 /// is 0, `start` doesn't matter.
 pub fn least_code(start: u32, len: u32, size: u32) -> Option<u8> {
-    (0..64).find(|code| !is_undefined(*code) && guards_exactly(*code, start, len, size))
+    (0..64).find(|code| !is_undefined(*code) && protects_exactly(*code, start, len, size))
 }
 
-fn guards_exactly(code: u8, start: u32, len: u32, size: u32) -> bool {
+fn protects_exactly(code: u8, start: u32, len: u32, size: u32) -> bool {
     let (first, count) = guarded_places(code, size);
     count == len && (len == 0 || first == start)
 }

@@ -2,7 +2,7 @@
 ghost use Rattle.std.proofs.lemmas.Bool.{false≢true};
 ghost use Rattle.nor_chip.specs.Bus.{unknown_bus};
 
-use nor_chip::{Bus, Sent, Stopped, heard_after};
+use nor_chip::{Bus, Sent, Stopped, polled_ready_after};
 
 /// The opcode, and the bit that the bus sets in each byte of the replies to it.
 #[derive(Clone, Copy)]
@@ -18,7 +18,7 @@ pub struct HighBus<B> {
     bus: B,
     high: Option<High>,
     sent: Sent,
-    heard: bool,
+    polled_ready: bool,
 }
 
 impl<B: Bus> HighBus<B> {
@@ -28,13 +28,13 @@ impl<B: Bus> HighBus<B> {
             bus,
             high,
             sent: Sent::new(),
-            heard: false,
+            polled_ready: false,
         }
     }
 }
 
 impl<B: Bus> Bus for HighBus<B> {
-    ghost state = { λ high. unknown_bus high.sent high.heard };
+    ghost state = { λ high. unknown_bus high.sent high.polled_ready };
 
     ghost reaches = { λ high honest. absurd (false≢true honest) };
 
@@ -46,7 +46,7 @@ impl<B: Bus> Bus for HighBus<B> {
         {
             set_bit(reply, high.bit);
         }
-        self.heard = heard_after(out, reply, self.heard);
+        self.polled_ready = polled_ready_after(out, reply, self.polled_ready);
         Ok(())
     }
 }

@@ -93,7 +93,7 @@ pub fn check_stopped(
     sent: u64,
     held: &[u8],
 ) -> Result<(), Fault> {
-    let Some(scanned) = sent.checked_sub(lengths::opening(&case.chip)) else {
+    let Some(scanned) = sent.checked_sub(lengths::identity(&case.chip)) else {
         return agree(held.is_empty(), "a vault before the chip is identified");
     };
     let begun = begun(alloc, case, wanted, below(case, scanned))?;

@@ -25,7 +25,7 @@ pub fn probe(chip: &Chip) -> u64 {
 }
 
 /// Returns the number of transactions of an identification: a probe, status 2 and the unique ID.
-pub fn opening(chip: &Chip) -> u64 {
+pub fn identity(chip: &Chip) -> u64 {
     sum(&[probe(chip), 1, 1])
 }
 
@@ -44,7 +44,7 @@ pub fn saving(case: &Case) -> u64 {
         What::WpRange { .. } => 0,
         What::Write | What::Erase => included_sectors(case),
     };
-    sum(&[opening(&case.chip), scanned])
+    sum(&[identity(&case.chip), scanned])
 }
 
 /// Returns the number of transactions of a session that is refused with this error. Errors 1 to 3 are returned after
@@ -53,7 +53,7 @@ pub fn refused(case: &Case, refusal: Refusal) -> u64 {
     match refusal {
         Refusal::NoChip | Refusal::UnknownChip(_) | Refusal::OtherName => probe(&case.chip),
         Refusal::StatusLocked | Refusal::Protected { address: _ } => saving(case),
-        _ => opening(&case.chip),
+        _ => identity(&case.chip),
     }
 }
 
@@ -75,5 +75,5 @@ pub fn session(case: &Case, work: Work) -> u64 {
 /// Returns the number of transactions of a restore that succeeds, from a journal with `saved` sectors. A restore always
 /// verifies.
 pub fn restore(chip: &Chip, saved: u64, work: Work) -> u64 {
-    sum(&[opening(chip), saved, changes(chip, work), work.touched])
+    sum(&[identity(chip), saved, changes(chip, work), work.touched])
 }

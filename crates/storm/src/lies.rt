@@ -8,7 +8,7 @@ use crate::fault::{Fault, agree};
 use crate::high::{High, HighBus};
 use crate::model::Stop;
 use crate::readings::{self, Reading};
-use crate::told::{Caller, Halt, Put};
+use crate::told::{Caller, OperationError, Put};
 use crate::verdicts::Saved;
 use crate::{journals, lines, traces};
 use nor_chip::{SimBus, Spoil, SpoiltBus, TraceBus};
@@ -26,7 +26,7 @@ struct Ran {
 // The result of the reference implementation, and its trace.
 #[derive(Drop)]
 struct Told {
-    answer: Result<(), Halt>,
+    answer: Result<(), OperationError>,
     sent: Vec<u8>,
 }
 
@@ -131,12 +131,12 @@ fn check_sent(sent: &[u8], told: &[u8], call: &'static str) -> Result<u64, Fault
 
 fn check_answer(
     answer: Result<Report, Refusal>,
-    told: Result<(), Halt>,
+    told: Result<(), OperationError>,
     count: u64,
 ) -> Result<(), Fault> {
     match (answer, told) {
-        (_, Err(Halt::Failed(fault))) => Err(fault),
-        (Err(refusal), Err(Halt::Refused(wanted))) => {
+        (_, Err(OperationError::Failed(fault))) => Err(fault),
+        (Err(refusal), Err(OperationError::Refused(wanted))) => {
             agree(refusal == wanted, "the refusal on a bus that lies")
         }
         (Ok(report), Ok(())) => agree(
@@ -157,7 +157,7 @@ struct Read {
 // The result of the reference implementation for a reading call, with the chip as it read it, and its trace.
 #[derive(Drop)]
 struct Known {
-    answer: Result<Case, Halt>,
+    answer: Result<Case, OperationError>,
     sent: Vec<u8>,
 }
 
@@ -213,11 +213,11 @@ fn check_read(alloc: Global, read: &Read, known: Known) -> Result<(), Fault> {
 fn check_known(
     alloc: Global,
     read: &Result<readings::Told, Refusal>,
-    known: Result<Case, Halt>,
+    known: Result<Case, OperationError>,
 ) -> Result<(), Fault> {
     match (read, known) {
-        (_, Err(Halt::Failed(fault))) => Err(fault),
-        (Err(refusal), Err(Halt::Refused(wanted))) => agree(
+        (_, Err(OperationError::Failed(fault))) => Err(fault),
+        (Err(refusal), Err(OperationError::Refused(wanted))) => agree(
             *refusal == wanted,
             "the refusal of a reading on a bus that lies",
         ),

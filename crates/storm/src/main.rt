@@ -67,7 +67,7 @@ mod words;
 mod wrongs;
 
 use fault::Fault;
-use runs::Halt;
+use runs::OperationError;
 use std::process::ExitCode;
 use std::{env, io};
 use words::Job;
@@ -128,7 +128,7 @@ fn run(rt: &HostRuntime, job: Job, seed: u64) -> Result<(u64, u64), Fault> {
 }
 
 // Prints the case and the fault that ended a run, and the command that runs this case again.
-fn tell(rt: &HostRuntime, seed: u64, halt: &Halt) -> io::Result<()> {
+fn tell(rt: &HostRuntime, seed: u64, halt: &OperationError) -> io::Result<()> {
     let case = halt.case;
     tell_fault(rt, seed, case, &halt.fault)?;
     println!(rt; "Run it again with: storm {seed} 1 {case}")

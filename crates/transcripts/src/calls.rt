@@ -8,7 +8,7 @@ use crate::fault::Fault;
 use crate::setup::Way;
 use crate::step::Call;
 use nor_chip::{MOST_SECTORS, Status};
-use nor_driver::{Erase, EraseUnit, Halt, erase, program_page, wait, write_status};
+use nor_driver::{Erase, EraseBlock, OperationError, erase, program_page, wait, write_status};
 use std::alloc::{AllocError, Global};
 
 /// Calls the function, and returns as text the number of transactions that it sent, or `stop`, or `timeout ADDRESS`. If
@@ -60,10 +60,10 @@ fn erase_of(opcode: &str, sector: u32) -> Result<Erase, Fault>
     ensures aligned { IfOk result (λ erase. is_aligned erase.unit erase.sector ≡ true) }
 {
     let unit = match opcode {
-        "20" => EraseUnit::Sector,
-        "52" => EraseUnit::Block32,
-        "d8" => EraseUnit::Block64,
-        "c7" => EraseUnit::Chip,
+        "20" => EraseBlock::Sector,
+        "52" => EraseBlock::Block32,
+        "d8" => EraseBlock::Block64,
+        "c7" => EraseBlock::Chip,
         _ => return Err(Fault::Unread),
     };
     if sector >= MOST_SECTORS {
@@ -80,10 +80,10 @@ fn erase_of(opcode: &str, sector: u32) -> Result<Erase, Fault>
 }
 
 // Returns the count of transactions, `stop`, or `timeout ADDRESS` as text.
-fn text_of(alloc: Global, outcome: Result<u32, Halt>) -> Result<String, AllocError> {
+fn text_of(alloc: Global, outcome: Result<u32, OperationError>) -> Result<String, AllocError> {
     match outcome {
         Ok(count) => format!(in alloc; "{count}"),
-        Err(Halt::Stopped) => String::from_str(alloc, "stop"),
-        Err(Halt::Timeout { address }) => format!(in alloc; "timeout {address:06x}"),
+        Err(OperationError::Stopped) => String::from_str(alloc, "stop"),
+        Err(OperationError::Timeout { address }) => format!(in alloc; "timeout {address:06x}"),
     }
 }

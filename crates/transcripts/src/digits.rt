@@ -40,7 +40,7 @@ pub fn address_of(digits: &str) -> Result<u32, Fault> {
 }
 
 /// Parses a range such as `7fe000..7ff000`: its first address, and the address after its last one.
-pub fn places_of(places: &str) -> Result<(u32, u32), Fault> {
+pub fn addresses_of(places: &str) -> Result<(u32, u32), Fault> {
     let (start, end) = places.split_once("..").ok_or(Fault::Unread)?;
     Ok((address_of(start)?, address_of(end)?))
 }

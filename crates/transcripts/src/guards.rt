@@ -29,8 +29,8 @@ pub fn check(
     Ok(())
 }
 
-fn word(is_guarded: bool) -> &'static str {
-    if is_guarded { "guarded" } else { "free" }
+fn word(is_protected: bool) -> &'static str {
+    if is_protected { "guarded" } else { "free" }
 }
 
 /// Returns `guarded` if `unit_protected` finds a protected address from `start` up to, but not including, `end`, else
@@ -43,8 +43,8 @@ pub fn unit(
     if start >= end || end > config.size {
         return Err(Fault::Unread);
     }
-    let is_guarded = unit_protected(status, config.size, start, end - start);
-    Ok(word(is_guarded))
+    let is_protected = unit_protected(status, config.size, start, end - start);
+    Ok(word(is_protected))
 }
 
 /// Returns the least protection bits that protect exactly `len` addresses from `start` on, as a number, or `none`.

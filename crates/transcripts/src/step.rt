@@ -1,6 +1,6 @@
 //! The parsed lines of a case.
 
-use crate::digits::{address_of, places_of};
+use crate::digits::{address_of, addresses_of};
 use crate::fault::Fault;
 
 /// The bytes to send and, after `<`, the expected reply, both as text.
@@ -111,11 +111,11 @@ fn question_of<'a>(word: &str, rest: &'a str) -> Result<Question<'a>, Fault> {
     let words = words.trim();
     let (first, second) = words.split_once(' ').unwrap_or((words, ""));
     match word {
-        "array" => Ok(Question::Array(places_of(first)?, wanted)),
+        "array" => Ok(Question::Array(addresses_of(first)?, wanted)),
         "status" => Ok(Question::Status(wanted)),
         "sent" => Ok(Question::Sent(wanted)),
-        "guards" => Ok(Question::Guards(first, places_of(wanted)?)),
-        "unit" => Ok(Question::Unit(first, places_of(second)?, wanted)),
+        "guards" => Ok(Question::Guards(first, addresses_of(wanted)?)),
+        "unit" => Ok(Question::Unit(first, addresses_of(second)?, wanted)),
         "set" => Ok(Question::Set((address_of(first)?, address_of(second)?), wanted)),
         "sets" => Ok(Question::Sets(wanted)),
         "least" => Ok(Question::Least((address_of(first)?, address_of(second)?), wanted)),

@@ -27,11 +27,11 @@ impl Offered {
 }
 
 impl Iterator for Offered {
-    ghost use Rattle.nor_chip.specs.Offered.{GivesNextSet, next_code};
+    ghost use Rattle.nor_chip.specs.Offered.{ReturnsNextRange, next_code};
 
     type Item = (u32, u32);
 
-    ghost next_gives = { GivesNextSet };
+    ghost next_gives = { ReturnsNextRange };
 
     ghost remaining = { λ walk. at_most (64 - next_code walk) };
 

@@ -30,9 +30,9 @@ impl Flash {
     ghost use Rattle.nor_chip.specs.Power.{PowerLostWith};
     ghost use Rattle.nor_chip.specs.Start.{status_of};
     ghost use Rattle.nor_chip.specs.Status.{bytes_of};
-    ghost use Rattle.nor_chip.specs.Aim.{IsAimed, IsUnit};
+    ghost use Rattle.nor_chip.specs.TargetedSectors.{HasValidAddress, IsSectorRange};
     ghost use Rattle.nor_chip.specs.Chip.{is_locked};
-    ghost use Rattle.nor_chip.specs.Guard.{code_of, is_guarded, is_unit_guarded};
+    ghost use Rattle.nor_chip.specs.Guard.{code_of, is_protected, is_block_protected};
     ghost use Rattle.nor_chip.specs.Step.{is_carried_out, done_of, reply_byte, Does, Step};
 
     // Returns the status registers, as 05h and 35h read them.
@@ -51,17 +51,17 @@ impl Flash {
         self.kept.is_locked()
     }
 
-    fn is_guarded(&self, at: u32) -> bool
-        ensures { result ≡ is_guarded (chip_of self.now) at }
+    fn is_protected(&self, at: u32) -> bool
+        ensures { result ≡ is_protected (chip_of self.now) at }
     {
-        self.config.scheme && guard::is_guarded(self.config.size, self.kept.code(), at)
+        self.config.scheme && guard::is_protected(self.config.size, self.kept.code(), at)
     }
 
-    fn is_unit_guarded(&self, start: u32, len: u32) -> bool
+    fn is_block_protected(&self, start: u32, len: u32) -> bool
         requires { start + len < 2 ^ 32 }
-        ensures { result ≡ is_unit_guarded (chip_of self.now) start len }
+        ensures { result ≡ is_block_protected (chip_of self.now) start len }
     {
-        self.is_guarded(start) || self.is_guarded((start + len).saturating_sub(1))
+        self.is_protected(start) || self.is_protected((start + len).saturating_sub(1))
     }
 
     // True if the chip is idle and its write enable latch is set.
@@ -72,14 +72,14 @@ impl Flash {
     }
 
     fn carries_out(&self, command: Command) -> bool
-        requires { IsAimed self.now.config.size command }
+        requires { HasValidAddress self.now.config.size command }
         ensures { result ≡ is_carried_out (chip_of self.now) command }
     {
         match command {
             Command::Poll | Command::ReadStatus2 => true,
             Command::WriteStatus(..) => self.is_ready() && !self.is_locked(),
-            Command::Program(at) => self.is_ready() && !self.is_guarded(at),
-            Command::Erase(start, len) => self.is_ready() && !self.is_unit_guarded(start, len),
+            Command::Program(at) => self.is_ready() && !self.is_protected(at),
+            Command::Erase(start, len) => self.is_ready() && !self.is_block_protected(start, len),
             Command::Ignored => false,
             _ => self.busy == 0,
         }
@@ -88,7 +88,7 @@ impl Flash {
     // Returns the command that the chip carries out at a transaction, or `Ignored` if it carries out none.
     pub(crate) fn command(&self, out: &[u8], replies: usize) -> Command
         ensures done { result ≡ done_of (chip_of self.now) out.now replies }
-        ensures aimed { IsAimed self.now.config.size result }
+        ensures targeted { HasValidAddress self.now.config.size result }
     {
         let command = Command::of(&self.config, out, replies);
         if self.carries_out(command) {
@@ -100,7 +100,7 @@ impl Flash {
 
     // Writes the command's reply to `reply`.
     fn answer(&self, command: Command, reply: &mut [u8])
-        requires { IsAimed self.now.config.size command }
+        requires { HasValidAddress self.now.config.size command }
         ensures { (i : ℕ) → i < length reply.new → slice_index reply.new i ≡ reply_byte (chip_of self.now) command i }
     {
         match command {
@@ -156,7 +156,7 @@ impl Flash {
     }
 
     fn erase(&mut self, start: u32, len: u32)
-        requires { IsUnit self.old.config.size start len }
+        requires { IsSectorRange self.old.config.size start len }
         ensures does { Does (Command.Erase start len) [] (chip_of self.old) [] (chip_of self.new) }
         ensures paces { Paces (Command.Erase start len) self.old self.new }
     {
@@ -166,7 +166,7 @@ impl Flash {
 
     // Carries out the command, except for its reply.
     fn change(&mut self, command: Command, sent: &[u8])
-        requires { IsAimed self.old.config.size command }
+        requires { HasValidAddress self.old.config.size command }
         ensures does { Does command sent.now (chip_of self.old) [] (chip_of self.new) }
         ensures paces { Paces command self.old self.new }
     {
@@ -220,7 +220,7 @@ impl Flash {
     pub(crate) fn step(&mut self, out: &[u8], reply: &mut [u8]) -> Command
         ensures steps { Step (chip_of self.old) out.now reply.new (chip_of self.new) }
         ensures done { result ≡ done_of (chip_of self.old) out.now (length reply.new) }
-        ensures aimed { IsAimed self.old.config.size result }
+        ensures targeted { HasValidAddress self.old.config.size result }
         ensures paces { Paces result self.old self.new }
     {
         let command = self.command(out, reply.len());

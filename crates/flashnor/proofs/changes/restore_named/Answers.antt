@@ -7,63 +7,63 @@ use Rattle.flashnor.proofs.Ready.{looked_same}
 use Rattle.flashnor.proofs.changes.restore_named.Goals as goal
 
 pub returns-in_err-find_named : goal.returns-in_err-find_named
-returns-in_err-find_named g c = λ modelled calm.
+returns-in_err-find_named g c = λ modelled steady_or_idle.
     let p = err_from_is_err_and c.from_residual.result c.from_residual.ensures.1 in
-    let looks = c.in_err-find_named.ensures.looks in
-    let same = c.find_named.ensures.same modelled calm in
+    let only_reads = c.in_err-find_named.ensures.only_reads in
+    let same = c.find_named.ensures.same modelled steady_or_idle in
     rw (p.1, p.2) (record {
       found = g.B.Bus.state c.find_named.new.bus;
-      looks = looks;
+      only_reads = only_reads;
       same = same;
       config = same.config;
       name = tt;
-      told = inr (c.in_err-find_named.ensures.refuses modelled);
+      returned = inr (c.in_err-find_named.ensures.refuses modelled);
       over = λ first opened can.
           restore_over c.args.journal.now first _ _ opened can
-          (looks_back c.args.journal.now first most_probe _ _ modelled.honest looks can);
+          (looks_back c.args.journal.now first most_probe _ _ modelled.honest only_reads can);
       back = tt;
     })
 
 pub returns-in_err-report : goal.returns-in_err-report
-returns-in_err-report g c = λ modelled calm.
+returns-in_err-report g c = λ modelled steady_or_idle.
     let p = err_from_is_err_and c.from_residual-in_err-report.result c.from_residual-in_err-report.ensures.1 in
-    let looks = c.in_ok-find_named.ensures.looks in
-    let passes = c.in_ok-find_named.ensures.passes modelled calm in
+    let only_reads = c.in_ok-find_named.ensures.only_reads in
+    let passes = c.in_ok-find_named.ensures.passes modelled steady_or_idle in
     let failed = c.in_err-report.ensures.modelled passes.modelled in
-    let leads = c.in_err-report.ensures.gives_back passes.modelled in
+    let leads = c.in_err-report.ensures.restores_original passes.modelled in
     rw (p.1, p.2) (record {
       found = g.B.Bus.state c.find_named.new.bus;
-      looks = looks;
+      only_reads = only_reads;
       same = passes.same;
       config = failed.leaves.config ∙ passes.same.config;
       name = tt;
-      told = inl (record {
-        refuses = failed.tells;
+      returned = inl (record {
+        refuses = failed.errors;
         same = λ judged.
-            looked_same 69638 _ _ (c.in_err-report.ensures.always.looks judged) passes.modelled.honest passes.calm;
+            looked_same 69638 _ _ (c.in_err-report.ensures.always.only_reads judged) passes.modelled.honest passes.steady_or_idle;
       });
       over = λ first opened can.
           restore_over c.args.journal.now first _ _ opened can
-          (leads.within first (looks_back c.args.journal.now first most_probe _ _ modelled.honest looks can));
+          (leads.within first (looks_back c.args.journal.now first most_probe _ _ modelled.honest only_reads can));
       back = tt;
     })
 
 pub returns : goal.returns
-returns g c = λ modelled calm.
-    let looks = c.in_ok-find_named.ensures.looks in
-    let passes = c.in_ok-find_named.ensures.passes modelled calm in
+returns g c = λ modelled steady_or_idle.
+    let only_reads = c.in_ok-find_named.ensures.only_reads in
+    let passes = c.in_ok-find_named.ensures.passes modelled steady_or_idle in
     let done = c.in_ok-report.ensures.modelled passes.modelled in
-    let leads = c.in_ok-report.ensures.gives_back passes.modelled in
+    let leads = c.in_ok-report.ensures.restores_original passes.modelled in
     record {
       found = g.B.Bus.state c.find_named.new.bus;
-      looks = looks;
+      only_reads = only_reads;
       same = passes.same;
       config = done.leaves.config ∙ passes.same.config;
       name = passes.name;
-      told = done.done;
+      returned = done.done;
       over = λ first opened can.
           restore_over c.args.journal.now first _ _ opened can
-          (leads.within first (looks_back c.args.journal.now first most_probe _ _ modelled.honest looks can));
+          (leads.within first (looks_back c.args.journal.now first most_probe _ _ modelled.honest only_reads can));
       back = λ first can.
-          leads.back first (looks_back c.args.journal.now first most_probe _ _ modelled.honest looks can);
+          leads.back first (looks_back c.args.journal.now first most_probe _ _ modelled.honest only_reads can);
     }

@@ -6,4 +6,4 @@ pub returns-in_err-probe-clause-found : goal.returns-in_err-probe-clause-found
 returns-in_err-probe-clause-found g c = λ programmer ready.
     let p = err_from_is_err_and c.from_residual.result c.from_residual.ensures.1 in
     rw (p.1, p.2) (refuses_ready programmer c.args.named _ _ _ ready
-    (c.in_err-probe.ensures.honest ready.honest).tells)
+    (c.in_err-probe.ensures.honest ready.honest).errors)

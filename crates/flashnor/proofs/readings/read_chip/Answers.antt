@@ -4,7 +4,7 @@ use Rattle.flashnor.proofs.readings.read_chip.Goals as goal
 pub returns-clause-others : goal.returns-clause-others
 returns-clause-others g c =
     others_stay c.args.file.now (g.R.Store.state c.args.rt.now) (g.R.Store.state c.empty.new.rt) (g.R.Store.state c.hand_back.new.self) _
-    c.empty.ensures.nature c.in_ok-out.ensures.lends c.hand_back.ensures.nature c.hand_back.ensures.takes
+    c.empty.ensures.nature c.in_ok-out.ensures.borrows c.hand_back.ensures.nature c.hand_back.ensures.takes
 
 pub returns-clause-ok : goal.returns-clause-ok
 returns-clause-ok g c = record {
@@ -18,7 +18,7 @@ returns-clause-ok g c = record {
     holds = λ lawful.
         let kept = kept_file c.args.file.now (g.R.Store.state c.args.rt.now) (g.R.Store.state c.empty.new.rt)
         (g.R.Store.state c.hand_back.new.self) _
-        c.empty.ensures.nature c.in_ok-out.ensures.lends c.hand_back.ensures.nature c.hand_back.ensures.takes lawful in
+        c.empty.ensures.nature c.in_ok-out.ensures.borrows c.hand_back.ensures.nature c.hand_back.ensures.takes lawful in
         (kept.telling, kept.seen);
   };
 }

@@ -12,7 +12,7 @@ returns-in-Ok-clause-ok g c = record {
     always = c.in-Ok.ensures.always;
     honest = c.in-Ok.ensures.honest;
     modelled = c.in-Ok.ensures.modelled;
-    told = refl;
+    returned = refl;
   });
 }
 
@@ -27,6 +27,6 @@ returns-clause-ok g c = record {
     always = c.in-Err.ensures.always;
     honest = c.in-Err.ensures.honest;
     modelled = c.in-Err.ensures.modelled;
-    told = refl;
+    returned = refl;
   });
 }

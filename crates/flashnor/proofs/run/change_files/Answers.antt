@@ -1,6 +1,6 @@
 use Rattle.std.proofs.Common.{◌∙◌, inr}
 use Rattle.std.proofs.lemmas.Result.{err_from_is_err_and}
-use Rattle.nor_chip.specs.Sim.{state_of}
+use Rattle.nor_chip.specs.Sim.{sim_state}
 use Rattle.nor_files.specs.Files.{AreAtRest}
 use Rattle.flashnor.proofs.Ended.{ends_called, holds_told}
 use Rattle.flashnor.proofs.AfterCall.{does_after, setup_done}
@@ -36,8 +36,8 @@ returns g c =
     let s2 = g.R.Store.state c.call_on.new.rt in
     let s3 = g.R.Store.state c.write_back.new.rt in
     let job = c.args.job.now in
-    let bus = state_of c.start-bus.result in
-    let bus' = state_of c.in_ok-called.called.bus in
+    let bus = sim_state c.start-bus.result in
+    let bus' = sim_state c.in_ok-called.called.bus in
     let roles = c.requires.roles in
     let puts = c.requires.changes in
     let held = c.in_ok-held.ensures in
@@ -65,20 +65,20 @@ returns g c =
           does_after job.programmer s2 s3 back.nature back.others job.task d.0 job.named _ _ _ puts roles2.image_journal
               roles2.status_journal d.2,
         );
-        told_of = rw puts (
+        reply_digits = rw puts (
           told_before _ _ s0.view s2.view (called.nature ∙ held.nature) back.fails.0,
           told_before _ _ s0.view s2.view (called.nature ∙ held.nature) back.fails.1,
         );
         left = λ rest puts. back.put (roles2.status puts) _ _ (ready rest);
         traced = called.lost;
-      }) c.told-answer.ensures;
+      }) c.returned-answer.ensures;
       err = tt;
       keeps = λ rest. keeps_files job c.in_ok-held.held s0 s1 s2 bus bus' roles held.ok opens rest (held.held rest)
           held.nature called.nature called.others setup s3 d.0 held.stands c.in_ok-called.called.bus.flash.kept2_in but
           back.others (back.amid (roles2.status puts) _ _ (ready rest)) job.task job.named _ puts
           (called.others (lawful_after held.nature rest.lawful)) roles.image_journal roles.status_journal
           roles.trace_journal d.2;
-      holds = λ rest. holds_told job _ _ _ s0 s3 c.told-answer.ensures (λ found is all. holds_task job
+      holds = λ rest. holds_told job _ _ _ s0 s3 c.returned-answer.ensures (λ found is all. holds_task job
           c.in_ok-held.held s0 s1 s2 bus bus' roles held.ok opens rest (held.held rest) held.nature called.nature
           called.others setup s3 d.0 held.stands c.in_ok-called.called.bus.flash.kept2_in but back.others
           (back.amid (roles2.status puts) _ _ (ready rest)) _ all (back.put (roles2.status puts) _ _ (ready rest)) job.task

@@ -16,10 +16,10 @@ returns-clause-ok g c =
       started = c.start-bus.ensures;
       new = _;
       does = c.in_ok-called.ensures.ok c.start-bus.ensures.opens.ready;
-      told_of = rw c.requires.looks (refl, refl);
-      left = λ rest puts. absurd (true≢false (sym puts ∙ c.requires.looks));
+      reply_digits = rw c.requires.only_reads (refl, refl);
+      left = λ rest puts. absurd (true≢false (sym puts ∙ c.requires.only_reads));
       traced = c.in_ok-called.ensures.lost;
-    }) c.told-answer.ensures
+    }) c.returned-answer.ensures
 
 pub returns-in_err-content-clause-keeps : goal.returns-in_err-content-clause-keeps
 returns-in_err-content-clause-keeps g c = λ lawful.

@@ -10,5 +10,5 @@ returns-in_err-probe g c =
       always = c.in_err-probe.ensures.always;
       honest = c.in_err-probe.ensures.honest;
       modelled = c.in_err-probe.ensures.modelled;
-      told = refl;
+      returned = refl;
     })

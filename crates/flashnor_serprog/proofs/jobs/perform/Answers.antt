@@ -6,10 +6,10 @@ pub returns-in-Probe : goal.returns-in-Probe
 returns-in-Probe g c = rw c.in-Probe.is (search (rules, stays_same, c.find_chip.ensures))
 
 pub returns-in-FlashSize : goal.returns-in-FlashSize
-returns-in-FlashSize g c = rw c.in-FlashSize.is (search (rules, stays_same, c.tell_size.ensures))
+returns-in-FlashSize g c = rw c.in-FlashSize.is (search (rules, stays_same, c.report_size.ensures))
 
 pub returns-in-WpStatus : goal.returns-in-WpStatus
-returns-in-WpStatus g c = rw c.in-WpStatus.is (search (rules, stays_same, c.tell_protection.ensures))
+returns-in-WpStatus g c = rw c.in-WpStatus.is (search (rules, stays_same, c.report_protection.ensures))
 
 pub returns-in-WpList : goal.returns-in-WpList
 returns-in-WpList g c = rw c.in-WpList.is (search (rules, stays_same, c.list_ranges.ensures))

@@ -13,7 +13,7 @@ pub returns-in_err-erased : goal.returns-in_err-erased
 returns-in_err-erased g c =
     let so = lifted c.args.changes.now (g.S.Source.wanted c.args.source.now) c.write_code.ensures.leaves
     c.in_ok-lifted.ensures.does in
-    let halted = erases_halted so c.requires.raised c.erase_all.ensures.leaves c.in_err-erased.ensures.halts
+    let halted = erases_halted so c.requires.raised c.erase_all.ensures.leaves c.in_err-erased.ensures.fails
     c.in_err-erased.ensures.names in
     grind (arith, common_steps, halted)
 
@@ -23,7 +23,7 @@ returns-in_err-programmed g c =
     c.in_ok-lifted.ensures.does in
     let then = erased so c.requires.raised c.erase_all.ensures.leaves c.in_ok-erased.ensures.does in
     let halted = programs_halted c.in_ok-erased.erased.count then c.program_all.ensures.leaves (omega (arith, c.in_ok-erased.ensures.does.fewer))
-    c.in_err-programmed.ensures.halts
+    c.in_err-programmed.ensures.fails
     c.in_err-programmed.ensures.names in
     grind (arith, common_steps, halted)
 
@@ -44,7 +44,7 @@ all_done g c = record {
 pub returns-in_err-written : goal.returns-in_err-written
 returns-in_err-written g c =
     let parts = all_done g (goal.at.returns-in_err-written g c).In_ok-programmed in
-    let halted = last_halted parts c.writes_code.ensures c.write_code-2.ensures.leaves c.in_err-written.ensures.halts
+    let halted = last_halted parts c.writes_code.ensures c.write_code-2.ensures.leaves c.in_err-written.ensures.fails
     c.in_err-written.ensures.names in
     grind (arith, common_steps, halted)
 
@@ -62,4 +62,4 @@ returns g c =
     let parts = all_done g (goal.at.returns g c).In_ok-programmed in
     let all = does_applied parts c.writes_code.ensures c.write_code-2.ensures.leaves c.in_ok-written.ensures.does refl
     refl refl in
-    record { leaves = all.0; does = all.1; halts = tt; names = tt }
+    record { leaves = all.0; does = all.1; fails = tt; names = tt }

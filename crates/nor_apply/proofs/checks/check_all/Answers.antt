@@ -9,10 +9,10 @@ loop-sector-init g c = checked_none (g.B.Bus.state c.args.bus.now)
 
 pub returns-in_err-check_sector : goal.returns-in_err-check_sector
 returns-in_err-check_sector g c =
-    let told = failed c.loop-sector.invariant (sym c.contains.ensures ∙ c.if-contains.true) _ c.sector.ensures.bytes
-    (omega arith) c.in_err-check_sector.field-0.0 c.check_sector.ensures.leaves c.in_err-check_sector.ensures.tells
+    let returned = failed c.loop-sector.invariant (sym c.contains.ensures ∙ c.if-contains.true) _ c.sector.ensures.bytes
+    (omega arith) c.in_err-check_sector.field-0.0 c.check_sector.ensures.leaves c.in_err-check_sector.ensures.errors
     c.in_err-check_sector.ensures.names in
-    grind (arith, common_steps, told)
+    grind (arith, common_steps, returned)
 
 pub loop-sector-preserved : goal.loop-sector-preserved
 loop-sector-preserved g c = elim c.if-contains.branch [

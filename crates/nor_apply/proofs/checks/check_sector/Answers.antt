@@ -4,19 +4,19 @@ use Rattle.nor_apply.proofs.CheckingSteps.{agrees, differs, stops}
 use Rattle.nor_apply.proofs.Alone.{only-here}
 use Rattle.nor_apply.proofs.checks.check_sector.Goals as goal
 
-pub returns-in_err-read_sector-clause-tells : goal.returns-in_err-read_sector-clause-tells
-returns-in_err-read_sector-clause-tells g c =
+pub returns-in_err-read_sector-clause-errors : goal.returns-in_err-read_sector-clause-errors
+returns-in_err-read_sector-clause-errors g c =
     let p = err_from_is_err_and c.from_residual.result c.from_residual.ensures.1 in
-    rw (p.1, p.2) (stops c.args.wanted.now c.requires.reachable c.in_err-read_sector.ensures.halts)
+    rw (p.1, p.2) (stops c.args.wanted.now c.requires.reachable c.in_err-read_sector.ensures.fails)
 
 pub returns-in-None-clause-does : goal.returns-in-None-clause-does
 returns-in-None-clause-does g c =
     agrees (omega (arith, c.read_sector.auto.bytes)) c.in_ok-read_sector.ensures.does c.args.wanted.now
     c.requires.reachable
-    (λ ready. c.read_sector.ensures.heard ∙ ready) c.in-None.ensures.none
+    (λ ready. c.read_sector.ensures.polled_ready ∙ ready) c.in-None.ensures.none
 
-pub returns-in-Some-clause-tells : goal.returns-in-Some-clause-tells
-returns-in-Some-clause-tells g c =
+pub returns-in-Some-clause-errors : goal.returns-in-Some-clause-errors
+returns-in-Some-clause-errors g c =
     differs (omega (arith, c.read_sector.auto.bytes)) c.in_ok-read_sector.ensures.does c.args.wanted.now
     c.in-Some.ensures.first
 

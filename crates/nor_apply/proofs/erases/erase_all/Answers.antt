@@ -32,7 +32,7 @@ overflow_add-tally g c = omega (arith, few_units c.loop-unit.invariant.so_far c.
 pub returns-in_err-sent : goal.returns-in_err-sent
 returns-in_err-sent g c =
     let halted = erases_halted c.loop-unit.invariant.so_far c.in-Some.ensures.steps c.erase.ensures.leaves
-    c.in_err-sent.ensures.halts c.in_err-sent.ensures.names in
+    c.in_err-sent.ensures.fails c.in_err-sent.ensures.names in
     grind (arith, common_steps, halted)
 
 pub returns-clause-leaves : goal.returns-clause-leaves

@@ -43,7 +43,7 @@ pub returns-in_err-more : goal.returns-in_err-more
 returns-in_err-more g c =
     let here = touched_here g (goal.at.returns-in_err-more g c).After-sector in
     let halted = sectors_halted c.loop-sector.invariant.so_far here c.contains-in-loop-sector.ensures
-    c.program_sector.ensures.leaves c.in_err-more.ensures.halts c.in_err-more.ensures.names in
+    c.program_sector.ensures.leaves c.in_err-more.ensures.fails c.in_err-more.ensures.names in
     grind (arith, common_steps, halted)
 
 pub returns-clause-leaves : goal.returns-clause-leaves

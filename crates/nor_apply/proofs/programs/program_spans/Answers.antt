@@ -29,7 +29,7 @@ overflow_add-tally-in-loop-span g c =
 pub returns-in_err-sent : goal.returns-in_err-sent
 returns-in_err-sent g c =
     let halted = spans_halted c.loop-span.invariant.so_far c.in-Some.ensures.steps c.program_page.ensures.leaves
-    c.in_err-sent.ensures.halts c.in_err-sent.ensures.names in
+    c.in_err-sent.ensures.fails c.in_err-sent.ensures.names in
     grind (arith, common_steps, halted)
 
 pub returns-clause-leaves : goal.returns-clause-leaves

@@ -13,9 +13,9 @@ returns-clause-does g c =
     read_does c.transfer.result _ c.transfer.new.reply _ _ c.requires.reading
     (λ honest. c.transfer.ensures.carries (fits honest))
 
-pub returns-clause-heard : goal.returns-clause-heard
-returns-clause-heard g c =
-    read_heard c.transfer.result _ c.transfer.new.reply _ _ c.requires.reading c.transfer.ensures.hears
+pub returns-clause-polled_ready : goal.returns-clause-polled_ready
+returns-clause-polled_ready g c =
+    read_heard c.transfer.result _ c.transfer.new.reply _ _ c.requires.reading c.transfer.ensures.records_poll
 
 pub returns-clause-unread : goal.returns-clause-unread
 returns-clause-unread g c honest =

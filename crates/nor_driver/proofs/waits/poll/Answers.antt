@@ -7,5 +7,5 @@ pub returns-in_err-transfer-clause-leaves : goal.returns-in_err-transfer-clause-
 returns-in_err-transfer-clause-leaves g c = record {
   nature = c.transfer.ensures.sends.nature;
   sent = c.transfer.ensures.sends.sent.quiet refl;
-  looked = λ honest. looked_at_stop _ _ _ 1 refl (c.in_err-transfer.ensures.stops (poll_fits _ honest));
+  honest_reads = λ honest. looked_at_stop _ _ _ 1 refl (c.in_err-transfer.ensures.stops (poll_fits _ honest));
 }

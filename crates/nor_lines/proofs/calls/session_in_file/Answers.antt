@@ -7,7 +7,7 @@ returns-clause-ok g c = record {
   vault = _;
   vault' = _;
   fresh = c.in_ok-journal.ensures.fresh;
-  kept_in = kept_file _ _ _ _ _ c.make.ensures.nature c.in_ok-journal.ensures.lends
+  kept_in = kept_file _ _ _ _ _ c.make.ensures.nature c.in_ok-journal.ensures.borrows
       c.hand_back.ensures.nature c.hand_back.ensures.takes;
   ran = c.run_session-outcome.ensures;
 }
@@ -15,4 +15,4 @@ returns-clause-ok g c = record {
 pub returns-clause-others : goal.returns-clause-others
 returns-clause-others g c =
     others_stay c.args.file.now (g.R.Store.state c.args.rt.now) (g.R.Store.state c.make.new.rt) (g.R.Store.state c.hand_back.new.self) _
-    c.make.ensures.nature c.in_ok-journal.ensures.lends c.hand_back.ensures.nature c.hand_back.ensures.takes
+    c.make.ensures.nature c.in_ok-journal.ensures.borrows c.hand_back.ensures.nature c.hand_back.ensures.takes

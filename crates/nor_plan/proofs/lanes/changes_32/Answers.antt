@@ -1,5 +1,5 @@
-use Rattle.nor_plan.proofs.Blocks.{TellsChanges-xor}
+use Rattle.nor_plan.proofs.Blocks.{ShowsDifferences-xor}
 use Rattle.nor_plan.proofs.lanes.changes_32.Goals as goal
 
 pub returns : goal.returns
-returns c = TellsChanges-xor c.args.a.now c.args.b.now c.args.at c.requires.a_within c.requires.b_within
+returns c = ShowsDifferences-xor c.args.a.now c.args.b.now c.args.at c.requires.a_within c.requires.b_within

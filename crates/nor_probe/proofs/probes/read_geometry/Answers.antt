@@ -2,8 +2,8 @@ use Rattle.std.proofs.Common.{rules}
 use Rattle.nor_probe.proofs.Shown.{parameters_say}
 use Rattle.nor_probe.proofs.probes.read_geometry.Goals as goal
 
-pub returns-in_err-geometry-clause-tells : goal.returns-in_err-geometry-clause-tells
-returns-in_err-geometry-clause-tells g c honest idle =
+pub returns-in_err-geometry-clause-errors : goal.returns-in_err-geometry-clause-errors
+returns-in_err-geometry-clause-errors g c honest idle =
     let read = c.in_ok-parameters.ensures.reads honest in search (rules, parameters_say, read.shown)
 
 pub returns-clause-reads : goal.returns-clause-reads

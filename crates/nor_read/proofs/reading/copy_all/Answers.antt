@@ -10,10 +10,10 @@ pub loop-piece-preserved : goal.loop-piece-preserved
 loop-piece-preserved g c = copied_more (omega arith) (omega arith) c.loop-piece.invariant c.read_piece.ensures.leaves
     c.in_ok-reads.ensures.reads c.in_ok-put_piece.ensures.takes
 
-pub returns-in_err-put_piece-clause-tells : goal.returns-in_err-put_piece-clause-tells
-returns-in_err-put_piece-clause-tells g c =
+pub returns-in_err-put_piece-clause-errors : goal.returns-in_err-put_piece-clause-errors
+returns-in_err-put_piece-clause-errors g c =
     let before = copy_fails (omega arith) (omega arith) c.loop-piece.invariant c.read_piece.ensures.leaves
-    c.in_ok-reads.ensures.reads _ c.in_err-put_piece.field-0.0 c.in_err-put_piece.ensures.tells in
+    c.in_ok-reads.ensures.reads _ c.in_err-put_piece.field-0.0 c.in_err-put_piece.ensures.errors in
     search (rules, before)
 
 pub returns-clause-reads : goal.returns-clause-reads

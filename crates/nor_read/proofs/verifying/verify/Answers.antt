@@ -6,7 +6,7 @@ use Rattle.nor_read.proofs.verifying.verify.Goals as goal
 pub returns-in_err-probed : goal.returns-in_err-probed
 returns-in_err-probed g c =
     rw (is_err _ _ c.from_residual.ensures.1) (assumption (unfound c.args.named (option_copied c.args.included)
-    c.args.image.now _ c.find.ensures.leaves c.in_err-probed.ensures.tells))
+    c.args.image.now _ c.find.ensures.leaves c.in_err-probed.ensures.errors))
 
 pub returns-then-image-size : goal.returns-then-image-size
 returns-then-image-size g c = assumption (other_size c.args.named (option_copied c.args.included) c.args.image.now

@@ -7,10 +7,10 @@ use Rattle.nor_save.proofs.OneVerdict.{held_told, scan_accepted, scan_judged}
 use Rattle.nor_save.proofs.judging.judge_scan.Goals as goal
 use Rattle.nor_save.proofs.judging.judge_scan.Goals.{else-writes-via-then-writes+else-is_locked, else-writes-via-else-writes}
 
-pub returns-then-is_locked-clause-tells : goal.returns-then-is_locked-clause-tells
-returns-then-is_locked-clause-tells c = λ chip image is accepts same.
+pub returns-then-is_locked-clause-errors : goal.returns-then-is_locked-clause-errors
+returns-then-is_locked-clause-errors c = λ chip image is accepts same.
     let touched = has c.args.touched.now in
-    let held = held_told touched chip c.first_held-held.result (c.first_held-held.ensures.held chip is) in
+    let held = held_told touched chip c.first_protected-held.result (c.first_protected-held.ensures.held chip is) in
     let read = ap (λ (bytes : List ℕ). is_locked (kept_in bytes)) c.status.ensures in
     let locked : is_locked chip.kept ≡ true =
     sym (lock_same is) ∙ sym read ∙ sym c.is_locked.ensures ∙ c.if-is_locked.true in
@@ -20,8 +20,8 @@ returns-then-is_locked-clause-tells c = λ chip image is accepts same.
 pub returns-in-None-clause-accepts : goal.returns-in-None-clause-accepts
 returns-in-None-clause-accepts c = λ chip image is accepts same.
     let touched = has c.args.touched.now in
-    let none = c.first_held-held.ensures.held chip is in
-    let held = held_told touched chip c.first_held-held.result none in
+    let none = c.first_protected-held.ensures.held chip is in
+    let held = held_told touched chip c.first_protected-held.result none in
     scan_accepted accepts same (record {
       lifts = λ on. absurd cc;
       free = λ off. rw c.in-None.is at none;

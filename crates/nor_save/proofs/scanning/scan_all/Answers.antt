@@ -15,7 +15,7 @@ use Rattle.nor_save.proofs.scanning.scan_all.Goals.{then-plan+in_ok-add, else-pl
 
 pub loop-sector-init : goal.loop-sector-init
 loop-sector-init g c = record {
-  aims = λ some. elim c.if-is_data.branch [
+  targets = λ some. elim c.if-is_data.branch [
     | then-is_data w ↦ (sym c.is_data.ensures ∙ w.if-is_data.true, w.sectors-is)
     | else-is_data w ↦ absurd (omega arith)
   ];
@@ -29,18 +29,18 @@ loop-sector-init g c = record {
 pub loop-sector-preserved : goal.loop-sector-preserved
 loop-sector-preserved g c =
     let here = c.loop-sector.invariant in let sector = c.loop-sector.sector in
-    let aims = here.aims (omega arith) in
+    let targets = here.targets (omega arith) in
     elim c.if-includes_in_sector.branch [
       | then-includes_in_sector+in_ok-plan w ↦
           let plan = w.in_ok-plan.plan in
-          let at = is_at c.requires.sized here.aims (omega arith) c.as_ref.ensures.value
+          let at = is_at c.requires.sized here.targets (omega arith) c.as_ref.ensures.value
           c.includes_in_sector.ensures.test w.if-includes_in_sector.true in
           let image : length c.loop-sector.image ≡ c.args.size =
-          c.loop-sector.auto.image ∙ c.requires.whole aims.0 in
+          c.loop-sector.auto.image ∙ c.requires.whole targets.0 in
           let width : 4096 * sector + 4096 - 4096 * sector ≡ 4096 = omega arith in
           let part = w.scan_sector.auto.part ∙ part_long c.loop-sector.image (4096 * sector) _ width (omega arith) in
           record {
-            aims = here.aims;
+            targets = here.targets;
             few = rw w.scanned-is
                 (omega (arith, at_most_one plan.touched, w.mark.ensures.count, w.mark.ensures.reads, here.few));
             below = rw w.scanned-is (omega (arith, w.mark.ensures.reads, here.below));
@@ -60,10 +60,10 @@ loop-sector-preserved g c =
           }
       | else-includes_in_sector w ↦
           let none = rw (c.as_ref.ensures.value, w.if-includes_in_sector.false) at c.includes_in_sector.ensures.cases in
-          let at = is_at c.requires.sized here.aims (omega arith) c.as_ref.ensures.value
+          let at = is_at c.requires.sized here.targets (omega arith) c.as_ref.ensures.value
           c.includes_in_sector.ensures.test w.if-includes_in_sector.false in
           record {
-            aims = here.aims;
+            targets = here.targets;
             few = rw w.scanned-is here.few;
             below = rw w.scanned-is (omega (arith, here.below));
             scanned = rw (w.image-is, w.bus-is, w.scanned-is) (skipped here.scanned at none);
@@ -74,15 +74,15 @@ loop-sector-preserved g c =
 pub returns-in_err-plan : goal.returns-in_err-plan
 returns-in_err-plan g c =
     let here = c.loop-sector.invariant in
-    let at = is_at c.requires.sized here.aims (omega arith) c.as_ref.ensures.value c.includes_in_sector.ensures.test
+    let at = is_at c.requires.sized here.targets (omega arith) c.as_ref.ensures.value c.includes_in_sector.ensures.test
     c.if-includes_in_sector.true in
     let more = room here.scanned at in
     rw (is_err c.from_residual.result Stopped c.from_residual.ensures.1) (record {
-      leaves = looks_after _ 1 _ _ _ _ (omega arith) here.scanned.looked c.scan_sector.ensures.leaves;
+      leaves = looks_after _ 1 _ _ _ _ (omega arith) here.scanned.honest_reads c.scan_sector.ensures.leaves;
       scans = tt;
       same_vault = here.journal.same_vault;
       puts = here.journal.accepted;
-      tells = runs_out _ _ _ _ _ more here.scanned.looked c.in_err-plan.ensures.stops;
+      errors = runs_out _ _ _ _ _ more here.scanned.honest_reads c.in_err-plan.ensures.stops;
       keeps = λ is_open head sized kept. tt;
       begins = λ is_open head sized kept other.
           kept_below (here.scanned.right is_open) (kept_on here.journal is_open sized kept) (omega arith);
@@ -96,17 +96,17 @@ returns-in_err-plan g c =
 pub returns-in_err-add : goal.returns-in_err-add
 returns-in_err-add g c =
     let here = c.loop-sector.invariant in
-    let at = is_at c.requires.sized here.aims (omega arith) c.as_ref.ensures.value c.includes_in_sector.ensures.test
+    let at = is_at c.requires.sized here.targets (omega arith) c.as_ref.ensures.value c.includes_in_sector.ensures.test
     c.if-includes_in_sector.true in
     let more = room here.scanned at in
     let scans = c.in_ok-plan.ensures.scans in
     let refused = c.in_err-add.ensures.vault in let so_far = here.journal.accepted in
     rw (is_err c.from_residual-in_err-add.result Vault c.from_residual-in_err-add.ensures.1) (record {
-      leaves = looks_after _ 1 _ _ _ _ (omega arith) here.scanned.looked c.scan_sector.ensures.leaves;
+      leaves = looks_after _ 1 _ _ _ _ (omega arith) here.scanned.honest_reads c.scan_sector.ensures.leaves;
       scans = tt;
       same_vault = c.add.ensures.same_vault ∙ here.journal.same_vault;
       puts = search rules;
-      tells = tt;
+      errors = tt;
       keeps = λ is_open head sized kept. tt;
       begins = λ is_open head sized kept other. absurd (other refl);
       cut = λ is_open head sized kept.
@@ -130,14 +130,14 @@ returns-clause-scans g c =
 pub returns-clause-keeps : goal.returns-clause-keeps
 returns-clause-keeps g c = λ is_open head size kept.
     let here = c.loop-sector.invariant in
-    kept_on (journalled_later here.journal (grind (arith, here.aims)) (λ s. refl)) is_open size kept
+    kept_on (journalled_later here.journal (grind (arith, here.targets)) (λ s. refl)) is_open size kept
 
 pub returns-clause-writes : goal.returns-clause-writes
 returns-clause-writes g c = λ head sized begun.
     let here = c.loop-sector.invariant in
-    begun_on (journalled_later here.journal (grind (arith, here.aims)) (λ s. refl)) head sized begun
+    begun_on (journalled_later here.journal (grind (arith, here.targets)) (λ s. refl)) head sized begun
 
 pub returns-clause-saves : goal.returns-clause-saves
 returns-clause-saves g c = λ head sized held.
     let here = c.loop-sector.invariant in
-    with_on (journalled_later here.journal (grind (arith, here.aims)) (λ s. refl)) head sized held
+    with_on (journalled_later here.journal (grind (arith, here.targets)) (λ s. refl)) head sized held

@@ -9,7 +9,7 @@ abbrev pub invariant-loop-sector : goal.invariant-loop-sector
 invariant-loop-sector g l =
     let old = g.B.Bus.state l.fn.bus in
     record {
-      aims : 0 < l.sectors → (is_data l.request.what ≡ true) × (l.sectors ≡ l.size / 4096);
+      targets : 0 < l.sectors → (is_data l.request.what ≡ true) × (l.sectors ≡ l.size / 4096);
       few : l.scanned.count ≤ l.scanned.reads;
       below : l.scanned.reads ≤ l.sector;
       scanned : HasScanned l.request l.size l.sector l.fn.image l.image old (g.B.Bus.state l.bus) l.scanned;

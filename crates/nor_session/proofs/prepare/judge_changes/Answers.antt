@@ -9,11 +9,11 @@ use Rattle.nor_session.proofs.prepare.judge_changes.Goals.{then-unlock, else-unl
 pub returns-clause-accepts : goal.returns-clause-accepts
 returns-clause-accepts c = λ chip is.
     let touched = has c.args.scanned.now.touched in
-    let held = c.first_held.ensures.held chip is in
-    let told : c.is_some-unlock.result ≡ is_some c.first_held.result = search rules in
+    let held = c.first_protected.ensures.held chip is in
+    let returned : c.is_some-unlock.result ≡ is_some c.first_protected.result = search rules in
     record {
-      lifts = λ hit. some_held c.first_held.result touched chip held (sym told ∙ hit);
-      free = rw told (some_or_none c.first_held.result touched chip held);
+      lifts = λ hit. some_held c.first_protected.result touched chip held (sym returned ∙ hit);
+      free = rw returned (some_or_none c.first_protected.result touched chip held);
       not_locked = λ locked. elim c.else-writes.branch [
         | else-writes-via-then-writes+else-is_locked w ↦ let same = lock_same is in absurd cc
         | else-writes-via-else-writes w ↦ elim c.if-unlock.branch [
@@ -22,20 +22,20 @@ returns-clause-accepts c = λ chip is.
               let opened = code_same is in
               let same : v.code.result ≡ c.code-code.result
               = (let writes = v.writes-is in let none = w.if-writes.false in search rules) in
-              none_needed c.args.journal.now touched chip c.first_held.result held (sym told ∙ v.if-unlock.false) cc
+              none_needed c.args.journal.now touched chip c.first_protected.result held (sym returned ∙ v.if-unlock.false) cc
         ]
       ];
     }
 
-pub returns-then-is_locked-clause-tells : goal.returns-then-is_locked-clause-tells
-returns-then-is_locked-clause-tells c = λ chip is.
+pub returns-then-is_locked-clause-errors : goal.returns-then-is_locked-clause-errors
+returns-then-is_locked-clause-errors c = λ chip is.
     let touched = has c.args.scanned.now.touched in
-    let held = c.first_held.ensures.held chip is in
-    let told : c.is_some-unlock.result ≡ is_some c.first_held.result = search rules in
+    let held = c.first_protected.ensures.held chip is in
+    let returned : c.is_some-unlock.result ≡ is_some c.first_protected.result = search rules in
     record {
       locked = let same = lock_same is in cc;
       needs = elim c.if-unlock.branch [
-        | then-unlock w ↦ inr (some_held c.first_held.result touched chip held (sym told ∙ w.if-unlock.true))
+        | then-unlock w ↦ inr (some_held c.first_protected.result touched chip held (sym returned ∙ w.if-unlock.true))
         | else-unlock v ↦
             let opened = code_same is in
             let other : v.code.result ≢ c.code-code.result

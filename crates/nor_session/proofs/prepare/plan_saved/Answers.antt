@@ -9,7 +9,7 @@ returns-clause-plans g c =
       small = λ k. omega (arith, c.type_inv.saved k);
       read = c.in_ok-read_sector.ensures.does;
       whole = long;
-      heard = λ ready. c.read_sector.ensures.heard ∙ ready;
+      polled_ready = λ ready. c.read_sector.ensures.polled_ready ∙ ready;
       needed = c.of.ensures.needed;
-      planned = λ content wanted shown aims. subst (λ (n : ℕ). IsPlan content wanted n c.of.result) long (c.of.ensures.anywhere content wanted shown aims);
+      planned = λ content wanted shown targets. subst (λ (n : ℕ). IsPlan content wanted n c.of.result) long (c.of.ensures.anywhere content wanted shown targets);
     }

@@ -22,16 +22,16 @@ returns-in_err-restores g c =
     let sealed = sym c.is_sealed.ensures ∙ c.if-not-is_sealed.false in
     let refuses = c.in_err-restores.ensures.refuses in
     let never = λ (modelled : IsModelled (g.B.Bus.state c.args.bus.now)).
-    let (still, leads) = led session sealed is undone modelled in refuses.never still _ _ leads in
-    let told = undo_refused session sealed is undone (held_by c.args.vault.now) _ refuses in
+    let (unsent, leads) = led session sealed is undone modelled in refuses.never unsent _ _ leads in
+    let returned = undo_refused session sealed is undone (held_by c.args.vault.now) _ refuses in
     let nature = nature_then _ _ _ undone.nature session.nature in
     let sends = both_send session sealed is undone c.args.stops.now c.later.ensures in
     let writes = both_write session sealed is undone c.args.stops.now c.later.ensures in
     let p = err_from_is_err_and c.from_residual-in_err-restores.result c.from_residual-in_err-restores.ensures.1 in
     rw (p.1, p.2) (record {
-      gives_back = λ modelled calm. absurd (never modelled);
+      restores_original = λ modelled steady_or_idle. absurd (never modelled);
       always = search rules;
-      honest = λ honest. refuses.halts (session.nature.honest ∙ honest);
+      honest = λ honest. refuses.fails (session.nature.honest ∙ honest);
       modelled = λ modelled. absurd (never modelled);
     })
 
@@ -43,7 +43,7 @@ returns g c =
     let undoes = c.in_ok-restores.ensures.undoes in
     let led = led session sealed is undone in
     record {
-      gives_back = λ modelled calm. let (still, leads) = led modelled in undoes.same still _ _ leads;
+      restores_original = λ modelled steady_or_idle. let (unsent, leads) = led modelled in undoes.same unsent _ _ leads;
       always = record {
         nature = nature_then _ _ _ undone.nature session.nature;
         counts = record {
@@ -56,17 +56,17 @@ returns g c =
         };
         answers = search rules;
         names = search rules;
-        heard = search rules;
-        still = λ unsealed. absurd (true≢false (sym sealed ∙ unsealed));
+        polled_ready = search rules;
+        unsent = λ unsealed. absurd (true≢false (sym sealed ∙ unsealed));
         sends = λ again. both_send session sealed is undone c.args.stops.now c.later.ensures;
         writes = both_write session sealed is undone c.args.stops.now c.later.ensures;
       };
       honest = search rules;
       modelled = λ modelled.
-          let (still, leads) = led modelled in
+          let (unsent, leads) = led modelled in
           let wears = both_wear session sealed is undone modelled in
-          let are = rw c.later.ensures at (undoes.are still _ _ leads) in
-          let last = rw c.later.ensures at (undoes.last still _ _ leads) in
-          let latch = latch_alone _ c.in_ok-ended.ensures.shows undoes modelled still in
+          let are = rw c.later.ensures at (undoes.are unsent _ _ leads) in
+          let last = rw c.later.ensures at (undoes.last unsent _ _ leads) in
+          let latch = latch_alone _ c.in_ok-ended.ensures.shows undoes modelled unsent in
           search rules;
     }

@@ -17,7 +17,7 @@ returns-clause-refuses g c =
 
 pub returns-in_err-ends_under-clause-refuses : goal.returns-in_err-ends_under-clause-refuses
 returns-in_err-ends_under-clause-refuses g c =
-    let told = refuses_before c.in_err-ends_under.field-0.0 c.loop-stop.invariant.stopped.leaves
+    let returned = refuses_before c.in_err-ends_under.field-0.0 c.loop-stop.invariant.stopped.leaves
     c.in_err-ends_under.ensures.refuses in
     search rules
 
@@ -30,7 +30,7 @@ returns-then-branch-clause-shows g c = search (rules, arith, ended_at)
 
 pub returns-in_err-ends_under-2-clause-refuses : goal.returns-in_err-ends_under-2-clause-refuses
 returns-in_err-ends_under-2-clause-refuses g c =
-    let told = refuses_before c.in_err-ends_under-2.field-0.0 c.loop-stop.invariant.stopped.leaves
+    let returned = refuses_before c.in_err-ends_under-2.field-0.0 c.loop-stop.invariant.stopped.leaves
     c.in_err-ends_under-2.ensures.refuses in
     search rules
 

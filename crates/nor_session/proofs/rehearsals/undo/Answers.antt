@@ -12,7 +12,7 @@ returns-in-Ok g c =
       sends = undo_sends is same kept _ _ ends.leaves;
       writes = search rules;
       undoes = IfOk-weaker c.restore_in_turn.result _ _ (undoes is same kept _) ends.shows;
-      heard = search rules;
+      polled_ready = search rules;
       refuses = IfErr-weaker c.restore_in_turn.result _ _ (undo_refuses is same kept _) ends.refuses;
     }
 

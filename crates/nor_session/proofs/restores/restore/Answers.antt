@@ -1,37 +1,37 @@
 use Rattle.std.proofs.Common.{◌+◌, length, rules, arith}
 use Rattle.std.proofs.lemmas.Bool.{false_from_ne_true}
 use Rattle.std.proofs.lemmas.Result.{err_from_is_err_and}
-use Rattle.nor_save.specs.Opening.{most_opening}
-use Rattle.nor_session.specs.Bounds.{most_looked, most_of}
+use Rattle.nor_save.specs.Identity.{most_identity}
+use Rattle.nor_session.specs.Bounds.{most_reads, most_of}
 use Rattle.nor_session.proofs.Restoring.{AreChanged, looks_most, looks_spend, prepare_answers, prepare_gives_up, prepare_tells, looks_leave, looks_back, changed_spends, changed_leaves, changed_back, change_answers, change_not_judged, change_gives_up, change_tells, sum_fits, restored_bounded, restored_counted, restored_checked, restored_sparing, restored_done, restored_back}
 use Rattle.nor_session.proofs.Changed.{two_writes, no_write}
-use Rattle.nor_session.proofs.GivenBack.{only_stopped}
+use Rattle.nor_session.proofs.RestoredOriginal.{only_stopped}
 use Rattle.nor_session.proofs.Naming.{prepare_names, change_names}
-use Rattle.nor_session.proofs.Aiming.{none_written, none_sent, change_sends, change_writes}
+use Rattle.nor_session.proofs.Targeting.{none_written, none_sent, change_sends, change_writes}
 use Rattle.nor_session.proofs.OfJournal.{restore_of_journal, counted}
 use Rattle.nor_session.proofs.restores.restore.Goals as goal
 
 -- the exit at which a check failed or the bus stopped before the first change
 pub returns-in_err-prepared : goal.returns-in_err-prepared
 returns-in_err-prepared g c =
-    let journal = c.args.journal.now in let most = most_opening + length journal.saved in
+    let journal = c.args.journal.now in let most = most_identity + length journal.saved in
     let old = g.B.Bus.state c.args.bus.now in let new = g.B.Bus.state c.prepare.new.bus in
-    let refusal = c.in_err-prepared.field-0.0 in let tells = c.in_err-prepared.ensures.tells in
+    let refusal = c.in_err-prepared.field-0.0 in let errors = c.in_err-prepared.ensures.errors in
     let p = err_from_is_err_and c.from_residual.result c.from_residual.ensures.1 in
-    let room = c.prepare.ensures.room in let looks = c.prepare.ensures.leaves in
-    let told = prepare_tells journal most old new refusal (omega arith) in
+    let room = c.prepare.ensures.room in let only_reads = c.prepare.ensures.leaves in
+    let returned = prepare_tells journal most old new refusal (omega arith) in
     rw (p.1, p.2) (record {
-      gives_back = λ modelled.
-          let told = told modelled tells in let honest = modelled.honest in search (rules, looks_back, only_stopped);
+      restores_original = λ modelled.
+          let returned = returned modelled errors in let honest = modelled.honest in search (rules, looks_back, only_stopped);
       always =
-          let spends = looks_spend most (most_of (length journal.saved)) old new (omega arith) looks in
-          let looks = looks_most most (most_looked 4096) old new (omega arith) looks in
+          let spends = looks_spend most (most_of (length journal.saved)) old new (omega arith) only_reads in
+          let only_reads = looks_most most (most_reads 4096) old new (omega arith) only_reads in
           search (rules, arith, none_sent, none_written, prepare_answers, prepare_names);
       honest = λ honest.
-          let gives_up = prepare_gives_up journal most old new refusal (omega arith) honest tells in search rules;
+          let fails_session = prepare_gives_up journal most old new refusal (omega arith) honest errors in search rules;
       modelled = λ modelled.
-          let told = told modelled tells in
-          let leaves = looks_leave journal most old new (looks.looked modelled.honest) in
+          let returned = returned modelled errors in
+          let leaves = looks_leave journal most old new (only_reads.honest_reads modelled.honest) in
           search (rules, none_written);
     })
 
@@ -41,26 +41,26 @@ returns-in_err-work g c =
     let journal = c.args.journal.now in let prepared = c.in_ok-prepared.prepared in
     let old = g.B.Bus.state c.args.bus.now in let mid = g.B.Bus.state c.prepare.new.bus in let new = g.B.Bus.state c.finish.new.self.0 in
     let are : AreChanged journal prepared old mid new = search rules in
-    let refusal = c.in_err-work.field-0.0 in let tells = c.in_err-work.ensures.tells in
+    let refusal = c.in_err-work.field-0.0 in let errors = c.in_err-work.ensures.errors in
     let p = err_from_is_err_and c.from_residual-in_err-work.result c.from_residual-in_err-work.ensures.1 in
     rw (p.1, p.2) (record {
-      gives_back = λ modelled.
-          let told = change_tells journal prepared old mid new refusal are modelled tells in
+      restores_original = λ modelled.
+          let returned = change_tells journal prepared old mid new refusal are modelled errors in
           search (rules, changed_back, only_stopped);
       always =
-          let sends = change_sends old are.looks.sent are.leaves _ journal (restore_of_journal are.is) in
-          let writes = change_writes old are.looks.sent are.leaves (two_writes prepared.changes) in
-          let answers = change_answers prepared.changes _ mid new refusal tells in
+          let sends = change_sends old are.only_reads.sent are.leaves _ journal (restore_of_journal are.is) in
+          let writes = change_writes old are.only_reads.sent are.leaves (two_writes prepared.changes) in
+          let answers = change_answers prepared.changes _ mid new refusal errors in
           let names = change_names prepared.changes refusal are.is.saved c.in_err-work.ensures.names in
-          let late = false_from_ne_true _ (change_not_judged prepared.changes _ mid new refusal tells) in
+          let late = false_from_ne_true _ (change_not_judged prepared.changes _ mid new refusal errors) in
           search (rules, changed_spends);
       honest = λ honest.
-          let gives_up = change_gives_up journal prepared old mid new refusal are honest tells in search rules;
+          let fails_session = change_gives_up journal prepared old mid new refusal are honest errors in search rules;
       modelled = λ modelled. record {
-        tells = change_tells journal prepared old mid new refusal are modelled tells;
+        errors = change_tells journal prepared old mid new refusal are modelled errors;
         leaves = changed_leaves journal prepared old mid new are modelled;
         done = search rules;
-        unwritten = λ none. change_writes old are.looks.sent are.leaves
+        unwritten = λ none. change_writes old are.only_reads.sent are.leaves
             (no_write prepared.changes (λ writes. none ((are.is.modelled modelled).needed writes)));
         spares = search rules;
       };
@@ -82,25 +82,25 @@ returns g c =
     let work = c.in_ok-work.work in let sent = prepared.transactions + work.transactions in
     let does = c.in_ok-work.ensures.does in
     record {
-      gives_back = λ modelled.
+      restores_original = λ modelled.
           let done = restored_done journal prepared old mid new work sent are does modelled in
           search (rules, changed_back, restored_back);
       always =
-          let sends = change_sends old are.looks.sent are.leaves _ journal (restore_of_journal are.is) in
-          let writes = change_writes old are.looks.sent are.leaves (two_writes prepared.changes) in
+          let sends = change_sends old are.only_reads.sent are.leaves _ journal (restore_of_journal are.is) in
+          let writes = change_writes old are.only_reads.sent are.leaves (two_writes prepared.changes) in
           let bounded = restored_bounded journal prepared old mid new work sent are does (omega arith) in
-          let heard = does.heard are.is.heard in
-          let counts = counted old are.looks.sent does in
+          let polled_ready = does.polled_ready are.is.polled_ready in
+          let counts = counted old are.only_reads.sent does in
           search (rules, changed_spends);
       honest = λ honest.
           let counted = restored_counted journal prepared old mid new work sent are does (omega arith) honest in
           let checked = restored_checked journal prepared old mid new work sent are does honest in
           search rules;
       modelled = λ modelled. record {
-        tells = search rules;
+        errors = search rules;
         leaves = changed_leaves journal prepared old mid new are modelled;
         done = restored_done journal prepared old mid new work sent are does modelled;
-        unwritten = λ none. change_writes old are.looks.sent are.leaves
+        unwritten = λ none. change_writes old are.only_reads.sent are.leaves
             (no_write prepared.changes (λ writes. none ((are.is.modelled modelled).needed writes)));
         spares = λ none. restored_sparing journal prepared old mid new work sent are does (omega arith) modelled none;
       };

@@ -1,5 +1,5 @@
 use Rattle.std.proofs.Common.{refl, sym, inl}
-use Rattle.nor_chip.specs.Sim.{state_of}
+use Rattle.nor_chip.specs.Sim.{sim_state}
 use Rattle.rows.specs.InMemory.{device_over}
 use Rattle.rows.proofs.serprog_honest.cut_off.Goals as goal
 
@@ -10,7 +10,7 @@ returns c =
     λ pending. record {
       count = c.min.result;
       read = c.transfer.new.reply;
-      reached = device_over (state_of c.transfer.new.self) pending;
+      reached = device_over (sim_state c.transfer.new.self) pending;
       steps = record { step = rw sent carried.step; worn = rw sent carried.worn };
       then = record { chip = inl refl; worn = λ s. refl };
     }

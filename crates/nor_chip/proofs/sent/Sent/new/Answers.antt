@@ -7,8 +7,8 @@ use Rattle.nor_chip.proofs.sent.Sent.new.Goals as goal
 pub returns : goal.returns
 returns c = record {
   stirred = refl;
-  strange = refl;
-  aimed = λ s. get_or-replicate_all 4096 s false;
+  unknown = refl;
+  targeted = λ s. get_or-replicate_all 4096 s false;
   written = λ one two. rw (get_or-replicate_all 65536 (256 * one + two) false) (and-false (nat_lt two 256));
   erases = refl;
   programs = refl;

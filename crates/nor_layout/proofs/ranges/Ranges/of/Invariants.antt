@@ -1,12 +1,12 @@
 use Rattle.std.proofs.Common.{◌≡◌, ◌≤◌, ◌&&◌, ◌-◌, ltb, ℕ, length}
-use Rattle.nor_layout.specs.Ranges.{contains, AreApart}
+use Rattle.nor_layout.specs.Ranges.{contains, AreDisjoint}
 use Rattle.nor_layout.proofs.ranges.Ranges.of.Given as goal
 
 -- the set so far has exactly the addresses of the spans below `done`
 abbrev pub invariant-loop-next : goal.invariant-loop-next
 invariant-loop-next l = record {
   few : length l.all.items ≤ 64;
-  apart : AreApart l.all.items;
+  apart : AreDisjoint l.all.items;
   same : (a : ℕ) → contains l.all.items a ≡ (ltb a l.done && contains l.spans a);
   below : l.done ≤ 4294967296;
 }

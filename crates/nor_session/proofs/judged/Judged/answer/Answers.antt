@@ -1,11 +1,11 @@
 use Rattle.std.proofs.Common.{refl, rules, arith, ◌≡◌, ◌∙◌, true, false, inr, ◌+◌, ◌*◌, length}
 use Rattle.std.proofs.lemmas.Bool.{both_ways, lt-ltb}
 use Rattle.std.proofs.lemmas.Result.{err_from_is_err_and}
-use Rattle.nor_driver.specs.Looks.{Looks}
+use Rattle.nor_driver.specs.OnlyReads.{OnlyReads}
 use Rattle.nor_driver.proofs.RestsInTurn.{looks_after}
 use Rattle.nor_call.specs.Request.{scanned_sectors}
 use Rattle.nor_apply.specs.Spending.{Spends}
-use Rattle.nor_session.specs.Bounds.{most_looked, most_of}
+use Rattle.nor_session.specs.Bounds.{most_reads, most_of}
 use Rattle.nor_session.specs.Session.{most_status_writes}
 use Rattle.nor_save.specs.Verdict.{NeedsStatusWrite}
 use Rattle.nor_session.proofs.Ready.{changes_of, has_opened, ready, scanned_few, spends_looks, spends_more, spends_ready, writes_few, bounded_by, touched_data}
@@ -13,8 +13,8 @@ use Rattle.nor_session.proofs.ReadyChip.{small_first, opening_of, shows, named, 
 use Rattle.nor_session.proofs.SessionChanges.{never_written, change_gives_up, change_tells}
 use Rattle.nor_session.proofs.SessionEnds.{ready_chip, can_be_undone, done, session_checked, spared}
 use Rattle.nor_session.proofs.Naming.{save_names, save_number, work_names}
-use Rattle.nor_save.specs.Saving.{head_found}
-use Rattle.nor_session.proofs.Aiming.{none_written, few_none, change_writes, change_few}
+use Rattle.nor_save.specs.Saving.{header_found}
+use Rattle.nor_session.proofs.Targeting.{none_written, few_none, change_writes, change_few}
 use Rattle.nor_session.proofs.OfJournal.{session_sends, counted}
 use Rattle.nor_session.proofs.judged.Judged.answer.Goals as goal
 
@@ -29,27 +29,27 @@ finish-requires-clause-sourced g c = λ s touched.
     lt-ltb (4096 * s + 4095) (length c.save.new.image) (omega arith)
 
 pub returns-in_err-saved : goal.returns-in_err-saved
-returns-in_err-saved g c = λ first looks opens.
-    let request = c.args.self.request.now in let size = c.args.self.opening.found.size in
+returns-in_err-saved g c = λ first only_reads opens.
+    let request = c.args.self.request.now in let size = c.args.self.identity.found.size in
     let new = g.B.Bus.state c.save.new.bus in let leaves = c.save.ensures.leaves in
     let vault = g.V.Vault.state c.args.self.vault.now in let vault' = g.V.Vault.state c.save.new.vault in
-    let refusal = c.in_err-saved.field-0.0 in let told = c.in_err-saved.ensures in
+    let refusal = c.in_err-saved.field-0.0 in let returned = c.in_err-saved.ensures in
     let few = scanned_few request size opens.part.at_most in let most = opens.most in
-    let looked_on : Looks (most_looked 4096) first new
-    = looks_after _ _ _ _ _ _ (omega arith) (has_opened looks opens) leaves in
+    let looked_on : OnlyReads (most_reads 4096) first new
+    = looks_after _ _ _ _ _ _ (omega arith) (has_opened only_reads opens) leaves in
     let spent : Spends (most_of (scanned_sectors request size)) first new = spends_looks (omega arith) looked_on in
-    let puts = refused_puts refusal vault vault' told.puts in
+    let puts = refused_puts refusal vault vault' returned.puts in
     let unsealed : vault'.sealed ≡ false = puts.1 ∙ c.requires.fresh.unsealed in
     let p = err_from_is_err_and c.from_residual.result c.from_residual.ensures.1 in
     rw (p.1, p.2) (record {
       always =
           let spends : Spends (most_of 4096) first new = spends_more (omega arith) spent in
           let writes = none_written (most_status_writes request.what request.unlock) first new looked_on.sent in
-          let names = save_names _ _ _ _ _ _ refusal told.tells in
-          let number = save_number _ _ _ _ _ _ refusal told.tells in
+          let names = save_names _ _ _ _ _ _ refusal returned.errors in
+          let number = save_number _ _ _ _ _ _ refusal returned.errors in
           let never = λ (on : vault'.sealed ≡ true). both_ways vault'.sealed unsealed on in
           record {
-            looks = λ off. looked_on;
+            only_reads = λ off. looked_on;
             spends = spends;
             few = few_none first new looked_on.sent;
             writes = writes;
@@ -64,90 +64,90 @@ returns-in_err-saved g c = λ first looks opens.
             };
             names = record { early = λ off. names; late = λ on telling. absurd (never on) };
             ends = tt;
-            heard = tt;
+            polled_ready = tt;
           };
       honest = λ honest.
-          let tells = save_gives_up _ _ _ _ _ _ _ _ refusal honest looks opens leaves told.tells in search rules;
+          let errors = save_gives_up _ _ _ _ _ _ _ _ refusal honest only_reads opens leaves returned.errors in search rules;
       modelled = λ modelled.
           let opened = opening_of modelled opens in
-          let shown = shows request _ _ _ modelled looks opens in
+          let shown = shows request _ _ _ modelled only_reads opens in
           let is_named = named request _ _ _ modelled opens in
-          let tells = save_tells _ _ _ _ _ _ _ vault vault' refusal modelled looks opens
-          (c.requires.judged.accepts first.chip _ opened is_named refl) (search rules) told.tells in
+          let errors = save_tells _ _ _ _ _ _ _ vault vault' refusal modelled only_reads opens
+          (c.requires.judged.accepts first.chip _ opened is_named refl) (search rules) returned.errors in
           let falls = (spends_more (most_sized request (opens.genuine modelled)) spent).falls modelled.honest in
           let unwritten = none_written 0 first new looked_on.sent in
-          search (rules, inr, told.begins, told.cut);
+          search (rules, inr, returned.begins, returned.cut);
     })
 
 pub returns-in_err-work : goal.returns-in_err-work
-returns-in_err-work g c = λ first looks opens.
+returns-in_err-work g c = λ first only_reads opens.
     let request = c.args.self.request.now in let image = c.args.self.image.now in
     let keeps = c.in_ok-saved.ensures.keeps in let leaves = c.finish.ensures.leaves in
     let vault = g.V.Vault.state c.args.self.vault.now in let vault' = g.V.Vault.state c.save.new.vault in
-    let refusal = c.in_err-work.field-0.0 in let told = c.in_err-work.ensures in
-    let is = ready looks opens c.save.ensures.leaves keeps c.status.ensures c.requires.judged.same_code in
+    let refusal = c.in_err-work.field-0.0 in let returned = c.in_err-work.ensures in
+    let is = ready only_reads opens c.save.ensures.leaves keeps c.status.ensures c.requires.judged.same_code in
     let few = scanned_few request _ is.part.at_most in let spent = spends_ready is leaves.spends in
     let p = err_from_is_err_and c.from_residual-in_err-work.result c.from_residual-in_err-work.ensures.1 in
     rw (p.1, p.2) (record {
       always =
           let spends : Spends (most_of 4096) first _ = spends_more (omega arith) spent in
-          let writes = change_writes first is.looked.same_sent leaves (writes_few is) in
-          let few_sent = change_few first is.looked.same_sent leaves is.marks.inside in
+          let writes = change_writes first is.honest_reads.same_sent leaves (writes_few is) in
+          let few_sent = change_few first is.honest_reads.same_sent leaves is.marks.inside in
           let sends = λ (telling : vault'.telling ≡ true).
-          session_sends is c.requires.judged.six_bits c.requires.judged.found_code is.looked.same_sent leaves
+          session_sends is c.requires.judged.six_bits c.requires.judged.found_code is.honest_reads.same_sent leaves
           (c.in_ok-saved.ensures.saves telling) in
-          let names = work_names (changes_of c.args.self.opening c.in_ok-saved.saved c.status.result c.args.self.code)
-          (head_found c.args.self.opening) vault' refusal (search rules) c.in_ok-saved.ensures.saves told.names in
+          let names = work_names (changes_of c.args.self.identity c.in_ok-saved.saved c.status.result c.args.self.code)
+          (header_found c.args.self.identity) vault' refusal (search rules) c.in_ok-saved.ensures.saves returned.names in
           search rules;
       honest = λ honest.
-          let tells = change_gives_up _ _ _ _ _ _ _ _ _ refusal honest is told.tells in search rules;
+          let errors = change_gives_up _ _ _ _ _ _ _ _ _ refusal honest is returned.errors in search rules;
       modelled = λ modelled.
-          let small = (g.met.B.Bus.reaches c.args.self.bus.now (looks.nature.honest ∙ modelled.honest)).kept2 in
-          let of = ready_chip _ _ _ _ _ _ _ _ _ _ _ modelled looks opens is
+          let small = (g.met.B.Bus.reaches c.args.self.bus.now (only_reads.nature.honest ∙ modelled.honest)).kept2 in
+          let of = ready_chip _ _ _ _ _ _ _ _ _ _ _ modelled only_reads opens is
           (λ is. c.requires.judged.accepts first.chip _ is (named request _ _ _ modelled opens) refl) keeps (λ a. let fits = c.save.type_inv in search rules)
           (small_first modelled.honest opens small) in
-          let tells = change_tells _ _ _ _ _ _ _ _ _ _ vault vault' refusal is of told.tells in
+          let errors = change_tells _ _ _ _ _ _ _ _ _ _ vault vault' refusal is of returned.errors in
           let falls = (spends_more (most_sized request (opens.genuine modelled)) spent).falls modelled.honest in
           let unwritten = λ (none : ¬ NeedsStatusWrite request image first.chip).
-          change_writes first is.looked.same_sent leaves (never_written _ _ _ _ _ _ _ _ _ is of none) in
-          let undo = can_be_undone _ _ _ _ _ _ _ _ _ _ _ vault' modelled looks opens keeps is of leaves in
+          change_writes first is.honest_reads.same_sent leaves (never_written _ _ _ _ _ _ _ _ _ is of none) in
+          let undo = can_be_undone _ _ _ _ _ _ _ _ _ _ _ vault' modelled only_reads opens keeps is of leaves in
           search rules;
     })
 
 pub returns : goal.returns
-returns g c = λ first looks opens.
+returns g c = λ first only_reads opens.
     let request = c.args.self.request.now in let image = c.args.self.image.now in
     let keeps = c.in_ok-saved.ensures.keeps in let leaves = c.finish.ensures.leaves in
     let vault' = g.V.Vault.state c.save.new.vault in let does = c.in_ok-work.ensures.does in
-    let is = ready looks opens c.save.ensures.leaves keeps c.status.ensures c.requires.judged.same_code in
+    let is = ready only_reads opens c.save.ensures.leaves keeps c.status.ensures c.requires.judged.same_code in
     let few = scanned_few request _ is.part.at_most in let spent = spends_ready is leaves.spends in
     record {
       always =
           let spends : Spends (most_of 4096) first _ = spends_more (omega arith) spent in
-          let writes = change_writes first is.looked.same_sent leaves (writes_few is) in
-          let few_sent = change_few first is.looked.same_sent leaves is.marks.inside in
+          let writes = change_writes first is.honest_reads.same_sent leaves (writes_few is) in
+          let few_sent = change_few first is.honest_reads.same_sent leaves is.marks.inside in
           let sends = λ (telling : vault'.telling ≡ true).
-          session_sends is c.requires.judged.six_bits c.requires.judged.found_code is.looked.same_sent leaves
+          session_sends is c.requires.judged.six_bits c.requires.judged.found_code is.honest_reads.same_sent leaves
           (c.in_ok-saved.ensures.saves telling) in
           let bounded = bounded_by _ _ _ _ _ _ _ _ _ _ _ c.from.result _ c.from.ensures is (writes_few is) does in
-          let heard = does.heard (keeps.scans.heard opens.heard) in
-          let counts = counted first is.looked.same_sent does in
+          let polled_ready = does.polled_ready (keeps.scans.polled_ready opens.polled_ready) in
+          let counts = counted first is.honest_reads.same_sent does in
           search rules;
       honest = λ honest.
           let checked = λ (verifies : request.verify ≡ true).
-          session_checked _ _ _ _ _ _ _ _ _ _ _ _ looks opens keeps.scans is does verifies honest in
+          session_checked _ _ _ _ _ _ _ _ _ _ _ _ only_reads opens keeps.scans is does verifies honest in
           search rules;
       modelled = λ modelled.
-          let small = (g.met.B.Bus.reaches c.args.self.bus.now (looks.nature.honest ∙ modelled.honest)).kept2 in
-          let of = ready_chip _ _ _ _ _ _ _ _ _ _ _ modelled looks opens is
+          let small = (g.met.B.Bus.reaches c.args.self.bus.now (only_reads.nature.honest ∙ modelled.honest)).kept2 in
+          let of = ready_chip _ _ _ _ _ _ _ _ _ _ _ modelled only_reads opens is
           (λ is. c.requires.judged.accepts first.chip _ is (named request _ _ _ modelled opens) refl) keeps (λ a. let fits = c.save.type_inv in search rules)
           (small_first modelled.honest opens small) in
           let falls = (spends_more (most_sized request (opens.genuine modelled)) spent).falls modelled.honest in
           let unwritten = λ (none : ¬ NeedsStatusWrite request image first.chip).
-          change_writes first is.looked.same_sent leaves (never_written _ _ _ _ _ _ _ _ _ is of none) in
+          change_writes first is.honest_reads.same_sent leaves (never_written _ _ _ _ _ _ _ _ _ is of none) in
           let done = done _ _ _ _ _ _ _ _ _ _ _ _ c.from.result is of does in
           let spares = λ (none : ¬ NeedsStatusWrite request image first.chip).
           spared _ _ _ _ _ _ _ _ _ _ _ _ _ c.from.result c.from.ensures is of none does in
-          let undo = can_be_undone _ _ _ _ _ _ _ _ _ _ _ vault' modelled looks opens keeps is of leaves in
+          let undo = can_be_undone _ _ _ _ _ _ _ _ _ _ _ vault' modelled only_reads opens keeps is of leaves in
           search rules;
     }

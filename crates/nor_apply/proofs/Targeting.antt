@@ -1,0 +1,45 @@
+-- Lemmas about the sectors that the parts of a change target, on every bus.
+use Rattle.std.proofs.Common.{◌≡◌, ◌<◌, ◌≤◌, ◌+◌, ◌/◌, ◌%◌, ◌⊎◌, ℕ, Bool, true, refl, arith}
+use Rattle.std.proofs.lemmas.Bool.Decides.{nat_tests}
+use Rattle.nor_chip.specs.Sent.{block_targeted, is_in_targeted}
+use Rattle.nor_driver.specs.declared.units.EraseBlock.{EraseBlock}
+use Rattle.nor_driver.specs.Units.{sectors_in, is_aligned}
+use Rattle.nor_plan.proofs.Units.{holds_run-at, holds_run-from}
+use Rattle.nor_apply.specs.Spending.{may_target}
+
+-- ---- one of the sectors, or a sector past the end of the chip
+
+pub aim_here : (sectors : ℕ → Bool) (size s : ℕ) → sectors s ≡ true → may_target sectors size s ≡ true
+aim_here sectors size s is = rw is refl
+
+aim_behind : (sectors : ℕ → Bool) (size s : ℕ) → size / 4096 ≤ s → ((k : ℕ) → k < size / 4096 → sectors k ≡ true)
+    → may_target sectors size s ≡ true
+aim_behind sectors size s behind whole =
+    grind (arith, holds_run-from sectors 0 (size / 4096), whole, nat_tests)
+
+pub aim_split : (sectors : ℕ → Bool) (size s : ℕ) → may_target sectors size s ≡ true
+    → (sectors s ≡ true) ⊎ ((size / 4096 ≤ s) × ((k : ℕ) → k < size / 4096 → sectors k ≡ true))
+aim_split sectors size s may = grind (arith, holds_run-at sectors 0 (size / 4096), nat_tests)
+
+-- a sector that may be targeted for a set may be targeted for a larger set
+pub aim_wider : (sectors more : ℕ → Bool) (size s : ℕ) → ((k : ℕ) → sectors k ≡ true → more k ≡ true)
+    → may_target sectors size s ≡ true → may_target more size s ≡ true
+aim_wider sectors more size s wider may =
+    grind (arith, aim_split sectors size s may, wider, aim_here more size s, aim_behind more size s)
+
+-- ---- erase blocks
+
+-- an aligned block of `n` sectors targets only its own sectors
+pub named_in : (n sector s : ℕ) → 1 ≤ n → sector % n ≡ 0 → is_in_targeted (block_targeted n sector) s ≡ true
+    → (sector ≤ s) × (s < sector + n)
+named_in n sector s some aligned named = grind (arith, nat_tests)
+
+-- an aligned erase block that lies in the set, on a chip of this size, targets only sectors that may be targeted for
+-- the set
+pub unit_aims : (unit : EraseBlock) (sector size : ℕ) (set : ℕ → Bool) (s : ℕ) → is_aligned unit sector ≡ true
+    → ((k : ℕ) → sector ≤ k → k < sector + sectors_in (size / 4096) unit → set k ≡ true)
+    → is_in_targeted (block_targeted (sectors_in 4096 unit) sector) s ≡ true → may_target set size s ≡ true
+unit_aims unit sector size set s aligned inside named =
+    let behind = aim_behind set size s in
+    let here = aim_here set size s in
+    grind (arith, nat_tests, inside s, inside)

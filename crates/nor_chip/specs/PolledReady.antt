@@ -1,0 +1,17 @@
+-- The result of the last poll: whether the chip was ready. (W25Q64FV datasheet, Read Status Register-1.)
+use Rattle.std.specs.Prelude.{◌-◌, ◌%◌, ◌==◌, ◌&&◌, ℕ, Bool, false, List, [], ◌∷◌, length, nat_lt, slice_index, if◌then◌else◌}
+
+-- true if a transaction that sends these bytes is a poll
+abbrev pub is_poll : List ℕ → Bool
+is_poll [] = false
+is_poll (opcode ∷ []) = opcode == 0x05
+is_poll (opcode ∷ next ∷ rest) = false
+
+-- true if BUSY, bit 0, is clear in the last byte of the reply
+abbrev pub shows_ready : (answer : List ℕ) → Bool
+shows_ready answer = slice_index answer (length answer - 1) % 2 == 0
+
+-- True if the last poll showed that the chip is ready, after a transaction that sent `out` and received `answer`. A
+-- poll with at least one reply byte decides this; any other transaction keeps the result `before`.
+abbrev pub polled_ready_after : (out answer : List ℕ) → (before : Bool) → Bool
+polled_ready_after out answer before = if is_poll out && nat_lt 0 (length answer) then shows_ready answer else before

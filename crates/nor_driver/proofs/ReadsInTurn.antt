@@ -1,0 +1,24 @@
+-- Calls that only read, one after another, for every exit of the last one.
+use Rattle.std.proofs.Common.{◌≤◌, ◌+◌, ℕ, arith}
+use Rattle.nor_chip.specs.Bus.{BusState}
+use Rattle.nor_chip.proofs.Nature.{nature_refl, nature_then}
+use Rattle.nor_driver.specs.OnlyReads.{OnlyReads}
+use Rattle.nor_driver.proofs.Readings.{looked_then, looked_more}
+pub use Rattle.nor_driver.proofs.Cuts.{same_then}
+use Rattle.nor_driver.proofs.Cuts.{unchanged_none, unchanged_stays}
+
+-- if two successive calls only read, with at most `m` and `n` transactions, both together only read, with at most `m +
+-- n`
+pub looks_then : (m n : ℕ) (old mid new : BusState) → OnlyReads m old mid → OnlyReads n mid new → OnlyReads (m + n) old new
+looks_then m n old mid new first second =
+    let nature = nature_then old mid new second.nature first.nature in
+    let honest_reads = looked_then m n old mid new first.nature.steady in
+    grind (arith, nature, honest_reads, first.honest_reads, second.honest_reads)
+
+-- a state that did not change satisfies `OnlyReads` with a bound of 0 transactions
+pub looks_none : (state : BusState) → OnlyReads 0 state state
+looks_none state = search (nature_refl state, unchanged_stays state state (unchanged_none state), arith)
+
+-- a bound can be replaced by a greater one
+pub looks_more : (m n : ℕ) (old new : BusState) → m ≤ n → OnlyReads m old new → OnlyReads n old new
+looks_more m n old new fits only_reads = search (looked_more old new m n fits, only_reads.honest_reads)

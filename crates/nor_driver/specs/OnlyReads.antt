@@ -1,0 +1,71 @@
+-- The effect of functions that only read.
+use Rattle.std.specs.Prelude.{◌≡◌, ◌≢◌, ◌≤◌, ◌<◌, ◌+◌, ◌⊎◌, ℕ, true, false}
+use Rattle.nor_chip.specs.Chip.{IsSame}
+use Rattle.nor_chip.specs.Power.{is_in_work, KeptCut}
+use Rattle.nor_chip.specs.Bus.{BusState, KeepsNature}
+
+-- The bus is steady or the chip is idle, so a stop can't interrupt a running operation.
+abbrev pub IsSteadyOrIdle : BusState → Type 0
+IsSteadyOrIdle state = (state.steady ≡ true) ⊎ (state.chip.busy ≡ 0)
+
+-- On an honest bus, if no operation was interrupted: bytes, non-volatile bits, erased sectors and the operation in
+-- progress are as they were, and the chip is busy for no longer than before.
+pub record Unchanged (old new : BusState) : Type 0 where
+  pub same : IsSame old.chip new.chip
+  pub running : new.chip.running ≡ old.chip.running
+  pub busy : new.chip.busy ≤ old.chip.busy
+  pub worn : (s : ℕ) → new.worn s ≡ old.worn s
+
+-- On an honest bus, at every exit of a call that began no operation. An operation from before the call may have been
+-- interrupted; apart from that, bytes, non-volatile bits and erased sectors are as they were.
+pub record KeepsChip (old new : BusState) : Type 0 where
+  pub config : new.chip.config ≡ old.chip.config
+  pub steady_or_idle : IsSteadyOrIdle old → IsSame old.chip new.chip
+  pub bytes : (a : ℕ) → is_in_work old.chip.running a ≡ false → new.chip.bytes a ≡ old.chip.bytes a
+  pub kept : KeptCut old.chip.running old.chip.kept new.chip.kept
+  pub running : new.chip.busy ≢ 0 → new.chip.running ≡ old.chip.running
+  pub busy : new.chip.busy ≤ old.chip.busy
+  pub worn : (s : ℕ) → new.worn s ≡ old.worn s
+
+-- On an honest bus, after reads that succeeded: the chip is `Unchanged`. The write enable latch is set only if it was
+-- set before. If the chip was idle, the latch is as it was.
+pub record Rested (old new : BusState) : Type 0 where
+  pub unchanged : Unchanged old new
+  pub latch : new.chip.latch ≡ true → old.chip.latch ≡ true
+  pub idle_latch : old.chip.busy ≡ 0 → new.chip.latch ≡ old.chip.latch
+
+-- On an honest bus, at every exit: at most `most` transactions were carried out.
+pub record Falls (most : ℕ) (old new : BusState) : Type 0 where
+  pub fell : new.left ≤ old.left
+  pub bound : old.left ≤ new.left + most
+
+-- On an honest bus, at every exit of a call that only reads. The write enable latch is set only if it was set before.
+-- If the chip was idle and the bus is steady, the latch is as it was.
+pub record OnlyReadsHonest (most : ℕ) (old new : BusState) : Type 0 where
+  pub stays : KeepsChip old new
+  pub latch : new.chip.latch ≡ true → old.chip.latch ≡ true
+  pub idle_latch : old.steady ≡ true → old.chip.busy ≡ 0 → new.chip.latch ≡ old.chip.latch
+  pub falls : Falls most old new
+
+-- On every bus, at every exit: the record of modifying commands is as it was. On an honest bus at most `most`
+-- transactions were carried out.
+pub record OnlyReads (most : ℕ) (old new : BusState) : Type 0 where
+  pub nature : KeepsNature old new
+  pub sent : new.sent ≡ old.sent
+  pub honest_reads : old.honest ≡ true → OnlyReadsHonest most old new
+
+-- On an honest bus, a call that needs `needed` transactions stopped: fewer were left, and all of these were carried
+-- out.
+pub record RanOut (needed : ℕ) (old new : BusState) : Type 0 where
+  pub none_left : new.left ≡ 0
+  pub below : old.left < needed
+
+-- on an honest bus, the call ran out of transactions
+abbrev pub RanOutIfHonest : ℕ → (old new : BusState) → Type 0
+RanOutIfHonest needed old new = old.honest ≡ true → RanOut needed old new
+
+-- The bus is honest, and its chip is idle and has this size.
+pub record IsOpen (size : ℕ) (state : BusState) : Type 0 where
+  pub honest : state.honest ≡ true
+  pub idle : state.chip.busy ≡ 0
+  pub same : state.chip.config.size ≡ size

@@ -1,0 +1,22 @@
+-- Transactions that only read.
+use Rattle.std.specs.Prelude.{◌≡◌, ◌==◌, ◌+◌, ◌*◌, ℕ, Bool, false, List, [], ◌∷◌, take, drop}
+use Rattle.nor_chip.specs.Bus.{BusState}
+
+-- True if a transaction reads data with 03h and an address.
+abbrev pub reads_data : (out : List ℕ) → Bool
+reads_data (opcode ∷ x ∷ y ∷ z ∷ []) = opcode == 0x03
+reads_data _ = false
+
+-- The address of a transaction that reads data.
+abbrev pub address_in : (out : List ℕ) → ℕ
+address_in (opcode ∷ x ∷ y ∷ z ∷ rest) = 65536 * x + 256 * y + z
+address_in _ = 0
+
+-- The `n` bytes of `bytes` that follow the first `at`.
+abbrev pub part : (bytes : List ℕ) → (at n : ℕ) → List ℕ
+part bytes at n = take n (drop at bytes)
+
+-- No modifying command was sent and no poll was made.
+pub record KeepsRecord (old new : BusState) : Type 0 where
+  pub sent : new.sent ≡ old.sent
+  pub polled_ready : new.polled_ready ≡ old.polled_ready

@@ -1,0 +1,27 @@
+-- If the bytes of an unsealed vault are a journal, that journal can restore its chip.
+use Rattle.std.proofs.Common.{◌≡◌, ◌∙◌, ℕ, List, sym, inl, inr}
+use Rattle.nor_chip.specs.Bus.{BusState}
+use Rattle.nor_chip.specs.Chip.{IsChip, IsSame}
+use Rattle.nor_call.specs.Request.{wanted}
+use Rattle.nor_plan.specs.Content.{is_touched}
+use Rattle.nor_journal.specs.Text.{Content, IsContent, text}
+use Rattle.nor_journal.proofs.WholeJournals.{never_empty, begins_all_of_it}
+use Rattle.nor_apply.proofs.Changing.{same_within}
+use Rattle.nor_call.specs.declared.request.Request.{Request}
+use Rattle.nor_probe.specs.Known.{IsModelled}
+use Rattle.nor_save.specs.Saving.{header_of}
+use Rattle.nor_session.specs.Headline.{CanRestore, open_addresses}
+use Rattle.nor_session.specs.Session.{HoldsBegun}
+use Rattle.nor_session.proofs.RestoresOriginal.{saves_chip}
+
+-- if the bytes that were written are a journal, it can restore the chip, which is as it was and idle
+pub begun_back : (request : Request) (image : List ℕ) (old new : BusState) (bytes : List ℕ) (journal : Content) → IsModelled old → IsChip old.chip → HoldsBegun request image old.chip bytes
+    → IsContent journal → bytes ≡ text journal → IsSame old.chip new.chip → new.chip.busy ≡ 0 → CanRestore journal old.chip new
+begun_back request image old new bytes journal modelled chip (inl none) is read same idle = absurd (never_empty journal (sym read ∙ none))
+begun_back request image old new bytes journal modelled chip (inr begun) is read same idle =
+    let returned = begins_all_of_it (header_of old.chip) old.chip.bytes (is_touched old.chip.bytes (wanted request image old.chip)) bytes journal begun.1 is read in
+    record {
+      known = record { genuine = modelled.genuine; shown = rw begun.0.shown };
+      saves = saves_chip old.chip (is_touched old.chip.bytes (wanted request image old.chip)) journal chip.kept2 returned.0 returned.1;
+      within = same_within (open_addresses journal old.chip) old.chip new same idle;
+    }

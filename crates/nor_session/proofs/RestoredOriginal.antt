@@ -1,0 +1,189 @@
+-- How a restore restores the chip that the journal saves.
+use Rattle.std.proofs.Common.{◌&&◌, ◌≡◌, ◌<◌, ◌+◌, ◌-◌, ◌*◌, ◌/◌, ◌%◌, ◌∙◌, ◌⊎◌, ℕ, Bool, true, false, true≢false, List, ap, sym, refl, arith, inl, inr}
+use Rattle.std.specs.Prelude.{not, ◌≢◌, Option, Some, None, IfSome, IsSomeAnd}
+use Rattle.std.proofs.lemmas.Bool.{cases_Bool, cases_lt, and_left, and_parts, or_cases, both_ways, eqb-true}
+use Rattle.std.proofs.lemmas.Bool.Decides.{nat_tests}
+use Rattle.std.proofs.Math.Bool.{and-false}
+use Rattle.nor_chip.specs.declared.config.Config.{Config}
+use Rattle.nor_chip.specs.declared.running.Running.{Running}
+use Rattle.nor_chip.specs.declared.running.Running.TheVariants.{StatusWrite, Unknown}
+use Rattle.nor_chip.specs.Chip.{Chip, IsSame, KeptBits, is_locked, kept_in}
+use Rattle.nor_chip.specs.Guard.{code_of, is_protected, is_block_protected}
+use Rattle.nor_chip.specs.Units.{LieAtAnEnd}
+use Rattle.nor_chip.specs.Power.{KeptCut, PowerLost}
+use Rattle.nor_chip.specs.Bus.{BusState}
+use Rattle.nor_chip.proofs.Sizes.{sized_bounds}
+use Rattle.nor_chip.proofs.Guarded.{is_protected-end, is_protected-past, is_protected-no_scheme, is_protected-same}
+use Rattle.nor_driver.specs.OnlyReads.{IsSteadyOrIdle, OnlyReadsHonest}
+use Rattle.nor_driver.specs.Reads.{id_of}
+use Rattle.nor_driver.specs.StatusWrites.{fixed_of}
+use Rattle.nor_call.specs.Request.{wanted}
+use Rattle.nor_plan.specs.Content.{is_touched}
+use Rattle.nor_journal.specs.Text.{Content}
+use Rattle.nor_journal.specs.Saved.{is_saved}
+use Rattle.nor_journal.proofs.Saves.{saved_byte-is}
+use Rattle.nor_probe.specs.declared.table.Part.{Part}
+use Rattle.nor_probe.specs.Table.{part_with_id}
+use Rattle.nor_probe.specs.Known.{IsGenuine, IsKnown}
+use Rattle.nor_probe.proofs.Configs.{row_has}
+use Rattle.nor_apply.specs.Within.{is_writable, WorksIn, IsWithin, addresses_of}
+use Rattle.nor_apply.specs.Change.{MayChange}
+use Rattle.nor_apply.proofs.Kept.{locked_same}
+use Rattle.nor_apply.proofs.Changing.{within_then, within_wider, narrower}
+use Rattle.nor_call.specs.declared.refusal.Refusal.{Refusal}
+use Rattle.nor_call.specs.declared.refusal.Refusal.TheVariants.{NoChip, UnknownChip, StatusLocked, Stopped, OtherChip, OtherUnit, StatusDiffers}
+use Rattle.nor_save.specs.Saving.{SomeProtected}
+use Rattle.nor_session.specs.Headline.{SavesChip, open_addresses, CanRestore}
+use Rattle.nor_session.specs.Restore.{restored, FitsStatus, RestoreErrors}
+use Rattle.nor_session.proofs.Rescanned.{restored_saved, restored_other}
+use Rattle.nor_session.proofs.RestoredBytes.{touched_byte, touched_saved}
+
+-- ---- readings keep a chip within
+
+calm_or_not : (state : BusState) → IsSteadyOrIdle state ⊎ ((state.steady ≡ false) × (state.chip.busy ≢ 0))
+calm_or_not state = grind arith
+
+-- if an operation within the journal's addresses is interrupted, the bits that are never changed stay the original
+-- ones, and so do all non-volatile bits if the status can't be written
+cut_kept : (p : ℕ → Bool) (first : Chip) (old new : KeptBits) (running : Running) → KeptCut running old new
+    → WorksIn p first running → fixed_of old ≡ fixed_of first.kept
+    → (fixed_of new ≡ fixed_of first.kept) × (is_writable first ≡ false → old ≡ first.kept → new ≡ first.kept)
+cut_kept p first old new (StatusWrite one two) (inl stay) works fixed =
+    (ap fixed_of stay ∙ fixed, λ shut before. stay ∙ before)
+cut_kept p first old new (StatusWrite one two) (inr back) works fixed =
+    let returned = works.status one two refl in
+    (ap fixed_of back ∙ returned.1, λ shut before. absurd (true≢false (sym returned.0 ∙ shut)))
+cut_kept p first old new Unknown kept works fixed = absurd (true≢false (sym works.known))
+cut_kept p first old new _ stay works fixed = (ap fixed_of stay ∙ fixed, λ shut before. stay ∙ before)
+
+pub looked_within : (p : ℕ → Bool) (first : Chip) (most : ℕ) (old new : BusState) → new.steady ≡ old.steady → OnlyReadsHonest most old new → IsWithin p first old → IsWithin p first new
+looked_within p first most old new steady honest_reads within =
+    let stays = honest_reads.stays in
+    let less = stays.busy in
+    let runs : new.steady ≡ false → new.chip.busy ≢ 0 → WorksIn p first new.chip.running = λ loses works.
+    rw (stays.running works) (within.runs (sym steady ∙ loses) (λ idle. works (omega arith))) in
+    elim (calm_or_not old) [
+      | inl steady_or_idle ↦
+          let same = stays.steady_or_idle steady_or_idle in let fixed = ap fixed_of same.kept ∙ within.fixed in
+          let kept = λ (shut : is_writable first ≡ false). same.kept ∙ within.kept shut in
+          search arith
+      | inr shaky ↦
+          let works = within.runs shaky.0 shaky.1 in
+          let cut = cut_kept p first old.chip.kept new.chip.kept old.chip.running stays.kept works within.fixed in
+          search (arith, narrower)
+    ]
+
+-- ---- a loss of power keeps a chip within
+
+idle_or_works : (state : BusState) → (state.steady ≡ false) ⊎ (state.chip.busy ≡ 0)
+    → (state.chip.busy ≡ 0) ⊎ ((state.steady ≡ false) × (state.chip.busy ≢ 0))
+idle_or_works state known = grind (arith, nat_tests)
+
+pub lost_within : (p : ℕ → Bool) (first : Chip) (old new : BusState) → (old.steady ≡ false) ⊎ (old.chip.busy ≡ 0)
+    → PowerLost old.chip new.chip → IsWithin p first old → IsWithin p first new
+lost_within p first old new known lost within =
+    let runs : new.steady ≡ false → new.chip.busy ≢ 0 → WorksIn p first new.chip.running = λ loses works. absurd (works lost.busy) in
+    elim (idle_or_works old known) [
+      | inl idle ↦
+          let same = lost.idle idle in let fixed = ap fixed_of same.kept ∙ within.fixed in
+          let kept = λ (shut : is_writable first ≡ false). same.kept ∙ within.kept shut in
+          search arith
+      | inr shaky ↦
+          let works = within.runs shaky.0 shaky.1 in
+          let cut = cut_kept p first old.chip.kept new.chip.kept old.chip.running lost.kept works within.fixed in
+          search (arith, narrower)
+    ]
+
+-- ---- protected ranges are whole sectors
+
+-- the size of a chip with block protection is a multiple of 256 KiB
+scheme_size_at : (config : Config) (row : Option Part) → part_with_id (id_of config) ≡ row → IsGenuine config → config.scheme ≡ true → config.size % 262144 ≡ 0
+scheme_size_at config (Some part) is genuine scheme = search (arith, eqb-true, row_has)
+scheme_size_at config None is genuine scheme = absurd (both_ways config.scheme (genuine.unlisted is) scheme)
+
+guarded_within : (chip : Chip) (a b : ℕ) → IsGenuine chip.config → chip.config.scheme ≡ true → a / 4096 ≡ b / 4096 → a < chip.config.size → b < chip.config.size → is_protected chip a ≡ is_protected chip b
+guarded_within chip a b genuine scheme sector below_a below_b =
+    let ends : LieAtAnEnd chip.config.size (is_protected chip) = is_protected-end chip in
+    let whole = ends.sectors (scheme_size_at chip.config _ refl genuine scheme) in
+    elim ends.side [
+      | inl front ↦ let one = front a below_a in let other = front b below_b in grind (arith, nat_tests)
+      | inr back ↦ let one = back a below_a in let other = back b below_b in grind (arith, nat_tests)
+    ]
+
+guarded_same : (chip : Chip) (a b : ℕ) → IsGenuine chip.config → a / 4096 ≡ b / 4096 → is_protected chip a ≡ is_protected chip b
+guarded_same chip a b genuine sector =
+    search (arith, cases_Bool, cases_lt, guarded_within, is_protected-no_scheme, is_protected-past, sized_bounds)
+
+-- ---- a touched sector may differ from the original chip
+
+pub touched_open : (journal : Content) (first chip : Chip) (a : ℕ) → IsKnown first.config → SavesChip journal first → ((b : ℕ) → open_addresses journal first b ≡ false → chip.bytes b ≡ first.bytes b)
+    → is_touched chip.bytes (restored journal chip.bytes) (a / 4096) ≡ true → open_addresses journal first a ≡ true
+touched_open journal first chip a known saves same touched =
+    search (arith, guarded_same, saved_byte-is, touched_byte, touched_saved)
+
+-- changes of the touched sectors change a chip only at addresses at which it may differ from the original one
+pub change_within : (journal : Content) (first : Chip) (touched raised : ℕ → Bool) (wanted : ℕ → ℕ) (old mid new : BusState) → CanRestore journal first old → IsWithin (open_addresses journal first) first mid
+    → ((s : ℕ) → touched s ≡ is_touched old.chip.bytes (restored journal old.chip.bytes) s) → MayChange touched raised wanted mid new → IsWithin (open_addresses journal first) first new
+change_within journal first touched raised wanted old mid new can within right change =
+    within_then (open_addresses journal first) first mid new within
+    (within_wider (addresses_of touched) (open_addresses journal first) mid.chip new
+    (λ a hit. touched_open journal first old.chip a can.known can.saves can.within.bytes (sym (right (a / 4096)) ∙ hit)) change.within)
+
+-- ---- a restore that ends leaves the original chip
+
+pub given_back : (journal : Content) (first old new : Chip) → SavesChip journal first → old.config ≡ first.config
+    → ((a : ℕ) → open_addresses journal first a ≡ false → old.bytes a ≡ first.bytes a) → new.config ≡ old.config
+    → ((a : ℕ) → new.bytes a ≡ restored journal old.bytes a) → new.kept ≡ kept_in journal.status → IsSame first new
+given_back journal first old new saves config within config_now bytes kept =
+    let same = kept ∙ sym saves.bits in
+    search (arith, and_left, cases_Bool, restored_other, restored_saved, saved_byte-is)
+
+-- ---- a restorable chip is never refused
+
+-- the non-volatile status bits that a restore can't write are the journal's
+fixed_told : (journal : Content) (first chip : Chip) → first.kept ≡ kept_in journal.status → chip.config ≡ first.config
+    → fixed_of chip.kept ≡ fixed_of first.kept → (is_writable first ≡ false → chip.kept ≡ first.kept) → FitsStatus journal chip
+fixed_told journal first chip bits config fixed kept =
+    let returned = fixed ∙ ap fixed_of bits in let all = λ (shut : is_writable first ≡ false). kept shut ∙ bits in search arith
+
+-- if the non-volatile bits are those of the original chip, the protection bits are the journal's
+code_locked : (journal : Content) (first chip : Chip) → first.kept ≡ kept_in journal.status → chip.kept ≡ first.kept
+    → code_of chip.kept ≡ code_of (kept_in journal.status)
+code_locked journal first chip bits stay = ap code_of (stay ∙ bits)
+
+-- if the original chip is locked, and the chip differs from it only at open addresses (`open_addresses`), no touched
+-- sector is protected
+free_held : (journal : Content) (first chip : Chip) → IsKnown first.config → SavesChip journal first → chip.config ≡ first.config → chip.kept ≡ first.kept → is_locked first.kept ≡ true
+    → ((b : ℕ) → open_addresses journal first b ≡ false → chip.bytes b ≡ first.bytes b) → ¬ SomeProtected (is_touched chip.bytes (restored journal chip.bytes)) chip
+free_held journal first chip known saves config stay locked same some =
+    let s = some.sector in
+    let (touched, held) = and_parts (is_touched chip.bytes (restored journal chip.bytes) s) (is_block_protected chip (4096 * s) 4096) some.held in
+    let shut : (a : ℕ) → a / 4096 ≡ s → is_protected chip a ≡ true → ⊥ = λ a sector guarded.
+    let is_open = touched_open journal first chip a known saves same (rw sector touched) in
+    let there = sym (is_protected-same first chip config stay a) ∙ guarded in
+    let (saved, free) = and_parts (is_saved journal (a / 4096)) (not (is_locked first.kept && is_protected first a)) is_open in
+    true≢false (sym (rw (locked, there) at free)) in
+    elim (or_cases (is_protected chip (4096 * s)) (is_protected chip (4096 * s + 4096 - 1)) held) [
+      | inl front ↦ shut (4096 * s) (omega arith) front
+      | inr back ↦ shut (4096 * s + 4096 - 1) (omega arith) back
+    ]
+
+unit_not : (unique : Option (List ℕ)) (of_first : List ℕ) → IfSome unique (λ u. u ≡ of_first) → IsSomeAnd unique (λ u. u ≢ of_first) → ⊥
+unit_not (Some u) of_first same other = other same
+unit_not None of_first same other = other
+
+pub only_stopped : (journal : Content) (first : Chip) (old new : BusState) (refusal : Refusal) → CanRestore journal first old → RestoreErrors journal old new refusal → refusal ≡ Stopped
+only_stopped journal first old new Stopped can errors = refl
+only_stopped journal first old new NoChip can errors = cc
+only_stopped journal first old new (UnknownChip fault) can errors = cc
+only_stopped journal first old new OtherChip can errors = search arith
+only_stopped journal first old new OtherUnit can errors = search (arith, unit_not)
+only_stopped journal first old new StatusDiffers can errors = search (arith, fixed_told)
+only_stopped journal first old new StatusLocked can errors =
+    let locked : is_locked first.kept ≡ true = sym (locked_same first.kept old.chip.kept can.within.fixed) ∙ errors.holds.0 in
+    let stay = can.within.kept (rw locked (and-false first.config.scheme)) in
+    absurd (elim errors.holds.1 [
+      | inl differs ↦ differs (code_locked journal first old.chip can.saves.bits stay)
+      | inr some ↦ free_held journal first old.chip can.known can.saves can.within.config stay locked can.within.bytes some
+    ])
+only_stopped journal first old new _ can errors = absurd errors.holds

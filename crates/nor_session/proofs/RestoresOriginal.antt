@@ -1,0 +1,89 @@
+-- A journal that a session wrote can restore its chip.
+use Rattle.std.proofs.Common.{◌≡◌, ◌<◌, ◌/◌, ◌∙◌, ℕ, Bool, true, false, List, [], ◌∷◌, ◌*◌, ap, sym, arith}
+use Rattle.std.specs.Prelude.{◌&&◌, not}
+use Rattle.std.proofs.lemmas.Bool.{and_parts, and_from, both_ways, false_from_ne_true}
+use Rattle.nor_chip.specs.Chip.{Chip, IsChip, is_locked, kept_in}
+use Rattle.nor_chip.proofs.Kept.{kept_same}
+use Rattle.nor_chip.specs.Guard.{is_protected}
+use Rattle.nor_chip.specs.Bus.{BusState}
+use Rattle.nor_save.proofs.Planned.{touched_inside}
+use Rattle.nor_chip.proofs.Sizes.{sized_bounds}
+use Rattle.nor_chip.proofs.Guarded.{is_protected-sector}
+use Rattle.nor_driver.specs.OnlyReads.{OnlyReads}
+use Rattle.nor_call.specs.Request.{wanted}
+use Rattle.nor_plan.specs.Content.{is_touched}
+use Rattle.nor_journal.specs.Text.{Content, SameHeader}
+use Rattle.nor_journal.specs.Vault.{VaultState}
+use Rattle.nor_journal.specs.Saved.{Saves, is_saved}
+use Rattle.nor_journal.proofs.Saves.{Saves-set}
+use Rattle.nor_probe.specs.Known.{IsGenuine, IsModelled}
+use Rattle.nor_apply.specs.Within.{addresses_of}
+use Rattle.nor_apply.proofs.Changing.{within_wider}
+use Rattle.nor_call.specs.declared.request.Request.{Request}
+use Rattle.nor_save.specs.Saving.{header_of}
+use Rattle.nor_session.specs.Headline.{SavesChip, open_addresses, CanRestore, KeepsOriginal}
+use Rattle.nor_session.specs.Session.{CanBeUndone}
+use Rattle.nor_session.specs.Rehearsing.{CanUndo}
+use Rattle.nor_session.proofs.JudgedAgain.{accepted_named, accepted_free}
+
+-- a journal with the chip's header that saves its sectors saves the chip (`SavesChip`)
+pub saves_chip : (first : Chip) (saved : ℕ → Bool) (journal : Content) → first.kept.two < 128 → SameHeader (header_of first) journal
+    → Saves first.bytes saved journal → SavesChip journal first
+saves_chip first saved journal small same saves =
+    let status : (4 * first.kept.one) ∷ first.kept.two ∷ [] ≡ journal.status = ap (λ (c : Content). c.status) same in
+    let bits : first.kept ≡ kept_in journal.status =
+    rw (← status) (kept_same first.kept (kept_in ((4 * first.kept.one) ∷ first.kept.two ∷ [])) (omega arith) (omega arith)) in
+    search arith
+
+-- if the original chip's status is locked, no address in a saved sector is protected
+saved_free : (saved : ℕ → Bool) (first : Chip) (text : List ℕ) (state : BusState) (a : ℕ) → CanUndo saved first text state → saved (a / 4096) ≡ true → (is_locked first.kept && is_protected first a) ≡ false
+saved_free saved first text state a leads is = false_from_ne_true _ (λ both.
+    let (locked, guarded) = and_parts _ _ both in
+    let inside = leads.inside (a / 4096) is in let blocks = (sized_bounds first.config).blocks in
+    both_ways _ (is_protected-sector first a (omega arith) (rw is at (leads.free locked (a / 4096)))) guarded)
+
+-- If bytes can restore the original chip (`CanUndo`), the journal that is read from them can restore it.
+pub can_give_back : (saved : ℕ → Bool) (first : Chip) (text : List ℕ) (state : BusState) (journal : Content) → CanUndo saved first text state
+    → SameHeader (header_of first) journal × Saves first.bytes saved journal → CanRestore journal first state
+can_give_back saved first text state journal leads read = record {
+  known = leads.known;
+  saves = saves_chip first saved journal leads.is.kept2 read.0 read.1;
+  within = within_wider (addresses_of saved) (open_addresses journal first) first state
+      (λ a is. and_from (is_saved journal (a / 4096)) (not (is_locked first.kept && is_protected first a))
+      (sym (Saves-set first.bytes saved journal (a / 4096) read.1) ∙ is)
+      (ap not (saved_free saved first text state a leads is)))
+      leads.within;
+}
+
+-- The bytes of a faithful vault that a session sealed can restore the original chip.
+pub restorable : (request : Request) (image : List ℕ) (old new : BusState) (vault : VaultState) → IsChip old.chip → IsGenuine old.chip.config → vault.telling ≡ true
+    → CanBeUndone request image old new vault → CanUndo (is_touched old.chip.bytes (wanted request image old.chip)) old.chip vault.bytes new
+restorable request image old new vault is genuine telling undone = record {
+  is = is;
+  known = record {
+    genuine = genuine;
+    shown = rw (accepted_named request image old.chip undone.accepted).shown;
+  };
+  journal = undone.journal telling;
+  inside = λ s touched.
+      touched_inside request image old.chip.config.size old.chip.bytes s (sized_bounds old.chip.config).blocks touched;
+  free = accepted_free request image old.chip undone.accepted;
+  within = undone.changes.within;
+}
+
+-- A session's main promise follows from what it sent before the seal, and from what can be undone after it.
+pub keeps_first : (request : Request) (image : List ℕ) (most : ℕ) (old new : BusState) (vault : VaultState)
+    → (old.honest ≡ true → IsChip old.chip) → (vault.sealed ≡ false → OnlyReads most old new)
+    → (IsModelled old → vault.sealed ≡ true → CanBeUndone request image old new vault) → KeepsOriginal old new vault
+keeps_first request image most old new vault reaches only_reads undo = record {
+  unsent = λ unsealed. (only_reads unsealed).sent;
+  same = λ unsealed honest. ((only_reads unsealed).honest_reads honest).stays.steady_or_idle;
+  restorable = λ sealed telling modelled.
+      let leads = restorable request image old new vault (reaches modelled.honest) modelled.genuine telling
+      (undo modelled sealed) in
+      let kept = leads.journal in
+      record {
+        journal = record { content = kept.content; is = kept.saves.is; same = kept.is };
+        back = can_give_back _ old.chip vault.bytes new kept.content leads (kept.same, kept.saves);
+      };
+}

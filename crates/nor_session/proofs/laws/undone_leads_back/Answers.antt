@@ -1,5 +1,0 @@
-use Rattle.nor_session.proofs.InTurn as in_turn
-use Rattle.nor_session.proofs.laws.undone_leads_back.Goals as goal
-
-pub returns : goal.returns
-returns c = in_turn.later_undone
