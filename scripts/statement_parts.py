@@ -110,22 +110,22 @@ APPENDICES = {
     "Block protection": (
         "If this is wrong, errors 7 to 10 are wrong for a real chip, and so is the range that it protects.",
         {
-            "is_protected": "nor_chip/specs/Guard.antt",
-            "is_block_protected": "nor_chip/specs/Guard.antt",
-            "is_undefined": "nor_chip/specs/Guard.antt",
-            "IsLeastCode": "nor_chip/specs/Offer.antt",
-            "IsNotOffered": "nor_chip/specs/Offer.antt",
+            "is_protected": "nor_model/specs/Guard.antt",
+            "is_block_protected": "nor_model/specs/Guard.antt",
+            "is_undefined": "nor_model/specs/Guard.antt",
+            "IsLeastCode": "nor_model/specs/Offer.antt",
+            "IsNotOffered": "nor_model/specs/Offer.antt",
         },
     ),
     "The chip, by opcodes": (
         "If this is wrong, a real chip does something else than the model, and no promise about its bytes holds. "
         "Read it with the datasheet of the W25Q64FV.",
         {
-            "Step": "nor_chip/specs/Step.antt",
-            "done_of": "nor_chip/specs/Step.antt",
-            "wears": "nor_chip/specs/Step.antt",
-            "IsChip": "nor_chip/specs/Chip.antt",
-            "is_known_running": "nor_chip/specs/Power.antt",
+            "Step": "nor_model/specs/Step.antt",
+            "done_of": "nor_model/specs/Step.antt",
+            "wears": "nor_model/specs/Step.antt",
+            "IsChip": "nor_model/specs/Chip.antt",
+            "is_known_running": "nor_model/specs/Power.antt",
         },
     ),
     "Identification": (
@@ -165,9 +165,9 @@ APPENDICES = {
         "If this is wrong, a modifying command may be sent before the journal is sealed, or by a refused session: "
         "`unsent` says only that this record is as it was. On a faulty bus little else is promised.",
         {
-            "Notes": "nor_chip/specs/Sent.antt",
-            "RecordsPoll": "nor_chip/specs/Bus.antt",
-            "Meter": "nor_chip/src/bus.rt",
+            "Notes": "nor_model/specs/Sent.antt",
+            "RecordsPoll": "nor_model/specs/Bus.antt",
+            "Meter": "nor_model/src/bus.rt",
             "SendsSaved": "nor_session/specs/Session.antt",
             "SendsFew": "nor_session/specs/Session.antt",
             "NamesAddress": "nor_session/specs/Session.antt",
@@ -243,7 +243,7 @@ NOTES = {
 # The subjects of both pages in their order, and the files whose definitions each of them has. If a definition needs one
 # of a later subject, the order gives way.
 SUBJECTS = {
-    "The chip": "nor_count: specs/Size nor_chip: src/config specs/Makers src/running specs/Sfdp specs/Chip",
+    "The chip": "nor_geometry: specs/Size nor_chip: src/config specs/Makers src/running specs/Sfdp specs/Chip",
     "Protected addresses": "nor_chip: specs/Guard specs/Offer",
     "Commands": "nor_chip: src/command specs/Command specs/TargetedSectors",
     "The step of a chip": "nor_chip: specs/Step",
@@ -254,19 +254,19 @@ SUBJECTS = {
     "SFDP": "nor_probe: src/sfdp specs/Sfdp",
     "Genuine chips": "nor_probe: src/table specs/Table src/probes specs/Known specs/Found",
     "The vault": "nor_journal: src/vault specs/Vault src/mem_vault specs/MemVault",
-    "The journal": "nor_journal: specs/Number specs/Text src/fault src/journal specs/Saved nor_save: specs/SavedScan",
+    "The journal": "nor_journal: specs/Number specs/Text src/fault src/journal specs/Saved nor_scan: specs/SavedScan",
     "The faults of a journal": "nor_journal: specs/Fault",
-    "Refusals": "nor_call: src/refusal specs/Refusal",
+    "Refusals": "nor_request: src/refusal specs/Refusal",
     "A chip that can be restored": "nor_apply: specs/Within nor_session: specs/Headline",
     "The most transactions":
-        "nor_driver: specs/Operations specs/Limits nor_save: specs/Identity nor_session: specs/Bounds",
+        "nor_driver: specs/Operations specs/Limits nor_scan: specs/Identity nor_session: specs/Bounds",
     "The fewest erases": "nor_driver: src/units specs/Units nor_plan: specs/Erase specs/Planned",
     "Requests":
-        "nor_count: specs/Below nor_layout: src/ranges specs/Ranges specs/Sectors nor_call: src/request specs/Request",
-    "Touched and raised sectors": "nor_count: specs/Counts nor_plan: specs/Content",
-    "The verdict": "nor_save: specs/Saving specs/Judging specs/Verdict",
+        "nor_geometry: specs/Below nor_layout: src/ranges specs/Ranges specs/Sectors nor_request: src/request specs/Request",
+    "Touched and raised sectors": "nor_geometry: specs/Counts nor_plan: specs/Content",
+    "The verdict": "nor_scan: specs/Saving specs/Judging specs/Verdict",
     "A chip that is being changed": "nor_apply: specs/Change nor_session: specs/Changing",
-    "The result of a call": "nor_call: src/report nor_session: specs/Made",
+    "The result of a call": "nor_request: src/report nor_session: specs/Made",
     "Sessions": "nor_session: specs/Session",
     "Restores": "nor_session: specs/Restore",
     "Rehearsals": "nor_session: src/rehearsals specs/Rehearsal",

@@ -20,9 +20,9 @@ def line_of(number, reason):
 
 
 def refusals():
-    """Returns the lines of the errors in nor_call."""
+    """Returns the lines of the errors in nor_request."""
     numbers, reasons = {}, {}
-    for name, word in rust.arms(tokens("nor_call/src/refusal.rt"), "Refusal"):
+    for name, word in rust.arms(tokens("nor_request/src/refusal.rt"), "Refusal"):
         (reasons if word[0] == '"' else numbers)[name] = word.strip('"')
     return {line_of(numbers.get(name), reasons.get(name, "")) for name in {*numbers, *reasons}}
 

@@ -46,7 +46,7 @@ def bound(path, name):
 
 def limits():
     """Returns the name, the value and the words of each number."""
-    chip, files, region = "nor_chip/src/config.rt", "nor_lines/src/files.rt", "nor_layout/src/region.rt"
+    chip, files, region = "nor_model/src/config.rt", "nor_lines/src/files.rt", "nor_layout/src/region.rt"
     sector, digest = constant(chip, "SECTOR_LEN"), constant("nor_journal/src/records.rt", "DIGEST")
     image, polls = constant(files, "MOST_IMAGE_BYTES"), constant("nor_driver/src/waits.rt", "MOST_POLLS")
     unique = rust.number_after(item("nor_words/src/numbers.rt", "read_unique"), "[u8;")
@@ -75,7 +75,7 @@ def limits():
         ("polls", polls, "# polls in a row"),
         ("polls of an operation", polls, "BUSY is clear, at most #"),
         ("transactions of a probe", bound("nor_probe/specs/Found.antt", "most_probe"), "and at most # transactions"),
-        ("transactions of an opening", bound("nor_save/specs/Identity.antt", "most_identity"), r"# \+ s \+ 2t"),
+        ("transactions of an opening", bound("nor_scan/specs/Identity.antt", "most_identity"), r"# \+ s \+ 2t"),
         ("transactions of an operation", bound("nor_driver/specs/Operations.antt", "most_operation"), r"\+ #\(e \+ p"),
         ("KiB of the smallest chip", constant("nor_probe/src/sfdp.rt", "LEAST_BITS") >> 13, "from # KiB to"),
         ("MiB of the largest chip", 2 ** constant("nor_probe/src/sfdp.rt", "MOST_EXPONENT") >> 23, "KiB to # MiB"),

@@ -83,8 +83,8 @@ PLANTS = {
         ROWS, "README.md", r"\| Promise \| Call, clause \|", "| Promise | Call |",
         "README.md has no table with a column 'Call, clause'"),
     "an edit that isn't there": (
-        AGREE, "docs/PROMISES.md", r"crates/\*/must-fail", "nor_save/must-fail/seal_when_stoped.edit",
-        r"docs/PROMISES.md:\d+: there is no nor_save"),
+        AGREE, "docs/PROMISES.md", r"crates/\*/must-fail", "nor_scan/must-fail/seal_when_stoped.edit",
+        r"docs/PROMISES.md:\d+: there is no nor_scan"),
     "an edit of another crate": (
         PATHS, "docs/PROMISES.md", r"crates/\*/must-fail", "nor_plan/must-fail/seal_when_stopped.edit",
         "there is no nor_plan/must-fail/seal_when_stopped.edit"),
@@ -94,7 +94,7 @@ PLANTS = {
     "a source of a page that isn't there": (
         PATHS, "README.md", r"docs/DECISIONS\.md", "docs/REASONS.md", "there is no docs/REASONS.md"),
     "a crate that the page doesn't name": (
-        PATHS, "docs/ARCHITECTURE.md", r"\| `nor_count` \|.*\n", "", "docs/ARCHITECTURE.md names no crate nor_count"),
+        PATHS, "docs/ARCHITECTURE.md", r"\| `nor_geometry` \|.*\n", "", "docs/ARCHITECTURE.md names no crate nor_geometry"),
     "a source without a head": (
         PATHS, "crates/nor_plan/src/set.rt", r"//!.*\n", "", "crates/nor_plan/src/set.rt has no head"),
     "a head's file that isn't there": (
@@ -172,7 +172,7 @@ PLANTS = {
         AGREE, "man/flashnor.8", r"(?m)^8\trange not", "8\trange never",
         "manual has 'Error 8: range never offered.', sources hasn't"),
     "a message of an error in the sources": (
-        FAULTS, "crates/nor_call/src/refusal.rt", r'"range not offered"', '"range unknown"',
+        FAULTS, "crates/nor_request/src/refusal.rt", r'"range not offered"', '"range unknown"',
         "sources has 'Error 8: range unknown.', manual hasn't"),
     "an error that a page shows": (
         FAULTS, "README.md", r"Error 12: stopped", "Error 12: halted", "errors shown: README has 'Error 12: halted.'"),
@@ -266,7 +266,7 @@ HARMLESS = {
         "crates/rows/src/once.rt", r"#\[test\]\n(?=fn a_stop_ends_each_call)", "#[test]\n// {each} of them\n"),
     "a constant on three lines": ("crates/nor_layout/src/region.rt", r"usize = 64;", "usize =\n    // most\n    64;"),
     "a message in another form": (
-        "crates/nor_call/src/refusal.rt", r'f\.write_str\("stopped"\)',
+        "crates/nor_request/src/refusal.rt", r'f\.write_str\("stopped"\)',
         '{\n                "stopped".fmt(f)\n            }'),
     "a key on two lines": ("crates/nor_words/src/settings.rt", r'"busy" =>', '"busy"\n                =>'),
 }

@@ -69,9 +69,17 @@ pub fn answer<R: Print>(rt: &R) -> Result<(), Fault> {
     };
     let plain = Duration::from_millis(100);
     let work = Duration::from_millis(111);
-    rt.println(Outcome { target_sectors, work, plain })?;
+    rt.println(Outcome {
+        target_sectors,
+        work,
+        plain,
+    })?;
     let work = Duration::from_millis(150);
-    rt.println(Outcome { target_sectors, work, plain })?;
+    rt.println(Outcome {
+        target_sectors,
+        work,
+        plain,
+    })?;
     Ok(())
 }
 

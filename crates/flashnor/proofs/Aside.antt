@@ -4,8 +4,8 @@ use Rattle.std.proofs.Common.{◌⊎◌, IfSome, IsSomeAnd, ap, arith, inl, inr,
 use Rattle.std.proofs.Common.{sym, take}
 use Rattle.std.specs.Borrow.{Bor}
 use Rattle.std.proofs.lemmas.List.{length-take, take_all}
-use Rattle.nor_chip.specs.Bus.{BusState}
-use Rattle.nor_chip.specs.Chip.{Chip}
+use Rattle.nor_model.specs.Bus.{BusState}
+use Rattle.nor_model.specs.Chip.{Chip}
 use Rattle.nor_driver.specs.StatusWrites.{fixed_of}
 use Rattle.nor_files.specs.Files.{AreAtRest, FilesState, Found, Name, View}
 use Rattle.nor_journal.specs.Text.{Content as Journal}

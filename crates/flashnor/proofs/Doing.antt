@@ -1,15 +1,15 @@
 -- The results of the calls that change a chip, for the request made from a change.
 use Rattle.std.proofs.Common.{◌≡◌, ◌≤◌, ℕ, List, Option, Result, IsOk, MatchResult, arith, false, true}
-use Rattle.nor_chip.specs.Bus.{BusState}
-use Rattle.nor_chip.specs.Chip.{IsChip, IsSame}
+use Rattle.nor_model.specs.Bus.{BusState}
+use Rattle.nor_model.specs.Chip.{IsChip, IsSame}
 use Rattle.nor_driver.specs.OnlyReads.{IsSteadyOrIdle, OnlyReads}
 use Rattle.nor_journal.specs.Vault.{VaultState}
 use Rattle.nor_layout.specs.declared.ranges.Span.{Span}
 use Rattle.nor_probe.specs.Known.{IsModelled}
 use Rattle.nor_probe.specs.declared.table.ChipName.{ChipName}
-use Rattle.nor_call.specs.Refusal.{refusal_number}
-use Rattle.nor_call.specs.declared.refusal.Refusal.{Refusal}
-use Rattle.nor_call.specs.declared.request.Request.{Request}
+use Rattle.nor_request.specs.Refusal.{refusal_number}
+use Rattle.nor_request.specs.declared.refusal.Refusal.{Refusal}
+use Rattle.nor_request.specs.declared.request.Request.{Request}
 use Rattle.nor_session.specs.Bounds.{most_of}
 use Rattle.nor_session.specs.Session.{CanBeUndone, HonestErrors}
 use Rattle.nor_session.proofs.WrittenBack.{same_over, session_over}

@@ -1,6 +1,6 @@
 -- How a run ends, from the end of its call and of its job.
 use Rattle.std.proofs.Common.{◌≡◌, ◌≢◌, ℕ, List, Option, Result, Ok, Err, IfOk, arith, false, inl, inr, refl, subst}
-use Rattle.nor_call.specs.declared.refusal.Refusal.{Refusal}
+use Rattle.nor_request.specs.declared.refusal.Refusal.{Refusal}
 use Rattle.nor_words.specs.Text.{Text}
 use Rattle.clap.specs.Words.{IsAmong}
 use Rattle.nor_words.specs.Words.{IsJob, IsRefusedSetting, refusals_of}

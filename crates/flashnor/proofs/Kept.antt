@@ -5,16 +5,16 @@ use Rattle.std.proofs.Common.{subst, sym, true}
 use Rattle.std.specs.Borrow.{Bor}
 use Rattle.std.proofs.lemmas.Bool.{cases_lt}
 use Rattle.std.proofs.lemmas.List.{get_or_past}
-use Rattle.nor_chip.specs.Bus.{BusState}
-use Rattle.nor_chip.specs.Chip.{KeptBits}
-use Rattle.nor_chip.specs.Start.{status_of}
-use Rattle.nor_chip.proofs.Kept.{kept_told}
-use Rattle.nor_chip.specs.declared.config.Config.{Config}
+use Rattle.nor_model.specs.Bus.{BusState}
+use Rattle.nor_model.specs.Chip.{KeptBits}
+use Rattle.nor_model.specs.Chip.{status_of}
+use Rattle.nor_model.proofs.Kept.{kept_told}
+use Rattle.nor_model.specs.declared.config.Config.{Config}
 use Rattle.nor_probe.specs.declared.table.ChipName.{ChipName}
 use Rattle.nor_files.specs.Files.{AreAtRest, FilesState, Found, IsDurable, KeepsFile, View, is_lawful}
 use Rattle.nor_journal.specs.Text.{text}
-use Rattle.nor_call.specs.declared.refusal.Refusal.{Refusal}
-use Rattle.nor_call.specs.declared.request.Request.{Request}
+use Rattle.nor_request.specs.declared.refusal.Refusal.{Refusal}
+use Rattle.nor_request.specs.declared.request.Request.{Request}
 use Rattle.nor_session.specs.WrittenOver.{IsWrittenOver}
 use Rattle.nor_words.specs.Text.{Text}
 use Rattle.nor_layout.specs.declared.ranges.Span.{Span}

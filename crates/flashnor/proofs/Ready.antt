@@ -1,7 +1,7 @@
 -- A ready bus to the emulated chip is modelled, and identification on it finds that chip.
 use Rattle.std.proofs.Common.{◌≡◌, ◌∙◌, ◌<◌, ℕ, Option, None, Some, Ok, arith, inr, is_none, refl, subst, sym, true}
-use Rattle.nor_chip.specs.Bus.{Allows, BusState}
-use Rattle.nor_chip.specs.Chip.{Chip, IsSame}
+use Rattle.nor_model.specs.Bus.{Allows, BusState}
+use Rattle.nor_model.specs.Chip.{Chip, IsSame}
 use Rattle.nor_driver.specs.OnlyReads.{IsSteadyOrIdle, OnlyReads}
 use Rattle.nor_driver.proofs.ReadsInTurn.{looks_more, looks_none as looks_at_none}
 use Rattle.nor_probe.specs.Known.{IsModelled, shown_as}
@@ -11,7 +11,7 @@ use Rattle.nor_probe.specs.declared.probes.ProbeFault.{ProbeFault}
 use Rattle.nor_probe.specs.declared.probes.ProbeFault.TheVariants as Probes
 use Rattle.nor_probe.specs.declared.table.ChipName.{ChipName}
 use Rattle.nor_probe.specs.declared.table.Part.{Part}
-use Rattle.nor_call.specs.Refusal.{of_probe}
+use Rattle.nor_request.specs.Refusal.{of_probe}
 use Rattle.nor_words.specs.declared.programmer.Programmer.{Programmer}
 use Rattle.flashnor.specs.Changes.{HasGivenName, Passes}
 use Rattle.flashnor.specs.Chips.{IsReady, HoldsFiles, OpensChip, allowance_of}

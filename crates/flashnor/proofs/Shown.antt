@@ -1,8 +1,8 @@
 -- The configuration of the emulated chips, and the chip type that they show.
 use Rattle.std.proofs.Common.{◌≡◌, ◌∙◌, List, ℕ, [], ◌∷◌, Option, None, Some, Result, Ok, Err, IsOk, ap, arith}
 use Rattle.std.proofs.Common.{if◌then◌else◌, refl, replicate, subst, sym}
-use Rattle.nor_chip.specs.declared.config.Config.{Config}
-use Rattle.nor_chip.specs.Makers.{all_kinds}
+use Rattle.nor_model.specs.declared.config.Config.{Config}
+use Rattle.nor_model.specs.Makers.{all_kinds}
 use Rattle.nor_probe.specs.Known.{HasGeometry, IsKnown, chip_says, id_of, is_no_chip, listed_or, part_by_sfdp, shown_as}
 use Rattle.nor_probe.specs.Table.{part_with_id as row_of}
 use Rattle.nor_probe.proofs.Emulated.{renumbered_known, tiny64_known, w25q64fv_known, w25q128fv_known}

@@ -8,15 +8,15 @@ use Rattle.std.specs.Borrow.{Bor}
 use Rattle.std.proofs.Math.Bool.{Bool-set}
 use Rattle.std.proofs.lemmas.Bool.{cases_lt}
 use Rattle.std.proofs.lemmas.List.{append-nil, get_or_past, take-append-drop}
-use Rattle.nor_chip.specs.Bus.{BusState}
-use Rattle.nor_chip.specs.Chip.{Chip, IsSame, KeptBits, kept_in}
-use Rattle.nor_chip.specs.Makers.{HasParts}
+use Rattle.nor_model.specs.Bus.{BusState}
+use Rattle.nor_model.specs.Chip.{Chip, IsSame, KeptBits, kept_in}
+use Rattle.nor_model.specs.Makers.{HasParts}
 use Rattle.nor_chip.specs.Sim.{sim_state}
-use Rattle.nor_chip.specs.Size.{is_chip_size}
-use Rattle.nor_chip.specs.Start.{status_of}
-use Rattle.nor_chip.proofs.Kept.{kept_told}
-use Rattle.nor_chip.specs.declared.config.Config.{Config}
-use Rattle.nor_chip.specs.declared.config.Kinds.{Kinds}
+use Rattle.nor_model.specs.Size.{is_chip_size}
+use Rattle.nor_model.specs.Chip.{status_of}
+use Rattle.nor_model.proofs.Kept.{kept_told}
+use Rattle.nor_model.specs.declared.config.Config.{Config}
+use Rattle.nor_model.specs.declared.config.Kinds.{Kinds}
 use Rattle.nor_files.specs.Calls.{LeavesNoMore}
 use Rattle.nor_files.specs.Files.{AreAtRest, FilesState, Found, Name, is_lawful}
 use Rattle.nor_journal.specs.Text.{Content as Journal, IsContent, text}

@@ -1,8 +1,9 @@
 -- Both files of the chip, written one after the other, and the names of those that could not be written.
 use Rattle.std.proofs.Common.{◌≡◌, ◌∙◌, ℕ, Bool, List, Option, None, Some, IfSome, arith, refl, true}
 use Rattle.std.specs.Borrow.{Bor}
-use Rattle.nor_chip.specs.Chip.{Chip}
-use Rattle.nor_chip.specs.Start.{AreChipBytes, status_of}
+use Rattle.nor_model.specs.Chip.{Chip}
+use Rattle.nor_chip.specs.Start.{AreChipBytes}
+use Rattle.nor_model.specs.Chip.{status_of}
 use Rattle.nor_files.specs.Files.{FilesState, Name, KeepsFile, View, is_lawful}
 use Rattle.nor_files.specs.Files.Failure.{Unwritten}
 use Rattle.nor_words.specs.Text.{Text}

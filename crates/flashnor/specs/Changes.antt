@@ -1,25 +1,25 @@
 -- The results of the jobs that change a chip, and of rehearsals.
 use Rattle.std.specs.Prelude.{◌≡◌, ◌≤◌, ◌/◌, ◌⊎◌, ℕ, List, Option, None, Some, Result, false, true, drop, length}
 use Rattle.std.specs.Prelude.{IsOk, MatchResult, OnOk, ⊤}
-use Rattle.nor_chip.specs.Bus.{BusState}
-use Rattle.nor_chip.specs.Chip.{Chip, IsSame}
+use Rattle.nor_model.specs.Bus.{BusState}
+use Rattle.nor_model.specs.Chip.{Chip, IsSame}
 use Rattle.nor_driver.specs.OnlyReads.{IsSteadyOrIdle, OnlyReads}
 use Rattle.nor_journal.specs.Saved.{JournalSaves}
 use Rattle.nor_journal.specs.Text.{Content as Journal, IsContent, text}
 use Rattle.nor_journal.specs.Vault.{IsFresh, VaultState}
-use Rattle.nor_count.specs.Counts.{sector_count}
-use Rattle.nor_call.specs.Request.{wanted}
+use Rattle.nor_geometry.specs.Counts.{sector_count}
+use Rattle.nor_request.specs.Request.{wanted}
 use Rattle.nor_plan.specs.Content.{is_touched}
 use Rattle.nor_probe.specs.Found.{ProbeErrors, most_probe}
 use Rattle.nor_probe.specs.declared.probes.ProbeFault.{ProbeFault}
 use Rattle.nor_probe.specs.declared.table.ChipName.{ChipName}
-use Rattle.nor_call.specs.Refusal.{refusal_number, of_probe}
-use Rattle.nor_save.specs.Saving.{header_of}
-use Rattle.nor_call.specs.declared.request.Request.{Request}
-use Rattle.nor_call.specs.declared.refusal.Refusal.{Refusal}
+use Rattle.nor_request.specs.Refusal.{refusal_number, of_probe}
+use Rattle.nor_scan.specs.Saving.{header_of}
+use Rattle.nor_request.specs.declared.request.Request.{Request}
+use Rattle.nor_request.specs.declared.refusal.Refusal.{Refusal}
 use Rattle.nor_probe.specs.Known.{IsModelled}
 use Rattle.nor_session.specs.Bounds.{most_of}
-use Rattle.nor_save.specs.Verdict.{IsAccepted, IsNamed}
+use Rattle.nor_scan.specs.Verdict.{IsAccepted, IsNamed}
 use Rattle.nor_session.specs.Session.{CanBeUndone, IsDone, SessionErrors}
 use Rattle.nor_session.specs.Headline.{CanRestore}
 use Rattle.nor_session.specs.Restore.{IsRestored, RestoreErrors, IsCheckedFirst}

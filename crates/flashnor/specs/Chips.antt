@@ -2,14 +2,15 @@
 use Rattle.std.specs.Prelude.{◌≡◌, ◌⊎◌, ◌/◌, ◌%◌, ◌==◌, ◌∷◌, [], ℕ, List, true, Option, Some, None, IsSomeAnd}
 use Rattle.std.specs.Prelude.{is_none, replicate, slice_index, unwrap_or}
 use Rattle.std.specs.Borrow.{Bor}
-use Rattle.nor_chip.specs.Bus.{BusState}
-use Rattle.nor_chip.specs.Sent.{IsNothing}
-use Rattle.nor_chip.specs.Chip.{Chip, kept_in}
+use Rattle.nor_model.specs.Bus.{BusState}
+use Rattle.nor_model.specs.Sent.{IsNothing}
+use Rattle.nor_model.specs.Chip.{Chip, kept_in}
 use Rattle.nor_chip.specs.Sim.{fill_of, pace_of, sim_state}
-use Rattle.nor_chip.specs.Start.{AreChipBytes, status_of}
-use Rattle.nor_chip.specs.declared.config.Config.{Config}
+use Rattle.nor_chip.specs.Start.{AreChipBytes}
+use Rattle.nor_model.specs.Chip.{status_of}
+use Rattle.nor_model.specs.declared.config.Config.{Config}
 use Rattle.nor_chip.specs.declared.sim.SimBus.{SimBus}
-use Rattle.nor_call.specs.declared.refusal.Refusal.TheVariants.{Memory}
+use Rattle.nor_request.specs.declared.refusal.Refusal.TheVariants.{Memory}
 use Rattle.nor_words.specs.Programmer.{IsConfigOfEmulated}
 use Rattle.nor_words.specs.declared.programmer.Emulated.{Emulated}
 use Rattle.nor_words.specs.declared.programmer.Programmer.{Programmer}

@@ -1,6 +1,6 @@
 -- The chip that the identification finds.
 use Rattle.std.specs.Prelude.{◌≡◌, false, [], ◌∷◌, Option}
-use Rattle.nor_chip.specs.Makers.{all_kinds}
+use Rattle.nor_model.specs.Makers.{all_kinds}
 use Rattle.nor_probe.specs.Found.{IsWanted, part_in}
 use Rattle.nor_probe.specs.Table.{w25q64fv, w25q128fv}
 use Rattle.nor_probe.specs.declared.probes.Found.{Found}

@@ -2,8 +2,9 @@
 use Rattle.std.specs.Prelude.{◌≡◌, ◌⊎◌, ◌∷◌, [], ℕ, Bool, true, false, List, Option, None, Some, ⊤, length, replicate}
 use Rattle.std.specs.Borrow.{Bor}
 use Rattle.nor_files.specs.Calls.{IsMixed}
-use Rattle.nor_chip.specs.Chip.{Chip}
-use Rattle.nor_chip.specs.Start.{AreChipBytes, status_of}
+use Rattle.nor_model.specs.Chip.{Chip}
+use Rattle.nor_chip.specs.Start.{AreChipBytes}
+use Rattle.nor_model.specs.Chip.{status_of}
 use Rattle.nor_files.specs.Files.{AllStay, FilesState, Found, IsKnownFile, IsDurable}
 use Rattle.nor_words.specs.declared.programmer.Programmer.{Programmer}
 use Rattle.nor_words.specs.Text.{Text}

@@ -3,9 +3,9 @@
 use Rattle.std.specs.Prelude.{◌≡◌, ◌⊎◌, ◌∷◌, [], ℕ, Bool, true, false, List, Option, None, Some}
 use Rattle.std.specs.Prelude.{IfSome, IsSomeAnd, length, replicate, slice_index, unwrap_or, ⊤}
 use Rattle.std.specs.Borrow.{Bor}
-use Rattle.nor_chip.specs.Bus.{BusState}
-use Rattle.nor_chip.specs.Chip.{Chip, IsSame, kept_in}
-use Rattle.nor_chip.specs.declared.config.Config.{Config}
+use Rattle.nor_model.specs.Bus.{BusState}
+use Rattle.nor_model.specs.Chip.{Chip, IsSame, kept_in}
+use Rattle.nor_model.specs.declared.config.Config.{Config}
 use Rattle.nor_files.specs.Calls.{LeavesNoMore, LeavesOrEmpty}
 use Rattle.nor_files.specs.Files.{AreApart, FilesState, Found, Nature, KeepsFile}
 use Rattle.nor_journal.specs.Text.{Content as Journal, IsContent, text}

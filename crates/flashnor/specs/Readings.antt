@@ -1,7 +1,7 @@
 -- The results of the jobs that leave a chip as it is.
 use Rattle.std.specs.Prelude.{◌≡◌, ◌<◌, ℕ, true, List, Option, Some, Result, Ok, Err, MatchResult}
-use Rattle.nor_chip.specs.Bus.{BusState}
-use Rattle.nor_chip.specs.Offered.{IsStart}
+use Rattle.nor_model.specs.Bus.{BusState}
+use Rattle.nor_model.specs.Offered.{IsStart}
 use Rattle.nor_driver.specs.OnlyReads.{OnlyReads}
 use Rattle.nor_journal.specs.Vault.{IsFresh, VaultState}
 use Rattle.nor_layout.specs.declared.ranges.Span.{Span}
@@ -12,9 +12,9 @@ use Rattle.nor_read.specs.Protecting.{ProtectionAlways, ProtectionHonest, Protec
 use Rattle.nor_read.specs.Reading.{ReadOutAlways, ReadOutHonest, ReadOutModelled}
 use Rattle.nor_read.specs.Verifying.{VerifyAlways, VerifyHonest, VerifyModelled}
 use Rattle.nor_read.specs.declared.protection.Protection.{Protection}
-use Rattle.nor_call.specs.declared.refusal.Refusal.{Refusal}
-use Rattle.nor_call.specs.declared.refusal.Refusal.TheVariants.{OtherName, Stopped}
-use Rattle.nor_call.specs.declared.report.Report.{Report}
+use Rattle.nor_request.specs.declared.refusal.Refusal.{Refusal}
+use Rattle.nor_request.specs.declared.refusal.Refusal.TheVariants.{OtherName, Stopped}
+use Rattle.nor_request.specs.declared.report.Report.{Report}
 use Rattle.nor_words.specs.Text.{Text}
 use Rattle.nor_words.specs.declared.programmer.Programmer.{Programmer}
 use Rattle.flashnor.specs.Chips.{allowance_of}

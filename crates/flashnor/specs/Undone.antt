@@ -1,7 +1,7 @@
 -- Runs that follow one another, from an interrupted change to the restore that succeeds.
 use Rattle.std.specs.Prelude.{◌≡◌, ⊤, Option, None, Some, Result}
 use Rattle.std.specs.Borrow.{Bor}
-use Rattle.nor_chip.specs.Chip.{IsSame}
+use Rattle.nor_model.specs.Chip.{IsSame}
 use Rattle.nor_files.specs.Calls.{LeavesNoMore}
 use Rattle.nor_files.specs.Files.{AreAtRest, FilesState, Found}
 use Rattle.nor_words.specs.Text.{Text}

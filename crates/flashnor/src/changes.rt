@@ -1,7 +1,7 @@
 //! The jobs that change a chip: sessions and restores; and rehearsals of sessions.
 ghost use Rattle.std.specs.Prelude.{◌≡◌, ◌≤◌, ◌⊎◌, true, IfOk, IfErr, OnErr, OnOk, length};
 ghost use Rattle.nor_files.specs.Files.{AreUntouched, Name, KeepsFile, is_lawful};
-ghost use Rattle.nor_chip.specs.Chip.{IsSame};
+ghost use Rattle.nor_model.specs.Chip.{IsSame};
 ghost use Rattle.nor_driver.specs.OnlyReads.{IsSteadyOrIdle, OnlyReads};
 ghost use Rattle.nor_journal.specs.Vault.{IsFresh};
 ghost use Rattle.nor_probe.specs.Found.{most_probe};

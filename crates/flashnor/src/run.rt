@@ -17,7 +17,9 @@ use crate::existing::{existing_journal, fault_before};
 use crate::holding::{Held, Unwritten, hold_content, write_back};
 use crate::laws::runs_restore_original;
 use crate::printing::{Ending, print_end};
-use crate::readings::{find_chip, list_ranges, read_chip, report_protection, report_size, verify_chip};
+use crate::readings::{
+    find_chip, list_ranges, read_chip, report_protection, report_size, verify_chip,
+};
 use crate::roles::have_one_role;
 use nor_chip::{Bus, Meter, SimBus, TraceBus};
 use nor_files::{Disk, LockFile, Store};

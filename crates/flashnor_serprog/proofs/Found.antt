@@ -1,10 +1,10 @@
 -- The identification before a call: its error is the fault of the run.
 use Rattle.std.proofs.Common.{Option, Result, Ok, Err, IfErr, IfOk, inl, inr, refl}
 use Rattle.std.specs.Borrow.{Bor}
-use Rattle.nor_chip.specs.Bus.{BusState}
+use Rattle.nor_model.specs.Bus.{BusState}
 use Rattle.nor_probe.specs.declared.probes.Found.{Found}
 use Rattle.nor_probe.specs.declared.table.ChipName.{ChipName}
-use Rattle.nor_call.specs.declared.refusal.Refusal.{Refusal}
+use Rattle.nor_request.specs.declared.refusal.Refusal.{Refusal}
 use Rattle.nor_files.specs.Files.{View}
 use Rattle.nor_words.specs.Text.{Text}
 use Rattle.nor_words.specs.declared.job.JournalUse.TheVariants as uses

@@ -1,13 +1,13 @@
 -- What a job sends to the chip, from the promises of its call.
 use Rattle.std.proofs.Common.{◌≡◌, ◌⊎◌, ◌∙◌, ℕ, Bool, List, Option, None, Some, Result, Ok, Err, ap, false, inl, inr, refl, true}
-use Rattle.nor_chip.specs.Bus.{BusState}
+use Rattle.nor_model.specs.Bus.{BusState}
 use Rattle.nor_files.specs.Files.{FilesState, View, is_lawful}
 use Rattle.nor_journal.specs.Text.{Content as Journal}
 use Rattle.nor_layout.specs.declared.ranges.Span.{Span}
 use Rattle.nor_probe.specs.declared.table.ChipName.{ChipName}
-use Rattle.nor_call.specs.declared.refusal.Refusal.{Refusal}
-use Rattle.nor_call.specs.declared.request.Request.{Request}
-use Rattle.nor_call.specs.declared.request.What.{What}
+use Rattle.nor_request.specs.declared.refusal.Refusal.{Refusal}
+use Rattle.nor_request.specs.declared.request.Request.{Request}
+use Rattle.nor_request.specs.declared.request.What.{What}
 use Rattle.nor_session.specs.Session.{SendsSaved}
 use Rattle.nor_words.specs.Text.{Text}
 use Rattle.nor_words.specs.declared.job.Change.{Change}

@@ -1,9 +1,9 @@
 -- What a job may send to the chip, on every bus.
 use Rattle.std.specs.Prelude.{◌≡◌, ◌⊎◌, ℕ, Bool, true, false, List, Some}
-use Rattle.nor_chip.specs.Bus.{BusState}
+use Rattle.nor_model.specs.Bus.{BusState}
 use Rattle.nor_files.specs.Files.{FilesState, IsDurable, is_lawful}
-use Rattle.nor_call.specs.declared.request.What.{What}
-use Rattle.nor_save.specs.SavedScan.{IsJournal}
+use Rattle.nor_request.specs.declared.request.What.{What}
+use Rattle.nor_scan.specs.SavedScan.{IsJournal}
 use Rattle.nor_session.specs.Session.{IsSavedCode, IsWrittenCode, SendsSaved}
 use Rattle.nor_words.specs.Text.{Text}
 use Rattle.nor_words.specs.declared.job.JournalUse.{JournalUse}

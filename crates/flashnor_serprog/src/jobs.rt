@@ -14,8 +14,8 @@ use nor_files::Store;
 use nor_journal::Journal;
 use nor_layout::Ranges;
 use nor_lines::{
-    Answer, Fault, Outcome, erased, list_ranges, or_fault, read_to_file, request_for,
-    session_in_file, report_protection, verify_image,
+    Answer, Fault, Outcome, erased, list_ranges, or_fault, read_to_file, report_protection,
+    request_for, session_in_file, verify_image,
 };
 use nor_probe::{ChipName, Found, probe};
 use nor_session::{Refusal, restore};

@@ -2,10 +2,10 @@
 use Rattle.std.proofs.Common.{◌≡◌, ◌<◌, ◌≤◌, ◌+◌, ◌-◌, ◌*◌, ◌/◌, ◌∙◌, ℕ, Bool, true, false, List, slice_index, refl, ap, sym, arith}
 use Rattle.std.proofs.lemmas.Bool.Decides.{nat_tests}
 use Rattle.std.proofs.Math.Bool.{or-false}
-use Rattle.nor_count.specs.Below.{count_below}
-use Rattle.nor_count.specs.Counts.{sector_count}
-use Rattle.nor_count.proofs.Counting.{count_below-with, count_below-add, count_below-none}
-use Rattle.nor_count.proofs.Verdicts.{count_below-insert}
+use Rattle.nor_geometry.specs.Below.{count_below}
+use Rattle.nor_geometry.specs.Counts.{sector_count}
+use Rattle.nor_geometry.proofs.Counting.{count_below-with, count_below-add, count_below-none}
+use Rattle.nor_geometry.proofs.Verdicts.{count_below-insert}
 use Rattle.nor_driver.specs.Reads.{IsSectorOf}
 use Rattle.nor_apply.specs.Change.{only, byte_of}
 

@@ -5,11 +5,11 @@ use Rattle.std.proofs.lemmas.Nat.{and_mask}
 use Rattle.std.proofs.lemmas.Bool.{cases_Bool}
 use Rattle.std.proofs.lemmas.Bool.Decides.{nat_tests}
 use Rattle.std.proofs.Math.Bool.{or-false}
-use Rattle.nor_chip.specs.Status.{bytes_of}
-use Rattle.nor_chip.specs.Chip.{Chip, kept_in}
-use Rattle.nor_chip.specs.Guard.{is_protected, code_of}
-use Rattle.nor_chip.specs.Bus.{BusState}
-use Rattle.nor_chip.proofs.Guarded.{is_protected-zero, is_protected-same}
+use Rattle.nor_model.specs.Status.{bytes_of}
+use Rattle.nor_model.specs.Chip.{Chip, kept_in}
+use Rattle.nor_model.specs.Guard.{is_protected, code_of}
+use Rattle.nor_model.specs.Bus.{BusState}
+use Rattle.nor_model.proofs.Guarded.{is_protected-zero, is_protected-same}
 use Rattle.nor_driver.specs.StatusWrites.{fixed_of, with_code, CanWriteStatus}
 use Rattle.nor_apply.specs.declared.changes.Changes.{Changes}
 use Rattle.nor_plan.specs.Content.{once_erased}

@@ -3,9 +3,9 @@ use Rattle.std.proofs.Common.{◌≡◌, ℕ, ◌/◌, ◌⊎◌, inl, true, fal
 use Rattle.std.specs.Prelude.{Bool, ◌||◌, if◌then◌else◌}
 use Rattle.std.proofs.lemmas.Bool.{false_from_ne_true}
 use Rattle.std.proofs.Math.Bool.{or-false, or_assoc}
-use Rattle.nor_chip.specs.Chip.{Chip, IsSame}
-use Rattle.nor_chip.specs.Bus.{BusState}
-use Rattle.nor_chip.proofs.Guarded.{is_protected-same}
+use Rattle.nor_model.specs.Chip.{Chip, IsSame}
+use Rattle.nor_model.specs.Bus.{BusState}
+use Rattle.nor_model.proofs.Guarded.{is_protected-same}
 use Rattle.nor_driver.specs.StatusWrites.{MayWriteStatus, fixed_of}
 use Rattle.nor_apply.specs.Within.{is_writable, IsWithin, addresses_of}
 use Rattle.nor_apply.specs.Change.{CanChange, MayChange, HasChanged}

@@ -1,11 +1,11 @@
 -- The result of the read and comparison of a sector, for that sector and for all sectors up to it.
 use Rattle.std.proofs.Common.{◌≡◌, ◌≤◌, ◌<◌, ◌+◌, ◌-◌, ◌*◌, ◌/◌, ◌∙◌, ℕ, Bool, true, false, sym, refl, arith, List, length, slice_index}
 use Rattle.std.proofs.lemmas.Bool.Decides.{nat_tests}
-use Rattle.nor_count.specs.Below.{count_below}
-use Rattle.nor_count.specs.Counts.{sector_count}
-use Rattle.nor_count.proofs.Counting.{count_below-zero, count_below-with, count_below-without}
-use Rattle.nor_chip.specs.Bus.{BusState}
-use Rattle.nor_chip.proofs.Nature.{nature_then}
+use Rattle.nor_geometry.specs.Below.{count_below}
+use Rattle.nor_geometry.specs.Counts.{sector_count}
+use Rattle.nor_geometry.proofs.Counting.{count_below-zero, count_below-with, count_below-without}
+use Rattle.nor_model.specs.Bus.{BusState}
+use Rattle.nor_model.proofs.Nature.{nature_then}
 use Rattle.nor_driver.specs.OnlyReads.{OnlyReads, RanOutIfHonest}
 use Rattle.nor_driver.specs.Ready.{StaysReady}
 use Rattle.nor_driver.specs.Reads.{IsSectorOf, ReadsSector}

@@ -4,12 +4,12 @@ use Rattle.std.proofs.lemmas.Bool.{cases_lt, false_from_ne_true, and_from, le-le
 use Rattle.std.proofs.lemmas.Bool.Decides.{nat_tests}
 use Rattle.std.proofs.lemmas.List.Folds.{list_any-append}
 use Rattle.std.proofs.Math.Bool.{or-false, or-true}
-use Rattle.nor_count.specs.Counts.{sector_count}
-use Rattle.nor_count.proofs.Counting.{count_below-none, count_below-most}
-use Rattle.nor_chip.specs.declared.config.Kinds.{Kinds}
-use Rattle.nor_chip.specs.Chip.{Chip}
-use Rattle.nor_chip.specs.Guard.{is_protected, is_block_protected}
-use Rattle.nor_chip.specs.Bus.{BusState}
+use Rattle.nor_geometry.specs.Counts.{sector_count}
+use Rattle.nor_geometry.proofs.Counting.{count_below-none, count_below-most}
+use Rattle.nor_model.specs.declared.config.Kinds.{Kinds}
+use Rattle.nor_model.specs.Chip.{Chip}
+use Rattle.nor_model.specs.Guard.{is_protected, is_block_protected}
+use Rattle.nor_model.specs.Bus.{BusState}
 use Rattle.nor_driver.specs.declared.units.Erase.{Erase}
 use Rattle.nor_driver.specs.declared.units.EraseBlock.{EraseBlock}
 use Rattle.nor_driver.specs.declared.waits.OperationError.{OperationError}

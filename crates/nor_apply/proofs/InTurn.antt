@@ -3,8 +3,8 @@ use Rattle.std.proofs.Common.{◌≡◌, ◌≤◌, ◌+◌, ◌*◌, ◌∙◌,
 use Rattle.std.proofs.lemmas.List.{length-append, length_push, append_assoc, append-nil}
 use Rattle.std.specs.List.{All}
 use Rattle.std.proofs.lemmas.List.Elements.{All-head, All-tail}
-use Rattle.nor_chip.specs.Bus.{BusState, KeepsNature}
-use Rattle.nor_chip.proofs.Nature.{nature_refl, nature_then}
+use Rattle.nor_model.specs.Bus.{BusState, KeepsNature}
+use Rattle.nor_model.proofs.Nature.{nature_refl, nature_then}
 use Rattle.nor_driver.specs.declared.waits.OperationError.{OperationError}
 use Rattle.nor_driver.specs.OnlyReads.{Falls}
 use Rattle.nor_driver.specs.Waits.{OperationFails}

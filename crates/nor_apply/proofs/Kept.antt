@@ -1,8 +1,8 @@
 -- Non-volatile status bits before and after a status write: those that are never changed, and the protection bits.
 use Rattle.std.proofs.Common.{◌≡◌, ◌+◌, ◌*◌, ◌/◌, ◌%◌, ℕ, List, slice_index, arith, ◌∙◌, ap, refl}
 use Rattle.std.specs.Prelude.{◌||◌, ◌==◌}
-use Rattle.nor_chip.specs.Chip.{Chip, KeptBits, is_locked, kept_in}
-use Rattle.nor_chip.specs.Guard.{code_of}
+use Rattle.nor_model.specs.Chip.{Chip, KeptBits, is_locked, kept_in}
+use Rattle.nor_model.specs.Guard.{code_of}
 use Rattle.nor_driver.specs.StatusWrites.{fixed_of, with_code}
 use Rattle.nor_apply.specs.Within.{is_writable}
 

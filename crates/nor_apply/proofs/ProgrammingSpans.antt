@@ -8,7 +8,7 @@ use Rattle.std.proofs.lemmas.List.Folds.{list_any-append}
 use Rattle.std.proofs.lemmas.Bool.Decides.{nat_tests}
 use Rattle.std.proofs.lemmas.Bool.{cases_Bool, and_parts, leb-true, ltb-true}
 use Rattle.std.proofs.Math.Bool.{or-false, and-or_distrib_right, or_assoc}
-use Rattle.nor_chip.specs.Bus.{BusState}
+use Rattle.nor_model.specs.Bus.{BusState}
 use Rattle.nor_driver.specs.Programs.{CanProgram, MayProgram, HasProgrammed, programmed, is_in_page, LeavesProgram, Programs, is_sector_of}
 use Rattle.nor_driver.specs.Reads.{IsSectorOf}
 use Rattle.nor_driver.specs.StatusWrites.{fixed_of}
@@ -20,9 +20,9 @@ use Rattle.nor_apply.specs.Programming.{CanProgramSpans, LeavesSpans, DoesSpans,
 use Rattle.nor_apply.proofs.Alone.{only-here, only-is, old_byte}
 use Rattle.nor_apply.proofs.Changing.{can_after, change_then, HasMade, either_byte, made_may, made_then, changed_may, made_none}
 use Rattle.std.specs.List.{list_any, range_with_len}
-use Rattle.nor_count.specs.Below.{any_below, count_below}
-use Rattle.nor_count.proofs.Counting.{any_below-zero, any_below-more, any_below-same, count_below-zero, count_below-more, count_below-most, count_below-same}
-use Rattle.nor_count.proofs.CountedRanges.{count_by-range}
+use Rattle.nor_geometry.specs.Below.{any_below, count_below}
+use Rattle.nor_geometry.proofs.Counting.{any_below-zero, any_below-more, any_below-same, count_below-zero, count_below-more, count_below-most, count_below-same}
+use Rattle.nor_geometry.proofs.CountedRanges.{count_by-range}
 use Rattle.nor_driver.specs.declared.waits.OperationError.{OperationError}
 use Rattle.nor_driver.specs.Waits.{OperationFails, NamesTimeout}
 use Rattle.nor_driver.specs.Limits.{programming}

@@ -5,11 +5,11 @@ use Rattle.std.specs.Prelude.{◌&&◌, ◌||◌, nat_lt}
 use Rattle.std.proofs.lemmas.Bool.{cases_Bool, and_parts, lt-ltb, le-ltb}
 use Rattle.std.proofs.lemmas.Bool.Decides.{nat_tests}
 use Rattle.std.proofs.Math.Bool.{and-false, or-false}
-use Rattle.nor_count.specs.Below.{count_below}
-use Rattle.nor_count.specs.Counts.{sector_count}
-use Rattle.nor_count.proofs.Counting.{any_below-same, count_below-same, count_below-zero, count_below-with, count_below-without, count_below-add, count_below-none, count_below-most}
-use Rattle.nor_chip.specs.Bus.{BusState}
-use Rattle.nor_chip.proofs.Sizes.{sized_bounds}
+use Rattle.nor_geometry.specs.Below.{count_below}
+use Rattle.nor_geometry.specs.Counts.{sector_count}
+use Rattle.nor_geometry.proofs.Counting.{any_below-same, count_below-same, count_below-zero, count_below-with, count_below-without, count_below-add, count_below-none, count_below-most}
+use Rattle.nor_model.specs.Bus.{BusState}
+use Rattle.nor_model.proofs.Sizes.{sized_bounds}
 use Rattle.nor_driver.specs.declared.waits.OperationError.{OperationError}
 use Rattle.nor_driver.specs.Reads.{IsSectorOf}
 use Rattle.nor_driver.specs.Waits.{OperationFails}

@@ -1,7 +1,7 @@
 -- Lemmas about the sectors that the parts of a change target, on every bus.
 use Rattle.std.proofs.Common.{◌≡◌, ◌<◌, ◌≤◌, ◌+◌, ◌/◌, ◌%◌, ◌⊎◌, ℕ, Bool, true, refl, arith}
 use Rattle.std.proofs.lemmas.Bool.Decides.{nat_tests}
-use Rattle.nor_chip.specs.Sent.{block_targeted, is_in_targeted}
+use Rattle.nor_model.specs.Sent.{block_targeted, is_in_targeted}
 use Rattle.nor_driver.specs.declared.units.EraseBlock.{EraseBlock}
 use Rattle.nor_driver.specs.Units.{sectors_in, is_aligned}
 use Rattle.nor_plan.proofs.Units.{holds_run-at, holds_run-from}

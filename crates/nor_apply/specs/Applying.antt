@@ -1,9 +1,9 @@
 -- The effect of all changes of a session or restore together: unlock, erases, programs, status write.
 use Rattle.std.specs.Prelude.{◌≡◌, ◌≤◌, ◌<◌, ◌+◌, ◌*◌, ◌/◌, ◌&&◌, ◌||◌, ◌⊎◌, ◌==◌, ℕ, Bool, true, false, not, length, bit_and, if◌then◌else◌, ⊤}
-use Rattle.nor_chip.specs.Status.{bytes_of}
-use Rattle.nor_chip.specs.Chip.{Chip, kept_in}
-use Rattle.nor_chip.specs.Guard.{is_protected, code_of}
-use Rattle.nor_chip.specs.Bus.{BusState}
+use Rattle.nor_model.specs.Status.{bytes_of}
+use Rattle.nor_model.specs.Chip.{Chip, kept_in}
+use Rattle.nor_model.specs.Guard.{is_protected, code_of}
+use Rattle.nor_model.specs.Bus.{BusState}
 use Rattle.nor_driver.specs.declared.waits.OperationError.{OperationError}
 use Rattle.nor_driver.specs.declared.waits.OperationError.TheVariants.{Stopped, Timeout}
 use Rattle.nor_driver.specs.StatusWrites.{is_status_with_code, with_code}
@@ -14,8 +14,8 @@ use Rattle.nor_plan.specs.Planned.{planned}
 use Rattle.nor_plan.specs.SectorSet.{has}
 use Rattle.nor_apply.specs.declared.changes.Changes.{Changes}
 use Rattle.nor_apply.specs.declared.changes.Work.{Work}
-use Rattle.nor_count.specs.Below.{count_below}
-use Rattle.nor_count.specs.Counts.{sector_count}
+use Rattle.nor_geometry.specs.Below.{count_below}
+use Rattle.nor_geometry.specs.Counts.{sector_count}
 use Rattle.nor_plan.specs.Content.{once_erased, is_programmed}
 use Rattle.nor_apply.specs.Within.{is_writable}
 use Rattle.nor_apply.specs.Change.{IsSized, MayChange}

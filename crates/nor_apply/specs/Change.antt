@@ -1,10 +1,10 @@
 -- The effect of a change of some sectors, at every exit and on success. Sets of sectors are Boolean functions of the
 -- sector number. Bytes may change only in touched sectors, and the raised sectors are those that are erased.
 use Rattle.std.specs.Prelude.{◌≡◌, ◌≤◌, ◌+◌, ◌-◌, ◌*◌, ◌/◌, ◌==◌, ◌||◌, ◌⊎◌, ℕ, Bool, true, false, List, slice_index, bit_and, if◌then◌else◌}
-use Rattle.nor_chip.specs.Chip.{Chip}
-use Rattle.nor_chip.specs.Guard.{is_protected}
-use Rattle.nor_chip.specs.Bus.{BusState}
-use Rattle.nor_chip.specs.declared.config.Kinds.{Kinds}
+use Rattle.nor_model.specs.Chip.{Chip}
+use Rattle.nor_model.specs.Guard.{is_protected}
+use Rattle.nor_model.specs.Bus.{BusState}
+use Rattle.nor_model.specs.declared.config.Kinds.{Kinds}
 use Rattle.nor_apply.specs.Within.{IsWithin, addresses_of}
 
 -- Holds if the sectors can be changed: the chip is idle, and they lie on it and have no protected address.

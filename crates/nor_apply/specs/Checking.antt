@@ -1,14 +1,14 @@
 -- The results of a verification of touched sectors.
 use Rattle.std.specs.Prelude.{◌≡◌, ◌≢◌, ◌≤◌, ◌<◌, ◌+◌, ◌*◌, ◌/◌, ℕ, Bool, true, ⊤}
-use Rattle.nor_chip.specs.Chip.{Chip}
-use Rattle.nor_chip.specs.Bus.{BusState}
+use Rattle.nor_model.specs.Chip.{Chip}
+use Rattle.nor_model.specs.Bus.{BusState}
 use Rattle.nor_driver.specs.OnlyReads.{Rested, RanOutIfHonest}
 use Rattle.nor_driver.specs.Ready.{StaysReady}
-use Rattle.nor_call.specs.declared.refusal.Refusal.{Refusal}
-use Rattle.nor_call.specs.declared.refusal.Refusal.TheVariants as Refusals
+use Rattle.nor_request.specs.declared.refusal.Refusal.{Refusal}
+use Rattle.nor_request.specs.declared.refusal.Refusal.TheVariants as Refusals
 use Rattle.nor_apply.specs.declared.checks.CheckFault.{CheckFault}
 use Rattle.nor_apply.specs.declared.checks.CheckFault.TheVariants.{Stopped, Mismatch}
-use Rattle.nor_count.specs.Counts.{sector_count}
+use Rattle.nor_geometry.specs.Counts.{sector_count}
 
 -- Holds if the chip is idle, and the sectors lie on it.
 pub record CanCheck (sectors : ℕ → Bool) (chip : Chip) : Type 0 where

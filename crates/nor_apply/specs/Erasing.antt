@@ -1,13 +1,13 @@
 -- The effect of the erases of a set of sectors.
 use Rattle.std.specs.Prelude.{◌≡◌, ◌≤◌, ◌*◌, ◌/◌, ℕ, Bool, true, length}
-use Rattle.nor_chip.specs.Chip.{Chip}
-use Rattle.nor_chip.specs.Bus.{BusState}
+use Rattle.nor_model.specs.Chip.{Chip}
+use Rattle.nor_model.specs.Bus.{BusState}
 use Rattle.nor_driver.specs.Limits.{erasing, SendsWithin, SendsExactly}
 use Rattle.nor_driver.specs.Operations.{most_operation}
-use Rattle.nor_chip.specs.declared.config.Kinds.{Kinds}
+use Rattle.nor_model.specs.declared.config.Kinds.{Kinds}
 use Rattle.nor_plan.specs.Planned.{planned}
 use Rattle.nor_apply.specs.declared.tally.Tally.{Tally}
-use Rattle.nor_count.specs.Counts.{sector_count}
+use Rattle.nor_geometry.specs.Counts.{sector_count}
 use Rattle.nor_apply.specs.Change.{CanChange, IsSized, MayChange, HasChanged, blank}
 use Rattle.nor_apply.specs.Spending.{Spends, Tallies, may_target}
 

@@ -1,14 +1,14 @@
 -- The effect of the page programs of one sector, and of a set of sectors.
 use Rattle.std.specs.Prelude.{◌≡◌, ◌≤◌, ◌<◌, ◌+◌, ◌*◌, ◌/◌, ℕ, Bool, true, false, Result, Ok, Err, List, slice_index, bit_and, if◌then◌else◌}
-use Rattle.nor_chip.specs.declared.bus.Stopped.{Stopped}
-use Rattle.nor_chip.specs.Chip.{Chip}
-use Rattle.nor_chip.specs.Bus.{BusState}
+use Rattle.nor_model.specs.declared.bus.Stopped.{Stopped}
+use Rattle.nor_model.specs.Chip.{Chip}
+use Rattle.nor_model.specs.Bus.{BusState}
 use Rattle.nor_driver.specs.OnlyReads.{OnlyReads, RanOutIfHonest}
 use Rattle.nor_driver.specs.Reads.{IsSectorOf, HasRead}
 use Rattle.nor_driver.specs.Limits.{programming, SendsWithin, SendsExactly}
 use Rattle.nor_apply.specs.declared.tally.Tally.{Tally}
-use Rattle.nor_count.specs.Below.{count_below}
-use Rattle.nor_count.specs.Counts.{sector_count}
+use Rattle.nor_geometry.specs.Below.{count_below}
+use Rattle.nor_geometry.specs.Counts.{sector_count}
 use Rattle.nor_plan.specs.Content.{is_page_other, is_programmed}
 use Rattle.nor_apply.specs.Change.{CanChange, OnlyFalls, MayChange, HasChanged, only, byte_of}
 use Rattle.nor_plan.specs.SectorSet.{none}

@@ -1,10 +1,10 @@
 -- How far a chip may differ from the original chip if a journal of the original can restore it.
 use Rattle.std.specs.Prelude.{◌≡◌, ◌≢◌, ◌/◌, ◌&&◌, ℕ, Bool, true, false, not}
-use Rattle.nor_chip.specs.declared.running.Running.{Running}
-use Rattle.nor_chip.specs.declared.running.Running.TheVariants.{StatusWrite}
-use Rattle.nor_chip.specs.Chip.{Chip, is_locked}
-use Rattle.nor_chip.specs.Power.{is_known_running, is_in_work}
-use Rattle.nor_chip.specs.Bus.{BusState}
+use Rattle.nor_model.specs.declared.running.Running.{Running}
+use Rattle.nor_model.specs.declared.running.Running.TheVariants.{StatusWrite}
+use Rattle.nor_model.specs.Chip.{Chip, is_locked}
+use Rattle.nor_model.specs.Power.{is_known_running, is_in_work}
+use Rattle.nor_model.specs.Bus.{BusState}
 use Rattle.nor_driver.specs.StatusWrites.{fixed_of}
 
 -- true if the protection bits can be written: the chip has block protection, and its status isn't locked

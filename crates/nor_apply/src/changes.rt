@@ -1,7 +1,7 @@
 //! All changes of a session or restore, in order.
 ghost use Rattle.std.specs.Prelude.{◌≡◌, ◌<◌, ◌≤◌, ◌/◌, ℕ, true, IfOk, IfErr};
 ghost use Rattle.nor_plan.specs.SectorSet.{has, LiesBelow};
-ghost use Rattle.nor_count.specs.Counts.{sector_count};
+ghost use Rattle.nor_geometry.specs.Counts.{sector_count};
 ghost use Rattle.nor_driver.specs.Waits.{OperationFails};
 ghost use Rattle.nor_apply.specs.Applying.{LeavesApply, DoesApply, NamesChange, writes_code, touched_in, most_applied};
 
@@ -9,10 +9,9 @@ use crate::Source;
 use crate::erases::erase_all;
 use crate::programs::program_all;
 use crate::protection::write_code;
-use nor_chip::{Bus, Status};
 use nor_driver::OperationError;
+use nor_model::{Bus, Kinds, Status};
 use nor_plan::SectorSet;
-use nor_probe::Kinds;
 
 /// The changes to make to a chip.
 #[derive(Clone, Copy)]
@@ -65,7 +64,11 @@ pub struct Work {
 ///
 /// Returns `Stopped` if the bus stopped. Returns `Timeout` with an address in a touched sector, or 0 for a status
 /// write, if the chip stayed busy for 65,536 polls. On a well-behaved bus there is no timeout.
-pub fn apply<B: Bus, S: Source>(bus: &mut B, source: &S, changes: &Changes) -> Result<Work, OperationError>
+pub fn apply<B: Bus, S: Source>(
+    bus: &mut B,
+    source: &S,
+    changes: &Changes,
+) -> Result<Work, OperationError>
     requires inside { LiesBelow changes.now.touched (changes.now.size / 4096) }
     requires raised { (s : ℕ) → has changes.now.raised s ≡ true → has changes.now.touched s ≡ true }
     requires small { changes.now.size ≤ 16777216 }

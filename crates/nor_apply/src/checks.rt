@@ -3,15 +3,15 @@ ghost use Rattle.std.specs.Prelude.{◌≡◌, ◌<◌, ℕ, true, length, IfOk,
 ghost use Rattle.nor_driver.specs.OnlyReads.{OnlyReads};
 ghost use Rattle.nor_plan.specs.SectorSet.{has};
 ghost use Rattle.nor_apply.specs.declared.checks.CheckFault.TheVariants as Faults;
-ghost use Rattle.nor_count.specs.Counts.{sector_count};
+ghost use Rattle.nor_geometry.specs.Counts.{sector_count};
 ghost use Rattle.nor_apply.specs.Checking.{DoesChecks, CheckErrors, NamesDifference, of_check};
 ghost use Rattle.nor_apply.specs.Change.{only, byte_of};
 
 use crate::Source;
-use nor_call::Refusal;
-use nor_chip::{Bus, MOST_SECTORS, SECTOR_LEN, Stopped};
 use nor_driver::read_sector;
+use nor_model::{Bus, MOST_SECTORS, SECTOR_LEN, Stopped};
 use nor_plan::{SectorSet, bounds};
+use nor_request::Refusal;
 use thiserror::Error;
 
 /// The reason why a verification failed.

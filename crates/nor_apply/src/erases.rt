@@ -2,16 +2,15 @@
 ghost use Rattle.std.specs.Prelude.{◌≤◌, ◌*◌, ◌/◌, IfOk, IfErr};
 ghost use Rattle.nor_driver.specs.Operations.{most_operation};
 ghost use Rattle.nor_plan.specs.SectorSet.{has, LiesBelow};
-ghost use Rattle.nor_count.specs.Counts.{sector_count};
+ghost use Rattle.nor_geometry.specs.Counts.{sector_count};
 ghost use Rattle.nor_driver.specs.Waits.{OperationFails};
 ghost use Rattle.nor_apply.specs.Spending.{NamesTimeoutIn};
 ghost use Rattle.nor_apply.specs.Erasing.{LeavesErases, DoesErases};
 
 use crate::tally::Tally;
-use nor_chip::Bus;
 use nor_driver::{OperationError, erase};
+use nor_model::{Bus, Kinds};
 use nor_plan::{SectorSet, erases};
-use nor_probe::Kinds;
 
 /// Erases the raised sectors of a chip of `size` bytes that has these erase types, with the fewest erases. Returns the
 /// numbers of erases and transactions. On a well-behaved bus, the sectors are proved to be FFh afterwards if the chip

@@ -1,7 +1,7 @@
 //! Page programs of a set of sectors.
 ghost use Rattle.std.specs.Prelude.{◌≡◌, ◌<◌, ◌*◌, ℕ, true, length, IfOk, IfErr};
 ghost use Rattle.nor_plan.specs.SectorSet.{has};
-ghost use Rattle.nor_count.specs.Counts.{sector_count};
+ghost use Rattle.nor_geometry.specs.Counts.{sector_count};
 ghost use Rattle.nor_driver.specs.Waits.{OperationFails};
 ghost use Rattle.nor_apply.specs.Spending.{NamesTimeoutIn};
 ghost use Rattle.nor_apply.specs.Change.{only};
@@ -9,8 +9,8 @@ ghost use Rattle.nor_apply.specs.Programming.{LeavesSpans, DoesSpans, LeavesSect
 
 use crate::Source;
 use crate::tally::Tally;
-use nor_chip::{Bus, MOST_SECTORS, SECTOR_LEN, Stopped};
 use nor_driver::{OperationError, program_page, read_sector};
+use nor_model::{Bus, MOST_SECTORS, SECTOR_LEN, Stopped};
 use nor_plan::{SectorSet, spans};
 
 /// Programs the touched sectors, in ascending order, with the bytes of `source`, which must have every touched sector.
@@ -84,7 +84,12 @@ fn load<B: Bus>(bus: &mut B, sector: u32, erased: bool, bytes: &mut [u8]) -> Res
 }
 
 // Programs one span per page in which the bytes `old` of a sector differ from the target bytes.
-fn program_spans<B: Bus>(bus: &mut B, sector: u32, old: &[u8], wanted: &[u8]) -> Result<Tally, OperationError>
+fn program_spans<B: Bus>(
+    bus: &mut B,
+    sector: u32,
+    old: &[u8],
+    wanted: &[u8],
+) -> Result<Tally, OperationError>
     requires reachable { sector < 4096 }
     requires whole { length old.now ≡ 4096 }
     requires wanted_whole { length wanted.now ≡ 4096 }

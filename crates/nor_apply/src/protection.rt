@@ -4,15 +4,20 @@ ghost use Rattle.nor_driver.specs.Operations.{most_operation};
 ghost use Rattle.nor_apply.specs.Protecting.{LeavesCode, DoesCode, FailsWriting};
 ghost use Rattle.nor_driver.specs.Waits.{OperationFails};
 
-use nor_chip::{Bus, Status};
 use nor_driver::{OperationError, write_status};
+use nor_model::{Bus, Status};
 
 /// Writes the protection bits of `code`, which must be below 64, if `needed` is set. The other non-volatile bits are
 /// sent as in `status`. Returns the number of transactions, 0 if `needed` is not set.
 ///
 /// Returns `Stopped` if the bus stopped, and `Timeout` with address 0 if the chip stayed busy for 65,536 polls. On a
 /// well-behaved bus there is no timeout.
-pub fn write_code<B: Bus>(bus: &mut B, status: Status, code: u8, needed: bool) -> Result<u64, OperationError>
+pub fn write_code<B: Bus>(
+    bus: &mut B,
+    status: Status,
+    code: u8,
+    needed: bool,
+) -> Result<u64, OperationError>
     requires { code < 64 }
     ensures leaves { LeavesCode status code needed (B.state bus.old) (B.state bus.new) }
     ensures does { IfOk result (DoesCode status code needed (B.state bus.old) (B.state bus.new)) }

@@ -2,16 +2,12 @@
 use Rattle.std.proofs.Common.{◌≡◌, ◌∙◌, ℕ, true≢false, List, [], Option, None, Some, is_none, refl, arith, inl, inr, subst, sym}
 use Rattle.std.specs.Prelude.{◌&&◌}
 use Rattle.std.proofs.Math.Bool.{or-false}
-use Rattle.nor_chip.specs.Chip.{Chip}
-use Rattle.nor_chip.specs.declared.sent.Sent.{Sent}
-use Rattle.nor_chip.specs.Step.{Step}
-use Rattle.nor_chip.specs.Power.{PowerLost, PowerLostWith}
-use Rattle.nor_chip.specs.Bus.{BusState, AtStop}
+use Rattle.nor_model.specs.Chip.{Chip}
+use Rattle.nor_model.specs.declared.sent.Sent.{Sent}
+use Rattle.nor_model.proofs.Steps.{nothing_sent}
+use Rattle.nor_model.specs.Power.{PowerLost, PowerLostWith}
+use Rattle.nor_model.specs.Bus.{BusState, AtStop}
 use Rattle.nor_chip.specs.Sim.{TornTo, WornTo, LostTo}
-
--- a transaction of which no byte is sent leaves the chip as it was
-pub nothing_sent : (chip : Chip) → Step chip [] [] chip
-nothing_sent chip = search arith
 
 -- a simulated power failure (`PowerLostWith`) is one that the contract of a bus allows (`PowerLost`)
 pub power_lost : (fill : ℕ) (old new : Chip) → PowerLostWith fill old new → PowerLost old new

@@ -1,12 +1,3 @@
 pub mod AtStops
-pub mod Guarded
-pub mod ProtectedAddresses
-pub mod Kept
-pub mod LeastCodes
 pub mod Lines
-pub mod Nature
 pub mod Page
-pub mod Round
-pub mod Sizes
-pub mod StatusBits
-pub mod Steps

@@ -1,6 +1,6 @@
 -- The effect of a program and an erase on a list of bytes.
 use Rattle.std.specs.Prelude.{◌≡◌, ◌/◌, ◌+◌, ◌==◌, ◌&&◌, ℕ, List, nat_lt, nat_le, slice_index, if◌then◌else◌}
-use Rattle.nor_chip.specs.Step.{last_for, lowered}
+use Rattle.nor_model.specs.Step.{last_for, lowered}
 
 -- The page that holds `at` was programmed with the bytes sent. All other bytes are as they were.
 abbrev pub HasPageProgrammed : ℕ → (sent old new : List ℕ) → Type 0

@@ -1,11 +1,11 @@
 -- The simulated chip, as contracts see it.
 use Rattle.std.specs.Prelude.{◌≡◌, ◌/◌, ◌%◌, ◌==◌, ◌&&◌, ℕ, true, not, slice_index, if◌then◌else◌}
-use Rattle.nor_chip.specs.declared.command.Command.{Command}
-use Rattle.nor_chip.specs.declared.running.Running.{Running}
+use Rattle.nor_model.specs.declared.command.Command.{Command}
+use Rattle.nor_model.specs.declared.running.Running.{Running}
 use Rattle.nor_chip.specs.declared.sim.flash.Flash.{Flash}
-use Rattle.nor_chip.specs.Chip.{Chip}
-use Rattle.nor_chip.specs.Power.{is_known_running, is_in_work, kept_before}
-use Rattle.nor_chip.specs.Step.{is_operation}
+use Rattle.nor_model.specs.Chip.{Chip}
+use Rattle.nor_model.specs.Power.{is_known_running, is_in_work, kept_before}
+use Rattle.nor_model.specs.Step.{is_operation}
 
 -- the chip that is simulated
 abbrev pub chip_of : Flash → Chip

@@ -2,12 +2,12 @@
 use Rattle.std.specs.Prelude.{◌≡◌, ◌&&◌, ◌||◌, ℕ, Bool, List, [], length, take, Option, None, Some, Result, true, false, slice_index_or, OnOk, OnErr}
 use Rattle.std.specs.Option.{is_none}
 use Rattle.nor_chip.specs.declared.sim.SimBus.{SimBus}
-use Rattle.nor_chip.specs.declared.bus.Stopped.{Stopped}
-use Rattle.nor_chip.specs.Chip.{Chip}
+use Rattle.nor_model.specs.declared.bus.Stopped.{Stopped}
+use Rattle.nor_model.specs.Chip.{Chip}
 use Rattle.nor_chip.specs.Flash.{chip_of}
-use Rattle.nor_chip.specs.Power.{PowerLostWith}
-use Rattle.nor_chip.specs.Step.{Step, is_operation, done_of, wears}
-use Rattle.nor_chip.specs.Bus.{BusState}
+use Rattle.nor_model.specs.Power.{PowerLostWith}
+use Rattle.nor_model.specs.Step.{Step, is_operation, done_of, wears}
+use Rattle.nor_model.specs.Bus.{BusState}
 
 -- The state of a simulated bus. It is always honest, and takes transactions of any length. It is steady if neither
 -- `lose` nor `tear` set an effect of a stop.

@@ -3,10 +3,10 @@ use Rattle.std.specs.Prelude.{◌≡◌, ◌<◌, ◌+◌, ◌-◌, ◌^◌, ◌
 use Rattle.nor_chip.specs.declared.spoilt.SpoiltBus.{SpoiltBus}
 use Rattle.nor_chip.specs.declared.spoilt.Spoil.{Spoil}
 use Rattle.nor_chip.specs.declared.spoilt.Spoil.TheVariants.{Fill, BusyFrom, Drop, Low}
-use Rattle.nor_chip.specs.declared.bus.Stopped.{Stopped}
-use Rattle.nor_chip.specs.declared.sent.Sent.{Sent}
-use Rattle.nor_chip.specs.PolledReady.{is_poll}
-use Rattle.nor_chip.specs.Bus.{BusState, IsHonestFor, Stops, Carries}
+use Rattle.nor_model.specs.declared.bus.Stopped.{Stopped}
+use Rattle.nor_model.specs.declared.sent.Sent.{Sent}
+use Rattle.nor_model.specs.PolledReady.{is_poll}
+use Rattle.nor_model.specs.Bus.{BusState, IsHonestFor, Stops, Carries}
 
 -- the bus inside (`bus_in`), and the way in which the faulty bus fails (`spoil_of`)
 abbrev pub bus_in : {B : Type 0} → SpoiltBus B → B

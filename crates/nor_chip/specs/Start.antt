@@ -1,11 +1,11 @@
 -- The start of a simulated bus, and what it shows of its chip.
 use Rattle.std.specs.Prelude.{◌≡◌, ◌<◌, ◌/◌, ◌%◌, ◌==◌, [], ◌∷◌, ℕ, List, true, false, length, slice_index}
-use Rattle.nor_chip.specs.declared.config.Config.{Config}
+use Rattle.nor_model.specs.declared.config.Config.{Config}
 use Rattle.nor_chip.specs.declared.sim.Delays.{Delays}
-use Rattle.nor_chip.specs.declared.running.Running.TheVariants.{Unknown}
-use Rattle.nor_chip.specs.Chip.{Chip, status1_of, status2_of, kept_in}
-use Rattle.nor_chip.specs.Sent.{IsNothing}
-use Rattle.nor_chip.specs.Bus.{BusState}
+use Rattle.nor_model.specs.declared.running.Running.TheVariants.{Unknown}
+use Rattle.nor_model.specs.Chip.{Chip, kept_in}
+use Rattle.nor_model.specs.Sent.{IsNothing}
+use Rattle.nor_model.specs.Bus.{BusState}
 
 -- The state of a simulated bus at its start. Its chip has this configuration, these bytes, and the non-volatile bits
 -- and latch of these two status bytes. The given number of polls will show BUSY, and the operation in progress is
@@ -29,7 +29,3 @@ pub record Starts (setup : Config) (image flags : List ℕ) (delays : Delays) (s
 pub record AreChipBytes (chip : Chip) (bytes : List ℕ) : Type 0 where
   pub len : length bytes ≡ chip.config.size
   pub at : (a : ℕ) → a < chip.config.size → slice_index bytes a ≡ chip.bytes a
-
--- the two bytes that 05h and 35h would read
-abbrev pub status_of : Chip → List ℕ
-status_of chip = status1_of chip ∷ status2_of chip ∷ []

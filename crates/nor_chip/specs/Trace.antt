@@ -3,7 +3,7 @@ use Rattle.std.specs.Prelude.{◌≡◌, ◌++◌, ◌==◌, ℕ, Bool, true, fa
 use Rattle.std.specs.Io.KnownBytes.{Appends}
 use Rattle.hex.specs.Hex.{encode_lower}
 use Rattle.nor_chip.specs.declared.trace.TraceBus.{TraceBus}
-use Rattle.nor_chip.specs.declared.bus.Stopped.{Stopped}
+use Rattle.nor_model.specs.declared.bus.Stopped.{Stopped}
 
 -- the bus inside (`traced_by`), the log (`log_of`), and whether a line was lost (`has_lost`)
 abbrev pub traced_by : {B L : Type 0} → TraceBus B L → B

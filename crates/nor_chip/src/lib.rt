@@ -1,5 +1,5 @@
-//! The model of an SPI NOR flash chip, and the contract of a bus that carries transactions to it. Buses to test with
-//! are a simulated chip in memory, a bus that traces, and a faulty bus.
+//! Buses to test with: a simulated chip in memory, a bus that traces, and a faulty bus. The model of the chip and the
+//! contract of a bus are in nor_model, whose items are exported here too.
 //!
 //! ```rust
 //! use nor_chip::{Bus, Config, Delays, Meter, SimBus};
@@ -13,18 +13,6 @@
 //! assert_eq!(rt; id, [0xFE, 0x10, 0x10]);
 //! ```
 //!
-//! `specs/` defines what the chip does at each transaction (`Chip`, `Guard`, `Command`, `Step`) and the contract of a
-//! bus (`Bus`). The crates above describe chips only by these definitions.
-//!
-//! - `bus.rt`: the traits `Bus` and `Meter`, and the error `Stopped`
-//! - `config.rt`: the properties of a chip that never change; the three emulated chips
-//! - `status.rt`: the status registers, their bits by name
-//! - `command.rt`: decodes the bytes of a transaction
-//! - `guard.rt`: the ranges that block protection protects
-//! - `guard/walk.rt`: an iterator over the ranges that can be protected
-//! - `running.rt`: the operation that a busy chip carries out
-//! - `sent.rt`: records which modifying commands were sent over a bus
-//! - `polled_ready.rt`: records whether the last poll showed that the chip is ready
 //! - `sim.rt`: the simulated bus
 //! - `sim/flash.rt`: the modelled chip in memory
 //! - `sim/cells.rt`: reads, programs and fills plain slices
@@ -32,27 +20,15 @@
 //! - `spoilt.rt`: a faulty bus
 #![tactic(auto)]
 
-mod bus;
-mod command;
-mod config;
-mod guard;
-mod polled_ready;
-mod running;
-mod sent;
 mod sim;
 mod spoilt;
-mod status;
 mod trace;
 
-pub use bus::{Bus, Meter, Stopped};
-pub use command::{Command, is_changing};
-pub use config::{ALL_KINDS, Config, Kinds, MOST_SECTORS, SECTOR_LEN, TINY64_SFDP};
-pub use guard::walk::Offered;
-pub use guard::{code_for, protected_range, offered, protected, unit_protected};
-pub use polled_ready::polled_ready_after;
-pub use running::Running;
-pub use sent::Sent;
+pub use nor_model::{
+    ALL_KINDS, Bus, Command, Config, Kinds, MOST_SECTORS, Meter, Offered, Running, SECTOR_LEN,
+    Sent, Status, Status1, Status2, Stopped, TINY64_SFDP, code_for, is_changing, offered,
+    polled_ready_after, protected, protected_range, unit_protected,
+};
 pub use sim::{Delays, SimBus, WrongLength};
 pub use spoilt::{Spoil, SpoiltBus};
-pub use status::{Status, Status1, Status2};
 pub use trace::TraceBus;

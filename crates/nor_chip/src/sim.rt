@@ -1,15 +1,15 @@
 //! A simulated bus: the modelled chip in memory.
 ghost use Rattle.std.specs.Prelude.{◌≡◌, ◌≢◌, ◌<◌, ◌||◌, ◌&&◌, ◌↔◌, ℕ, true, false, length, slice_index_or, vec_len};
 ghost use Rattle.std.specs.Prelude.{IsErr, IfOk, OnOk, OnErr};
-ghost use Rattle.nor_chip.specs.TargetedSectors.{HasValidAddress};
-ghost use Rattle.nor_chip.specs.Step.{wears};
+ghost use Rattle.nor_model.specs.TargetedSectors.{HasValidAddress};
+ghost use Rattle.nor_model.specs.Step.{wears};
 
-use crate::{
+use bitflags::Flags;
+use flash::Flash;
+use nor_model::{
     Bus, Command, Config, MOST_SECTORS, Meter, Running, SECTOR_LEN, Sent, Status, Status1, Stopped,
     polled_ready_after,
 };
-use bitflags::Flags;
-use flash::Flash;
 use std::fmt;
 
 mod cells;
@@ -49,9 +49,10 @@ pub struct SimBus {
 
 impl SimBus {
     ghost use Rattle.std.specs.Option.{is_none};
-    ghost use Rattle.nor_chip.specs.Start.{Starts, AreChipBytes, status_of};
+    ghost use Rattle.nor_chip.specs.Start.{Starts, AreChipBytes};
+    ghost use Rattle.nor_model.specs.Chip.{status_of};
     ghost use Rattle.nor_chip.specs.Flash.{chip_of};
-    ghost use Rattle.nor_chip.specs.Bus.{AtStop};
+    ghost use Rattle.nor_model.specs.Bus.{AtStop};
     ghost use Rattle.nor_chip.specs.Sim.{sim_state, fill_of, torn_of, pace_of, TornTo, WornTo, TearsOff, KeepsBus};
 
     /// Returns a bus to a chip with this configuration, these contents and these two status bytes. BUSY (bit 0 of the
@@ -168,7 +169,7 @@ impl SimBus {
 }
 
 impl Bus for SimBus {
-    ghost use Rattle.nor_chip.specs.Bus.{IsHonestFor, Sends, Stops, Carries, RecordsPoll};
+    ghost use Rattle.nor_model.specs.Bus.{IsHonestFor, Sends, Stops, Carries, RecordsPoll};
     ghost use Rattle.nor_chip.specs.Sim.{sim_state, Simulates};
 
     ghost state = { sim_state };
@@ -205,7 +206,7 @@ impl Bus for SimBus {
 }
 
 impl Meter for SimBus {
-    ghost use Rattle.nor_chip.specs.Bus.{Allows};
+    ghost use Rattle.nor_model.specs.Bus.{Allows};
     ghost use Rattle.nor_chip.specs.Sim.{sim_state, fill_of, torn_of, pace_of};
 
     fn allow(&mut self, n: u64)

@@ -1,12 +1,12 @@
 //! A faulty bus, for tests.
 ghost use Rattle.std.specs.Prelude.{◌≡◌, Bool, true, false, length, OnOk, OnErr, MatchBool, EachIndex, slice_index, ⊤};
 ghost use Rattle.std.proofs.Common.{subst};
-ghost use Rattle.nor_chip.specs.Chip.{IsChip};
-ghost use Rattle.nor_chip.specs.Sent.{IsNothing};
-ghost use Rattle.nor_chip.specs.Bus.{IsHonestFor, Sends, Stops, Carries, RecordsPoll, Allows};
+ghost use Rattle.nor_model.specs.Chip.{IsChip};
+ghost use Rattle.nor_model.specs.Sent.{IsNothing};
+ghost use Rattle.nor_model.specs.Bus.{IsHonestFor, Sends, Stops, Carries, RecordsPoll, Allows};
 ghost use Rattle.nor_chip.specs.Spoilt.{bus_in, spoil_of, succeeded_of, noted_of, spoilt_state, withheld, spoilt_byte, Spoils};
 
-use crate::{Bus, Meter, Sent, Stopped, polled_ready_after};
+use nor_model::{Bus, Meter, Sent, Stopped, polled_ready_after};
 
 /// The way in which a faulty bus fails. Its transactions are counted from 1.
 #[derive(Clone, Copy, Debug, PartialEq, Eq)]

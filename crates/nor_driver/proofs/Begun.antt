@@ -3,13 +3,13 @@ use Rattle.std.proofs.Common.{◌≡◌, ◌+◌, ◌⊎◌, ℕ, true, false, n
 use Rattle.std.specs.Prelude.{◌==◌, if◌then◌else◌}
 use Rattle.std.proofs.lemmas.Bool.Decides.{eqb_tells, nat_tests}
 use Rattle.std.proofs.Math.Bool.{or-false}
-use Rattle.nor_chip.specs.declared.command.Command.{Command}
-use Rattle.nor_chip.specs.declared.command.Command.TheVariants.{Ignored}
-use Rattle.nor_chip.specs.Chip.{Chip, KeptBits}
-use Rattle.nor_chip.specs.Power.{is_in_work, KeptCut}
-use Rattle.nor_chip.specs.Step.{Does, is_carried_out, is_idle, is_operation, done_of, byte_after, kept_after, running_after}
-use Rattle.nor_chip.specs.Bus.{BusState, Carries}
-use Rattle.nor_chip.proofs.Steps.{done-agrees}
+use Rattle.nor_model.specs.declared.command.Command.{Command}
+use Rattle.nor_model.specs.declared.command.Command.TheVariants.{Ignored}
+use Rattle.nor_model.specs.Chip.{Chip, KeptBits}
+use Rattle.nor_model.specs.Power.{is_in_work, KeptCut}
+use Rattle.nor_model.specs.Step.{Does, is_carried_out, is_idle, is_operation, done_of, byte_after, kept_after, running_after}
+use Rattle.nor_model.specs.Bus.{BusState, Carries}
+use Rattle.nor_model.proofs.Steps.{done-agrees}
 use Rattle.nor_driver.specs.OnlyReads.{Unchanged, KeepsChip}
 use Rattle.nor_driver.specs.Waits.{HasWaited, latch_when_idle}
 use Rattle.nor_driver.specs.Operations.{operation_of, AsksForOperation, MayOperate, HasOperated}

@@ -1,9 +1,9 @@
 -- The effect of successive calls that begin no operation.
 use Rattle.std.proofs.Common.{◌≡◌, arith}
-use Rattle.nor_chip.specs.declared.running.Running.{Running}
-use Rattle.nor_chip.specs.Chip.{Chip, IsSame, KeptBits}
-use Rattle.nor_chip.specs.Power.{KeptCut}
-use Rattle.nor_chip.specs.Bus.{BusState}
+use Rattle.nor_model.specs.declared.running.Running.{Running}
+use Rattle.nor_model.specs.Chip.{Chip, IsSame, KeptBits}
+use Rattle.nor_model.specs.Power.{KeptCut}
+use Rattle.nor_model.specs.Bus.{BusState}
 use Rattle.nor_driver.specs.OnlyReads.{Unchanged, KeepsChip}
 
 -- non-volatile bits that are as they were satisfy `KeptCut`

@@ -3,16 +3,16 @@ use Rattle.std.proofs.Common.{◌≡◌, ◌<◌, ◌+◌, ◌*◌, ◌/◌, ◌
 use Rattle.std.proofs.lemmas.Bool.{eqb-true}
 use Rattle.std.proofs.lemmas.Bool.Decides.{nat_tests}
 use Rattle.std.proofs.Math.Bool.{and-false}
-use Rattle.nor_chip.specs.declared.config.Config.{Config}
-use Rattle.nor_chip.specs.declared.command.Command.{Command}
-use Rattle.nor_chip.specs.declared.command.Command.TheVariants as Commands
-use Rattle.nor_chip.specs.Chip.{Chip}
-use Rattle.nor_chip.specs.Guard.{is_block_protected}
-use Rattle.nor_chip.specs.Command.{address_of}
-use Rattle.nor_chip.specs.Step.{is_idle, is_carried_out}
-use Rattle.nor_chip.specs.Sent.{targets, writes_status, begins_erase, begins_program, begins_status_write}
-use Rattle.nor_chip.specs.Bus.{BusState}
-use Rattle.nor_chip.proofs.Sizes.{sized_bounds}
+use Rattle.nor_model.specs.declared.config.Config.{Config}
+use Rattle.nor_model.specs.declared.command.Command.{Command}
+use Rattle.nor_model.specs.declared.command.Command.TheVariants as Commands
+use Rattle.nor_model.specs.Chip.{Chip}
+use Rattle.nor_model.specs.Guard.{is_block_protected}
+use Rattle.nor_model.specs.Command.{address_of}
+use Rattle.nor_model.specs.Step.{is_idle, is_carried_out}
+use Rattle.nor_model.specs.Sent.{targets, writes_status, begins_erase, begins_program, begins_status_write}
+use Rattle.nor_model.specs.Bus.{BusState}
+use Rattle.nor_model.proofs.Sizes.{sized_bounds}
 use Rattle.nor_driver.specs.declared.units.Erase.{Erase}
 use Rattle.nor_driver.specs.declared.units.EraseBlock.{EraseBlock}
 use Rattle.nor_driver.specs.declared.units.EraseBlock.TheVariants as Units

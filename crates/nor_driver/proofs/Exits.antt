@@ -2,11 +2,11 @@
 -- success.
 use Rattle.std.proofs.Common.{◌≡◌, ◌+◌, ◌∙◌, ◌⊎◌, ℕ, true, false, List, [], ◌∷◌, length, drop, take, ap, sym, subst, arith, inl, inr}
 use Rattle.std.proofs.Math.Bool.{or-true}
-use Rattle.nor_chip.specs.declared.command.Command.{Command}
-use Rattle.nor_chip.specs.Sent.{is_stirred}
-use Rattle.nor_chip.specs.Step.{Does, is_operation, done_of}
-use Rattle.nor_chip.specs.Bus.{BusState, IsHonestFor, Sends, AtStop, Stops, Carries}
-use Rattle.nor_chip.proofs.Nature.{nature_then}
+use Rattle.nor_model.specs.declared.command.Command.{Command}
+use Rattle.nor_model.specs.Sent.{is_stirred}
+use Rattle.nor_model.specs.Step.{Does, is_operation, done_of}
+use Rattle.nor_model.specs.Bus.{BusState, IsHonestFor, Sends, AtStop, Stops, Carries}
+use Rattle.nor_model.proofs.Nature.{nature_then}
 use Rattle.nor_driver.specs.declared.waits.Waited.{Waited}
 use Rattle.nor_driver.specs.OnlyReads.{Unchanged, KeepsChip, Falls, OnlyReads}
 use Rattle.nor_driver.specs.Waits.{Waits}

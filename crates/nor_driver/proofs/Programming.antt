@@ -2,13 +2,13 @@
 use Rattle.std.proofs.Common.{◌≡◌, ◌<◌, ◌≤◌, ◌+◌, ◌*◌, ◌%◌, ℕ, cond, List, [], ◌∷◌, length, drop, refl, arith}
 use Rattle.std.proofs.Math.Nat.{mod-eq_of_lt}
 use Rattle.std.proofs.Math.Bool.{or-false, and-true}
-use Rattle.nor_chip.specs.declared.config.Config.{Config}
-use Rattle.nor_chip.specs.declared.command.Command.TheVariants.{Program, Ignored}
-use Rattle.nor_chip.specs.Chip.{Chip}
-use Rattle.nor_chip.specs.Command.{address_of}
-use Rattle.nor_chip.specs.Step.{is_idle}
-use Rattle.nor_chip.specs.Bus.{BusState}
-use Rattle.nor_chip.proofs.Page.{byte_after-program}
+use Rattle.nor_model.specs.declared.config.Config.{Config}
+use Rattle.nor_model.specs.declared.command.Command.TheVariants.{Program, Ignored}
+use Rattle.nor_model.specs.Chip.{Chip}
+use Rattle.nor_model.specs.Command.{address_of}
+use Rattle.nor_model.specs.Step.{is_idle}
+use Rattle.nor_model.specs.Bus.{BusState}
+use Rattle.nor_model.proofs.PageBytes.{byte_after-program}
 use Rattle.nor_driver.specs.Limits.{limits_of, programming}
 use Rattle.nor_driver.specs.Operations.{operation_of, IsCommandAt, MayOperate, HasOperated, LeavesOperation, Operates}
 use Rattle.nor_driver.specs.Programs.{takes_program, is_sector_of, MayProgram, HasProgrammed, LeavesProgram, Programs}

@@ -2,14 +2,14 @@
 use Rattle.std.proofs.Common.{◌≡◌, ◌≤◌, ◌+◌, ℕ, true, false, List, [], ◌∷◌, length, refl, ap, arith, inl, inr}
 use Rattle.std.specs.Prelude.{Result, Ok, Err, OnOk, OnErr}
 use Rattle.std.proofs.lemmas.Bool.Decides.{eqb_tells}
-use Rattle.nor_chip.specs.declared.config.Config.{Config}
-use Rattle.nor_chip.specs.declared.command.Command.{Command}
-use Rattle.nor_chip.specs.declared.command.Command.TheVariants.{Ignored}
-use Rattle.nor_chip.specs.Chip.{Chip}
-use Rattle.nor_chip.specs.Step.{Does, is_operation, done_of}
-use Rattle.nor_chip.specs.Bus.{BusState, IsHonestFor, Sends, Stops, Carries, RecordsPoll}
-use Rattle.nor_chip.specs.PolledReady.{is_poll}
-use Rattle.nor_chip.specs.declared.bus.Stopped.{Stopped}
+use Rattle.nor_model.specs.declared.config.Config.{Config}
+use Rattle.nor_model.specs.declared.command.Command.{Command}
+use Rattle.nor_model.specs.declared.command.Command.TheVariants.{Ignored}
+use Rattle.nor_model.specs.Chip.{Chip}
+use Rattle.nor_model.specs.Step.{Does, is_operation, done_of}
+use Rattle.nor_model.specs.Bus.{BusState, IsHonestFor, Sends, Stops, Carries, RecordsPoll}
+use Rattle.nor_model.specs.PolledReady.{is_poll}
+use Rattle.nor_model.specs.declared.bus.Stopped.{Stopped}
 use Rattle.nor_driver.specs.OnlyReads.{Rested, OnlyReadsHonest, OnlyReads}
 use Rattle.nor_driver.specs.Reads.{changes_nothing, IsReading, HasRead, Replies}
 use Rattle.nor_driver.proofs.Cuts.{stays_then, unchanged_none, unchanged_then, unchanged_stays}

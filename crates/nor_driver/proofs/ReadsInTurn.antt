@@ -1,7 +1,7 @@
 -- Calls that only read, one after another, for every exit of the last one.
 use Rattle.std.proofs.Common.{◌≤◌, ◌+◌, ℕ, arith}
-use Rattle.nor_chip.specs.Bus.{BusState}
-use Rattle.nor_chip.proofs.Nature.{nature_refl, nature_then}
+use Rattle.nor_model.specs.Bus.{BusState}
+use Rattle.nor_model.proofs.Nature.{nature_refl, nature_then}
 use Rattle.nor_driver.specs.OnlyReads.{OnlyReads}
 use Rattle.nor_driver.proofs.Readings.{looked_then, looked_more}
 pub use Rattle.nor_driver.proofs.Cuts.{same_then}

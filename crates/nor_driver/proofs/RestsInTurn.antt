@@ -1,7 +1,7 @@
 -- Reads that succeed one after another, and a stop after them.
 use Rattle.std.proofs.Common.{◌≡◌, ◌<◌, ◌≤◌, ◌+◌, ℕ, true, arith}
-use Rattle.nor_chip.specs.Bus.{BusState, KeepsNature}
-use Rattle.nor_chip.proofs.Nature.{nature_refl, nature_then}
+use Rattle.nor_model.specs.Bus.{BusState, KeepsNature}
+use Rattle.nor_model.proofs.Nature.{nature_refl, nature_then}
 use Rattle.nor_driver.specs.OnlyReads.{Rested, OnlyReads, RanOutIfHonest}
 use Rattle.nor_driver.specs.Ready.{StaysReady}
 use Rattle.nor_driver.specs.Reads.{HasRead}

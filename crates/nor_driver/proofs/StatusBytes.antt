@@ -8,13 +8,13 @@ use Rattle.std.proofs.lemmas.List.Sums.{AllPass-from_list_all}
 use Rattle.std.proofs.lemmas.List.FromFn.{get_or-range_with_len, length-range_with_len}
 use Rattle.std.proofs.lemmas.Nat.{and_assoc, and_mask}
 use Rattle.std.proofs.Math.Bool.{or-false, and-true}
-use Rattle.nor_chip.specs.declared.command.Command.TheVariants.{WriteStatus, Ignored}
-use Rattle.nor_chip.specs.declared.status.Status.{Status}
-use Rattle.nor_chip.specs.Chip.{Chip, kept_in}
-use Rattle.nor_chip.specs.Status.{bytes_of, bytes_with_code}
-use Rattle.nor_chip.specs.Step.{is_idle}
-use Rattle.nor_chip.specs.Bus.{BusState}
-use Rattle.nor_chip.specs.Sent.{writes_status}
+use Rattle.nor_model.specs.declared.command.Command.TheVariants.{WriteStatus, Ignored}
+use Rattle.nor_model.specs.declared.status.Status.{Status}
+use Rattle.nor_model.specs.Chip.{Chip, kept_in}
+use Rattle.nor_model.specs.Status.{bytes_of, bytes_with_code}
+use Rattle.nor_model.specs.Step.{is_idle}
+use Rattle.nor_model.specs.Bus.{BusState}
+use Rattle.nor_model.specs.Sent.{writes_status}
 use Rattle.nor_driver.specs.Limits.{limits_of, writing}
 use Rattle.nor_driver.specs.Operations.{operation_of, MayOperate, HasOperated, LeavesOperation, Operates}
 use Rattle.nor_driver.specs.StatusWrites.{fixed_of, with_code, is_status_with_code, takes_status, MayWriteStatus, HasWrittenStatus, LeavesStatusWrite, WritesStatus}

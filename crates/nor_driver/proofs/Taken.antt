@@ -1,9 +1,9 @@
 -- An operation that the chip carries out if one test holds, and otherwise ignores: its effect in both cases.
 use Rattle.std.proofs.Common.{◌≡◌, ◌∙◌, ℕ, Bool, true, false, cond, List, drop, ap, subst}
-use Rattle.nor_chip.specs.declared.command.Command.{Command}
-use Rattle.nor_chip.specs.declared.command.Command.TheVariants.{Ignored}
-use Rattle.nor_chip.specs.Step.{is_operation}
-use Rattle.nor_chip.specs.Bus.{BusState}
+use Rattle.nor_model.specs.declared.command.Command.{Command}
+use Rattle.nor_model.specs.declared.command.Command.TheVariants.{Ignored}
+use Rattle.nor_model.specs.Step.{is_operation}
+use Rattle.nor_model.specs.Bus.{BusState}
 use Rattle.nor_driver.specs.OnlyReads.{KeepsChip}
 use Rattle.nor_driver.specs.Operations.{operation_of, MayOperate, HasOperated, HasIgnored, LeavesOperation, Operates}
 

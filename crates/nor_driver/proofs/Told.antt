@@ -5,9 +5,9 @@ use Rattle.std.specs.List.{range_with_len}
 use Rattle.std.proofs.Math.Nat.{mod-eq_of_lt}
 use Rattle.std.proofs.lemmas.List.{ext_get_or}
 use Rattle.std.proofs.lemmas.List.FromFn.{get_or-map-range_with_len, length-map-range_with_len}
-use Rattle.nor_chip.specs.declared.config.Config.{Config}
-use Rattle.nor_chip.specs.Chip.{sfdp_byte}
-use Rattle.nor_chip.specs.Bus.{BusState}
+use Rattle.nor_model.specs.declared.config.Config.{Config}
+use Rattle.nor_model.specs.Chip.{sfdp_byte}
+use Rattle.nor_model.specs.Bus.{BusState}
 use Rattle.nor_driver.specs.Reads.{Replies, unique_of, shown, ReadsUnique, ReadsSfdp, ReadsSector}
 
 -- bytes that equal the SFDP byte at each address in turn are `shown`

@@ -4,14 +4,14 @@ use Rattle.std.proofs.Math.Seq.{take-nil}
 use Rattle.std.proofs.Math.Bool.{or-false}
 use Rattle.std.proofs.lemmas.Bool.{cases_Bool}
 use Rattle.std.proofs.lemmas.Bool.Decides.{nat_tests}
-use Rattle.nor_chip.specs.declared.config.Config.{Config}
-use Rattle.nor_chip.specs.declared.command.Command.{Command}
-use Rattle.nor_chip.specs.declared.command.Command.TheVariants.{WriteEnable, WriteStatus, Program, Erase}
-use Rattle.nor_chip.specs.Chip.{Chip}
-use Rattle.nor_chip.specs.Command.{command_of, begins_quiet, is_quiet_opcode}
-use Rattle.nor_chip.specs.Power.{PowerLost}
-use Rattle.nor_chip.specs.Step.{Does, is_operation, done_of, wears}
-use Rattle.nor_chip.specs.Bus.{BusState, AtStop, Stops}
+use Rattle.nor_model.specs.declared.config.Config.{Config}
+use Rattle.nor_model.specs.declared.command.Command.{Command}
+use Rattle.nor_model.specs.declared.command.Command.TheVariants.{WriteEnable, WriteStatus, Program, Erase}
+use Rattle.nor_model.specs.Chip.{Chip}
+use Rattle.nor_model.specs.Command.{command_of, begins_quiet, is_quiet_opcode}
+use Rattle.nor_model.specs.Power.{PowerLost}
+use Rattle.nor_model.specs.Step.{Does, is_operation, done_of, wears}
+use Rattle.nor_model.specs.Bus.{BusState, AtStop, Stops}
 use Rattle.nor_driver.specs.OnlyReads.{Unchanged, KeepsChip, OnlyReadsHonest}
 use Rattle.nor_driver.proofs.Cuts.{kept_cut-stay, stays_after}
 

@@ -1,11 +1,11 @@
 -- The effect of an erase.
 use Rattle.std.specs.Prelude.{◌≡◌, ◌≢◌, ◌≤◌, ◌+◌, ◌*◌, ◌/◌, ◌&&◌, ◌||◌, ℕ, Bool, true, false, not, if◌then◌else◌}
-use Rattle.nor_chip.specs.declared.running.Running.TheVariants as Runs
-use Rattle.nor_chip.specs.Chip.{Chip}
-use Rattle.nor_chip.specs.Guard.{is_block_protected}
-use Rattle.nor_chip.specs.Step.{is_idle}
-use Rattle.nor_chip.specs.Sent.{is_in_targeted, block_targeted}
-use Rattle.nor_chip.specs.Bus.{BusState}
+use Rattle.nor_model.specs.declared.running.Running.TheVariants as Runs
+use Rattle.nor_model.specs.Chip.{Chip}
+use Rattle.nor_model.specs.Guard.{is_block_protected}
+use Rattle.nor_model.specs.Step.{is_idle}
+use Rattle.nor_model.specs.Sent.{is_in_targeted, block_targeted}
+use Rattle.nor_model.specs.Bus.{BusState}
 use Rattle.nor_driver.specs.declared.units.Erase.{Erase}
 use Rattle.nor_driver.specs.Units.{sectors_in, has_block, is_aligned, erases_sector}
 use Rattle.nor_driver.specs.OnlyReads.{KeepsChip, Falls}

@@ -1,7 +1,7 @@
 -- Limits on the modifying commands that a call sends, on every bus.
 use Rattle.std.specs.Prelude.{◌≡◌, ◌≤◌, ◌<◌, ◌+◌, ◌^◌, ◌⊎◌, ℕ, Bool, true, false, List, if◌then◌else◌}
-use Rattle.nor_chip.specs.Sent.{targets, begins_erase, begins_program, begins_status_write, writes_status, is_targeted, has_written, has_unknown, is_stirred, erases_of, programs_of, status_writes_of}
-use Rattle.nor_chip.specs.Bus.{BusState, KeepsNature}
+use Rattle.nor_model.specs.Sent.{targets, begins_erase, begins_program, begins_status_write, writes_status, is_targeted, has_written, has_unknown, is_stirred, erases_of, programs_of, status_writes_of}
+use Rattle.nor_model.specs.Bus.{BusState, KeepsNature}
 
 -- Limits on modifying commands: the sectors that erases and page programs may target, the two bytes that a status write
 -- may have, and the greatest numbers of erases, page programs and status writes.

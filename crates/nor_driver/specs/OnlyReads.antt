@@ -1,8 +1,8 @@
 -- The effect of functions that only read.
 use Rattle.std.specs.Prelude.{◌≡◌, ◌≢◌, ◌≤◌, ◌<◌, ◌+◌, ◌⊎◌, ℕ, true, false}
-use Rattle.nor_chip.specs.Chip.{IsSame}
-use Rattle.nor_chip.specs.Power.{is_in_work, KeptCut}
-use Rattle.nor_chip.specs.Bus.{BusState, KeepsNature}
+use Rattle.nor_model.specs.Chip.{IsSame}
+use Rattle.nor_model.specs.Power.{is_in_work, KeptCut}
+use Rattle.nor_model.specs.Bus.{BusState, KeepsNature}
 
 -- The bus is steady or the chip is idle, so a stop can't interrupt a running operation.
 abbrev pub IsSteadyOrIdle : BusState → Type 0

@@ -1,14 +1,14 @@
 -- The effect of any operation: a write enable, a command, and a wait.
 use Rattle.std.specs.Prelude.{◌≡◌, ◌≢◌, ◌≤◌, ◌+◌, ◌*◌, ◌⊎◌, ◌||◌, ℕ, Bool, true, false, List, ◌∷◌, length, drop, take, slice_index, if◌then◌else◌}
-use Rattle.nor_chip.specs.declared.config.Config.{Config}
-use Rattle.nor_chip.specs.declared.command.Command.{Command}
-use Rattle.nor_chip.specs.declared.command.Command.TheVariants.{WriteStatus, Program, Erase, Ignored}
-use Rattle.nor_chip.specs.Chip.{Chip, IsSame}
-use Rattle.nor_chip.specs.Power.{is_in_work}
-use Rattle.nor_chip.specs.Command.{command_of}
-use Rattle.nor_chip.specs.Sent.{begins_erase, begins_program, begins_status_write, is_unknown_to_model}
-use Rattle.nor_chip.specs.Step.{is_idle, is_operation, done_of, byte_after, kept_after, running_after, wears}
-use Rattle.nor_chip.specs.Bus.{BusState}
+use Rattle.nor_model.specs.declared.config.Config.{Config}
+use Rattle.nor_model.specs.declared.command.Command.{Command}
+use Rattle.nor_model.specs.declared.command.Command.TheVariants.{WriteStatus, Program, Erase, Ignored}
+use Rattle.nor_model.specs.Chip.{Chip, IsSame}
+use Rattle.nor_model.specs.Power.{is_in_work}
+use Rattle.nor_model.specs.Command.{command_of}
+use Rattle.nor_model.specs.Sent.{begins_erase, begins_program, begins_status_write, is_unknown_to_model}
+use Rattle.nor_model.specs.Step.{is_idle, is_operation, done_of, byte_after, kept_after, running_after, wears}
+use Rattle.nor_model.specs.Bus.{BusState}
 use Rattle.nor_driver.specs.OnlyReads.{KeepsChip, Falls}
 use Rattle.nor_driver.specs.Limits.{limits_of, Stirs, SendsExactly}
 

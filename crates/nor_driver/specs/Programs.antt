@@ -1,11 +1,11 @@
 -- The effect of a program within one page.
 use Rattle.std.specs.Prelude.{◌≡◌, ◌≢◌, ◌≤◌, ◌<◌, ◌+◌, ◌-◌, ◌/◌, ◌==◌, ◌&&◌, ℕ, Bool, true, false, not, nat_le, nat_lt, List, length, slice_index, bit_and, if◌then◌else◌}
-use Rattle.nor_chip.specs.declared.running.Running.TheVariants as Runs
-use Rattle.nor_chip.specs.Chip.{Chip}
-use Rattle.nor_chip.specs.Guard.{is_protected}
-use Rattle.nor_chip.specs.Step.{is_idle}
-use Rattle.nor_chip.specs.Sent.{is_in_targeted, block_targeted}
-use Rattle.nor_chip.specs.Bus.{BusState}
+use Rattle.nor_model.specs.declared.running.Running.TheVariants as Runs
+use Rattle.nor_model.specs.Chip.{Chip}
+use Rattle.nor_model.specs.Guard.{is_protected}
+use Rattle.nor_model.specs.Step.{is_idle}
+use Rattle.nor_model.specs.Sent.{is_in_targeted, block_targeted}
+use Rattle.nor_model.specs.Bus.{BusState}
 use Rattle.nor_driver.specs.OnlyReads.{KeepsChip, Falls}
 use Rattle.nor_driver.specs.Limits.{programming, Stirs, SendsExactly}
 use Rattle.nor_driver.specs.Operations.{ChangesOnly, EndsWaiting, HasIgnored, most_operation}

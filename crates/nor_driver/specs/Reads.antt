@@ -1,13 +1,13 @@
 -- The results of commands that only read.
 use Rattle.std.specs.Prelude.{◌≡◌, ◌≤◌, ◌<◌, ◌+◌, ◌*◌, ◌%◌, ℕ, Bool, true, false, List, [], ◌∷◌, length, map, slice_index, slice_index_or}
 use Rattle.std.specs.List.{range_with_len}
-use Rattle.nor_chip.specs.declared.config.Config.{Config}
-use Rattle.nor_chip.specs.declared.command.Command.{Command}
-use Rattle.nor_chip.specs.declared.command.Command.TheVariants.{ReadStatus2, ReadData, ReadId, ReadSfdp, ReadUnique, Ignored}
-use Rattle.nor_chip.specs.Chip.{sfdp_byte}
-use Rattle.nor_chip.specs.Command.{command_of, begins_quiet}
-use Rattle.nor_chip.specs.Step.{done_of, reply_byte}
-use Rattle.nor_chip.specs.Bus.{BusState}
+use Rattle.nor_model.specs.declared.config.Config.{Config}
+use Rattle.nor_model.specs.declared.command.Command.{Command}
+use Rattle.nor_model.specs.declared.command.Command.TheVariants.{ReadStatus2, ReadData, ReadId, ReadSfdp, ReadUnique, Ignored}
+use Rattle.nor_model.specs.Chip.{sfdp_byte}
+use Rattle.nor_model.specs.Command.{command_of, begins_quiet}
+use Rattle.nor_model.specs.Step.{done_of, reply_byte}
+use Rattle.nor_model.specs.Bus.{BusState}
 use Rattle.nor_driver.specs.OnlyReads.{Rested}
 
 -- a command that changes nothing, not even the write enable latch or `busy`

@@ -1,11 +1,11 @@
 -- The effect of a status write that sends other protection bits, and the bits that flashnor never changes as they are.
 use Rattle.std.specs.Prelude.{◌≡◌, ◌≢◌, ◌+◌, ◌*◌, ◌/◌, ◌%◌, ◌==◌, ◌&&◌, ◌⊎◌, ℕ, Bool, true, false, not}
-use Rattle.nor_chip.specs.declared.running.Running.TheVariants as Runs
-use Rattle.nor_chip.specs.declared.status.Status.{Status}
-use Rattle.nor_chip.specs.Status.{bytes_of}
-use Rattle.nor_chip.specs.Chip.{Chip, KeptBits, is_locked, kept_in}
-use Rattle.nor_chip.specs.Step.{is_idle}
-use Rattle.nor_chip.specs.Bus.{BusState}
+use Rattle.nor_model.specs.declared.running.Running.TheVariants as Runs
+use Rattle.nor_model.specs.declared.status.Status.{Status}
+use Rattle.nor_model.specs.Status.{bytes_of}
+use Rattle.nor_model.specs.Chip.{Chip, KeptBits, is_locked, kept_in}
+use Rattle.nor_model.specs.Step.{is_idle}
+use Rattle.nor_model.specs.Bus.{BusState}
 use Rattle.nor_driver.specs.OnlyReads.{KeepsChip, Falls}
 use Rattle.nor_driver.specs.Limits.{writing, Stirs, SendsExactly}
 use Rattle.nor_driver.specs.Operations.{EndsWaiting, HasIgnored, most_operation}

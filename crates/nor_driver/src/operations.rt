@@ -10,7 +10,7 @@ ghost use Rattle.nor_driver.specs.StatusWrites.{LeavesStatusWrite, WritesStatus}
 
 use crate::{Erase, EraseBlock, OperationError, wait};
 use arrayvec::ArrayVec;
-use nor_chip::{Bus, Status};
+use nor_model::{Bus, Status};
 
 // The opcodes of modifying commands. The opcodes of erases are in `units.rt`.
 const WRITE_STATUS: u8 = 0x01;

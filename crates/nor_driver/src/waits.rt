@@ -6,7 +6,7 @@ ghost use Rattle.nor_driver.specs.OnlyReads.{OnlyReads, RanOutIfHonest};
 ghost use Rattle.nor_driver.specs.Waits.{Polls, Waits, WaitFails};
 
 use bitflags::Flags;
-use nor_chip::{Bus, Status1, Stopped};
+use nor_model::{Bus, Status1, Stopped};
 use thiserror::Error;
 
 // The opcode of a poll.

@@ -6,7 +6,7 @@ use crate::held::{Held, hold_chip, hold_journal, mode_beside, sync_under, write_
 use crate::identity::{is_one_file, is_stream};
 use crate::locks::LockFile;
 use crate::making::{VaultedFile, make_empty, make_new};
-use crate::store::{LockFault, CreateFault, Store};
+use crate::store::{CreateFault, LockFault, Store};
 use nor_journal::{FileVault, Vault};
 use std::alloc::Global;
 use std::fs::OpenFile;

@@ -42,5 +42,5 @@ pub use disk::Disk;
 pub use locks::LockFile;
 pub use making::VaultedFile;
 pub use memory::Memory;
-pub use store::{LockFault, CreateFault, Store};
+pub use store::{CreateFault, LockFault, Store};
 pub use stored::Loss;

@@ -4,7 +4,7 @@ ghost use Rattle.nor_files.specs.Files.{AllStay, AreAtRest, IsDurable, Name, Oth
 ghost use Rattle.nor_files.specs.Calls.{Counts};
 ghost use Rattle.nor_files.specs.Named.{file_named, is_borrowed_there, is_named, is_there};
 
-use crate::store::{LockFault, CreateFault, Store};
+use crate::store::{CreateFault, LockFault, Store};
 use crate::stored::{Loss, Stored, copy};
 use nor_journal::MemVault;
 use std::alloc::{AllocError, Global};

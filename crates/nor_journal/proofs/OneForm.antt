@@ -7,8 +7,8 @@ use Rattle.std.specs.Option.{unwrap_or}
 use Rattle.std.proofs.lemmas.List.{length-append, append-nil, take_at, drop_at, length-take, length-drop}
 use Rattle.std.proofs.lemmas.List.{append_cancel_left, take-append-drop}
 use Rattle.sha2.specs.Sha256.{sha256}
-use Rattle.nor_count.specs.Size.{is_chip_size}
-use Rattle.nor_count.proofs.Sizes.{is_chip_size-in_blocks}
+use Rattle.nor_geometry.specs.Size.{is_chip_size}
+use Rattle.nor_geometry.proofs.Sizes.{is_chip_size-in_blocks}
 use Rattle.nor_journal.specs.Number.{number_text, number_at}
 use Rattle.nor_journal.specs.Text.{SavedSector, Content, IsContent, IsSectorBelow, AreRising, magic, SameHeader, head}
 use Rattle.nor_journal.specs.Text.{record_text, records_text, front, body, text, end_mark, least_after, next_number}

@@ -2,7 +2,7 @@
 use Rattle.std.specs.Prelude.{◌≡◌, ◌≢◌, ℕ, ◌-◌, ◌/◌, ◌<◌, ◌≤◌, ◌⊎◌, false, List, ◌++◌, length, take, drop, Option, Some}
 use Rattle.std.specs.Prelude.{None}
 use Rattle.sha2.specs.Sha256.{sha256}
-use Rattle.nor_count.specs.Size.{is_chip_size}
+use Rattle.nor_geometry.specs.Size.{is_chip_size}
 use Rattle.nor_journal.specs.Number.{number_at}
 use Rattle.nor_journal.specs.Text.{Content, IsContent, magic, front, end_mark, next_number}
 use Rattle.nor_journal.specs.declared.fault.JournalFault.{JournalFault}

@@ -1,7 +1,7 @@
 -- The content of a journal, decoded from its bytes by position.
 use Rattle.std.specs.Prelude.{◌≡◌, ℕ, zero, suc, ◌+◌, ◌*◌, ◌/◌, ◌<◌, ◌≤◌, List, [], ◌∷◌, ◌++◌, length, take, drop, true}
 use Rattle.std.specs.Prelude.{IfSome}
-use Rattle.nor_count.specs.Size.{is_chip_size}
+use Rattle.nor_geometry.specs.Size.{is_chip_size}
 use Rattle.nor_journal.specs.Number.{number_at}
 use Rattle.nor_journal.specs.Text.{SavedSector, Content, AreRising, next_number, end_mark}
 use Rattle.nor_journal.specs.Fault.{RecordFault}

@@ -3,7 +3,7 @@ use Rattle.std.specs.Prelude.{◌≡◌, ℕ, ◌+◌, ◌/◌, ◌<◌, ◌≤�
 use Rattle.std.specs.List.{flat_map}
 use Rattle.std.specs.Option.{unwrap_or}
 use Rattle.sha2.specs.Sha256.{sha256}
-use Rattle.nor_count.specs.Size.{is_chip_size}
+use Rattle.nor_geometry.specs.Size.{is_chip_size}
 use Rattle.nor_journal.specs.Number.{number_text}
 
 -- A saved sector: its number, and its bytes before the session.

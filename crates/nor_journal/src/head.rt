@@ -1,6 +1,6 @@
 //! The header of a journal, before its records, in both formats.
 ghost use Rattle.std.specs.Prelude.{◌≡◌, ◌++◌, ℕ, List, take, Option, Some, IfOk, IfErr};
-ghost use Rattle.nor_count.specs.Size.{is_chip_size};
+ghost use Rattle.nor_geometry.specs.Size.{is_chip_size};
 ghost use Rattle.nor_journal.specs.Text.{empty_content, head, magic};
 ghost use Rattle.nor_journal.specs.Fault.{HeaderFault, header_length};
 ghost use Rattle.nor_journal.specs.Reading.{IsHeader, with_header};

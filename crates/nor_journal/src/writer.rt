@@ -2,7 +2,7 @@
 ghost use Rattle.std.specs.Prelude.{◌≡◌, ◌+◌, ◌/◌, ◌<◌, ◌≤◌, ◌++◌, List, ℕ, Bool, []};
 ghost use Rattle.std.specs.Prelude.{IsTrue, false, true, Some, OnOk, OnErr, IfOk, IfErr};
 ghost use Rattle.nor_journal.specs.Vault.{PutRefused, Accepted, PutsOn, Completes, HoldsPrefix, IsFresh};
-ghost use Rattle.nor_count.specs.Size.{is_chip_size};
+ghost use Rattle.nor_geometry.specs.Size.{is_chip_size};
 ghost use Rattle.nor_journal.specs.Text.{Content, IsContent, MayFollow, empty_content, with_sector, front, text};
 ghost use Rattle.nor_journal.specs.Saved.{IsWholeSector, HasOneMore, JournalSaves};
 ghost use Rattle.nor_journal.specs.Writer.{vault_of, vault_seen, HasPut, HasWritten, HasPutSectors};

@@ -8,7 +8,7 @@ use Rattle.std.proofs.lemmas.Bool.Decides.{nat_tests}
 use Rattle.nor_layout.specs.declared.ranges.Span.{Span}
 use Rattle.nor_layout.specs.Ranges.{is_in_span, contains, AreDisjoint}
 use Rattle.nor_layout.specs.Sectors.{includes, sectors_included, has_in_sector, ReachesPast}
-use Rattle.nor_count.proofs.Below.{same_tests, any_below-some, any_below-found, count_below-most}
+use Rattle.nor_geometry.proofs.Below.{same_tests, any_below-some, any_below-found, count_below-most}
 
 -- if each span that passes the test has an address of the kind, and some span passes, the set has such an address
 any_span : (test : Span → Bool) (Kind : ℕ → Type 0)

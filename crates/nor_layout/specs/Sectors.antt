@@ -1,7 +1,7 @@
 -- The addresses that a request includes, by sector. Sector s has the 4,096 addresses from 4096 * s on.
 use Rattle.std.specs.Prelude.{◌≡◌, ℕ, ◌+◌, ◌*◌, ◌/◌, ◌<◌, ◌≤◌, Bool, true, false, List, slice_index, Option, Some, None, if◌then◌else◌}
 use Rattle.nor_layout.specs.declared.ranges.Span.{Span}
-use Rattle.nor_count.specs.Below.{any_below, count_below}
+use Rattle.nor_geometry.specs.Below.{any_below, count_below}
 use Rattle.nor_layout.specs.Ranges.{contains}
 
 -- True if a request includes the address: it is in the ranges, or there are no ranges.

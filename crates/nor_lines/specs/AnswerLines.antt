@@ -1,17 +1,17 @@
 -- The printed lines of each answer, byte by byte.
 use Rattle.std.specs.Prelude.{◌≡◌, ℕ, Bool, List, [], ◌∷◌, ◌++◌, Option, Some, None, codes, decimal, flat_map, if◌then◌else◌}
 use Rattle.std.specs.Iterator.{Drains}
-use Rattle.nor_chip.specs.Offered.{ReturnsNextRange}
-use Rattle.nor_chip.specs.declared.guard.walk.Offered.{Offered}
+use Rattle.nor_model.specs.Offered.{ReturnsNextRange}
+use Rattle.nor_model.specs.declared.guard.walk.Offered.{Offered}
 use Rattle.nor_probe.specs.Table.{chips, name_text}
 use Rattle.nor_probe.specs.declared.probes.Found.{Found}
 use Rattle.nor_probe.specs.declared.table.ChipName.{ChipName}
 use Rattle.nor_probe.specs.declared.table.ChipName.TheVariants.{Sfdp}
 use Rattle.nor_probe.specs.declared.table.Part.{Part}
 use Rattle.nor_read.specs.declared.protection.Protection.{Protection}
-use Rattle.nor_call.specs.declared.report.Report.{Report}
+use Rattle.nor_request.specs.declared.report.Report.{Report}
 use Rattle.nor_session.specs.declared.rehearsals.Rehearsal.{Rehearsal}
-use Rattle.nor_call.specs.Texts.{hex_digits}
+use Rattle.nor_request.specs.Texts.{hex_digits}
 use Rattle.nor_lines.specs.Lines.{id_digits, line}
 use Rattle.nor_lines.specs.declared.answers.Answer.{Answer}
 use Rattle.nor_lines.specs.declared.answers.Answer.TheVariants as answer

@@ -1,7 +1,7 @@
 -- Names in messages, with their control characters escaped.
 use Rattle.std.specs.Prelude.{ℕ, List, ◌++◌, chars, codes, encode_utf8, flat_map, if◌then◌else◌}
 use Rattle.std.specs.Char.{is_control}
-use Rattle.nor_call.specs.Texts.{hex_digits}
+use Rattle.nor_request.specs.Texts.{hex_digits}
 use Rattle.nor_words.specs.Text.{Text}
 
 -- a byte as `\xNN`, with two lower-case hexadecimal digits

@@ -3,8 +3,8 @@ use Rattle.std.specs.Prelude.{ℕ, List, [], ◌∷◌, ◌++◌, Option, Some, 
 use Rattle.std.specs.Fmt.{with_newline}
 use Rattle.std.specs.List.{concat}
 use Rattle.nor_layout.specs.Faults.{line_of_fault, layout_fault_number as layout_number}
-use Rattle.nor_call.specs.Refusal.{refusal_number}
-use Rattle.nor_call.specs.Texts.{refusal_text}
+use Rattle.nor_request.specs.Refusal.{refusal_number}
+use Rattle.nor_request.specs.Texts.{refusal_text}
 use Rattle.nor_words.specs.Faults.{usage_fault_text as usage_text}
 use Rattle.nor_words.specs.Text.{Text}
 use Rattle.nor_lines.specs.Escapes.{escaped}

@@ -1,7 +1,7 @@
 -- The faults of files. A fault of a file occurs only if the `View` of the files allows that failure of the file of that
 -- name.
 use Rattle.std.specs.Prelude.{◌≡◌, ◌≢◌, ◌<◌, ◌+◌, ◌⊎◌, ℕ, List, None, length}
-use Rattle.nor_call.specs.declared.refusal.Refusal.TheVariants.{Memory}
+use Rattle.nor_request.specs.declared.refusal.Refusal.TheVariants.{Memory}
 use Rattle.nor_words.specs.Text.{Text}
 use Rattle.nor_files.specs.Calls.{ReadsFile}
 use Rattle.nor_files.specs.Files.{View}

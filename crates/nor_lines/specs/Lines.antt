@@ -1,6 +1,6 @@
 -- Lines, and the numbers in them.
 use Rattle.std.specs.Prelude.{ℕ, List, [], ◌∷◌, ◌++◌, codes, slice_index}
-use Rattle.nor_call.specs.Texts.{hex_digits}
+use Rattle.nor_request.specs.Texts.{hex_digits}
 
 -- the pieces joined in order, followed by a line feed
 unfoldable pub line : List (List ℕ) → List ℕ

@@ -9,9 +9,9 @@ use Rattle.nor_layout.specs.Included.{are_known, is_included}
 use Rattle.nor_layout.specs.Ranges.{contains}
 use Rattle.nor_layout.specs.Text.{AsksMemory, layout_says}
 use Rattle.nor_probe.specs.declared.table.ChipName.{ChipName}
-use Rattle.nor_call.specs.declared.request.Request.{Request}
-use Rattle.nor_call.specs.declared.request.What.{What}
-use Rattle.nor_call.specs.declared.request.What.TheVariants as what
+use Rattle.nor_request.specs.declared.request.Request.{Request}
+use Rattle.nor_request.specs.declared.request.What.{What}
+use Rattle.nor_request.specs.declared.request.What.TheVariants as what
 use Rattle.nor_words.specs.declared.job.Change.{Change}
 use Rattle.nor_words.specs.declared.job.Regions.{Regions}
 use Rattle.nor_words.specs.declared.job.Wanted.{Wanted}

@@ -1,12 +1,12 @@
 -- The results of the jobs that change a chip: all that the engine promises of a session, with its journal in a file.
 use Rattle.std.specs.Prelude.{◌≡◌, ℕ, true, List, None, Result}
-use Rattle.nor_chip.specs.Bus.{BusState}
+use Rattle.nor_model.specs.Bus.{BusState}
 use Rattle.nor_files.specs.Files.{FilesState, IsKnownFile, View, is_lawful}
 use Rattle.nor_journal.specs.Vault.{IsFresh, VaultState}
 use Rattle.nor_probe.specs.Known.{IsModelled}
-use Rattle.nor_call.specs.declared.refusal.Refusal.{Refusal}
-use Rattle.nor_call.specs.declared.report.Report.{Report}
-use Rattle.nor_call.specs.declared.request.Request.{Request}
+use Rattle.nor_request.specs.declared.refusal.Refusal.{Refusal}
+use Rattle.nor_request.specs.declared.report.Report.{Report}
+use Rattle.nor_request.specs.declared.request.Request.{Request}
 use Rattle.nor_session.specs.Headline.{KeepsOriginal}
 use Rattle.nor_session.specs.Session.{SessionAlways, SessionHonest, SessionModelled}
 use Rattle.nor_words.specs.Text.{Text}

@@ -1,6 +1,6 @@
 //! The result of a job.
 
-use nor_chip::Offered;
+use nor_model::Offered;
 use nor_probe::Found;
 use nor_read::Protection;
 use nor_session::{Refusal, Rehearsal, Report};

@@ -10,10 +10,10 @@ ghost use Rattle.nor_lines.specs.Stored.{IsRead};
 ghost use Rattle.nor_lines.specs.Files.{IsReadingFault, IsMaking, IsSharingFault, IsNotLocked, IsUnreadFault};
 ghost use Rattle.nor_lines.specs.declared.messages.Fault.TheVariants as Faults;
 ghost use Rattle.nor_lines.specs.declared.messages.FileFault.TheVariants as FileFaults;
-ghost use Rattle.nor_call.specs.declared.refusal.Refusal.TheVariants as Refusals;
+ghost use Rattle.nor_request.specs.declared.refusal.Refusal.TheVariants as Refusals;
 
 use crate::messages::{Fault, FileFault};
-use nor_files::{LockFault, CreateFault, Store};
+use nor_files::{CreateFault, LockFault, Store};
 use nor_session::Refusal;
 use std::io;
 use std::io::{BufWriter, ErrorKind};

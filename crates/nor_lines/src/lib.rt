@@ -29,7 +29,7 @@ mod streams;
 
 pub use answers::{Answer, Outcome};
 pub use calls::{
-    erased, list_ranges, read_to_file, session_in_file, report_protection, verify_image,
+    erased, list_ranges, read_to_file, report_protection, session_in_file, verify_image,
 };
 pub use escapes::Escaped;
 pub use files::{

@@ -89,7 +89,7 @@ impl From<LayoutFault> for Fault<'_> {
 
 impl From<AllocError> for Fault<'_> {
     ghost use Rattle.nor_lines.specs.declared.messages.Fault.TheVariants.{Refused};
-    ghost use Rattle.nor_call.specs.declared.refusal.Refusal.TheVariants.{Memory};
+    ghost use Rattle.nor_request.specs.declared.refusal.Refusal.TheVariants.{Memory};
 
     ghost from_gives = { λ _ fault. fault ≡ Refused Memory };
 

@@ -10,7 +10,7 @@ use crate::answers::Answer;
 use crate::messages::Fault;
 use clap::Error as WordsError;
 use clap::error::ErrorKind;
-use nor_chip::Offered;
+use nor_model::Offered;
 use nor_probe::{ChipName, Found, Part, chips};
 use nor_read::Protection;
 use nor_session::{Rehearsal, Report};
@@ -191,7 +191,7 @@ fn print_protection<W: Write>(output: &mut W, protection: &Protection) -> io::Re
     writeln!(output, "Mode: {mode}")
 }
 
-#[tactic(auto, using(nor_call::proofs::Printed::padded_hex), unfolding(crate::specs::Lines::line))]
+#[tactic(auto, using(nor_request::proofs::Printed::padded_hex), unfolding(crate::specs::Lines::line))]
 fn print_range<W: Write>(output: &mut W, range: Option<(u32, u32)>) -> io::Result<()>
     ensures { OnOk result (Appends (W.contents output.old) (W.contents output.new) (protected_line range)) }
 {
@@ -210,7 +210,7 @@ fn print_ranges<W: Write>(output: &mut W, ranges: Offered) -> io::Result<()>
     Ok(())
 }
 
-#[tactic(auto, using(nor_call::proofs::Printed::padded_hex), unfolding(crate::specs::Lines::line))]
+#[tactic(auto, using(nor_request::proofs::Printed::padded_hex), unfolding(crate::specs::Lines::line))]
 fn print_places<W: Write>(output: &mut W, places: (u32, u32)) -> io::Result<()>
     ensures { OnOk result (Appends (W.contents output.old) (W.contents output.new) (range_line places)) }
 {
@@ -228,7 +228,7 @@ impl fmt::Display for Digits {
 
     ghost output = { λ digits. Some (id_digits digits.0) };
 
-    #[tactic(auto, using(nor_call::proofs::Printed::padded_hex))]
+    #[tactic(auto, using(nor_request::proofs::Printed::padded_hex))]
     fn fmt<W: fmt::Write>(&self, f: &mut fmt::Formatter<W>) -> fmt::Result {
         let (maker, kind, capacity) = (self.0[0], self.0[1], self.0[2]);
         write!(f, "{maker:02x}{kind:02x}{capacity:02x}")

@@ -6,8 +6,8 @@ use Rattle.std.proofs.lemmas.List.FromFn.{length-range_with_len}
 use Rattle.std.proofs.lemmas.List.Sums.{length-filter, count_by-le-length}
 use Rattle.nor_plan.specs.declared.set.SectorSet.{SectorSet}
 use Rattle.nor_plan.specs.SectorSet.{has, members_from, member_count, LiesBelow, NoneFrom, IsLeastFrom}
-use Rattle.nor_count.specs.Counts.{IsCount}
-use Rattle.nor_count.proofs.CountedRanges.{count_by-range}
+use Rattle.nor_geometry.specs.Counts.{IsCount}
+use Rattle.nor_geometry.proofs.CountedRanges.{count_by-range}
 use Rattle.nor_plan.proofs.Words.{none_past}
 
 -- numbers that all fail a test can be left out of the filtered range

@@ -1,6 +1,6 @@
 -- The list of planned erases, step by step from one sector to the next.
 use Rattle.std.proofs.Common.{ℕ, suc, ◌≡◌, ◌<◌, ◌≤◌, ◌+◌, ◌-◌, Bool, true, false, [], ◌∷◌, arith}
-use Rattle.nor_chip.specs.declared.config.Kinds.{Kinds}
+use Rattle.nor_model.specs.declared.config.Kinds.{Kinds}
 use Rattle.nor_plan.specs.Planned.{begins_block, erase_at, planned_from}
 
 pub planned_from-end : (whole : Bool) (kinds : Kinds) (set : ℕ → Bool) (from : ℕ) → 4096 ≤ from

@@ -1,6 +1,6 @@
 -- The changes that turn one content into the target (`wanted`): touched and raised sectors, and pages to program.
 use Rattle.std.specs.Prelude.{ℕ, ◌+◌, ◌*◌, ◌/◌, ◌==◌, ◌&&◌, Bool, not, bit_and, if◌then◌else◌}
-use Rattle.nor_count.specs.Below.{any_below}
+use Rattle.nor_geometry.specs.Below.{any_below}
 
 -- two bytes differ
 abbrev pub is_other : (old wanted : ℕ) → Bool

@@ -1,7 +1,7 @@
 -- The erases planned for a set of sectors.
 use Rattle.std.specs.Prelude.{ℕ, ◌≡◌, ◌≤◌, ◌-◌, ◌%◌, Bool, ◌&&◌, if◌then◌else◌, List, length, map, filter, Option, MatchOption, [], ◌∷◌}
 use Rattle.std.specs.List.{list_all, range_with_len}
-use Rattle.nor_chip.specs.declared.config.Kinds.{Kinds}
+use Rattle.nor_model.specs.declared.config.Kinds.{Kinds}
 use Rattle.nor_driver.specs.declared.units.Erase.{Erase}
 use Rattle.nor_driver.specs.declared.units.EraseBlock.{EraseBlock}
 use Rattle.nor_driver.specs.declared.units.EraseBlock.TheVariants.{Sector, Block32, Block64, Chip}

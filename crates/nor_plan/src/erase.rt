@@ -2,8 +2,8 @@
 
 ghost use Rattle.std.specs.Prelude.{◌≡◌, ◌+◌, ◌*◌, ◌/◌, ◌^◌, ◌<◌, ◌≤◌, ℕ, Bool};
 ghost use Rattle.std.specs.Prelude.{true, List, length};
-ghost use Rattle.nor_chip.specs.declared.config.Kinds.{Kinds};
-ghost use Rattle.nor_count.specs.Counts.{IsCount};
+ghost use Rattle.nor_model.specs.declared.config.Kinds.{Kinds};
+ghost use Rattle.nor_geometry.specs.Counts.{IsCount};
 ghost use Rattle.nor_plan.specs.Erase.{Covers};
 ghost use Rattle.nor_plan.specs.Planned.{holds_block, holds_run, planned_block, planned, fewest_erases};
 ghost use Rattle.nor_plan.specs.Planned.{HeadsPlanned, IsLeastLength};
@@ -11,9 +11,8 @@ ghost use Rattle.nor_plan.specs.Erases.{erases_left};
 ghost use Rattle.nor_plan.specs.SectorSet.{has, LiesBelow, member_count};
 
 use crate::set::SectorSet;
-use nor_chip::{MOST_SECTORS, SECTOR_LEN};
 use nor_driver::{Erase, EraseBlock};
-use nor_probe::Kinds;
+use nor_model::{Kinds, MOST_SECTORS, SECTOR_LEN};
 
 mod iter;
 

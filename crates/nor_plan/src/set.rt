@@ -1,6 +1,6 @@
 //! Sets of sectors in a fixed array of 512 bytes, which is cheap to copy.
 
-use nor_chip::MOST_SECTORS;
+use nor_model::MOST_SECTORS;
 
 /// A set of sector numbers below 4,096.
 #[derive(Clone, Copy, Debug, PartialEq, Eq)]
@@ -11,7 +11,7 @@ pub struct SectorSet {
 impl SectorSet {
     ghost use Rattle.std.specs.Prelude.{◌≡◌, ◌<◌, ℕ, MatchBool, MatchOption};
     ghost use Rattle.nor_plan.specs.SectorSet.{has, IsEmpty, HasSome, Inserts, NoneFrom, IsLeastFrom, LiesBelow, members, member_count};
-    ghost use Rattle.nor_count.specs.Counts.{IsCount};
+    ghost use Rattle.nor_geometry.specs.Counts.{IsCount};
     ghost use Rattle.nor_plan.specs.Sectors.{sectors_left};
 
     /// Returns the empty set.

@@ -4,7 +4,7 @@ use Rattle.std.specs.Prelude.{Option, None, Some, Result, Ok, Err, find, bytes_e
 use Rattle.std.specs.List.{list_all}
 use Rattle.std.proofs.lemmas.Grind.{common_steps}
 use Rattle.std.proofs.lemmas.Slice.Eq.{bytes_eq-Decides}
-use Rattle.nor_chip.specs.declared.config.Config.{Config}
+use Rattle.nor_model.specs.declared.config.Config.{Config}
 use Rattle.nor_driver.specs.Reads.{id_of}
 use Rattle.nor_probe.specs.declared.sfdp.Geometry.{Geometry}
 use Rattle.nor_probe.specs.declared.sfdp.SfdpFault.{SfdpFault}

@@ -1,8 +1,8 @@
 -- The emulated chips are known, even with another unique ID, so the premise that a chip is genuine can be met.
 use Rattle.std.proofs.Common.{◌≡◌, ◌∙◌, ℕ, false, List, refl, sym, inl, inr}
 use Rattle.std.specs.Prelude.{Ok, None, Some}
-use Rattle.nor_chip.specs.declared.config.Config.{Config}
-use Rattle.nor_chip.specs.Makers.{all_kinds, IsTiny64, IsW25q64fv, IsW25q128fv}
+use Rattle.nor_model.specs.declared.config.Config.{Config}
+use Rattle.nor_model.specs.Makers.{all_kinds, IsTiny64, IsW25q64fv, IsW25q128fv}
 use Rattle.nor_probe.specs.declared.sfdp.Geometry.{Geometry}
 use Rattle.nor_probe.specs.Sfdp.{double_word, size_in_bits, is_chip_size_in_bits, has_signature, is_basic}
 use Rattle.nor_probe.specs.Sfdp.{address_mode, has_write_granularity, has_erase_type}

@@ -6,8 +6,8 @@ use Rattle.std.specs.Int.RustNames.{count_ones}
 use Rattle.std.proofs.lemmas.Nat.{pow_below, ones_cat, ones_le_self, zero_from_ones}
 use Rattle.std.proofs.lemmas.Bool.{cases_lt, and_parts, and_from, eqb-true, eq-eqb}
 use Rattle.std.proofs.lemmas.Bool.Decides.{nat_tests}
-use Rattle.nor_chip.specs.Size.{is_chip_size}
-use Rattle.nor_chip.proofs.Sizes.{alike, is_chip_size-from, is_chip_size-in_blocks, is_chip_size-power_of_two}
+use Rattle.nor_model.specs.Size.{is_chip_size}
+use Rattle.nor_model.proofs.Sizes.{alike, is_chip_size-from, is_chip_size-in_blocks, is_chip_size-power_of_two}
 use Rattle.nor_probe.specs.Sfdp.{is_chip_size_in_bits}
 
 -- two to a power above 27 isn't a supported size

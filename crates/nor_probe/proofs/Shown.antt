@@ -1,6 +1,6 @@
 -- The SFDP that was read.
 use Rattle.std.proofs.Common.{◌≡◌, refl}
-use Rattle.nor_chip.specs.declared.config.Config.{Config}
+use Rattle.nor_model.specs.declared.config.Config.{Config}
 use Rattle.nor_probe.specs.declared.probes.Parameters.{Parameters}
 use Rattle.nor_probe.specs.Sfdp.{sfdp_says}
 use Rattle.nor_probe.specs.Known.{chip_says}

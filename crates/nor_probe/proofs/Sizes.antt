@@ -1,7 +1,7 @@
 -- Properties that all sizes of chips have.
 use Rattle.std.proofs.Common.{ℕ, ◌%◌, ◌≤◌, ◌≡◌, true, arith}
 use Rattle.std.proofs.lemmas.Bool.Decides.{nat_tests}
-use Rattle.nor_chip.specs.Size.{is_chip_size}
+use Rattle.nor_model.specs.Size.{is_chip_size}
 
 pub size_at_least : (n : ℕ) → is_chip_size n ≡ true → 65536 ≤ n
 size_at_least n is = grind (arith, nat_tests)

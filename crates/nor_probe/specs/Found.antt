@@ -1,10 +1,10 @@
 -- The result of a probe: the chip that it found, or the reason why it found none.
 use Rattle.std.specs.Prelude.{◌≡◌, ◌+◌, ◌%◌, ◌≤◌, ◌<◌, ◌⊎◌, ℕ, true, false, List, if◌then◌else◌, ⊤}
 use Rattle.std.specs.Prelude.{Option, None, Some, Result, Ok, Err, IfOk, IfErr, OnOk}
-use Rattle.nor_chip.specs.declared.config.Config.{Config}
-use Rattle.nor_chip.specs.Chip.{Chip, status1_of}
-use Rattle.nor_chip.specs.Size.{is_chip_size}
-use Rattle.nor_chip.specs.Bus.{BusState}
+use Rattle.nor_model.specs.declared.config.Config.{Config}
+use Rattle.nor_model.specs.Chip.{Chip, status1_of}
+use Rattle.nor_model.specs.Size.{is_chip_size}
+use Rattle.nor_model.specs.Bus.{BusState}
 use Rattle.nor_probe.specs.declared.table.ChipName.{ChipName}
 use Rattle.nor_probe.specs.declared.table.ChipName.TheVariants.{Sfdp}
 use Rattle.nor_probe.specs.declared.table.Part.{Part}

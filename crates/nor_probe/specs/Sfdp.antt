@@ -3,7 +3,7 @@
 -- and `table` the 36 bytes at the address that it points to. Bits that no definition here uses are ignored.
 use Rattle.std.specs.Prelude.{ℕ, ◌==◌, ◌+◌, ◌-◌, ◌*◌, ◌/◌, ◌%◌, ◌^◌, nat_lt, nat_le, Bool, not, ◌&&◌, ◌||◌, if◌then◌else◌, List, [], ◌∷◌, ◌++◌, Result, Ok, Err, slice_index}
 use Rattle.byteorder.specs.Endian.{little_from}
-use Rattle.nor_chip.specs.Size.{is_chip_size}
+use Rattle.nor_model.specs.Size.{is_chip_size}
 use Rattle.nor_probe.specs.declared.sfdp.Geometry.{Geometry}
 use Rattle.nor_probe.specs.declared.sfdp.SfdpFault.{SfdpFault}
 use Rattle.nor_probe.specs.declared.sfdp.SfdpFault.TheVariants.{Signature, Major, FirstHeader, Length, Address, Granularity, Size, NoSector}

@@ -1,8 +1,8 @@
 -- The effect and the result of each step of a probe.
 use Rattle.std.specs.Prelude.{◌≡◌, ◌+◌, ◌<◌, ◌⊎◌, ℕ, true, false, None, Some, Ok, Err, List, ⊤}
-use Rattle.nor_chip.specs.declared.config.Config.{Config}
-use Rattle.nor_chip.specs.Size.{is_chip_size}
-use Rattle.nor_chip.specs.Bus.{BusState}
+use Rattle.nor_model.specs.declared.config.Config.{Config}
+use Rattle.nor_model.specs.Size.{is_chip_size}
+use Rattle.nor_model.specs.Bus.{BusState}
 use Rattle.nor_probe.specs.declared.sfdp.Geometry.{Geometry}
 use Rattle.nor_probe.specs.declared.table.ChipName.{ChipName}
 use Rattle.nor_probe.specs.declared.table.ChipName.TheVariants.{Sfdp}

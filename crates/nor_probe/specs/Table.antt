@@ -1,6 +1,6 @@
 -- The table of the chips that are known by their ID, and the names of chips.
 use Rattle.std.specs.Prelude.{ℕ, true, Option, List, [], ◌∷◌, find, bytes_eq, codes, if◌then◌else◌}
-use Rattle.nor_chip.specs.Makers.{all_kinds}
+use Rattle.nor_model.specs.Makers.{all_kinds}
 use Rattle.nor_probe.specs.declared.table.ChipName.{ChipName}
 use Rattle.nor_probe.specs.declared.table.ChipName.TheVariants.{W25Q64FV, W25Q128FV, Sfdp, Other}
 use Rattle.nor_probe.specs.declared.table.Part.{Part}

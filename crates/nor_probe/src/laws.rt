@@ -1,6 +1,6 @@
 //! Laws on known chips.
 ghost use Rattle.std.specs.Prelude.{ℕ, List};
-ghost use Rattle.nor_chip.specs.declared.config.Config.{Config};
+ghost use Rattle.nor_model.specs.declared.config.Config.{Config};
 ghost use Rattle.nor_probe.specs.Known.{IsKnown, IsEmulated};
 
 /// States that the emulated chips are known (`IsKnown`), and so genuine: promises made for genuine chips hold for them.

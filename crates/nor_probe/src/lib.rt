@@ -32,7 +32,7 @@ mod sfdp;
 mod table;
 
 pub use laws::emulated_are_known;
-pub use nor_chip::Kinds;
+pub use nor_model::Kinds;
 pub use probes::{Found, ProbeFault, Probed, probe, probe_counted};
 pub use sfdp::{Geometry, SfdpFault, read_sfdp};
 pub use table::{ChipName, Part, chips, part_of};

@@ -1,7 +1,7 @@
 //! Finds the chip on a bus.
 
 ghost use Rattle.std.specs.Prelude.{◌≡◌, ◌<◌, ◌^◌, ◌↔◌, true, IsTrue, IfOk, IfErr, OnErr};
-ghost use Rattle.nor_chip.specs.Size.{is_chip_size};
+ghost use Rattle.nor_model.specs.Size.{is_chip_size};
 ghost use Rattle.nor_probe.specs.declared.probes.ProbeFault.TheVariants as Faults;
 ghost use Rattle.nor_driver.specs.OnlyReads.{OnlyReads, RanOutIfHonest};
 ghost use Rattle.nor_probe.specs.Known.{id_of, pointer_in, is_no_chip, IsModelled};
@@ -11,8 +11,8 @@ ghost use Rattle.nor_probe.specs.Steps.{GeometryErrors, ReadsGeometry, ReadsPara
 
 use crate::{ChipName, Geometry, Part, SfdpFault, part_of, read_sfdp};
 use byteorder::{ByteOrder, LittleEndian};
-use nor_chip::{Bus, Kinds, Stopped};
 use nor_driver::{OperationError, read_id, read_parameters, wait};
+use nor_model::{Bus, Kinds, Stopped};
 use thiserror::Error;
 
 /// The reason why a probe found no chip. The first three variants are checked in this order.

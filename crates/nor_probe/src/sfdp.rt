@@ -3,7 +3,7 @@
 
 ghost use Rattle.std.specs.Prelude.{◌≡◌, ◌<◌, ◌≤◌, ◌+◌, ◌*◌, ◌-◌, ◌/◌, true, IsTrue};
 ghost use Rattle.std.specs.Prelude.{IfSome, IfOk};
-ghost use Rattle.nor_chip.specs.Size.{is_chip_size};
+ghost use Rattle.nor_model.specs.Size.{is_chip_size};
 ghost use Rattle.std.specs.Option.{SomeIff};
 ghost use Rattle.nor_probe.specs.Sfdp.{double_word, size_in_bits, address_mode};
 ghost use Rattle.nor_probe.specs.Sfdp.{is_chip_size_in_bits, has_signature, is_basic};
@@ -11,7 +11,7 @@ ghost use Rattle.nor_probe.specs.Sfdp.{has_write_granularity, is_erase_type_at, 
 ghost use Rattle.nor_probe.specs.Sfdp.{table_faults, first_fault_or, sfdp_says};
 
 use byteorder::{ByteOrder, LittleEndian};
-use nor_chip::Kinds;
+use nor_model::Kinds;
 use thiserror::Error;
 
 /// The size and the erase types that an accepted SFDP gives.

@@ -3,7 +3,7 @@
 ghost use Rattle.std.specs.Prelude.{◌≡◌};
 ghost use Rattle.nor_probe.specs.Table.{name_of, name_text, chips, part_with_id};
 
-use nor_chip::{ALL_KINDS, Kinds};
+use nor_model::{ALL_KINDS, Kinds};
 
 /// The name of a chip type.
 #[derive(Clone, Copy, Debug, PartialEq, Eq)]

@@ -4,16 +4,16 @@ use Rattle.std.proofs.Common.{Option, refl, ap, sym, arith, inl, inr, append_ass
 use Rattle.std.specs.Prelude.{◌/◌}
 use Rattle.std.proofs.lemmas.Bool.{cases_lt}
 use Rattle.std.proofs.lemmas.List.{get_or_append_left, get_or-append_right, get_or-take, length-take-le}
-use Rattle.nor_chip.specs.Bus.{BusState}
+use Rattle.nor_model.specs.Bus.{BusState}
 use Rattle.nor_driver.specs.OnlyReads.{OnlyReads, IsOpen}
 use Rattle.nor_journal.specs.Vault.{VaultState, Accepted, Took}
 use Rattle.nor_layout.specs.declared.ranges.Span.{Span}
-use Rattle.nor_count.specs.Below.{count_below}
+use Rattle.nor_geometry.specs.Below.{count_below}
 use Rattle.nor_layout.specs.Sectors.{includes, has_in_sector, sectors_included}
-use Rattle.nor_count.proofs.Below.{count_below-zero}
+use Rattle.nor_geometry.proofs.Below.{count_below-zero}
 use Rattle.nor_driver.proofs.RestsInTurn.{HasLooked, has_looked-none}
-use Rattle.nor_call.specs.declared.refusal.Refusal.{Refusal}
-use Rattle.nor_call.specs.declared.refusal.Refusal.TheVariants.{Output}
+use Rattle.nor_request.specs.declared.refusal.Refusal.{Refusal}
+use Rattle.nor_request.specs.declared.refusal.Refusal.TheVariants.{Output}
 use Rattle.nor_read.specs.Reading.{copied, Grows, Copies, ReadsPiece, ReadsAll, CopyErrors, PutErrors}
 use Rattle.nor_read.proofs.Onward.{has_looked, looked_on, open_on, same_bytes}
 

@@ -3,12 +3,12 @@ use Rattle.std.proofs.Common.{◌≡◌, ◌≤◌, ◌<◌, ◌+◌, ◌-◌, �
 use Rattle.std.proofs.Common.{Option, Some, None, subst, sym, arith}
 use Rattle.std.specs.Prelude.{◌/◌, MatchBool, if◌then◌else◌}
 use Rattle.std.specs.Option.{option_or}
-use Rattle.nor_chip.specs.Bus.{BusState}
+use Rattle.nor_model.specs.Bus.{BusState}
 use Rattle.nor_driver.specs.OnlyReads.{OnlyReads, IsOpen}
 use Rattle.nor_layout.specs.declared.ranges.Span.{Span}
-use Rattle.nor_count.specs.Below.{count_below}
+use Rattle.nor_geometry.specs.Below.{count_below}
 use Rattle.nor_layout.specs.Sectors.{includes, has_in_sector, AreOfSector, SomeInSector, NoneInSector}
-use Rattle.nor_count.proofs.Below.{count_below-zero, count_below-more}
+use Rattle.nor_geometry.proofs.Below.{count_below-zero, count_below-more}
 use Rattle.nor_plan.specs.Bytes.{AllAgree, IsFirstDifference}
 use Rattle.nor_driver.proofs.RestsInTurn.{HasLooked, has_looked-none, rested_none}
 use Rattle.nor_read.specs.declared.verifying.Compared.{Compared}

@@ -3,19 +3,19 @@ use Rattle.std.proofs.Common.{◌≡◌, ◌∙◌, ℕ, ◌/◌, Bool, true, fa
 use Rattle.std.proofs.Common.{Err, ap, sym, arith}
 use Rattle.std.specs.Prelude.{MatchOption}
 use Rattle.std.proofs.lemmas.Bool.Decides.{nat_tests}
-use Rattle.nor_chip.specs.Chip.{Chip, IsSame, KeptBits, status1_of, kept_in, is_locked}
-use Rattle.nor_chip.specs.Guard.{code_of, is_undefined}
-use Rattle.nor_chip.specs.Offer.{IsRangeOf}
-use Rattle.nor_chip.specs.Bus.{BusState}
+use Rattle.nor_model.specs.Chip.{Chip, IsSame, KeptBits, status1_of, kept_in, is_locked}
+use Rattle.nor_model.specs.Guard.{code_of, is_undefined}
+use Rattle.nor_model.specs.Offer.{IsRangeOf}
+use Rattle.nor_model.specs.Bus.{BusState}
 use Rattle.nor_driver.specs.OnlyReads.{OnlyReads, RanOutIfHonest}
 use Rattle.nor_driver.specs.Reads.{ReadsStatus2}
 use Rattle.nor_probe.specs.declared.table.ChipName.{ChipName}
 use Rattle.nor_probe.specs.declared.probes.Probed.{Probed}
 use Rattle.nor_probe.specs.Found.{most_probe}
 use Rattle.nor_driver.proofs.ReadsInTurn.{looks_more}
-use Rattle.nor_call.specs.declared.refusal.Refusal.{Refusal}
-use Rattle.nor_call.specs.declared.refusal.Refusal.TheVariants.{NoProtection, Stopped, Timeout}
-use Rattle.nor_call.specs.Tells.{IdentificationErrors}
+use Rattle.nor_request.specs.declared.refusal.Refusal.{Refusal}
+use Rattle.nor_request.specs.declared.refusal.Refusal.TheVariants.{NoProtection, Stopped, Timeout}
+use Rattle.nor_request.specs.Tells.{IdentificationErrors}
 use Rattle.nor_read.specs.declared.protection.Protection.{Protection}
 use Rattle.nor_read.specs.Finding.{IsModelled, HasFound, ReadingErrors, most_status}
 use Rattle.nor_read.specs.Protecting.{IsProtectedRange, IsProtectionRefusal}

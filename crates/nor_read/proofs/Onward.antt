@@ -1,8 +1,8 @@
 -- Successive steps that only read. A step may send nothing.
 use Rattle.std.proofs.Common.{◌≡◌, ◌+◌, ℕ, true, arith}
 use mathlib.Core.Path.{fun_ext}
-use Rattle.nor_chip.specs.Bus.{BusState}
-use Rattle.nor_chip.proofs.Nature.{nature_then}
+use Rattle.nor_model.specs.Bus.{BusState}
+use Rattle.nor_model.proofs.Nature.{nature_then}
 use Rattle.nor_driver.specs.Ready.{StaysReady}
 use Rattle.nor_driver.specs.OnlyReads.{Rested, OnlyReads, IsOpen}
 use Rattle.nor_driver.proofs.RestsInTurn.{HasLooked, rested_then}

@@ -3,12 +3,12 @@ use Rattle.std.proofs.Common.{◌≡◌, ◌≤◌, ◌<◌, ◌+◌, ◌-◌, �
 use Rattle.std.proofs.Common.{arith, inl, inr}
 use Rattle.std.proofs.lemmas.Bool.{cases_lt}
 use borrow.Rule.Slice.PartMut.{put_mid}
-use Rattle.nor_chip.specs.Bus.{BusState}
+use Rattle.nor_model.specs.Bus.{BusState}
 use Rattle.nor_driver.specs.OnlyReads.{OnlyReads}
 use Rattle.nor_layout.specs.declared.ranges.Span.{Span}
-use Rattle.nor_count.specs.Below.{count_below}
+use Rattle.nor_geometry.specs.Below.{count_below}
 use Rattle.nor_layout.specs.Sectors.{includes, has_in_sector}
-use Rattle.nor_count.proofs.Below.{count_below-more}
+use Rattle.nor_geometry.proofs.Below.{count_below-more}
 use Rattle.nor_plan.proofs.Parts.{put_back}
 use Rattle.nor_driver.proofs.RestsInTurn.{HasLooked, has_looked-none}
 use Rattle.nor_read.specs.Reading.{copied, ReadsPart, ReadsPiece}

@@ -1,7 +1,7 @@
 -- `read_out`: its promises at each exit, from those of the probe and of the copy.
 use Rattle.std.proofs.Common.{◌≡◌, ℕ, true, List, Option, Result, Ok, Err, arith}
 use Rattle.std.specs.Prelude.{◌/◌}
-use Rattle.nor_chip.specs.Bus.{BusState}
+use Rattle.nor_model.specs.Bus.{BusState}
 use Rattle.nor_driver.specs.OnlyReads.{OnlyReads}
 use Rattle.nor_journal.specs.Vault.{VaultState}
 use Rattle.nor_layout.specs.declared.ranges.Span.{Span}
@@ -9,10 +9,10 @@ use Rattle.nor_layout.specs.Sectors.{FitsInto, ReachesPast}
 use Rattle.nor_probe.specs.declared.table.ChipName.{ChipName}
 use Rattle.nor_probe.specs.declared.probes.Probed.{Probed}
 use Rattle.nor_probe.specs.Found.{most_probe}
-use Rattle.nor_call.specs.declared.refusal.Refusal.{Refusal}
-use Rattle.nor_call.specs.declared.refusal.Refusal.TheVariants.{RegionOutside, Stopped, Output}
-use Rattle.nor_call.specs.declared.report.Report.{Report}
-use Rattle.nor_call.specs.Tells.{IdentificationErrors}
+use Rattle.nor_request.specs.declared.refusal.Refusal.{Refusal}
+use Rattle.nor_request.specs.declared.refusal.Refusal.TheVariants.{RegionOutside, Stopped, Output}
+use Rattle.nor_request.specs.declared.report.Report.{Report}
+use Rattle.nor_request.specs.Tells.{IdentificationErrors}
 use Rattle.nor_read.specs.Finding.{IsModelled, HasFound, ReadingErrors, most_read}
 use Rattle.nor_read.specs.Reading.{ReadOutAlways, ReadOutHonest, ReadOutModelled, IsReadRefusal, ReadOutErrors}
 use Rattle.nor_read.specs.Reading.{Copies, ReadsAll, CopyErrors}

@@ -1,8 +1,8 @@
 -- The probe and the reads after it, for all three calls of this crate.
 use Rattle.std.proofs.Common.{◌≡◌, ◌≤◌, ◌+◌, ◌∙◌, ℕ, true, List, Option, Result, Ok, Err, ap, sym, arith}
 use Rattle.std.specs.Prelude.{◌/◌, IsErrAnd}
-use Rattle.nor_chip.specs.Chip.{status1_of}
-use Rattle.nor_chip.specs.Bus.{BusState}
+use Rattle.nor_model.specs.Chip.{status1_of}
+use Rattle.nor_model.specs.Bus.{BusState}
 use Rattle.nor_driver.specs.OnlyReads.{Rested, OnlyReads, RanOut, RanOutIfHonest, IsOpen}
 use Rattle.nor_layout.specs.declared.ranges.Span.{Span}
 use Rattle.nor_layout.specs.Sectors.{sectors_included, FitsInto, ReachesPast}
@@ -12,10 +12,10 @@ use Rattle.nor_probe.specs.declared.probes.Probed.{Probed}
 use Rattle.nor_probe.specs.Found.{IsConfigOf, most_probe}
 use Rattle.nor_driver.proofs.ReadsInTurn.{looks_then, looks_more}
 use Rattle.nor_driver.proofs.RestsInTurn.{HasLooked, rested_then}
-use Rattle.nor_call.specs.declared.refusal.Refusal.{Refusal}
-use Rattle.nor_call.specs.declared.refusal.Refusal.TheVariants.{Stopped, Timeout}
-use Rattle.nor_call.specs.declared.report.Report.{Report}
-use Rattle.nor_call.specs.Tells.{IdentificationErrors}
+use Rattle.nor_request.specs.declared.refusal.Refusal.{Refusal}
+use Rattle.nor_request.specs.declared.refusal.Refusal.TheVariants.{Stopped, Timeout}
+use Rattle.nor_request.specs.declared.report.Report.{Report}
+use Rattle.nor_request.specs.Tells.{IdentificationErrors}
 use Rattle.nor_read.specs.Finding.{IsModelled, HasFound, IsNamed, IsPassed, IsTaken}
 use Rattle.nor_read.specs.Finding.{ReportsPart, ReportsReads, ReadingErrors, most_read}
 

@@ -1,14 +1,14 @@
 -- The report on a chip's block protection.
 use Rattle.std.specs.Prelude.{◌≡◌, ◌<◌, ◌≤◌, ◌+◌, ◌↔◌, ℕ, true, false, Option, MatchOption, ⊤}
 use Rattle.std.specs.Prelude.{Result, IfOk, IfErr, OnOk}
-use Rattle.nor_chip.specs.Chip.{Chip, is_locked}
-use Rattle.nor_chip.specs.Guard.{code_of, is_protected, is_undefined}
-use Rattle.nor_chip.specs.Size.{is_chip_size}
-use Rattle.nor_chip.specs.Bus.{BusState}
+use Rattle.nor_model.specs.Chip.{Chip, is_locked}
+use Rattle.nor_model.specs.Guard.{code_of, is_protected, is_undefined}
+use Rattle.nor_model.specs.Size.{is_chip_size}
+use Rattle.nor_model.specs.Bus.{BusState}
 use Rattle.nor_driver.specs.OnlyReads.{OnlyReads, Rested}
 use Rattle.nor_probe.specs.declared.table.ChipName.{ChipName}
-use Rattle.nor_call.specs.declared.refusal.Refusal.{Refusal}
-use Rattle.nor_call.specs.declared.refusal.Refusal.TheVariants.{NoProtection}
+use Rattle.nor_request.specs.declared.refusal.Refusal.{Refusal}
+use Rattle.nor_request.specs.declared.refusal.Refusal.TheVariants.{NoProtection}
 use Rattle.nor_read.specs.declared.protection.Protection.{Protection}
 use Rattle.nor_read.specs.Finding.{IsNamed, IsFindRefusal, ReadingErrors, most_status}
 

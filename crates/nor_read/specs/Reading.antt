@@ -1,18 +1,18 @@
 -- The result of `read_out`: what it appends to a vault, and the meaning of its errors.
 use Rattle.std.specs.Prelude.{◌≡◌, ◌≤◌, ◌<◌, ◌+◌, ◌*◌, ◌/◌, ◌++◌, ℕ, true, if◌then◌else◌, ⊤}
 use Rattle.std.specs.Prelude.{Option, Result, IfOk, IfErr, OnOk, List, length, slice_index}
-use Rattle.nor_chip.specs.Bus.{BusState}
+use Rattle.nor_model.specs.Bus.{BusState}
 use Rattle.nor_driver.specs.OnlyReads.{OnlyReads, Rested, RanOut, RanOutIfHonest, IsOpen}
 use Rattle.nor_journal.specs.Vault.{VaultState, PutRefused, Refused, Accepted}
 use Rattle.nor_driver.specs.Ready.{StaysReady}
 use Rattle.nor_layout.specs.declared.ranges.Span.{Span}
-use Rattle.nor_count.specs.Below.{count_below}
+use Rattle.nor_geometry.specs.Below.{count_below}
 use Rattle.nor_layout.specs.Sectors.{includes, has_in_sector, sectors_included, AreOfSector, FitsInto}
 use Rattle.nor_probe.specs.declared.table.ChipName.{ChipName}
 use Rattle.nor_probe.specs.Found.{IsConfigOf}
-use Rattle.nor_call.specs.declared.refusal.Refusal.{Refusal}
-use Rattle.nor_call.specs.declared.refusal.Refusal.TheVariants.{RegionOutside, Stopped, Output}
-use Rattle.nor_call.specs.declared.report.Report.{Report}
+use Rattle.nor_request.specs.declared.refusal.Refusal.{Refusal}
+use Rattle.nor_request.specs.declared.refusal.Refusal.TheVariants.{RegionOutside, Stopped, Output}
+use Rattle.nor_request.specs.declared.report.Report.{Report}
 use Rattle.nor_read.specs.Finding.{IsPassed, IsTaken, ReportsPart, ReportsReads, IsFindRefusal, ReadingErrors, most_read}
 
 -- the byte at an address of the copy: the chip's if the address is included, otherwise FFh

@@ -2,12 +2,12 @@
 ghost use Rattle.std.specs.Prelude.{◌≡◌, ◌≤◌, ◌+◌, IfOk, IfErr};
 ghost use Rattle.nor_driver.specs.OnlyReads.{OnlyReads};
 ghost use Rattle.nor_probe.specs.Found.{most_probe};
-ghost use Rattle.nor_call.specs.Tells.{IdentificationErrors};
+ghost use Rattle.nor_request.specs.Tells.{IdentificationErrors};
 ghost use Rattle.nor_read.specs.Finding.{HasFound};
 
-use nor_call::{Refusal, Report};
-use nor_chip::Bus;
+use nor_model::Bus;
 use nor_probe::{ChipName, Probed, probe_counted};
+use nor_request::{Refusal, Report};
 
 /// Waits until the chip is ready, and finds it by its ID or SFDP. With `named` the chip must have this name.
 ///

@@ -23,7 +23,7 @@
 //! ```
 //!
 //! `specs/Reading.antt`, `specs/Verifying.antt` and `specs/Protecting.antt` define what each call promises and what its
-//! errors mean. `Report` and `Refusal` are those of nor_call, which sessions use, too.
+//! errors mean. `Report` and `Refusal` are those of nor_request, which sessions use, too.
 #![tactic(auto)]
 
 mod finding;

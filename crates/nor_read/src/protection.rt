@@ -4,10 +4,10 @@ ghost use Rattle.nor_read.specs.Finding.{IsModelled};
 ghost use Rattle.nor_read.specs.Protecting.{ProtectionAlways, ProtectionHonest, ProtectionModelled};
 
 use crate::finding::find;
-use nor_call::Refusal;
-use nor_chip::{Bus, Status, protected_range};
 use nor_driver::read_status2;
+use nor_model::{Bus, Status, protected_range};
 use nor_probe::ChipName;
+use nor_request::Refusal;
 
 /// The block protection of a chip.
 #[derive(Clone, Copy, Debug, PartialEq, Eq)]

@@ -1,6 +1,6 @@
 //! Copies a chip to a vault.
 ghost use Rattle.std.specs.Prelude.{◌≡◌, ◌<◌, ◌/◌, true, false, length, IfOk, IfErr, OnOk, OnErr, IsTrue, option_copied};
-ghost use Rattle.nor_chip.specs.Size.{is_chip_size};
+ghost use Rattle.nor_model.specs.Size.{is_chip_size};
 ghost use Rattle.nor_driver.specs.OnlyReads.{OnlyReads, RanOutIfHonest};
 ghost use Rattle.nor_journal.specs.Vault.{Took};
 ghost use Rattle.nor_read.specs.Finding.{IsModelled};
@@ -8,12 +8,12 @@ ghost use Rattle.nor_read.specs.Reading.{ReadOutAlways, ReadOutHonest, ReadOutMo
 ghost use Rattle.nor_read.specs.Reading.{ReadsPart, ReadsPiece, ReadsAll, CopyErrors, PutErrors};
 
 use crate::finding::{find, report};
-use nor_call::{Refusal, Report};
-use nor_chip::{Bus, SECTOR_LEN, Stopped};
 use nor_driver::read_sector;
 use nor_journal::Vault;
 use nor_layout::{Ranges, blank_excluded, includes_in_sector, reaches_past};
+use nor_model::{Bus, SECTOR_LEN, Stopped};
 use nor_probe::ChipName;
+use nor_request::{Refusal, Report};
 
 // The length of one piece of the copy: sixteen sectors.
 const PIECE_LEN: usize = 65_536;

@@ -1,6 +1,6 @@
 //! Compares a chip with an image.
 ghost use Rattle.std.specs.Prelude.{◌≡◌, ◌<◌, ◌≤◌, ◌+◌, ◌*◌, ◌/◌, ℕ, true, length, IfOk, OnErr, IsTrue, option_copied};
-ghost use Rattle.nor_chip.specs.Size.{is_chip_size};
+ghost use Rattle.nor_model.specs.Size.{is_chip_size};
 ghost use Rattle.nor_driver.specs.OnlyReads.{OnlyReads, RanOutIfHonest};
 ghost use Rattle.nor_layout.specs.Sectors.{AreOfSector};
 ghost use Rattle.nor_read.specs.Finding.{IsModelled};
@@ -8,12 +8,12 @@ ghost use Rattle.nor_read.specs.Verifying.{VerifyAlways, VerifyHonest, VerifyMod
 ghost use Rattle.nor_read.specs.Verifying.{ComparesPart, ComparesAll, FindsFirst};
 
 use crate::finding::{find, report};
-use nor_call::{Refusal, Report};
-use nor_chip::{Bus, SECTOR_LEN, Stopped};
 use nor_driver::read_sector;
 use nor_layout::{Ranges, fill_excluded, includes_in_sector, reaches_past};
+use nor_model::{Bus, SECTOR_LEN, Stopped};
 use nor_plan::bounds;
 use nor_probe::ChipName;
+use nor_request::{Refusal, Report};
 
 // The result of a comparison: the first address that differs, if any, and how many sectors were read.
 #[derive(Clone, Copy)]

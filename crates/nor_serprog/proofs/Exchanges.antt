@@ -3,8 +3,8 @@ use Rattle.std.proofs.Common.{◌≡◌, ◌∙◌, ◌<◌, ◌≤◌, true, �
 use Rattle.std.specs.Prelude.{slice_index, Result, Ok, Err, OnErr}
 use Rattle.std.proofs.lemmas.List.{append-nil}
 use Rattle.std.proofs.Math.Seq.{take-length}
-use Rattle.nor_chip.specs.Chip.{Chip}
-use Rattle.nor_chip.specs.Step.{Step}
+use Rattle.nor_model.specs.Chip.{Chip}
+use Rattle.nor_model.specs.Step.{Step}
 use Rattle.nor_serprog.specs.Frame.{IsFrame, ReadsAs, out_in, replies_in}
 use Rattle.nor_serprog.specs.declared.command.Command.{Command}
 use Rattle.nor_serprog.specs.declared.command.Command.TheVariants.{Operate}

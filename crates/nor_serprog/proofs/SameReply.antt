@@ -3,13 +3,13 @@ use Rattle.std.proofs.Common.{◌≡◌, ◌∙◌, ◌<◌, ◌+◌, ◌%◌, �
 use Rattle.std.specs.Prelude.{◌==◌, if◌then◌else◌}
 use Rattle.std.proofs.lemmas.Bool.{eqb-true, false≢true}
 use Rattle.std.proofs.lemmas.List.{ext_get_or}
-use Rattle.nor_chip.specs.Chip.{Chip}
-use Rattle.nor_chip.specs.declared.config.Config.{Config}
-use Rattle.nor_chip.specs.declared.command.Command.{Command}
-use Rattle.nor_chip.specs.declared.command.Command.TheVariants.{ReadData, Ignored}
-use Rattle.nor_chip.specs.Command.{address_of}
-use Rattle.nor_chip.specs.Step.{Step, Does, reply_byte}
-use Rattle.nor_chip.specs.Bus.{BusState, KeepsNature, IsHonestFor}
+use Rattle.nor_model.specs.Chip.{Chip}
+use Rattle.nor_model.specs.declared.config.Config.{Config}
+use Rattle.nor_model.specs.declared.command.Command.{Command}
+use Rattle.nor_model.specs.declared.command.Command.TheVariants.{ReadData, Ignored}
+use Rattle.nor_model.specs.Command.{address_of}
+use Rattle.nor_model.specs.Step.{Step, Does, reply_byte}
+use Rattle.nor_model.specs.Bus.{BusState, KeepsNature, IsHonestFor}
 use Rattle.nor_serprog.specs.Twice.{begins_read}
 
 -- The parts of a chip that a read of data leaves as they are: all that the reply depends on.

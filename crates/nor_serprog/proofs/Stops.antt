@@ -2,9 +2,9 @@
 use Rattle.std.proofs.Common.{◌≡◌, ◌∙◌, ◌<◌, ◌≤◌, ◌⊎◌, ℕ, Bool, true, false, List, [], length, refl, sym, ap, subst, arith, inl, inr}
 use Rattle.std.proofs.Math.Bool.{or-false}
 use Rattle.std.proofs.lemmas.Bool.{cases_Bool, false≢true}
-use Rattle.nor_chip.specs.declared.sent.Sent.{Sent}
-use Rattle.nor_chip.specs.Bus.{IsHonestFor, Stops}
-use Rattle.nor_chip.proofs.AtStops.{nothing_sent}
+use Rattle.nor_model.specs.declared.sent.Sent.{Sent}
+use Rattle.nor_model.specs.Bus.{IsHonestFor, Stops}
+use Rattle.nor_model.proofs.Steps.{nothing_sent}
 use Rattle.nor_serprog.specs.declared.link.Link.{Link}
 use Rattle.nor_serprog.specs.Bus.{over_port}
 use Rattle.nor_serprog.specs.Device.{PortState, Interrupted}

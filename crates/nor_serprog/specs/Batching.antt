@@ -1,7 +1,7 @@
 -- The bus that sends commands together, as contracts see it.
 use Rattle.std.specs.Prelude.{ℕ, List, Bool, Option}
-use Rattle.nor_chip.specs.Bus.{BusState, unknown_bus}
-use Rattle.nor_chip.specs.declared.sent.Sent.{Sent}
+use Rattle.nor_model.specs.Bus.{BusState, unknown_bus}
+use Rattle.nor_model.specs.declared.sent.Sent.{Sent}
 use Rattle.nor_serprog.specs.declared.batching.BatchingBus.{BatchingBus}
 use Rattle.nor_serprog.specs.declared.link.Link.{Link}
 use Rattle.nor_serprog.specs.declared.port.Port.{Ghosts}

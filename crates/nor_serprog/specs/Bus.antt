@@ -1,7 +1,7 @@
 -- The bus to the chip at a programmer, as contracts see it.
 use Rattle.std.specs.Prelude.{◌/◌, Bool, false, Option}
-use Rattle.nor_chip.specs.declared.sent.Sent.{Sent}
-use Rattle.nor_chip.specs.Bus.{BusState}
+use Rattle.nor_model.specs.declared.sent.Sent.{Sent}
+use Rattle.nor_model.specs.Bus.{BusState}
 use Rattle.nor_serprog.specs.declared.bus.SerprogBus.{SerprogBus}
 use Rattle.nor_serprog.specs.declared.link.Link.{Link}
 use Rattle.nor_serprog.specs.declared.link.Failure.{Failure}

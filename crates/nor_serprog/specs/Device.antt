@@ -1,10 +1,10 @@
 -- A programmer and its chip, and an honest port to the programmer. (serprog protocol version 1, flashrom's
 -- Documentation/serprog-protocol.txt: "Command And Answer Sequence", and the note on O_SPIOP.)
 use Rattle.std.specs.Prelude.{◌≡◌, ◌<◌, ◌+◌, ◌++◌, ◌⊎◌, ◌||◌, ℕ, Bool, false, List, [], ◌∷◌, length, take, slice_index, ⊤}
-use Rattle.nor_chip.specs.Chip.{Chip}
-use Rattle.nor_chip.specs.Bus.{unknown_chip}
-use Rattle.nor_chip.specs.Power.{PowerLost}
-use Rattle.nor_chip.specs.Step.{Step, done_of, wears}
+use Rattle.nor_model.specs.Chip.{Chip}
+use Rattle.nor_model.specs.Bus.{unknown_chip}
+use Rattle.nor_model.specs.Power.{PowerLost}
+use Rattle.nor_model.specs.Step.{Step, done_of, wears}
 use Rattle.nor_serprog.specs.declared.command.Command.{Command}
 use Rattle.nor_serprog.specs.declared.command.Command.TheVariants.{Operate}
 use Rattle.nor_serprog.specs.Frame.{IsFrame, out_in, replies_in}

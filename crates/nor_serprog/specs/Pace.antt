@@ -1,6 +1,6 @@
 -- How polls that show BUSY are paced.
 use Rattle.std.specs.Prelude.{◌+◌, ◌-◌, ◌^◌, ℕ, zero, suc, true, List, min, nat_le, if◌then◌else◌}
-use Rattle.nor_chip.specs.PolledReady.{polled_ready_after}
+use Rattle.nor_model.specs.PolledReady.{polled_ready_after}
 use Rattle.nor_serprog.specs.declared.paced.Paced.{Paced}
 
 -- The bus inside.

@@ -1,6 +1,6 @@
 -- Transactions that only read.
 use Rattle.std.specs.Prelude.{◌≡◌, ◌==◌, ◌+◌, ◌*◌, ℕ, Bool, false, List, [], ◌∷◌, take, drop}
-use Rattle.nor_chip.specs.Bus.{BusState}
+use Rattle.nor_model.specs.Bus.{BusState}
 
 -- True if a transaction reads data with 03h and an address.
 abbrev pub reads_data : (out : List ℕ) → Bool

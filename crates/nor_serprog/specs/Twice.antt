@@ -2,7 +2,7 @@
 use Rattle.std.specs.Prelude.{◌≡◌, ◌==◌, ℕ, Bool, false, Option, None, Some, length, List, [], ◌∷◌}
 use Rattle.std.proofs.Common.{Vec, Global}
 use Rattle.nor_serprog.specs.ReadsAs.{address_in, part}
-use Rattle.nor_chip.specs.Bus.{BusState, Carries, unknown_bus}
+use Rattle.nor_model.specs.Bus.{BusState, Carries, unknown_bus}
 use Rattle.nor_serprog.specs.declared.twice.ReadTwice.{ReadTwice}
 
 -- The bus inside.

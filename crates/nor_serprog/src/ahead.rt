@@ -1,11 +1,11 @@
 //! A bus that reads ahead.
 ghost use Rattle.std.specs.Prelude.{◌≡◌, ◌≤◌, ◌+◌, ◌-◌, true, false, length, OnOk, OnErr, IfSome};
 ghost use Rattle.std.proofs.lemmas.Bool.{false≢true};
-ghost use Rattle.nor_chip.specs.Bus.{IsHonestFor, Sends, Stops, Carries, RecordsPoll};
+ghost use Rattle.nor_model.specs.Bus.{IsHonestFor, Sends, Stops, Carries, RecordsPoll};
 ghost use Rattle.nor_serprog.specs.ReadsAs.{reads_data, address_in, part, KeepsRecord};
 ghost use Rattle.nor_serprog.specs.Twice.{view_of};
 
-use nor_chip::{Bus, Stopped};
+use nor_model::{Bus, Stopped};
 
 // The greatest length of a block. The size of a chip is a multiple of it (a power of two from 64 KiB), so a block that
 // lies between two of its multiples does not reach past the end of a chip.

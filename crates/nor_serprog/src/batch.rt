@@ -1,11 +1,11 @@
 //! Frames that wait to be sent over a link, so that several of them need one round trip.
 ghost use Rattle.std.specs.Prelude.{◌≡◌, ◌<◌, ◌≤◌, ◌⊎◌, ◌+◌, ◌++◌, [], true, false, length, OnOk, OnErr};
-ghost use Rattle.nor_chip.specs.Command.{begins_change};
+ghost use Rattle.nor_model.specs.Command.{begins_change};
 ghost use Rattle.nor_serprog.specs.Link.{is_in_step};
 
 use crate::{Command, Failure, Frame, Link, Port, Programmer, Sync};
 use arrayvec::ArrayVec;
-use nor_chip::is_changing;
+use nor_model::is_changing;
 
 // Write enable, a full page program and a poll have 283 bytes together.
 const LONGEST_BATCH: usize = 512;

@@ -1,13 +1,13 @@
 //! A bus to the chip at a serial programmer that needs few round trips.
 ghost use Rattle.std.specs.Prelude.{◌≡◌, ◌<◌, ◌⊎◌, [], true, false, length, OnOk, OnErr, IsSome, option_copied};
 ghost use Rattle.std.proofs.lemmas.Bool.{false≢true};
-ghost use Rattle.nor_chip.specs.Bus.{IsHonestFor, Sends, RecordsPoll, Stops, Carries};
-ghost use Rattle.nor_chip.specs.Command.{begins_change};
-ghost use Rattle.nor_chip.specs.Sent.{IsNothing};
+ghost use Rattle.nor_model.specs.Bus.{IsHonestFor, Sends, RecordsPoll, Stops, Carries};
+ghost use Rattle.nor_model.specs.Command.{begins_change};
+ghost use Rattle.nor_model.specs.Sent.{IsNothing};
 
 use crate::batch::Batch;
 use crate::{Failure, Link, Port, Programmer, Sync};
-use nor_chip::{Bus, Sent, Stopped, polled_ready_after};
+use nor_model::{Bus, Sent, Stopped, polled_ready_after};
 
 /// A bus to the chip at a serial programmer, over any port, that needs fewer round trips than `SerprogBus`: a modifying
 /// command without a reply is sent together with the next transaction that reads a reply. After a modifying command

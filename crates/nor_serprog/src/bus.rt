@@ -1,12 +1,12 @@
 //! A bus to the chip at a serial programmer.
 ghost use Rattle.std.specs.Prelude.{◌≡◌, ◌≤◌, ◌⊎◌, true, false, length, OnOk, OnErr, IsSome, option_copied};
-ghost use Rattle.nor_chip.specs.Sent.{IsNothing};
-ghost use Rattle.nor_chip.specs.Bus.{IsHonestFor, Sends, RecordsPoll, Stops, Carries};
+ghost use Rattle.nor_model.specs.Sent.{IsNothing};
+ghost use Rattle.nor_model.specs.Bus.{IsHonestFor, Sends, RecordsPoll, Stops, Carries};
 ghost use Rattle.nor_serprog.specs.Device.{IsIdle, Exchanged, Interrupted};
 ghost use Rattle.nor_serprog.specs.Link.{port_of, is_in_step, IsSettled};
 
 use crate::{Command, Failure, Link, Port, Programmer, Sync};
-use nor_chip::{Bus, Sent, Stopped, polled_ready_after};
+use nor_model::{Bus, Sent, Stopped, polled_ready_after};
 
 /// A bus to the chip at a serial programmer, over any port. One transaction is one O_SPIOP (serprog protocol,
 /// flashrom's Documentation/serprog-protocol.txt).

@@ -1,9 +1,9 @@
 //! A bus that pauses between polls of a busy chip.
 ghost use Rattle.std.specs.Prelude.{◌≡◌, ◌≤◌, true, length, OnOk, OnErr};
-ghost use Rattle.nor_chip.specs.Bus.{IsHonestFor, Sends, Stops, Carries, RecordsPoll};
+ghost use Rattle.nor_model.specs.Bus.{IsHonestFor, Sends, Stops, Carries, RecordsPoll};
 ghost use Rattle.nor_serprog.specs.Pace.{pause_before, pauses, busy_row_after, busy_row, paced_of};
 
-use nor_chip::{Bus, Stopped, polled_ready_after};
+use nor_model::{Bus, Stopped, polled_ready_after};
 use std::thread;
 use std::time::{Clock, Duration};
 

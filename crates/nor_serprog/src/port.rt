@@ -1,6 +1,6 @@
 //! The port to a programmer.
 ghost use Rattle.std.specs.Prelude.{◌≡◌, true, OnOk, OnErr};
-ghost use Rattle.nor_chip.specs.Chip.{IsChip};
+ghost use Rattle.nor_model.specs.Chip.{IsChip};
 ghost use Rattle.nor_serprog.specs.Device.{PortState, IsSent, IsCutOff, IsReceived, IsSilent};
 
 /// A port to a serial programmer: a terminal device, a socket, or a model in tests.

@@ -1,12 +1,12 @@
 //! A bus that reads data twice.
 ghost use Rattle.std.specs.Prelude.{◌≡◌, ◌≢◌, ◌≤◌, ◌⊎◌, true, false, ℕ, List, length, OnOk, OnErr};
 ghost use Rattle.std.proofs.lemmas.Bool.{false≢true};
-ghost use Rattle.nor_chip.specs.Bus.{IsHonestFor, Sends, Stops, Carries, RecordsPoll, unknown_bus};
+ghost use Rattle.nor_model.specs.Bus.{IsHonestFor, Sends, Stops, Carries, RecordsPoll, unknown_bus};
 ghost use Rattle.nor_serprog.specs.Twice.{twice_of, has_differed, expected_of, Expects, begins_read};
 ghost use Rattle.nor_serprog.specs.Twice.{ReadsTwice, view_of};
 
 use crate::ahead::data_address;
-use nor_chip::{Bus, Stopped};
+use nor_model::{Bus, Stopped};
 
 // The greatest length of a read: a block of `ReadAhead`.
 const LONGEST_READ: usize = 65536;

@@ -1,15 +1,15 @@
 -- If the bytes of an unsealed vault are a journal, that journal can restore its chip.
 use Rattle.std.proofs.Common.{◌≡◌, ◌∙◌, ℕ, List, sym, inl, inr}
-use Rattle.nor_chip.specs.Bus.{BusState}
-use Rattle.nor_chip.specs.Chip.{IsChip, IsSame}
-use Rattle.nor_call.specs.Request.{wanted}
+use Rattle.nor_model.specs.Bus.{BusState}
+use Rattle.nor_model.specs.Chip.{IsChip, IsSame}
+use Rattle.nor_request.specs.Request.{wanted}
 use Rattle.nor_plan.specs.Content.{is_touched}
 use Rattle.nor_journal.specs.Text.{Content, IsContent, text}
 use Rattle.nor_journal.proofs.WholeJournals.{never_empty, begins_all_of_it}
 use Rattle.nor_apply.proofs.Changing.{same_within}
-use Rattle.nor_call.specs.declared.request.Request.{Request}
+use Rattle.nor_request.specs.declared.request.Request.{Request}
 use Rattle.nor_probe.specs.Known.{IsModelled}
-use Rattle.nor_save.specs.Saving.{header_of}
+use Rattle.nor_scan.specs.Saving.{header_of}
 use Rattle.nor_session.specs.Headline.{CanRestore, open_addresses}
 use Rattle.nor_session.specs.Session.{HoldsBegun}
 use Rattle.nor_session.proofs.RestoresOriginal.{saves_chip}

@@ -3,13 +3,13 @@ use Rattle.std.proofs.Common.{◌≡◌, ◌<◌, ◌+◌, ◌/◌, ◌∙◌, �
 use Rattle.std.specs.Prelude.{None}
 use Rattle.std.proofs.lemmas.Bool.{cases_Bool, both_ways, true_from_ne_false}
 use mathlib.Core.Path.{fun_ext}
-use Rattle.nor_chip.specs.declared.config.Config.{Config}
-use Rattle.nor_chip.specs.Chip.{Chip, kept_in}
-use Rattle.nor_chip.specs.Status.{bytes_of}
-use Rattle.nor_chip.specs.Guard.{code_of}
-use Rattle.nor_chip.proofs.Kept.{kept_same}
-use Rattle.nor_chip.specs.Bus.{BusState}
-use Rattle.nor_chip.proofs.Sizes.{sized_bounds}
+use Rattle.nor_model.specs.declared.config.Config.{Config}
+use Rattle.nor_model.specs.Chip.{Chip, kept_in}
+use Rattle.nor_model.specs.Status.{bytes_of}
+use Rattle.nor_model.specs.Guard.{code_of}
+use Rattle.nor_model.proofs.Kept.{kept_same}
+use Rattle.nor_model.specs.Bus.{BusState}
+use Rattle.nor_model.proofs.Sizes.{sized_bounds}
 use Rattle.nor_driver.specs.OnlyReads.{OnlyReads, Rested, IsOpen}
 use Rattle.nor_driver.specs.StatusWrites.{fixed_of}
 use Rattle.nor_journal.specs.Text.{Content}
@@ -17,20 +17,20 @@ use Rattle.nor_journal.specs.Saved.{is_saved, saved_byte}
 use Rattle.nor_plan.specs.SectorSet.{has}
 use Rattle.nor_plan.specs.declared.set.SectorSet.{SectorSet}
 use Rattle.nor_apply.specs.declared.changes.Changes.{Changes}
-use Rattle.nor_count.specs.Counts.{sector_count}
+use Rattle.nor_geometry.specs.Counts.{sector_count}
 use Rattle.nor_apply.specs.Applying.{CanApply, writes_code}
-use Rattle.nor_save.specs.declared.identity.Identity.{Identity}
-use Rattle.nor_save.specs.declared.scanning.Scanned.{Scanned}
-use Rattle.nor_call.specs.declared.refusal.Refusal.TheVariants.{StatusLocked}
-use Rattle.nor_save.specs.Identity.{ReadsIdentity, most_identity}
-use Rattle.nor_save.specs.Saving.{IsIdentityOf}
+use Rattle.nor_scan.specs.declared.identity.Identity.{Identity}
+use Rattle.nor_scan.specs.declared.scanning.Scanned.{Scanned}
+use Rattle.nor_request.specs.declared.refusal.Refusal.TheVariants.{StatusLocked}
+use Rattle.nor_scan.specs.Identity.{ReadsIdentity, most_identity}
+use Rattle.nor_scan.specs.Saving.{IsIdentityOf}
 use Rattle.nor_driver.proofs.RestsInTurn.{rested_then}
 use Rattle.nor_plan.specs.Content.{is_touched, is_raised}
 use Rattle.nor_probe.specs.Known.{IsModelled}
 use Rattle.nor_session.specs.Changing.{touched_count}
 use Rattle.nor_session.specs.Restore.{restored, NeedsStatusFrom}
 use Rattle.nor_session.specs.Prepare.{NeedsStatusWith, FitsJournal, IsOfTypeFound, FitsIdentity, HasFixedRead, PrepareErrors, ScansSaved, AreChanges, MayChangeStatus, IsShut, IsPreparedFor, IsPrepared}
-use Rattle.nor_save.proofs.Held.{code_same}
+use Rattle.nor_scan.proofs.Held.{code_same}
 use Rattle.nor_session.proofs.Changed.{writes_other}
 use Rattle.nor_session.proofs.JudgedStatus.{held_scheme, free_place, writable_for}
 use Rattle.nor_session.proofs.ReadyChip.{told_idle, opening_of}

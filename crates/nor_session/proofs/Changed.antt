@@ -2,14 +2,14 @@
 use Rattle.std.proofs.Common.{◌≡◌, ◌<◌, ◌≤◌, ◌/◌, ◌||◌, ◌∙◌, ℕ, Bool, true, false, sym, subst, arith}
 use Rattle.std.specs.Prelude.{◌≢◌}
 use Rattle.std.proofs.lemmas.Bool.Decides.{nat_tests}
-use Rattle.nor_chip.specs.Guard.{code_of}
-use Rattle.nor_chip.specs.Chip.{kept_in}
-use Rattle.nor_chip.specs.Status.{bytes_of}
-use Rattle.nor_chip.specs.declared.config.Config.{Config}
-use Rattle.nor_chip.specs.Bus.{BusState}
-use Rattle.nor_chip.proofs.Sizes.{sized_bounds}
+use Rattle.nor_model.specs.Guard.{code_of}
+use Rattle.nor_model.specs.Chip.{kept_in}
+use Rattle.nor_model.specs.Status.{bytes_of}
+use Rattle.nor_model.specs.declared.config.Config.{Config}
+use Rattle.nor_model.specs.Bus.{BusState}
+use Rattle.nor_model.proofs.Sizes.{sized_bounds}
 use Rattle.nor_driver.specs.OnlyReads.{Rested}
-use Rattle.nor_count.proofs.Below.{count_below-most}
+use Rattle.nor_geometry.proofs.Below.{count_below-most}
 use Rattle.nor_plan.specs.Planned.{fewest_erases, IsLeastLength}
 use Rattle.nor_plan.proofs.Fewest.{fewest_least}
 use Rattle.nor_apply.specs.declared.changes.Changes.{Changes}

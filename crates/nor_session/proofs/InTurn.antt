@@ -1,18 +1,18 @@
 -- Lemmas about sessions and restores that follow one another.
 use Rattle.std.proofs.Common.{◌≡◌, ◌/◌, ◌∙◌, ◌⊎◌, ℕ, Bool, false, List, [], ap, sym, arith, inl, inr}
 use Rattle.std.proofs.lemmas.Bool.{and_left, and_parts, both_ways}
-use Rattle.nor_chip.specs.Chip.{Chip, IsSame}
-use Rattle.nor_chip.specs.Bus.{BusState}
+use Rattle.nor_model.specs.Chip.{Chip, IsSame}
+use Rattle.nor_model.specs.Bus.{BusState}
 use Rattle.nor_journal.specs.Text.{Content}
 use Rattle.nor_journal.proofs.Saves.{saved_byte-is}
 use Rattle.nor_driver.specs.StatusWrites.{fixed_of}
 use Rattle.nor_driver.proofs.ReadsInTurn.{same_then}
 use Rattle.nor_apply.specs.Within.{is_writable, IsWithin}
-use Rattle.nor_count.proofs.Counting.{count_below-none}
+use Rattle.nor_geometry.proofs.Counting.{count_below-none}
 use Rattle.nor_plan.specs.Content.{is_touched, is_raised}
-use Rattle.nor_call.specs.declared.report.Report.{Report}
-use Rattle.nor_call.specs.declared.request.Request.{Request}
-use Rattle.nor_save.proofs.Planned.{untouched, unraised}
+use Rattle.nor_request.specs.declared.report.Report.{Report}
+use Rattle.nor_request.specs.declared.request.Request.{Request}
+use Rattle.nor_scan.proofs.Planned.{untouched, unraised}
 use Rattle.nor_session.specs.Headline.{SavesChip, open_addresses, CanRestore}
 use Rattle.nor_session.specs.Restore.{restored, NeedsStatusFrom, IsRestored}
 use Rattle.nor_session.specs.InTurn.{LeavesJournal, LosesPower, MayLosePower, IsTakenUp, ChangesNothing}

@@ -3,8 +3,8 @@ use Rattle.std.proofs.Common.{◌≡◌, ◌≢◌, ◌<◌, ◌*◌, ◌⊎◌,
 use Rattle.std.specs.Prelude.{if◌then◌else◌}
 use Rattle.std.proofs.lemmas.Bool.{cases_Bool, false_from_ne_true, and_parts}
 use borrow.Author.Count.{below_more}
-use Rattle.nor_chip.specs.Chip.{Chip, is_locked}
-use Rattle.nor_chip.specs.Guard.{code_of, is_block_protected}
+use Rattle.nor_model.specs.Chip.{Chip, is_locked}
+use Rattle.nor_model.specs.Guard.{code_of, is_block_protected}
 use Rattle.nor_plan.specs.Content.{is_touched}
 use Rattle.nor_probe.specs.declared.table.ChipName.{ChipName}
 use Rattle.nor_probe.specs.declared.table.Part.{Part}
@@ -15,14 +15,14 @@ use Rattle.nor_probe.specs.declared.probes.ProbeFault.TheVariants as Probes
 use Rattle.nor_probe.specs.Known.{is_no_chip, id_of, chip_says, part_by_sfdp, listed_or, shown_as}
 use Rattle.nor_probe.specs.Table.{part_with_id}
 use Rattle.nor_probe.specs.Found.{IsWanted}
-use Rattle.nor_call.specs.declared.request.Request.{Request}
-use Rattle.nor_call.specs.declared.request.What.{What}
-use Rattle.nor_call.specs.declared.request.What.TheVariants.{WpRange}
-use Rattle.nor_call.specs.declared.refusal.Refusal.TheVariants.{NoChip, UnknownChip, OtherName, StatusLocked, Protected}
-use Rattle.nor_call.specs.Request.{is_data, IsWantedCode, wanted}
-use Rattle.nor_save.proofs.OneVerdict.{touched_data}
-use Rattle.nor_save.specs.Saving.{NeedsStatus, NoneProtected, SomeProtected, is_touched_protected}
-use Rattle.nor_save.specs.Verdict.{IsNamed, IsAccepted}
+use Rattle.nor_request.specs.declared.request.Request.{Request}
+use Rattle.nor_request.specs.declared.request.What.{What}
+use Rattle.nor_request.specs.declared.request.What.TheVariants.{WpRange}
+use Rattle.nor_request.specs.declared.refusal.Refusal.TheVariants.{NoChip, UnknownChip, OtherName, StatusLocked, Protected}
+use Rattle.nor_request.specs.Request.{is_data, IsWantedCode, wanted}
+use Rattle.nor_scan.proofs.OneVerdict.{touched_data}
+use Rattle.nor_scan.specs.Saving.{NeedsStatus, NoneProtected, SomeProtected, is_touched_protected}
+use Rattle.nor_scan.specs.Verdict.{IsNamed, IsAccepted}
 
 -- ---- the chip type
 

@@ -3,11 +3,11 @@ use Rattle.std.proofs.Common.{◌≡◌, ◌<◌, ◌+◌, ◌-◌, ◌*◌, ◌
 use Rattle.std.specs.Prelude.{not, Option, Some, None, MatchOption}
 use Rattle.std.specs.Option.{is_some}
 use Rattle.std.proofs.lemmas.Bool.{true_from_ne_false, false_from_ne_true, and_parts, and_from, not_from_false, or_from, both_ways}
-use Rattle.nor_chip.proofs.Guarded.{is_protected-same, is_protected-sector, is_protected-no_scheme}
-use Rattle.nor_chip.specs.Chip.{Chip, IsSame, is_locked, kept_in}
-use Rattle.nor_chip.specs.Guard.{code_of, is_protected, is_block_protected}
+use Rattle.nor_model.proofs.Guarded.{is_protected-same, is_protected-sector, is_protected-no_scheme}
+use Rattle.nor_model.specs.Chip.{Chip, IsSame, is_locked, kept_in}
+use Rattle.nor_model.specs.Guard.{code_of, is_protected, is_block_protected}
 use Rattle.nor_journal.specs.Text.{Content}
-use Rattle.nor_save.specs.Saving.{IsLeastProtected, NoneProtected, SomeProtected, is_touched_protected}
+use Rattle.nor_scan.specs.Saving.{IsLeastProtected, NoneProtected, SomeProtected, is_touched_protected}
 use Rattle.nor_apply.specs.Within.{is_writable}
 use Rattle.nor_driver.specs.StatusWrites.{fixed_of}
 use Rattle.nor_apply.proofs.Kept.{writable_same}

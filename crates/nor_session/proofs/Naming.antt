@@ -1,18 +1,18 @@
 -- Which address an error names: from the errors of the parts to those of a session or restore.
 use Rattle.std.proofs.Common.{ℕ, ◌≡◌, ◌≤◌, ◌/◌, ◌∙◌, true, List, arith, inl, inr}
-use Rattle.nor_chip.specs.Bus.{BusState}
+use Rattle.nor_model.specs.Bus.{BusState}
 use Rattle.nor_journal.specs.Text.{Content, IsContent, text}
 use Rattle.nor_journal.specs.Saved.{is_saved}
 use Rattle.nor_journal.specs.Vault.{VaultState}
 use Rattle.nor_apply.specs.declared.changes.Changes.{Changes}
 use Rattle.nor_apply.specs.Applying.{touched_in}
-use Rattle.nor_save.specs.declared.identity.Identity.{Identity}
-use Rattle.nor_call.specs.declared.request.Request.{Request}
-use Rattle.nor_call.specs.declared.refusal.Refusal.{Refusal}
-use Rattle.nor_call.specs.declared.refusal.Refusal.TheVariants.{Stopped, StatusLocked, Protected, Timeout, Mismatch, Vault}
-use Rattle.nor_call.specs.Refusal.{refusal_number}
-use Rattle.nor_save.specs.SavedScan.{IsJournalOf, SaveErrors}
-use Rattle.nor_save.specs.Judging.{IsIdentityRefusal}
+use Rattle.nor_scan.specs.declared.identity.Identity.{Identity}
+use Rattle.nor_request.specs.declared.request.Request.{Request}
+use Rattle.nor_request.specs.declared.refusal.Refusal.{Refusal}
+use Rattle.nor_request.specs.declared.refusal.Refusal.TheVariants.{Stopped, StatusLocked, Protected, Timeout, Mismatch, Vault}
+use Rattle.nor_request.specs.Refusal.{refusal_number}
+use Rattle.nor_scan.specs.SavedScan.{IsJournalOf, SaveErrors}
+use Rattle.nor_scan.specs.Judging.{IsIdentityRefusal}
 use Rattle.nor_session.specs.Changing.{NamesTouchedSector}
 use Rattle.nor_session.specs.Session.{SavesSector, NamesSector, NamesAddress}
 use Rattle.nor_session.specs.Prepare.{PrepareErrors}

@@ -1,24 +1,24 @@
 -- On every bus the changes of a session or restore touch only sectors that its journal saves.
 use Rattle.std.proofs.Common.{◌≡◌, ◌<◌, ◌*◌, ◌/◌, ◌%◌, ◌∙◌, ℕ, Bool, true, false, List, inl, inr, ap, sym, refl, arith, true≢false}
-use Rattle.nor_chip.specs.declared.status.Status.{Status}
-use Rattle.nor_chip.specs.Status.{bytes_of}
-use Rattle.nor_chip.specs.Chip.{kept_in}
-use Rattle.nor_chip.specs.Guard.{code_of}
-use Rattle.nor_chip.specs.Bus.{BusState}
+use Rattle.nor_model.specs.declared.status.Status.{Status}
+use Rattle.nor_model.specs.Status.{bytes_of}
+use Rattle.nor_model.specs.Chip.{kept_in}
+use Rattle.nor_model.specs.Guard.{code_of}
+use Rattle.nor_model.specs.Bus.{BusState}
 use Rattle.nor_driver.specs.StatusWrites.{fixed_of}
 use Rattle.nor_plan.specs.SectorSet.{has}
 use Rattle.nor_journal.specs.Text.{Content, SameHeader}
 use Rattle.nor_apply.specs.declared.changes.Work.{Work}
-use Rattle.nor_call.specs.declared.request.Request.{Request}
-use Rattle.nor_call.specs.declared.request.What.{What}
-use Rattle.nor_call.specs.declared.request.What.TheVariants.{WpRange}
-use Rattle.nor_call.specs.Request.{is_data}
-use Rattle.nor_save.specs.declared.identity.Identity.{Identity}
-use Rattle.nor_save.specs.declared.saving.SavedScan.{SavedScan}
-use Rattle.nor_save.specs.Identity.{status_read}
-use Rattle.nor_save.specs.Saving.{header_found, kept_read}
-use Rattle.nor_save.specs.Judging.{IsFoundCode}
-use Rattle.nor_save.specs.SavedScan.{IsJournal, IsJournalOf}
+use Rattle.nor_request.specs.declared.request.Request.{Request}
+use Rattle.nor_request.specs.declared.request.What.{What}
+use Rattle.nor_request.specs.declared.request.What.TheVariants.{WpRange}
+use Rattle.nor_request.specs.Request.{is_data}
+use Rattle.nor_scan.specs.declared.identity.Identity.{Identity}
+use Rattle.nor_scan.specs.declared.saving.SavedScan.{SavedScan}
+use Rattle.nor_scan.specs.Identity.{status_read}
+use Rattle.nor_scan.specs.Saving.{header_found, kept_read}
+use Rattle.nor_scan.specs.Judging.{IsFoundCode}
+use Rattle.nor_scan.specs.SavedScan.{IsJournal, IsJournalOf}
 use Rattle.nor_session.specs.Changing.{LeavesChange, DoesChange}
 use Rattle.nor_session.specs.Prepare.{IsPrepared}
 use Rattle.nor_session.specs.Session.{IsSavedCode, IsWrittenCode, SendsSaved, SendsCounted}

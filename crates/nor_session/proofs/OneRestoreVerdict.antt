@@ -2,14 +2,14 @@
 -- fails, no error applies.
 use Rattle.std.proofs.Common.{◌≡◌, ◌<◌, ℕ, true, arith, rules}
 use Rattle.std.specs.Prelude.{◌≢◌, None, Err}
-use Rattle.nor_chip.specs.Chip.{Chip, is_locked}
+use Rattle.nor_model.specs.Chip.{Chip, is_locked}
 use Rattle.nor_journal.specs.Text.{Content}
 use Rattle.nor_probe.specs.declared.probes.ProbeFault.TheVariants as Probes
 use Rattle.nor_probe.specs.Known.{shown_as}
-use Rattle.nor_call.specs.declared.refusal.Refusal.{Refusal}
-use Rattle.nor_call.specs.declared.refusal.Refusal.TheVariants.{NoChip, UnknownChip, StatusLocked, OtherChip, OtherUnit, StatusDiffers}
-use Rattle.nor_call.specs.Refusal.{refusal_number}
-use Rattle.nor_save.specs.Verdict.{IsNamed}
+use Rattle.nor_request.specs.declared.refusal.Refusal.{Refusal}
+use Rattle.nor_request.specs.declared.refusal.Refusal.TheVariants.{NoChip, UnknownChip, StatusLocked, OtherChip, OtherUnit, StatusDiffers}
+use Rattle.nor_request.specs.Refusal.{refusal_number}
+use Rattle.nor_scan.specs.Verdict.{IsNamed}
 use Rattle.nor_session.specs.Headline.{IsOfType}
 use Rattle.nor_session.specs.Restore.{IsOfOtherDevice, FitsStatus, NeedsStatusFrom, RestoreHolds, checked_in_order, index_in, IsRestoreVerdict, IsRestorable}
 use Rattle.nor_session.specs.Prepare.{RestoreJudges, RestoreAccepts}

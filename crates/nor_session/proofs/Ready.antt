@@ -3,15 +3,15 @@ use Rattle.std.proofs.Common.{◌≡◌, ◌≤◌, ◌+◌, ◌/◌, ◌∙◌,
 use Rattle.std.specs.Prelude.{if◌then◌else◌}
 use Rattle.std.proofs.lemmas.Bool.{true_from_ne_false, false_from_ne_true}
 use Rattle.std.proofs.lemmas.Bool.Decides.{nat_tests}
-use Rattle.nor_chip.specs.Guard.{code_of}
-use Rattle.nor_chip.specs.Chip.{kept_in}
-use Rattle.nor_chip.specs.declared.status.Status.{Status}
-use Rattle.nor_chip.specs.Status.{bytes_of}
-use Rattle.nor_chip.specs.Bus.{BusState}
-use Rattle.nor_chip.proofs.Nature.{nature_then}
+use Rattle.nor_model.specs.Guard.{code_of}
+use Rattle.nor_model.specs.Chip.{kept_in}
+use Rattle.nor_model.specs.declared.status.Status.{Status}
+use Rattle.nor_model.specs.Status.{bytes_of}
+use Rattle.nor_model.specs.Bus.{BusState}
+use Rattle.nor_model.proofs.Nature.{nature_then}
 use Rattle.nor_driver.specs.OnlyReads.{OnlyReads, RanOut}
 use Rattle.nor_layout.specs.Sectors.{includes, has_in_sector}
-use Rattle.nor_count.proofs.Below.{count_below-most}
+use Rattle.nor_geometry.proofs.Below.{count_below-most}
 use Rattle.nor_plan.specs.SectorSet.{has}
 use Rattle.nor_probe.specs.Found.{IsPart}
 use Rattle.nor_apply.specs.declared.changes.Changes.{Changes}
@@ -19,17 +19,17 @@ use Rattle.nor_apply.specs.declared.changes.Work.{Work}
 use Rattle.nor_apply.specs.Spending.{Spends}
 use Rattle.nor_apply.specs.Applying.{status_writes}
 use Rattle.nor_apply.proofs.ProgrammingWhole.{room}
-use Rattle.nor_save.specs.declared.identity.Identity.{Identity}
-use Rattle.nor_save.specs.declared.saving.SavedScan.{SavedScan}
-use Rattle.nor_save.specs.declared.scanning.Scanned.{Scanned}
-use Rattle.nor_call.specs.declared.request.Request.{Request}
-use Rattle.nor_call.specs.declared.request.What.{What}
-use Rattle.nor_call.specs.declared.request.What.TheVariants.{WpRange}
-use Rattle.nor_call.specs.Request.{is_data, scanned_sectors}
-use Rattle.nor_save.specs.Identity.{status_read, ReadsIdentity, most_identity}
-use Rattle.nor_save.specs.Judging.{Lifts}
-use Rattle.nor_save.specs.Scanning.{AreMarks}
-use Rattle.nor_save.specs.SavedScan.{HasSaved}
+use Rattle.nor_scan.specs.declared.identity.Identity.{Identity}
+use Rattle.nor_scan.specs.declared.saving.SavedScan.{SavedScan}
+use Rattle.nor_scan.specs.declared.scanning.Scanned.{Scanned}
+use Rattle.nor_request.specs.declared.request.Request.{Request}
+use Rattle.nor_request.specs.declared.request.What.{What}
+use Rattle.nor_request.specs.declared.request.What.TheVariants.{WpRange}
+use Rattle.nor_request.specs.Request.{is_data, scanned_sectors}
+use Rattle.nor_scan.specs.Identity.{status_read, ReadsIdentity, most_identity}
+use Rattle.nor_scan.specs.Judging.{Lifts}
+use Rattle.nor_scan.specs.Scanning.{AreMarks}
+use Rattle.nor_scan.specs.SavedScan.{HasSaved}
 use Rattle.nor_driver.proofs.RestsInTurn.{HasLooked, rested_then}
 use Rattle.nor_session.specs.Bounds.{most_of}
 use Rattle.nor_session.specs.Changing.{read_back, most_changed, DoesChange}

@@ -2,9 +2,9 @@
 use Rattle.std.proofs.Common.{◌≡◌, ◌<◌, ◌≤◌, ◌/◌, ◌∙◌, ℕ, true, List, ap, refl, arith, rules, inr}
 use Rattle.std.specs.Prelude.{Option, Err}
 use Rattle.std.proofs.lemmas.Bool.Decides.{nat_tests}
-use Rattle.nor_chip.specs.declared.config.Config.{Config}
-use Rattle.nor_chip.specs.Chip.{KeptBits, status1_of}
-use Rattle.nor_chip.specs.Bus.{BusState}
+use Rattle.nor_model.specs.declared.config.Config.{Config}
+use Rattle.nor_model.specs.Chip.{KeptBits, status1_of}
+use Rattle.nor_model.specs.Bus.{BusState}
 use Rattle.nor_driver.specs.Reads.{unique_of}
 use Rattle.nor_driver.specs.OnlyReads.{OnlyReads}
 use Rattle.nor_driver.proofs.ReadsInTurn.{same_then}
@@ -12,21 +12,21 @@ use Rattle.nor_journal.specs.Vault.{VaultState, CountsRefusal}
 use Rattle.nor_probe.specs.declared.probes.Found.{Found}
 use Rattle.nor_probe.specs.declared.table.ChipName.{ChipName}
 use Rattle.nor_probe.specs.Found.{IsConfigOf, part_in}
-use Rattle.nor_save.specs.declared.identity.Identity.{Identity}
-use Rattle.nor_call.specs.declared.request.Request.{Request}
-use Rattle.nor_call.specs.declared.refusal.Refusal.{Refusal}
-use Rattle.nor_call.specs.declared.refusal.Refusal.TheVariants.{NoChip, UnknownChip, OtherName, StatusLocked, Protected, Vault, Stopped, Timeout}
-use Rattle.nor_call.specs.Refusal.{refusal_number}
-use Rattle.nor_call.specs.Request.{scanned_sectors}
-use Rattle.nor_save.specs.Identity.{ReadsIdentity, most_identity}
-use Rattle.nor_call.specs.Tells.{IdentificationErrors}
-use Rattle.nor_save.specs.Saving.{IsIdentityOf, HasIdleChip}
-use Rattle.nor_save.specs.SavedScan.{SavePuts, SaveErrors}
+use Rattle.nor_scan.specs.declared.identity.Identity.{Identity}
+use Rattle.nor_request.specs.declared.request.Request.{Request}
+use Rattle.nor_request.specs.declared.refusal.Refusal.{Refusal}
+use Rattle.nor_request.specs.declared.refusal.Refusal.TheVariants.{NoChip, UnknownChip, OtherName, StatusLocked, Protected, Vault, Stopped, Timeout}
+use Rattle.nor_request.specs.Refusal.{refusal_number}
+use Rattle.nor_request.specs.Request.{scanned_sectors}
+use Rattle.nor_scan.specs.Identity.{ReadsIdentity, most_identity}
+use Rattle.nor_request.specs.Tells.{IdentificationErrors}
+use Rattle.nor_scan.specs.Saving.{IsIdentityOf, HasIdleChip}
+use Rattle.nor_scan.specs.SavedScan.{SavePuts, SaveErrors}
 use Rattle.nor_probe.specs.Known.{IsModelled}
 use Rattle.nor_session.specs.Bounds.{most_of}
-use Rattle.nor_save.specs.Verdict.{IsNamed, IsVerdict, IdentityAccepts}
+use Rattle.nor_scan.specs.Verdict.{IsNamed, IsVerdict, IdentityAccepts}
 use Rattle.nor_session.specs.Session.{SessionErrors, HonestErrors}
-use Rattle.nor_save.proofs.OneVerdict.{first_of}
+use Rattle.nor_scan.proofs.OneVerdict.{first_of}
 use Rattle.nor_session.proofs.Ready.{scanned_most, scanned_few}
 
 -- ---- the identification shows the chip from before it

@@ -2,9 +2,9 @@
 use Rattle.std.proofs.Common.{◌≡◌, ◌<◌, ◌≤◌, ◌+◌, ◌∙◌, ℕ, Bool, List, length, slice_index, true, false, refl, sym, arith, inl, inr}
 use Rattle.std.specs.Prelude.{Ok, Err, Result, if◌then◌else◌}
 use Rattle.std.proofs.lemmas.Bool.{cases_eq}
-use Rattle.nor_chip.specs.Chip.{Chip}
-use Rattle.nor_chip.specs.Bus.{BusState, Allows}
-use Rattle.nor_chip.proofs.Nature.{nature_then}
+use Rattle.nor_model.specs.Chip.{Chip}
+use Rattle.nor_model.specs.Bus.{BusState, Allows}
+use Rattle.nor_model.proofs.Nature.{nature_then}
 use Rattle.nor_journal.specs.Text.{Content, IsContent, SameHeader, text}
 use Rattle.nor_journal.specs.declared.fault.JournalFault.{JournalFault}
 use Rattle.nor_journal.specs.Saved.{Saves, JournalSaves}
@@ -12,11 +12,11 @@ use Rattle.nor_journal.proofs.Saves.{Saves-set}
 use Rattle.nor_journal.proofs.OneForm.{is_read}
 use Rattle.nor_probe.specs.Known.{IsModelled}
 use Rattle.nor_journal.specs.Vault.{VaultState}
-use Rattle.nor_call.specs.declared.request.Request.{Request}
-use Rattle.nor_call.specs.declared.report.Report.{Report}
-use Rattle.nor_call.specs.declared.refusal.Refusal.{Refusal}
-use Rattle.nor_call.specs.declared.refusal.Refusal.TheVariants.{Stopped, Timeout, BadJournal}
-use Rattle.nor_save.specs.Saving.{header_of}
+use Rattle.nor_request.specs.declared.request.Request.{Request}
+use Rattle.nor_request.specs.declared.report.Report.{Report}
+use Rattle.nor_request.specs.declared.refusal.Refusal.{Refusal}
+use Rattle.nor_request.specs.declared.refusal.Refusal.TheVariants.{Stopped, Timeout, BadJournal}
+use Rattle.nor_scan.specs.Saving.{header_of}
 use Rattle.nor_session.specs.Bounds.{most_of}
 use Rattle.nor_session.specs.Headline.{CanRestore, RestoresOriginal}
 use Rattle.nor_session.specs.Restore.{RestoreAlways, RestoreHonest, RestoreModelled}

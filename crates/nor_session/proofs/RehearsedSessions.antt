@@ -2,23 +2,23 @@
 use Rattle.std.proofs.Common.{◌≡◌, ◌≤◌, ◌+◌, ◌*◌, ◌∙◌, ℕ, List, [], ◌∷◌, length, drop, true, false, refl, ap, sym, arith, inl, inr}
 use Rattle.std.specs.Prelude.{max, Ok, Err, Result}
 use Rattle.std.proofs.lemmas.Bool.{true≢false, cases_Bool}
-use Rattle.nor_chip.specs.Chip.{Chip, IsChip, IsSame}
-use Rattle.nor_chip.specs.Bus.{BusState, Allows}
-use Rattle.nor_chip.proofs.Nature.{nature_then}
+use Rattle.nor_model.specs.Chip.{Chip, IsChip, IsSame}
+use Rattle.nor_model.specs.Bus.{BusState, Allows}
+use Rattle.nor_model.proofs.Nature.{nature_then}
 use Rattle.nor_plan.specs.Content.{is_touched}
 use Rattle.nor_journal.specs.Vault.{VaultState}
-use Rattle.nor_call.specs.declared.request.Request.{Request}
-use Rattle.nor_call.specs.declared.report.Report.{Report}
-use Rattle.nor_call.specs.declared.refusal.Refusal.{Refusal}
-use Rattle.nor_call.specs.declared.refusal.Refusal.TheVariants.{Vault, Stopped}
-use Rattle.nor_call.specs.Refusal.{refusal_number}
-use Rattle.nor_call.specs.Request.{wanted, scanned_sectors}
-use Rattle.nor_save.specs.SavedScan.{IsJournal}
+use Rattle.nor_request.specs.declared.request.Request.{Request}
+use Rattle.nor_request.specs.declared.report.Report.{Report}
+use Rattle.nor_request.specs.declared.refusal.Refusal.{Refusal}
+use Rattle.nor_request.specs.declared.refusal.Refusal.TheVariants.{Vault, Stopped}
+use Rattle.nor_request.specs.Refusal.{refusal_number}
+use Rattle.nor_request.specs.Request.{wanted, scanned_sectors}
+use Rattle.nor_scan.specs.SavedScan.{IsJournal}
 use Rattle.nor_probe.specs.Known.{IsModelled}
 use Rattle.nor_probe.proofs.Configs.{shown_config}
 use Rattle.nor_session.specs.Bounds.{most_of}
 use Rattle.nor_session.specs.Made.{AreFewestErases}
-use Rattle.nor_save.specs.Verdict.{IsAccepted}
+use Rattle.nor_scan.specs.Verdict.{IsAccepted}
 use Rattle.nor_session.specs.Headline.{KeepsOriginal}
 use Rattle.nor_session.specs.Session.{SessionAlways, SessionHonest, SessionModelled, SessionErrors, HonestErrors, IsDone, NamesAddress, IsSavedCode, IsWrittenCode, most_status_writes, SendsSaved, WritesStatusAtMost}
 use Rattle.nor_session.specs.Rehearsal.{IsRehearsedCode, CanEnd, IsRehearsalRefusal, RehearsalErrors, first_allowance, least_needed}

@@ -1,9 +1,9 @@
 -- The results of the identification of a restore.
 use Rattle.std.proofs.Common.{◌≡◌, ◌∙◌, ℕ, true, List, refl, arith}
 use Rattle.std.specs.Prelude.{◌≢◌, Result, Ok, Err, Some, None, IsOk}
-use Rattle.nor_chip.specs.declared.config.Config.{Config}
-use Rattle.nor_chip.specs.Chip.{Chip, IsSame}
-use Rattle.nor_chip.specs.Bus.{BusState}
+use Rattle.nor_model.specs.declared.config.Config.{Config}
+use Rattle.nor_model.specs.Chip.{Chip, IsSame}
+use Rattle.nor_model.specs.Bus.{BusState}
 use Rattle.nor_driver.specs.Reads.{unique_of}
 use Rattle.nor_journal.specs.Text.{Content}
 use Rattle.nor_probe.specs.declared.table.Part.{Part}
@@ -12,11 +12,11 @@ use Rattle.nor_probe.specs.declared.probes.ProbeFault.TheVariants as Probes
 use Rattle.nor_probe.specs.declared.probes.Found.{Found}
 use Rattle.nor_probe.specs.Known.{shown_as, IsKnown, IsModelled}
 use Rattle.nor_probe.specs.Found.{BlamesName, ProbeErrors, IsConfigOf}
-use Rattle.nor_call.specs.declared.refusal.Refusal.{Refusal}
-use Rattle.nor_call.specs.declared.refusal.Refusal.TheVariants.{OtherUnit, StatusDiffers}
-use Rattle.nor_call.specs.Refusal.{of_probe}
-use Rattle.nor_save.specs.Identity.{most_identity}
-use Rattle.nor_save.specs.Verdict.{IsNamed}
+use Rattle.nor_request.specs.declared.refusal.Refusal.{Refusal}
+use Rattle.nor_request.specs.declared.refusal.Refusal.TheVariants.{OtherUnit, StatusDiffers}
+use Rattle.nor_request.specs.Refusal.{of_probe}
+use Rattle.nor_scan.specs.Identity.{most_identity}
+use Rattle.nor_scan.specs.Verdict.{IsNamed}
 use Rattle.nor_session.specs.Headline.{IsOfType}
 use Rattle.nor_session.specs.Restore.{IsOfOtherDevice}
 use Rattle.nor_session.specs.Prepare.{RestoreJudges, IsOfTypeFound, IsDeviceRefusal, PrepareErrors}

@@ -4,8 +4,8 @@ use Rattle.std.specs.Prelude.{◌==◌, Option, Some, slice_get}
 use Rattle.std.specs.Option.{is_some, unwrap_or}
 use Rattle.std.proofs.lemmas.Bool.{and_left, both_ways}
 use Rattle.std.proofs.lemmas.Bool.Decides.{nat_tests}
-use Rattle.nor_chip.proofs.Sizes.{is_chip_size-in_blocks}
-use Rattle.nor_chip.specs.Bus.{BusState}
+use Rattle.nor_model.proofs.Sizes.{is_chip_size-in_blocks}
+use Rattle.nor_model.specs.Bus.{BusState}
 use Rattle.nor_driver.specs.OnlyReads.{OnlyReads, IsOpen}
 use Rattle.nor_journal.specs.Text.{SavedSector, Content, IsContent, least_after}
 use Rattle.nor_journal.specs.Saved.{saved_in, is_saved, saved_byte}
@@ -13,12 +13,12 @@ use Rattle.nor_journal.proofs.Saved.{saved_in-nil, saved_in-take_more, saved_in-
 use Rattle.nor_plan.specs.SectorSet.{has}
 use Rattle.nor_plan.specs.declared.plan.SectorPlan.{SectorPlan}
 use Rattle.nor_plan.specs.Content.{is_touched, is_raised}
-use Rattle.nor_count.proofs.Counting.{at_most_one, count_below-none}
-use Rattle.nor_save.specs.declared.scanning.Scanned.{Scanned}
-use Rattle.nor_save.specs.Scanning.{AreMarks, IsBlank, HasMarked}
-use Rattle.nor_save.proofs.Planned.{planned, untouched, unraised}
+use Rattle.nor_geometry.proofs.Counting.{at_most_one, count_below-none}
+use Rattle.nor_scan.specs.declared.scanning.Scanned.{Scanned}
+use Rattle.nor_scan.specs.Scanning.{AreMarks, IsBlank, HasMarked}
+use Rattle.nor_scan.proofs.Planned.{planned, untouched, unraised}
 use Rattle.nor_driver.proofs.RestsInTurn.{HasLooked, has_looked-none, has_looked-more}
-use Rattle.nor_save.proofs.Scans.{marks_more, opened_later}
+use Rattle.nor_scan.proofs.Scans.{marks_more, opened_later}
 use Rattle.nor_session.specs.Restore.{restored}
 use Rattle.nor_session.specs.Prepare.{PlansSaved, ScansSaved}
 use Rattle.nor_session.proofs.SavedBytes.{sector_at, byte_at, is_saved-some}

@@ -2,13 +2,13 @@
 use Rattle.std.proofs.Common.{◌≡◌, ◌<◌, ◌+◌, ◌*◌, ◌/◌, ◌%◌, ◌&&◌, ℕ, Bool, true, false, sym, arith, bit_and}
 use Rattle.std.specs.Prelude.{if◌then◌else◌}
 use Rattle.std.proofs.lemmas.Bool.{eqb-true, eq-eqb, both_ways, not-false, not_from_true, true_from_ne_false}
-use Rattle.nor_count.specs.Below.{any_below, count_below}
-use Rattle.nor_count.proofs.Below.{any_below-found}
+use Rattle.nor_geometry.specs.Below.{any_below, count_below}
+use Rattle.nor_geometry.proofs.Below.{any_below-found}
 use Rattle.nor_journal.specs.Text.{Content}
 use Rattle.nor_journal.specs.Saved.{is_saved, saved_byte}
 use Rattle.nor_plan.specs.Content.{is_other, must_rise, is_touched, is_raised, is_page_other, is_programmed}
-use Rattle.nor_count.proofs.Counting.{any_below-false, any_below-same, count_below-same}
-use Rattle.nor_save.proofs.Planned.{unraised}
+use Rattle.nor_geometry.proofs.Counting.{any_below-false, any_below-same, count_below-same}
+use Rattle.nor_scan.proofs.Planned.{unraised}
 use Rattle.nor_session.specs.Restore.{restored}
 use Rattle.nor_session.proofs.SavedBytes.{sector_at}
 use Rattle.nor_session.proofs.Rescanned.{untouched_other}

@@ -4,20 +4,20 @@ use Rattle.std.specs.Prelude.{not, ◌≢◌, Option, Some, None, IfSome, IsSome
 use Rattle.std.proofs.lemmas.Bool.{cases_Bool, cases_lt, and_left, and_parts, or_cases, both_ways, eqb-true}
 use Rattle.std.proofs.lemmas.Bool.Decides.{nat_tests}
 use Rattle.std.proofs.Math.Bool.{and-false}
-use Rattle.nor_chip.specs.declared.config.Config.{Config}
-use Rattle.nor_chip.specs.declared.running.Running.{Running}
-use Rattle.nor_chip.specs.declared.running.Running.TheVariants.{StatusWrite, Unknown}
-use Rattle.nor_chip.specs.Chip.{Chip, IsSame, KeptBits, is_locked, kept_in}
-use Rattle.nor_chip.specs.Guard.{code_of, is_protected, is_block_protected}
-use Rattle.nor_chip.specs.Units.{LieAtAnEnd}
-use Rattle.nor_chip.specs.Power.{KeptCut, PowerLost}
-use Rattle.nor_chip.specs.Bus.{BusState}
-use Rattle.nor_chip.proofs.Sizes.{sized_bounds}
-use Rattle.nor_chip.proofs.Guarded.{is_protected-end, is_protected-past, is_protected-no_scheme, is_protected-same}
+use Rattle.nor_model.specs.declared.config.Config.{Config}
+use Rattle.nor_model.specs.declared.running.Running.{Running}
+use Rattle.nor_model.specs.declared.running.Running.TheVariants.{StatusWrite, Unknown}
+use Rattle.nor_model.specs.Chip.{Chip, IsSame, KeptBits, is_locked, kept_in}
+use Rattle.nor_model.specs.Guard.{code_of, is_protected, is_block_protected}
+use Rattle.nor_model.specs.Units.{LieAtAnEnd}
+use Rattle.nor_model.specs.Power.{KeptCut, PowerLost}
+use Rattle.nor_model.specs.Bus.{BusState}
+use Rattle.nor_model.proofs.Sizes.{sized_bounds}
+use Rattle.nor_model.proofs.Guarded.{is_protected-end, is_protected-past, is_protected-no_scheme, is_protected-same}
 use Rattle.nor_driver.specs.OnlyReads.{IsSteadyOrIdle, OnlyReadsHonest}
 use Rattle.nor_driver.specs.Reads.{id_of}
 use Rattle.nor_driver.specs.StatusWrites.{fixed_of}
-use Rattle.nor_call.specs.Request.{wanted}
+use Rattle.nor_request.specs.Request.{wanted}
 use Rattle.nor_plan.specs.Content.{is_touched}
 use Rattle.nor_journal.specs.Text.{Content}
 use Rattle.nor_journal.specs.Saved.{is_saved}
@@ -30,9 +30,9 @@ use Rattle.nor_apply.specs.Within.{is_writable, WorksIn, IsWithin, addresses_of}
 use Rattle.nor_apply.specs.Change.{MayChange}
 use Rattle.nor_apply.proofs.Kept.{locked_same}
 use Rattle.nor_apply.proofs.Changing.{within_then, within_wider, narrower}
-use Rattle.nor_call.specs.declared.refusal.Refusal.{Refusal}
-use Rattle.nor_call.specs.declared.refusal.Refusal.TheVariants.{NoChip, UnknownChip, StatusLocked, Stopped, OtherChip, OtherUnit, StatusDiffers}
-use Rattle.nor_save.specs.Saving.{SomeProtected}
+use Rattle.nor_request.specs.declared.refusal.Refusal.{Refusal}
+use Rattle.nor_request.specs.declared.refusal.Refusal.TheVariants.{NoChip, UnknownChip, StatusLocked, Stopped, OtherChip, OtherUnit, StatusDiffers}
+use Rattle.nor_scan.specs.Saving.{SomeProtected}
 use Rattle.nor_session.specs.Headline.{SavesChip, open_addresses, CanRestore}
 use Rattle.nor_session.specs.Restore.{restored, FitsStatus, RestoreErrors}
 use Rattle.nor_session.proofs.Rescanned.{restored_saved, restored_other}

@@ -2,15 +2,15 @@
 use Rattle.std.proofs.Common.{◌≡◌, ◌<◌, ◌/◌, ◌∙◌, ℕ, Bool, true, false, List, [], ◌∷◌, ◌*◌, ap, sym, arith}
 use Rattle.std.specs.Prelude.{◌&&◌, not}
 use Rattle.std.proofs.lemmas.Bool.{and_parts, and_from, both_ways, false_from_ne_true}
-use Rattle.nor_chip.specs.Chip.{Chip, IsChip, is_locked, kept_in}
-use Rattle.nor_chip.proofs.Kept.{kept_same}
-use Rattle.nor_chip.specs.Guard.{is_protected}
-use Rattle.nor_chip.specs.Bus.{BusState}
-use Rattle.nor_save.proofs.Planned.{touched_inside}
-use Rattle.nor_chip.proofs.Sizes.{sized_bounds}
-use Rattle.nor_chip.proofs.Guarded.{is_protected-sector}
+use Rattle.nor_model.specs.Chip.{Chip, IsChip, is_locked, kept_in}
+use Rattle.nor_model.proofs.Kept.{kept_same}
+use Rattle.nor_model.specs.Guard.{is_protected}
+use Rattle.nor_model.specs.Bus.{BusState}
+use Rattle.nor_scan.proofs.Planned.{touched_inside}
+use Rattle.nor_model.proofs.Sizes.{sized_bounds}
+use Rattle.nor_model.proofs.Guarded.{is_protected-sector}
 use Rattle.nor_driver.specs.OnlyReads.{OnlyReads}
-use Rattle.nor_call.specs.Request.{wanted}
+use Rattle.nor_request.specs.Request.{wanted}
 use Rattle.nor_plan.specs.Content.{is_touched}
 use Rattle.nor_journal.specs.Text.{Content, SameHeader}
 use Rattle.nor_journal.specs.Vault.{VaultState}
@@ -19,8 +19,8 @@ use Rattle.nor_journal.proofs.Saves.{Saves-set}
 use Rattle.nor_probe.specs.Known.{IsGenuine, IsModelled}
 use Rattle.nor_apply.specs.Within.{addresses_of}
 use Rattle.nor_apply.proofs.Changing.{within_wider}
-use Rattle.nor_call.specs.declared.request.Request.{Request}
-use Rattle.nor_save.specs.Saving.{header_of}
+use Rattle.nor_request.specs.declared.request.Request.{Request}
+use Rattle.nor_scan.specs.Saving.{header_of}
 use Rattle.nor_session.specs.Headline.{SavesChip, open_addresses, CanRestore, KeepsOriginal}
 use Rattle.nor_session.specs.Session.{CanBeUndone}
 use Rattle.nor_session.specs.Rehearsing.{CanUndo}

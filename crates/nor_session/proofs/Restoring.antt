@@ -1,30 +1,30 @@
 -- The promises of a restore, from those of its preparation and of its changes.
 use Rattle.std.proofs.Common.{◌≡◌, ◌<◌, ◌≤◌, ◌^◌, ◌+◌, ◌/◌, ◌∙◌, ℕ, true, length, ap, sym, refl, arith, true≢false}
 use mathlib.Core.Path.{fun_ext}
-use Rattle.nor_chip.specs.Chip.{Chip, IsSame}
-use Rattle.nor_chip.specs.Bus.{BusState}
-use Rattle.nor_chip.proofs.Nature.{nature_then}
+use Rattle.nor_model.specs.Chip.{Chip, IsSame}
+use Rattle.nor_model.specs.Bus.{BusState}
+use Rattle.nor_model.proofs.Nature.{nature_then}
 use Rattle.nor_driver.specs.OnlyReads.{OnlyReadsHonest, OnlyReads, IsSteadyOrIdle}
 pub use Rattle.nor_driver.proofs.ReadsInTurn.{looks_more as looks_most}
 use Rattle.nor_journal.specs.Text.{Content}
 use Rattle.nor_journal.specs.Saved.{saved_byte}
 use Rattle.nor_apply.specs.declared.changes.Changes.{Changes}
 use Rattle.nor_apply.specs.declared.changes.Work.{Work}
-use Rattle.nor_count.specs.Counts.{sector_count}
+use Rattle.nor_geometry.specs.Counts.{sector_count}
 use Rattle.nor_plan.specs.Content.{once_erased, is_touched, is_raised}
 use Rattle.nor_apply.specs.Spending.{Spends}
 use Rattle.nor_apply.specs.Checking.{CanCheck}
 use Rattle.nor_apply.specs.Applying.{touched_in, raised_in, status_writes}
 use Rattle.nor_driver.specs.StatusWrites.{fixed_of}
-use Rattle.nor_call.specs.Request.{wanted}
+use Rattle.nor_request.specs.Request.{wanted}
 use Rattle.nor_apply.proofs.Kept.{fixed_coded, told_coded}
 use Rattle.nor_apply.proofs.Changing.{narrower}
-use Rattle.nor_call.specs.declared.report.Report.{Report}
-use Rattle.nor_call.specs.declared.refusal.Refusal.{Refusal}
-use Rattle.nor_call.specs.declared.refusal.Refusal.TheVariants.{Stopped, Timeout, Mismatch}
+use Rattle.nor_request.specs.declared.report.Report.{Report}
+use Rattle.nor_request.specs.declared.refusal.Refusal.{Refusal}
+use Rattle.nor_request.specs.declared.refusal.Refusal.TheVariants.{Stopped, Timeout, Mismatch}
 use Rattle.nor_session.specs.declared.prepare.Prepared.{Prepared}
 use Rattle.nor_probe.specs.Known.{IsModelled}
-use Rattle.nor_save.specs.Identity.{most_identity}
+use Rattle.nor_scan.specs.Identity.{most_identity}
 use Rattle.nor_session.specs.Bounds.{most_of}
 use Rattle.nor_session.specs.Session.{HonestErrors, IsWithinBound}
 use Rattle.nor_session.specs.Changing.{HasBytes, LeavesChange, DoesChange, ChangeErrors}

@@ -4,15 +4,15 @@ use Rattle.std.specs.Prelude.{◌==◌}
 use Rattle.std.specs.Option.{is_some}
 use Rattle.std.proofs.lemmas.Bool.{ne_eqb}
 use Rattle.std.proofs.lemmas.Bool.Decides.{nat_tests}
-use Rattle.nor_chip.proofs.Sizes.{is_chip_size-in_blocks}
+use Rattle.nor_model.proofs.Sizes.{is_chip_size-in_blocks}
 use Rattle.nor_journal.specs.Text.{SavedSector, Content, IsContent, AreRising}
 use Rattle.nor_journal.specs.Saved.{Saves, saved_in, is_saved, saved_byte}
 use Rattle.nor_journal.proofs.Saved.{saved_few}
 use Rattle.nor_journal.proofs.Saves.{Saves-set}
-use Rattle.nor_count.specs.Below.{count_below}
-use Rattle.nor_count.specs.Counts.{sector_count}
-use Rattle.nor_count.proofs.Counting.{count_below-none, count_below-same}
-use Rattle.nor_count.proofs.Verdicts.{count_below-insert}
+use Rattle.nor_geometry.specs.Below.{count_below}
+use Rattle.nor_geometry.specs.Counts.{sector_count}
+use Rattle.nor_geometry.proofs.Counting.{count_below-none, count_below-same}
+use Rattle.nor_geometry.proofs.Verdicts.{count_below-insert}
 
 -- the address at position `i` of sector `s` lies in this sector
 pub sector_at : (s i : ℕ) → i < 4096 → (4096 * s + i) / 4096 ≡ s

@@ -4,36 +4,36 @@ use Rattle.nor_probe.specs.Known.{shown_as}
 use Rattle.nor_probe.specs.Found.{part_in}
 use Rattle.std.specs.Prelude.{Ok, ◌||◌, slice_index}
 use Rattle.std.proofs.lemmas.Bool.{true_from_ne_false}
-use Rattle.nor_chip.specs.declared.status.Status.{Status}
-use Rattle.nor_chip.specs.Status.{bytes_of}
-use Rattle.nor_chip.proofs.Kept.{kept_same}
-use Rattle.nor_chip.specs.Chip.{Chip, status1_of, kept_in}
-use Rattle.nor_chip.specs.Guard.{code_of}
-use Rattle.nor_chip.specs.Bus.{BusState}
+use Rattle.nor_model.specs.declared.status.Status.{Status}
+use Rattle.nor_model.specs.Status.{bytes_of}
+use Rattle.nor_model.proofs.Kept.{kept_same}
+use Rattle.nor_model.specs.Chip.{Chip, status1_of, kept_in}
+use Rattle.nor_model.specs.Guard.{code_of}
+use Rattle.nor_model.specs.Bus.{BusState}
 use Rattle.nor_driver.specs.OnlyReads.{Rested}
 use Rattle.nor_plan.specs.Content.{is_touched, is_raised}
 use Rattle.nor_plan.specs.SectorSet.{has}
 use Rattle.nor_apply.specs.Within.{is_writable}
 use Rattle.nor_apply.specs.Applying.{CanApply, status_writes, writes_code}
 use Rattle.nor_journal.specs.Vault.{VaultState}
-use Rattle.nor_save.specs.declared.identity.Identity.{Identity}
-use Rattle.nor_save.specs.declared.saving.SavedScan.{SavedScan}
-use Rattle.nor_call.specs.declared.request.Request.{Request}
-use Rattle.nor_call.specs.declared.request.What.{What}
-use Rattle.nor_call.specs.declared.request.What.TheVariants.{WpRange}
-use Rattle.nor_call.specs.declared.refusal.Refusal.{Refusal}
-use Rattle.nor_call.specs.declared.refusal.Refusal.TheVariants.{Stopped, Timeout, Mismatch}
-use Rattle.nor_call.specs.Request.{is_data, wanted}
-use Rattle.nor_save.specs.Identity.{status_read}
-use Rattle.nor_call.specs.Refusal.{refusal_number}
+use Rattle.nor_scan.specs.declared.identity.Identity.{Identity}
+use Rattle.nor_scan.specs.declared.saving.SavedScan.{SavedScan}
+use Rattle.nor_request.specs.declared.request.Request.{Request}
+use Rattle.nor_request.specs.declared.request.What.{What}
+use Rattle.nor_request.specs.declared.request.What.TheVariants.{WpRange}
+use Rattle.nor_request.specs.declared.refusal.Refusal.{Refusal}
+use Rattle.nor_request.specs.declared.refusal.Refusal.TheVariants.{Stopped, Timeout, Mismatch}
+use Rattle.nor_request.specs.Request.{is_data, wanted}
+use Rattle.nor_scan.specs.Identity.{status_read}
+use Rattle.nor_request.specs.Refusal.{refusal_number}
 use Rattle.nor_session.specs.Bounds.{most_of}
-use Rattle.nor_save.specs.Saving.{IsIdentityOf, SomeProtected, NeedsStatus}
-use Rattle.nor_call.specs.declared.refusal.Refusal.TheVariants.{NoProtection, StatusLocked}
+use Rattle.nor_scan.specs.Saving.{IsIdentityOf, SomeProtected, NeedsStatus}
+use Rattle.nor_request.specs.declared.refusal.Refusal.TheVariants.{NoProtection, StatusLocked}
 use Rattle.nor_session.specs.Changing.{ChangeErrors}
 use Rattle.nor_session.specs.Session.{HonestErrors, SessionErrors}
-use Rattle.nor_save.specs.Verdict.{NeedsStatusWrite, IdentityAccepts, ScanAccepts}
+use Rattle.nor_scan.specs.Verdict.{NeedsStatusWrite, IdentityAccepts, ScanAccepts}
 use Rattle.nor_session.proofs.Changed.{no_write, writes_other}
-use Rattle.nor_save.proofs.Held.{code_same}
+use Rattle.nor_scan.proofs.Held.{code_same}
 use Rattle.nor_session.proofs.JudgedStatus.{held_scheme, free_place, writable_for}
 use Rattle.nor_session.proofs.RestoredBytes.{unraised_byte}
 use Rattle.nor_session.proofs.Ready.{Ready, changes_of, lifts_none, ran_out_ready, scanned_few}

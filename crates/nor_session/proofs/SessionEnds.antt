@@ -2,34 +2,34 @@
 use Rattle.std.proofs.Common.{subst, ◌≡◌, ◌<◌, ◌+◌, ◌/◌, ◌∙◌, ℕ, Bool, true, List, ap, sym, arith}
 use mathlib.Core.Path.{fun_ext}
 use Rattle.std.specs.Prelude.{slice_index}
-use Rattle.nor_chip.specs.declared.status.Status.{Status}
-use Rattle.nor_chip.specs.Bus.{BusState}
+use Rattle.nor_model.specs.declared.status.Status.{Status}
+use Rattle.nor_model.specs.Bus.{BusState}
 use Rattle.nor_driver.specs.OnlyReads.{OnlyReads, IsOpen}
 use Rattle.nor_journal.specs.Vault.{VaultState}
 use Rattle.nor_plan.specs.SectorSet.{has}
 use Rattle.nor_apply.specs.declared.changes.Work.{Work}
-use Rattle.nor_count.specs.Counts.{sector_count}
+use Rattle.nor_geometry.specs.Counts.{sector_count}
 use Rattle.nor_plan.specs.Content.{once_erased, is_touched, is_raised}
 use Rattle.nor_apply.proofs.Changing.{same_change, change_as, change_then}
 use Rattle.nor_driver.specs.StatusWrites.{fixed_of, with_code}
 use Rattle.nor_apply.proofs.Kept.{fixed_coded}
-use Rattle.nor_save.specs.declared.identity.Identity.{Identity}
-use Rattle.nor_save.specs.declared.saving.SavedScan.{SavedScan}
-use Rattle.nor_call.specs.declared.request.Request.{Request}
-use Rattle.nor_call.specs.Request.{wanted, scanned_sectors}
-use Rattle.nor_save.specs.Identity.{ReadsIdentity, most_identity}
-use Rattle.nor_save.specs.Saving.{IsIdentityOf}
-use Rattle.nor_save.specs.SavedScan.{HasSaved}
-use Rattle.nor_chip.proofs.Sizes.{sized_bounds}
-use Rattle.nor_save.proofs.Planned.{touched_past, only_inside, raised_inside}
-use Rattle.nor_save.specs.Scanning.{wanted_at, Scans}
+use Rattle.nor_scan.specs.declared.identity.Identity.{Identity}
+use Rattle.nor_scan.specs.declared.saving.SavedScan.{SavedScan}
+use Rattle.nor_request.specs.declared.request.Request.{Request}
+use Rattle.nor_request.specs.Request.{wanted, scanned_sectors}
+use Rattle.nor_scan.specs.Identity.{ReadsIdentity, most_identity}
+use Rattle.nor_scan.specs.Saving.{IsIdentityOf}
+use Rattle.nor_scan.specs.SavedScan.{HasSaved}
+use Rattle.nor_model.proofs.Sizes.{sized_bounds}
+use Rattle.nor_scan.proofs.Planned.{touched_past, only_inside, raised_inside}
+use Rattle.nor_scan.specs.Scanning.{wanted_at, Scans}
 use Rattle.nor_apply.specs.Checking.{CanCheck}
-use Rattle.nor_chip.specs.declared.config.Config.{Config}
+use Rattle.nor_model.specs.declared.config.Config.{Config}
 use Rattle.nor_probe.specs.Known.{IsModelled}
 use Rattle.nor_session.specs.Changing.{HasBytes, LeavesChange, DoesChange}
 use Rattle.nor_session.specs.Session.{IsWithinBound, IsDone, CanBeUndone}
 use Rattle.nor_session.specs.Made.{IsTargetChip}
-use Rattle.nor_save.specs.Verdict.{NeedsStatusWrite, IdentityAccepts}
+use Rattle.nor_scan.specs.Verdict.{NeedsStatusWrite, IdentityAccepts}
 use Rattle.nor_session.proofs.Changed.{no_write, fewest_at}
 use Rattle.nor_session.proofs.Ready.{Ready, changes_of, bounded_by}
 use Rattle.nor_session.proofs.ReadyChip.{is_opening, told_idle, shows, named}

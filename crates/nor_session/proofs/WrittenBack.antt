@@ -1,11 +1,11 @@
 -- A journal can restore its chip from files that are being overwritten, at each moment.
 use Rattle.std.proofs.Common.{ap, arith, ◌/◌, ◌%◌, false, ◌≡◌, ◌∙◌, ◌⊎◌, ℕ, Bool, List, [], true, refl, sym, inl, inr}
 use Rattle.std.proofs.lemmas.List.{append-nil}
-use Rattle.nor_chip.specs.Bus.{BusState}
-use Rattle.nor_chip.specs.Chip.{Chip, IsChip, IsSame, KeptBits}
+use Rattle.nor_model.specs.Bus.{BusState}
+use Rattle.nor_model.specs.Chip.{Chip, IsChip, IsSame, KeptBits}
 use Rattle.nor_driver.specs.StatusWrites.{fixed_of}
-use Rattle.nor_chip.proofs.Kept.{kept_same}
-use Rattle.nor_call.specs.Request.{wanted}
+use Rattle.nor_model.proofs.Kept.{kept_same}
+use Rattle.nor_request.specs.Request.{wanted}
 use Rattle.nor_plan.specs.Content.{is_touched}
 use Rattle.nor_journal.specs.Text.{Content, IsContent, SameHeader, text}
 use Rattle.nor_journal.specs.Saved.{JournalSaves, Saves}
@@ -13,8 +13,8 @@ use Rattle.nor_journal.specs.Vault.{VaultState}
 use Rattle.nor_journal.proofs.OneForm.{one_text}
 use Rattle.nor_apply.specs.Within.{IsWithin, is_writable}
 use Rattle.nor_apply.proofs.Changing.{idle_within}
-use Rattle.nor_save.specs.Saving.{header_of}
-use Rattle.nor_call.specs.declared.request.Request.{Request}
+use Rattle.nor_scan.specs.Saving.{header_of}
+use Rattle.nor_request.specs.declared.request.Request.{Request}
 use Rattle.nor_probe.specs.Known.{IsModelled}
 use Rattle.nor_session.specs.Headline.{CanRestore, open_addresses}
 use Rattle.nor_session.specs.Session.{CanBeUndone}

@@ -1,7 +1,7 @@
 -- How many transactions a call may send on a well-behaved bus.
 use Rattle.std.specs.Prelude.{◌+◌, ◌*◌, ℕ}
 use Rattle.nor_driver.specs.Operations.{most_operation}
-use Rattle.nor_save.specs.Identity.{most_identity}
+use Rattle.nor_scan.specs.Identity.{most_identity}
 
 -- the most transactions of an identification and a scan of the given number of sectors
 abbrev pub most_reads : (sectors : ℕ) → ℕ

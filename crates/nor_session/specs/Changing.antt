@@ -1,23 +1,23 @@
 -- The effect of the changes of a session or restore, and of the check of their result.
 use Rattle.std.specs.Prelude.{◌≡◌, ◌≤◌, ◌+◌, ◌*◌, ◌/◌, ◌⊎◌, ℕ, Bool, true, if◌then◌else◌, ⊤}
-use Rattle.nor_chip.specs.Chip.{Chip}
-use Rattle.nor_chip.specs.Bus.{BusState}
+use Rattle.nor_model.specs.Chip.{Chip}
+use Rattle.nor_model.specs.Bus.{BusState}
 use Rattle.nor_driver.specs.Ready.{StaysReady}
 use Rattle.nor_driver.specs.OnlyReads.{Rested, RanOut, RanOutIfHonest}
 use Rattle.nor_driver.specs.Limits.{SendsWithin, SendsExactly}
 use Rattle.nor_driver.specs.Operations.{most_operation}
-use Rattle.nor_count.specs.Below.{count_below}
+use Rattle.nor_geometry.specs.Below.{count_below}
 use Rattle.nor_plan.specs.Planned.{fewest_erases}
 use Rattle.nor_apply.specs.declared.changes.Changes.{Changes}
 use Rattle.nor_apply.specs.declared.changes.Work.{Work}
-use Rattle.nor_count.specs.Counts.{sector_count}
+use Rattle.nor_geometry.specs.Counts.{sector_count}
 use Rattle.nor_plan.specs.Content.{once_erased, is_programmed}
 use Rattle.nor_apply.specs.Change.{MayChange}
 use Rattle.nor_apply.specs.Checking.{CanCheck, IsFirstMismatch}
 use Rattle.nor_apply.specs.Spending.{Spends}
 use Rattle.nor_apply.specs.Applying.{touched_in, raised_in, status_writes, most_sent, most_applied, CanApply, HasApplied}
-use Rattle.nor_call.specs.declared.refusal.Refusal.{Refusal}
-use Rattle.nor_call.specs.declared.refusal.Refusal.TheVariants.{Stopped, Timeout, Mismatch}
+use Rattle.nor_request.specs.declared.refusal.Refusal.{Refusal}
+use Rattle.nor_request.specs.declared.refusal.Refusal.TheVariants.{Stopped, Timeout, Mismatch}
 
 -- the number of touched sectors
 abbrev pub touched_count : Changes → ℕ

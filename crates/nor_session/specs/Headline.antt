@@ -1,9 +1,9 @@
 -- The main promise of a session, a restore and a rehearsal: the original chip can be restored.
 use Rattle.std.specs.Prelude.{◌≡◌, ◌/◌, ◌&&◌, ℕ, Bool, true, false, not, List, Result, IfErr, IfSome, OnOk}
-use Rattle.nor_chip.specs.declared.config.Config.{Config}
-use Rattle.nor_chip.specs.Chip.{Chip, IsSame, is_locked, kept_in}
-use Rattle.nor_chip.specs.Guard.{is_protected}
-use Rattle.nor_chip.specs.Bus.{BusState}
+use Rattle.nor_model.specs.declared.config.Config.{Config}
+use Rattle.nor_model.specs.Chip.{Chip, IsSame, is_locked, kept_in}
+use Rattle.nor_model.specs.Guard.{is_protected}
+use Rattle.nor_model.specs.Bus.{BusState}
 use Rattle.nor_driver.specs.OnlyReads.{IsSteadyOrIdle}
 use Rattle.nor_driver.specs.Reads.{id_of, unique_of}
 use Rattle.nor_journal.specs.Text.{Content}
@@ -11,10 +11,10 @@ use Rattle.nor_journal.specs.Vault.{VaultState}
 use Rattle.nor_journal.specs.Saved.{Saves, is_saved}
 use Rattle.nor_probe.specs.Known.{IsKnown, IsModelled}
 use Rattle.nor_apply.specs.Within.{IsWithin}
-use Rattle.nor_call.specs.declared.report.Report.{Report}
-use Rattle.nor_call.specs.declared.refusal.Refusal.{Refusal}
-use Rattle.nor_call.specs.declared.refusal.Refusal.TheVariants.{Stopped}
-use Rattle.nor_save.specs.SavedScan.{IsJournal}
+use Rattle.nor_request.specs.declared.report.Report.{Report}
+use Rattle.nor_request.specs.declared.refusal.Refusal.{Refusal}
+use Rattle.nor_request.specs.declared.refusal.Refusal.TheVariants.{Stopped}
+use Rattle.nor_scan.specs.SavedScan.{IsJournal}
 
 -- ---- which chip a journal can restore
 

@@ -1,12 +1,12 @@
 -- Sessions and restores that follow one another, and power failures of the chip between them.
 use Rattle.std.specs.Prelude.{◌≡◌, ◌⊎◌, ℕ, true, false, List}
-use Rattle.nor_chip.specs.Chip.{IsChip, IsSame}
-use Rattle.nor_chip.specs.Power.{PowerLost}
-use Rattle.nor_chip.specs.Bus.{BusState}
+use Rattle.nor_model.specs.Chip.{IsChip, IsSame}
+use Rattle.nor_model.specs.Power.{PowerLost}
+use Rattle.nor_model.specs.Bus.{BusState}
 use Rattle.nor_journal.specs.Text.{Content, IsContent, text}
 use Rattle.nor_journal.specs.Vault.{VaultState}
-use Rattle.nor_call.specs.declared.request.Request.{Request}
-use Rattle.nor_call.specs.declared.report.Report.{Report}
+use Rattle.nor_request.specs.declared.request.Request.{Request}
+use Rattle.nor_request.specs.declared.report.Report.{Report}
 use Rattle.nor_probe.specs.Known.{IsModelled}
 use Rattle.nor_session.specs.Session.{CanBeUndone}
 use Rattle.nor_session.specs.Restore.{NeedsStatusFrom}

@@ -1,21 +1,21 @@
 -- The state of a session after its request was checked, and the bus states to which its promises refer.
 use Rattle.std.specs.Prelude.{◌≡◌, ◌≤◌, ◌<◌, ℕ, true, Option, List, Result, length}
-use Rattle.nor_chip.specs.Guard.{code_of}
-use Rattle.nor_chip.specs.Chip.{Chip, kept_in}
-use Rattle.nor_chip.specs.Bus.{BusState}
+use Rattle.nor_model.specs.Guard.{code_of}
+use Rattle.nor_model.specs.Chip.{Chip, kept_in}
+use Rattle.nor_model.specs.Bus.{BusState}
 use Rattle.nor_driver.specs.OnlyReads.{OnlyReads}
 use Rattle.nor_probe.specs.declared.table.ChipName.{ChipName}
 use Rattle.nor_probe.specs.Found.{IsPart}
-use Rattle.nor_save.specs.declared.identity.Identity.{Identity}
-use Rattle.nor_call.specs.declared.request.Request.{Request}
-use Rattle.nor_call.specs.declared.report.Report.{Report}
-use Rattle.nor_call.specs.declared.refusal.Refusal.{Refusal}
+use Rattle.nor_scan.specs.declared.identity.Identity.{Identity}
+use Rattle.nor_request.specs.declared.request.Request.{Request}
+use Rattle.nor_request.specs.declared.report.Report.{Report}
+use Rattle.nor_request.specs.declared.refusal.Refusal.{Refusal}
 use Rattle.nor_journal.specs.Vault.{VaultState}
-use Rattle.nor_call.specs.Request.{is_data}
-use Rattle.nor_save.specs.Identity.{status_read, ReadsIdentity, most_identity}
-use Rattle.nor_save.specs.Judging.{IsFoundCode}
-use Rattle.nor_save.specs.Saving.{IsIdentityOf}
-use Rattle.nor_save.specs.Verdict.{IsNamed, IdentityAccepts}
+use Rattle.nor_request.specs.Request.{is_data}
+use Rattle.nor_scan.specs.Identity.{status_read, ReadsIdentity, most_identity}
+use Rattle.nor_scan.specs.Judging.{IsFoundCode}
+use Rattle.nor_scan.specs.Saving.{IsIdentityOf}
+use Rattle.nor_scan.specs.Verdict.{IsNamed, IdentityAccepts}
 use Rattle.nor_probe.specs.Known.{IsModelled}
 use Rattle.nor_session.specs.Session.{SessionAlways, SessionHonest, SessionModelled}
 

@@ -1,10 +1,10 @@
 -- The facts about a chip that a restore finds out before it changes anything.
 use Rattle.std.specs.Prelude.{◌≡◌, ◌≢◌, ◌<◌, ◌≤◌, ◌+◌, ◌/◌, ◌||◌, ◌⊎◌, ℕ, Bool, true, List, Result, None, Ok, Err, IfErr, OnOk, OnErr, IfOk, MatchBool, length, slice_index, ⊤}
-use Rattle.nor_chip.specs.Guard.{code_of}
-use Rattle.nor_chip.specs.Chip.{Chip, IsSame, is_locked, status1_of, kept_in}
-use Rattle.nor_chip.specs.Status.{bytes_of}
-use Rattle.nor_chip.specs.Bus.{BusState}
-use Rattle.nor_save.specs.Identity.{status_read}
+use Rattle.nor_model.specs.Guard.{code_of}
+use Rattle.nor_model.specs.Chip.{Chip, IsSame, is_locked, status1_of, kept_in}
+use Rattle.nor_model.specs.Status.{bytes_of}
+use Rattle.nor_model.specs.Bus.{BusState}
+use Rattle.nor_scan.specs.Identity.{status_read}
 use Rattle.nor_driver.specs.OnlyReads.{Rested, RanOutIfHonest, IsOpen}
 use Rattle.nor_driver.specs.Ready.{StaysReady}
 use Rattle.nor_driver.specs.StatusWrites.{fixed_of}
@@ -21,17 +21,17 @@ use Rattle.nor_probe.specs.Known.{shown_as, IsModelled}
 use Rattle.nor_probe.specs.Found.{part_in}
 use Rattle.nor_apply.specs.declared.changes.Changes.{Changes}
 use Rattle.nor_apply.specs.Applying.{writes_code, CanApply}
-use Rattle.nor_save.specs.declared.identity.Identity.{Identity}
-use Rattle.nor_save.specs.declared.scanning.Scanned.{Scanned}
-use Rattle.nor_call.specs.declared.refusal.Refusal.{Refusal}
-use Rattle.nor_call.specs.declared.refusal.Refusal.TheVariants.{NoChip, UnknownChip, StatusLocked, Stopped, Timeout, OtherChip, OtherUnit, StatusDiffers}
-use Rattle.nor_save.specs.Scanning.{AreMarks}
-use Rattle.nor_save.specs.Saving.{IsIdentityOf, NoneProtected, SomeProtected}
+use Rattle.nor_scan.specs.declared.identity.Identity.{Identity}
+use Rattle.nor_scan.specs.declared.scanning.Scanned.{Scanned}
+use Rattle.nor_request.specs.declared.refusal.Refusal.{Refusal}
+use Rattle.nor_request.specs.declared.refusal.Refusal.TheVariants.{NoChip, UnknownChip, StatusLocked, Stopped, Timeout, OtherChip, OtherUnit, StatusDiffers}
+use Rattle.nor_scan.specs.Scanning.{AreMarks}
+use Rattle.nor_scan.specs.Saving.{IsIdentityOf, NoneProtected, SomeProtected}
 use Rattle.nor_session.specs.declared.prepare.Prepared.{Prepared}
 use Rattle.nor_session.specs.Bounds.{most_reads}
 use Rattle.nor_session.specs.Changing.{touched_count}
 use Rattle.nor_session.specs.Headline.{IsOfType}
-use Rattle.nor_save.specs.Verdict.{IsNamed}
+use Rattle.nor_scan.specs.Verdict.{IsNamed}
 use Rattle.nor_session.specs.Restore.{IsOfOtherDevice, FitsStatus, NeedsStatusFrom, IsCheckedFirst, restored}
 
 -- ---- the checks, in the order of the code

@@ -1,25 +1,25 @@
 -- The promises of a rehearsal.
 use Rattle.std.specs.Prelude.{◌≡◌, ◌≤◌, ◌<◌, ◌+◌, ◌-◌, ◌*◌, ◌/◌, ◌==◌, ◌⊎◌, max, ℕ, Bool, true, false, List, [], ◌∷◌, Result, IfOk, IfErr, OnErr, drop, length, slice_index, if◌then◌else◌}
 use Rattle.std.specs.List.{list_any}
-use Rattle.nor_chip.specs.Chip.{Chip, IsSame}
-use Rattle.nor_chip.specs.Bus.{BusState, KeepsNature}
+use Rattle.nor_model.specs.Chip.{Chip, IsSame}
+use Rattle.nor_model.specs.Bus.{BusState, KeepsNature}
 use Rattle.nor_journal.specs.Vault.{VaultState, CountsRefusal}
 use Rattle.nor_journal.specs.Saved.{JournalSaves}
-use Rattle.nor_count.specs.Counts.{sector_count}
+use Rattle.nor_geometry.specs.Counts.{sector_count}
 use Rattle.nor_plan.specs.Content.{is_touched}
 use Rattle.nor_journal.specs.Text.{Content}
-use Rattle.nor_call.specs.declared.request.Request.{Request}
-use Rattle.nor_call.specs.declared.request.What.{What}
-use Rattle.nor_call.specs.declared.refusal.Refusal.{Refusal}
-use Rattle.nor_call.specs.declared.refusal.Refusal.TheVariants.{Vault}
-use Rattle.nor_call.specs.Refusal.{refusal_number}
-use Rattle.nor_call.specs.Request.{wanted, scanned_sectors}
-use Rattle.nor_save.specs.Saving.{header_of}
-use Rattle.nor_save.specs.SavedScan.{IsJournal}
+use Rattle.nor_request.specs.declared.request.Request.{Request}
+use Rattle.nor_request.specs.declared.request.What.{What}
+use Rattle.nor_request.specs.declared.refusal.Refusal.{Refusal}
+use Rattle.nor_request.specs.declared.refusal.Refusal.TheVariants.{Vault}
+use Rattle.nor_request.specs.Refusal.{refusal_number}
+use Rattle.nor_request.specs.Request.{wanted, scanned_sectors}
+use Rattle.nor_scan.specs.Saving.{header_of}
+use Rattle.nor_scan.specs.SavedScan.{IsJournal}
 use Rattle.nor_session.specs.declared.rehearsals.Rehearsal.{Rehearsal}
 use Rattle.nor_session.specs.Bounds.{most_reads, most_of}
 use Rattle.nor_session.specs.Made.{AreFewestErases, pages_of}
-use Rattle.nor_save.specs.Verdict.{IsVerdict, IsAccepted}
+use Rattle.nor_scan.specs.Verdict.{IsVerdict, IsAccepted}
 use Rattle.nor_session.specs.Session.{SessionReturns, NamesAddress, IsSavedCode, IsWrittenCode, most_status_writes, SendsSaved, WritesStatusAtMost}
 use Rattle.nor_session.specs.Restore.{IsRestoreRefusal}
 

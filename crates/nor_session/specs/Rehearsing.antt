@@ -1,24 +1,24 @@
 -- The states that the parts of a rehearsal leave: its session, and the restores in turn.
 use Rattle.std.specs.Prelude.{◌≡◌, ◌≤◌, ◌<◌, ◌+◌, ◌*◌, ◌/◌, ℕ, Bool, true, false, List, Result, IfOk, IfErr, OnOk, length}
-use Rattle.nor_chip.specs.Chip.{Chip, IsChip, IsSame, is_locked}
-use Rattle.nor_chip.specs.Bus.{BusState, KeepsNature}
+use Rattle.nor_model.specs.Chip.{Chip, IsChip, IsSame, is_locked}
+use Rattle.nor_model.specs.Bus.{BusState, KeepsNature}
 use Rattle.nor_driver.specs.OnlyReads.{IsSteadyOrIdle}
 use Rattle.nor_driver.specs.StatusWrites.{with_code}
 use Rattle.nor_journal.specs.Text.{Content}
 use Rattle.nor_journal.specs.Vault.{VaultState}
 use Rattle.nor_journal.specs.Saved.{is_saved, JournalSaves}
 use Rattle.nor_probe.specs.Known.{IsKnown, IsModelled}
-use Rattle.nor_count.specs.Counts.{sector_count}
+use Rattle.nor_geometry.specs.Counts.{sector_count}
 use Rattle.nor_plan.specs.Content.{is_touched}
 use Rattle.nor_apply.specs.Within.{IsWithin, addresses_of}
-use Rattle.nor_call.specs.declared.request.Request.{Request}
-use Rattle.nor_call.specs.declared.request.What.{What}
-use Rattle.nor_call.specs.declared.refusal.Refusal.{Refusal}
-use Rattle.nor_call.specs.Request.{wanted, IsWantedCode}
-use Rattle.nor_save.specs.Saving.{header_of, NoneProtected}
-use Rattle.nor_save.specs.SavedScan.{IsJournal}
+use Rattle.nor_request.specs.declared.request.Request.{Request}
+use Rattle.nor_request.specs.declared.request.What.{What}
+use Rattle.nor_request.specs.declared.refusal.Refusal.{Refusal}
+use Rattle.nor_request.specs.Request.{wanted, IsWantedCode}
+use Rattle.nor_scan.specs.Saving.{header_of, NoneProtected}
+use Rattle.nor_scan.specs.SavedScan.{IsJournal}
 use Rattle.nor_session.specs.Bounds.{most_of}
-use Rattle.nor_save.specs.Verdict.{IsAccepted}
+use Rattle.nor_scan.specs.Verdict.{IsAccepted}
 use Rattle.nor_session.specs.Session.{SessionReturns, SavesSector, NamesSector, NamesAddress, IsSavedCode, IsWrittenCode, most_status_writes, SendsSaved, WritesStatusAtMost}
 use Rattle.nor_session.specs.Headline.{CanRestore}
 use Rattle.nor_session.specs.Restore.{IsRestoreRefusal}

@@ -1,14 +1,14 @@
 -- The promises of a session.
 use Rattle.std.specs.Prelude.{◌≡◌, ◌∷◌, ◌%◌, ◌≢◌, ◌≤◌, ◌<◌, ◌+◌, ◌*◌, ◌/◌, ◌⊎◌, ℕ, Bool, true, false, List, [], Result, IfOk, IfErr, OnOk, OnErr, if◌then◌else◌, ⊤}
-use Rattle.nor_chip.specs.Chip.{Chip, IsSame, kept_in}
-use Rattle.nor_chip.specs.Guard.{code_of}
-use Rattle.nor_chip.specs.Offer.{IsLeastCode}
-use Rattle.nor_chip.specs.Sent.{is_targeted, has_written, has_unknown, erases_of, programs_of, status_writes_of}
-use Rattle.nor_chip.specs.Bus.{BusState}
+use Rattle.nor_model.specs.Chip.{Chip, IsSame, kept_in}
+use Rattle.nor_model.specs.Guard.{code_of}
+use Rattle.nor_model.specs.Offer.{IsLeastCode}
+use Rattle.nor_model.specs.Sent.{is_targeted, has_written, has_unknown, erases_of, programs_of, status_writes_of}
+use Rattle.nor_model.specs.Bus.{BusState}
 use Rattle.nor_driver.specs.OnlyReads.{OnlyReads, Falls, RanOut}
 use Rattle.nor_driver.specs.StatusWrites.{fixed_of, with_code}
 use Rattle.nor_driver.specs.Limits.{CountsUp}
-use Rattle.nor_count.specs.Counts.{sector_count}
+use Rattle.nor_geometry.specs.Counts.{sector_count}
 use Rattle.nor_driver.specs.Operations.{most_operation}
 use Rattle.nor_plan.specs.Content.{is_touched, is_raised}
 use Rattle.nor_journal.specs.Text.{Content}
@@ -16,20 +16,20 @@ use Rattle.nor_journal.specs.Vault.{VaultState, CountsRefusal}
 use Rattle.nor_journal.specs.Saved.{JournalSaves, IsJournalPrefix, is_saved}
 use Rattle.nor_apply.specs.Change.{MayChange}
 use Rattle.nor_apply.specs.Spending.{Spends}
-use Rattle.nor_call.specs.declared.request.Request.{Request}
-use Rattle.nor_call.specs.declared.report.Report.{Report}
-use Rattle.nor_call.specs.declared.request.What.{What}
-use Rattle.nor_call.specs.declared.request.What.TheVariants.{WpRange}
-use Rattle.nor_call.specs.declared.refusal.Refusal.{Refusal}
-use Rattle.nor_call.specs.declared.refusal.Refusal.TheVariants.{Vault, Stopped, Timeout, Mismatch}
-use Rattle.nor_call.specs.Refusal.{refusal_number}
-use Rattle.nor_call.specs.Request.{wanted, scanned_sectors, IsWantedCode}
-use Rattle.nor_save.specs.Saving.{header_of}
-use Rattle.nor_save.specs.SavedScan.{IsJournal, HasWholeRecords, HoldsJournal}
+use Rattle.nor_request.specs.declared.request.Request.{Request}
+use Rattle.nor_request.specs.declared.report.Report.{Report}
+use Rattle.nor_request.specs.declared.request.What.{What}
+use Rattle.nor_request.specs.declared.request.What.TheVariants.{WpRange}
+use Rattle.nor_request.specs.declared.refusal.Refusal.{Refusal}
+use Rattle.nor_request.specs.declared.refusal.Refusal.TheVariants.{Vault, Stopped, Timeout, Mismatch}
+use Rattle.nor_request.specs.Refusal.{refusal_number}
+use Rattle.nor_request.specs.Request.{wanted, scanned_sectors, IsWantedCode}
+use Rattle.nor_scan.specs.Saving.{header_of}
+use Rattle.nor_scan.specs.SavedScan.{IsJournal, HasWholeRecords, HoldsJournal}
 use Rattle.nor_session.specs.Bounds.{most_reads, most_of}
 use Rattle.nor_session.specs.Made.{IsTargetChip, IsReported}
 use Rattle.nor_session.specs.Changing.{HasBytes}
-use Rattle.nor_save.specs.Verdict.{IsNamed, NeedsStatusWrite, IsVerdict, IsAccepted}
+use Rattle.nor_scan.specs.Verdict.{IsNamed, NeedsStatusWrite, IsVerdict, IsAccepted}
 
 -- ---- on every bus
 

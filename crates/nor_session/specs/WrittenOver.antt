@@ -1,6 +1,6 @@
 -- A chip that is kept in files, and what these may hold while they are overwritten.
 use Rattle.std.specs.Prelude.{◌≡◌, ◌⊎◌, ℕ}
-use Rattle.nor_chip.specs.Chip.{Chip}
+use Rattle.nor_model.specs.Chip.{Chip}
 
 -- Holds for a chip that is opened from files that held the old chip and were being overwritten with the new one. Each
 -- byte is the old or the new one, and so are the non-volatile bits of each status byte. The chip is idle.

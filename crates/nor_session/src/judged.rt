@@ -7,9 +7,9 @@ ghost use Rattle.nor_session.specs.Judged.{IsJudged, SinceIdentity, KeepsPromise
 use crate::kept::{Kept, Restorer};
 use crate::sources::Image;
 use nor_apply::Changes;
-use nor_chip::Bus;
 use nor_journal::Vault;
-use nor_save::{Identity, Refusal, Report, Request, save};
+use nor_model::Bus;
+use nor_scan::{Identity, Refusal, Report, Request, save};
 
 /// The state in which the request is checked against the identification, and nothing is saved yet. It holds all that a
 /// session uses until it returns.
@@ -62,7 +62,9 @@ impl<'a, B: Bus, V: Vault> Judged<'a, B, V> {
             touched: saved.scanned.count,
             erases: work.erases,
             programs: work.programs,
-            transactions: identity.transactions + u64::from(saved.scanned.reads) + work.transactions,
+            transactions: identity.transactions
+                + u64::from(saved.scanned.reads)
+                + work.transactions,
         })
     }
 }

@@ -9,9 +9,9 @@ ghost use Rattle.nor_apply.specs.Applying.{most_applied};
 ghost use Rattle.nor_session.specs.Changing.{touched_count, LeavesChange, DoesChange, ChangeErrors, NamesTouchedSector, DoesCheck, CheckRefuses};
 
 use nor_apply::{Changes, Source, Work, apply, check_all};
-use nor_chip::Bus;
 use nor_journal::{Journal, Vault};
-use nor_save::Refusal;
+use nor_model::Bus;
+use nor_scan::Refusal;
 
 /// Evidence that the journal is in a sealed vault, or was read.
 pub(crate) struct Restorer(());

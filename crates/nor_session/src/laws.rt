@@ -1,12 +1,12 @@
 //! Laws (theorems) on sessions and restores that follow one another, and on chips in files. They say which chips a
 //! journal can restore after a session, after a loss of power, and while files are being overwritten.
 ghost use Rattle.std.specs.Prelude.{◌≡◌, ◌⊎◌, true, ℕ, List};
-ghost use Rattle.nor_chip.specs.Bus.{BusState};
-ghost use Rattle.nor_chip.specs.Chip.{Chip, IsChip, IsSame};
+ghost use Rattle.nor_model.specs.Bus.{BusState};
+ghost use Rattle.nor_model.specs.Chip.{Chip, IsChip, IsSame};
 ghost use Rattle.nor_journal.specs.Text.{Content, IsContent, text};
 ghost use Rattle.nor_journal.specs.Vault.{VaultState};
-ghost use Rattle.nor_call.specs.declared.report.Report.{Report};
-ghost use Rattle.nor_call.specs.declared.request.Request.{Request};
+ghost use Rattle.nor_request.specs.declared.report.Report.{Report};
+ghost use Rattle.nor_request.specs.declared.request.Request.{Request};
 ghost use Rattle.nor_probe.specs.Known.{IsModelled};
 ghost use Rattle.nor_session.specs.InTurn.{LeavesJournal, LosesPower, MayLosePower, IsTakenUp, ChangesNothing};
 ghost use Rattle.nor_session.specs.Headline.{SavesChip, CanRestore};

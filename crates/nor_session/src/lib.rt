@@ -22,7 +22,7 @@
 //! ```
 //!
 //! `specs/` has what each call promises: first `Headline.antt`, then `Session.antt`, `Restore.antt` and
-//! `Rehearsal.antt`. `IsVerdict` of nor_save is the verdict on a request, and `IsModelled` of nor_probe says for which
+//! `Rehearsal.antt`. `IsVerdict` of nor_scan is the verdict on a request, and `IsModelled` of nor_probe says for which
 //! buses most promises are made. `InTurn.antt` and `WrittenOver.antt` have the definitions of the laws.
 #![tactic(auto)]
 
@@ -39,7 +39,7 @@ pub use laws::{
     power_lost_restores_original, read_restores_original, restore_written_over, restored_stays,
     same_written_over, session_written_over, undone_in_turn, undone_is_restorable,
 };
-pub use nor_call::{Refusal, Report, Request, What};
+pub use nor_request::{Refusal, Report, Request, What};
 pub use rehearsals::{Rehearsal, rehearse};
 pub use restores::restore;
 pub use sessions::{accepted_alone, session};

@@ -1,23 +1,23 @@
 //! The steps of a restore before it changes anything: it identifies the chip, which the journal must fit, reads the
 //! saved sectors, and finds out which changes are needed.
 ghost use Rattle.std.specs.Prelude.{◌≡◌, ◌<◌, ◌≤◌, ◌/◌, true, None, length, IfOk, IfErr, OnOk, OnErr, MatchBool, IsTrue};
-ghost use Rattle.nor_chip.specs.Size.{is_chip_size};
+ghost use Rattle.nor_model.specs.Size.{is_chip_size};
 ghost use Rattle.nor_driver.specs.OnlyReads.{OnlyReads, RanOutIfHonest};
 ghost use Rattle.nor_plan.specs.SectorSet.{has, LiesBelow};
-ghost use Rattle.nor_save.specs.Identity.{ReadsIdentity, most_identity};
-ghost use Rattle.nor_call.specs.declared.refusal.Refusal.TheVariants as Refusals;
+ghost use Rattle.nor_scan.specs.Identity.{ReadsIdentity, most_identity};
+ghost use Rattle.nor_request.specs.declared.refusal.Refusal.TheVariants as Refusals;
 ghost use Rattle.nor_session.specs.Bounds.{most_reads};
 ghost use Rattle.nor_session.specs.Prepare.{IsOfTypeFound, IsDeviceRefusal, FitsIdentity, HasFixedRead, ShowsFixed};
 ghost use Rattle.nor_session.specs.Prepare.{AcceptsDevice, RefusesDevice, PlansSaved, ScansSaved};
 ghost use Rattle.nor_session.specs.Prepare.{AreChanges, MakesChanges, RefusesShut, IsPrepared, PrepareErrors};
 
 use nor_apply::Changes;
-use nor_chip::{Bus, SECTOR_LEN, Status, Stopped};
 use nor_driver::read_sector;
 use nor_journal::Journal;
+use nor_model::{Bus, SECTOR_LEN, Status, Stopped};
 use nor_plan::{Plan, SectorPlan};
 use nor_probe::{Found, probe_counted};
-use nor_save::{Identity, Refusal, Scanned, first_protected, read_on};
+use nor_scan::{Identity, Refusal, Scanned, first_protected, read_on};
 
 /// The result of a restore's preparation: the chip that was found, what must be changed, how many sectors are touched,
 /// and how many transactions were sent.

@@ -1,6 +1,6 @@
 //! A rehearsal: runs a session that is stopped on purpose, and restores from its journal.
 ghost use Rattle.std.specs.Prelude.{◌≡◌, ◌≤◌, ◌+◌, true, length, drop, IfOk, IfErr, OnOk};
-ghost use Rattle.nor_chip.specs.Chip.{IsSame};
+ghost use Rattle.nor_model.specs.Chip.{IsSame};
 ghost use Rattle.nor_driver.specs.OnlyReads.{IsSteadyOrIdle};
 ghost use Rattle.nor_journal.specs.Vault.{IsFresh};
 ghost use Rattle.nor_journal.specs.MemVault.{held_by};
@@ -13,8 +13,8 @@ ghost use Rattle.nor_session.specs.Rehearsal.{RehearsalAlways, RehearsalModelled
 use crate::restores::restore;
 use crate::sessions::session;
 use crate::{Refusal, Request};
-use nor_chip::{Bus, MOST_SECTORS, Meter};
 use nor_journal::{Journal, MemVault, Vault};
+use nor_model::{Bus, MOST_SECTORS, Meter};
 
 /// The result of a rehearsal: whether the session ended, whether its vault was sealed, and how many restores were run
 /// until one ended (this counts the stopped ones too).

@@ -7,9 +7,9 @@ ghost use Rattle.nor_session.specs.Restore.{RestoreAlways, RestoreHonest, Restor
 use crate::kept::{Kept, Restorer};
 use crate::prepare::prepare;
 use crate::sources::Saved;
-use nor_chip::Bus;
 use nor_journal::Journal;
-use nor_save::{Refusal, Report};
+use nor_model::Bus;
+use nor_scan::{Refusal, Report};
 
 /// Writes the saved sectors and the protection bits of `journal` back to the chip, and reads the sectors back.
 ///

@@ -1,18 +1,18 @@
 //! A session: saves what it will change, and then makes the chip what the request asks for.
 ghost use Rattle.std.specs.Prelude.{◌≡◌, ℕ, List, true};
-ghost use Rattle.nor_chip.specs.Chip.{Chip};
+ghost use Rattle.nor_model.specs.Chip.{Chip};
 ghost use Rattle.nor_journal.specs.Vault.{IsFresh};
-ghost use Rattle.nor_call.specs.declared.request.Request.{Request};
-ghost use Rattle.nor_call.specs.declared.refusal.Refusal.{Refusal};
+ghost use Rattle.nor_request.specs.declared.request.Request.{Request};
+ghost use Rattle.nor_request.specs.declared.refusal.Refusal.{Refusal};
 ghost use Rattle.nor_probe.specs.Known.{IsModelled};
 ghost use Rattle.nor_session.specs.Headline.{KeepsOriginal};
-ghost use Rattle.nor_save.specs.Verdict.{IsVerdict, IsAccepted};
+ghost use Rattle.nor_scan.specs.Verdict.{IsVerdict, IsAccepted};
 ghost use Rattle.nor_session.specs.Session.{SessionAlways, SessionHonest, SessionModelled};
 
 use crate::judged::Judged;
-use nor_chip::Bus;
 use nor_journal::Vault;
-use nor_save::{Refusal, Report, Request, judge_identity, open};
+use nor_model::Bus;
+use nor_scan::{Refusal, Report, Request, judge_identity, open};
 
 /// Saves each sector that it will touch to `vault`, and then makes the chip what `request` asks for.
 ///
@@ -57,7 +57,7 @@ pub fn session<B: Bus, V: Vault>(
 }
 
 /// A request that is accepted has no verdict that refuses it.
-#[tactic(auto, using(nor_save::proofs::OneVerdict::accepted_only))]
+#[tactic(auto, using(nor_scan::proofs::OneVerdict::accepted_only))]
 pub fn accepted_alone()
     ensures { (request : Request) (image : List ℕ) (chip : Chip) (refusal : Refusal)
         → IsAccepted request image chip → ¬ IsVerdict request image chip refusal }

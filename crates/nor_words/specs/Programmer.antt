@@ -2,8 +2,8 @@
 use Rattle.std.specs.Prelude.{◌≡◌, ◌&&◌, ℕ, Bool, true, List, [], ◌∷◌, Option, Some, None, length, drop, find, codes, is_some, nat_eq, nat_lt, nat_le, option_map, option_and_then, if◌then◌else◌}
 use Rattle.std.specs.List.{count_by, list_all, list_any, starts_with}
 use Rattle.std.specs.Str.{bytes_eq}
-use Rattle.nor_chip.specs.Makers.{IsTiny64, IsW25q64fv, IsW25q128fv}
-use Rattle.nor_chip.specs.declared.config.Config.{Config}
+use Rattle.nor_model.specs.Makers.{IsTiny64, IsW25q64fv, IsW25q128fv}
+use Rattle.nor_model.specs.declared.config.Config.{Config}
 use Rattle.nor_words.specs.declared.programmer.Emulated.{Emulated}
 use Rattle.nor_words.specs.declared.programmer.Emulated.TheVariants.{Tiny64, W25q64fv, W25q128fv}
 use Rattle.nor_words.specs.declared.programmer.Programmer.{Programmer}

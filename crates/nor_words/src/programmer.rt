@@ -3,7 +3,7 @@ ghost use Rattle.std.specs.Prelude.{◌≡◌, false};
 ghost use Rattle.std.specs.Option.{MatchOption};
 
 use crate::settings::Settings;
-use nor_chip::Config;
+use nor_model::Config;
 
 /// A chip that the program emulates.
 #[derive(Clone, Copy)]
@@ -17,7 +17,7 @@ pub enum Emulated {
 }
 
 impl Emulated {
-    ghost use Rattle.nor_chip.specs.declared.config.Config.{Config};
+    ghost use Rattle.nor_model.specs.declared.config.Config.{Config};
     ghost use Rattle.nor_words.specs.Programmer.{chip_named, emulated_size, IsConfigOfEmulated};
 
     /// Returns the chip with this value of `emulate=`: `TINY64`, `W25Q64FV` or `W25Q128FV`. Returns `None` for any

@@ -22,7 +22,7 @@ mod played;
 use device::DevicePort;
 use fault::Fault;
 use nor_chip::{Bus, Config, Delays, Meter, SimBus};
-use nor_files::{Disk, CreateFault, Store};
+use nor_files::{CreateFault, Disk, Store};
 use nor_journal::{Journal, Vault};
 use nor_probe::probe;
 use nor_read::{read_out, verify};

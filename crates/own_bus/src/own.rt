@@ -1,6 +1,6 @@
 //! A bus of your own. No contract assumes anything about it.
 ghost use Rattle.std.proofs.lemmas.Bool.{false≢true};
-ghost use Rattle.nor_chip.specs.Bus.{unknown_bus};
+ghost use Rattle.nor_model.specs.Bus.{unknown_bus};
 
 use nor_chip::{Bus, Sent, Stopped, polled_ready_after};
 

@@ -1,6 +1,6 @@
 -- The honest port of the tests, as contracts see it.
 use Rattle.std.specs.Prelude.{ℕ, true, List, []}
-use Rattle.nor_chip.specs.Bus.{BusState}
+use Rattle.nor_model.specs.Bus.{BusState}
 use Rattle.nor_serprog.specs.Device.{Device, PortState}
 
 -- A programmer in front of the chip of this bus. Each call of the port sends whole frames, so none is ever begun.

@@ -7,8 +7,8 @@ use crate::spoilt::most;
 use crate::stages::{Call, Job, Stage};
 use nor_chip::{Config, Delays, SECTOR_LEN, Status, Stopped};
 use nor_driver::{
-    Erase, EraseBlock, OperationError, erase, poll, program_page, read_id, read_parameters, read_sector,
-    read_status2, read_unique, wait, write_status,
+    Erase, EraseBlock, OperationError, erase, poll, program_page, read_id, read_parameters,
+    read_sector, read_status2, read_unique, wait, write_status,
 };
 use nor_journal::MemVault;
 use nor_session::{Refusal, Rehearsal, rehearse};
@@ -41,8 +41,10 @@ impl Command {
             Command::Unique => read_unique(bus) == Err(Stopped),
             Command::Sfdp => read_parameters(bus, 8, &mut [0; 8]) == Err(Stopped),
             Command::Sector => read_sector(bus, 15, &mut [0; SECTOR_LEN as usize]) == Err(Stopped),
-            Command::Erase(unit) => erase(bus, Erase { unit, sector: 0 }) == Err(OperationError::Stopped),
-            Command::Program => program_page(bus, 0x1080, &[0xA5; 128]) == Err(OperationError::Stopped),
+            Command::Erase(unit) => erase(bus, Erase { unit, sector: 0 })
+                == Err(OperationError::Stopped),
+            Command::Program => program_page(bus, 0x1080, &[0xA5; 128])
+                == Err(OperationError::Stopped),
             Command::WriteStatus => {
                 write_status(bus, Status::of([0x04, 0x00]), 2) == Err(OperationError::Stopped)
             }

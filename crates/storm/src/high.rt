@@ -1,6 +1,6 @@
 //! A faulty bus that sets a bit in the replies to one opcode.
 ghost use Rattle.std.proofs.lemmas.Bool.{false≢true};
-ghost use Rattle.nor_chip.specs.Bus.{unknown_bus};
+ghost use Rattle.nor_model.specs.Bus.{unknown_bus};
 
 use nor_chip::{Bus, Sent, Stopped, polled_ready_after};
 

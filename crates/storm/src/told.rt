@@ -99,7 +99,12 @@ impl Caller<'_> {
         Ok(told)
     }
 
-    fn read(&mut self, reading: Reading, case: &Case, told: &mut Case) -> Result<(), OperationError> {
+    fn read(
+        &mut self,
+        reading: Reading,
+        case: &Case,
+        told: &mut Case,
+    ) -> Result<(), OperationError> {
         refuse(reading.early_refusal(told))?;
         match reading {
             Reading::Probe => {}
@@ -265,7 +270,12 @@ impl Caller<'_> {
 
     // Programs a sector. If it wasn't erased, it is read again first, and its pages are compared with what that read
     // returns.
-    fn program(&mut self, chip: &mut Chip, wanted: &Wanted, number: u32) -> Result<(), OperationError> {
+    fn program(
+        &mut self,
+        chip: &mut Chip,
+        wanted: &Wanted,
+        number: u32,
+    ) -> Result<(), OperationError> {
         if !wanted.raises_all(number, 1) {
             self.take_sector(number, chip)?;
         }

@@ -1,9 +1,9 @@
 //! The modelled chip in memory, and the effect of a transaction on it.
 ghost use Rattle.std.specs.Prelude.{◌≡◌, ◌%◌, ◌<◌, ◌+◌, ◌/◌, ◌^◌, ◌==◌, ◌&&◌, ◌-◌, not, if◌then◌else◌, false, ℕ, [], length, slice_index, bit_and, bit_or};
-ghost use Rattle.nor_chip.specs.Power.{RunsInside};
+ghost use Rattle.nor_model.specs.Power.{RunsInside};
 
 use super::cells;
-use crate::{Command, Config, Running, Status, guard};
+use nor_model::{Command, Config, Running, Status, is_protected};
 
 // A simulated chip. `kept` has the non-volatile status bits, `latch` is WEL, and `busy` is the number of further polls
 // that will show BUSY. `each` is the value of `busy` after each operation, and `running` is the operation in progress.
@@ -27,13 +27,13 @@ pub(crate) struct Flash {
 
 impl Flash {
     ghost use Rattle.nor_chip.specs.Flash.{chip_of, Begins, CutsOff, Paces};
-    ghost use Rattle.nor_chip.specs.Power.{PowerLostWith};
-    ghost use Rattle.nor_chip.specs.Start.{status_of};
-    ghost use Rattle.nor_chip.specs.Status.{bytes_of};
-    ghost use Rattle.nor_chip.specs.TargetedSectors.{HasValidAddress, IsSectorRange};
-    ghost use Rattle.nor_chip.specs.Chip.{is_locked};
-    ghost use Rattle.nor_chip.specs.Guard.{code_of, is_protected, is_block_protected};
-    ghost use Rattle.nor_chip.specs.Step.{is_carried_out, done_of, reply_byte, Does, Step};
+    ghost use Rattle.nor_model.specs.Power.{PowerLostWith};
+    ghost use Rattle.nor_model.specs.Chip.{status_of};
+    ghost use Rattle.nor_model.specs.Status.{bytes_of};
+    ghost use Rattle.nor_model.specs.TargetedSectors.{HasValidAddress, IsSectorRange};
+    ghost use Rattle.nor_model.specs.Chip.{is_locked};
+    ghost use Rattle.nor_model.specs.Guard.{code_of, is_protected, is_block_protected};
+    ghost use Rattle.nor_model.specs.Step.{is_carried_out, done_of, reply_byte, Does, Step};
 
     // Returns the status registers, as 05h and 35h read them.
     pub(crate) fn status(&self) -> Status
@@ -54,7 +54,7 @@ impl Flash {
     fn is_protected(&self, at: u32) -> bool
         ensures { result ≡ is_protected (chip_of self.now) at }
     {
-        self.config.scheme && guard::is_protected(self.config.size, self.kept.code(), at)
+        self.config.scheme && is_protected(self.config.size, self.kept.code(), at)
     }
 
     fn is_block_protected(&self, start: u32, len: u32) -> bool

@@ -9,7 +9,7 @@ ghost use Rattle.nor_plan.specs.SectorSet.{has};
 use super::next_erase;
 use crate::set::SectorSet;
 use nor_driver::Erase;
-use nor_probe::Kinds;
+use nor_model::Kinds;
 
 /// An iterator over the planned erases of a set, in ascending order.
 #[derive(Drop)]

@@ -1,7 +1,7 @@
 use Rattle.std.proofs.Common.{ℕ, ◌+◌, ap, refl, arith}
 use Rattle.std.proofs.lemmas.Grind.{common_steps}
-use Rattle.nor_count.specs.Below.{count_below}
-use Rattle.nor_count.proofs.Counting.{count_below-zero, count_below-more}
+use Rattle.nor_geometry.specs.Below.{count_below}
+use Rattle.nor_geometry.proofs.Counting.{count_below-zero, count_below-more}
 use Rattle.nor_plan.specs.Erases.{erases_left}
 use Rattle.nor_plan.specs.SectorSet.{has}
 use Rattle.nor_apply.proofs.ErasingExits.{none_so_far, erases_more, few_units, erases_halted, leaves_ended, does_ended}

@@ -1,5 +1,5 @@
 use Rattle.std.proofs.Common.{◌≡◌, ◌<◌, ◌+◌, true}
-use Rattle.nor_chip.specs.Bus.{KeepsNature}
+use Rattle.nor_model.specs.Bus.{KeepsNature}
 use Rattle.nor_driver.specs.OnlyReads.{Rested}
 use Rattle.nor_driver.specs.Waits.{latch_when_idle}
 use Rattle.nor_driver.proofs.waits.wait.Given as goal

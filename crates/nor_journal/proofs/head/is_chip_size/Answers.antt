@@ -1,6 +1,6 @@
 use Rattle.std.proofs.Common.{◌≡◌, ◌≤◌, ◌∙◌, sym, rules, true}
-use Rattle.nor_count.proofs.Below.{same_tests}
-use Rattle.nor_count.proofs.Sizes.{is_chip_size-in_blocks, is_chip_size-from, is_chip_size-power_of_two}
+use Rattle.nor_geometry.proofs.Below.{same_tests}
+use Rattle.nor_geometry.proofs.Sizes.{is_chip_size-in_blocks, is_chip_size-from, is_chip_size-power_of_two}
 use Rattle.nor_journal.proofs.head.is_chip_size.Goals as goal
 
 pub returns-then-is_power_of_two : goal.returns-then-is_power_of_two

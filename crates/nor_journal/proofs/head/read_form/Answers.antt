@@ -1,6 +1,6 @@
 use Rattle.std.proofs.Common.{◌≡◌, ◌∙◌, ◌-◌, ◌≤◌, ℕ, ap, drop, length, refl, subst, sym, rules, arith, false}
 use Rattle.std.proofs.lemmas.List.{take_rest}
-use Rattle.nor_count.specs.Size.{is_chip_size}
+use Rattle.nor_geometry.specs.Size.{is_chip_size}
 use Rattle.nor_journal.specs.Number.{number_at}
 use Rattle.nor_journal.proofs.Heads.{splits, unique_read}
 use Rattle.nor_journal.proofs.head.read_form.Goals as goal

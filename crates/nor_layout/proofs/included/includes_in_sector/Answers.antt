@@ -1,5 +1,5 @@
 use Rattle.std.proofs.Common.{refl, sym, ◌+◌, ◌*◌, option_copied, arith}
-use Rattle.nor_count.proofs.Below.{any_below-some}
+use Rattle.nor_geometry.proofs.Below.{any_below-some}
 use Rattle.nor_layout.specs.Sectors.{includes}
 use Rattle.nor_layout.proofs.included.includes_in_sector.Goals as goal
 

@@ -1,5 +1,5 @@
 use Rattle.std.proofs.Common.{arith, rules}
-use Rattle.nor_chip.proofs.Sizes.{is_chip_size-in_blocks}
+use Rattle.nor_model.proofs.Sizes.{is_chip_size-in_blocks}
 use Rattle.nor_read.proofs.Copied.{copied_none, copied_more, copy_fails, copied_all}
 use Rattle.nor_read.proofs.reading.copy_all.Goals as goal
 

@@ -1,7 +1,7 @@
 use Rattle.std.proofs.Common.{◌≡◌, ◌≢◌, ◌∙◌, sym, inl, inr, rules}
 use Rattle.std.specs.Option.{is_some}
 use Rattle.nor_plan.specs.SectorSet.{has}
-use Rattle.nor_save.proofs.Held.{code_same, lock_same}
+use Rattle.nor_scan.proofs.Held.{code_same, lock_same}
 use Rattle.nor_session.proofs.JudgedStatus.{some_held, some_or_none, none_needed}
 use Rattle.nor_session.proofs.prepare.judge_changes.Goals as goal
 use Rattle.nor_session.proofs.prepare.judge_changes.Goals.{then-unlock, else-unlock, else-writes-via-then-writes+else-is_locked, else-writes-via-else-writes}

@@ -1,6 +1,6 @@
 use Rattle.std.proofs.Common.{arith}
 use Rattle.std.proofs.lemmas.Grind.{common_steps}
-use Rattle.nor_save.specs.Identity.{most_identity}
+use Rattle.nor_scan.specs.Identity.{most_identity}
 use Rattle.nor_session.proofs.ReadyChip.{opening_of}
 use Rattle.nor_session.proofs.Reopened.{unit_tells, kind_of}
 use Rattle.nor_session.proofs.prepare.open_saved.Goals as goal

@@ -1,6 +1,6 @@
 use Rattle.std.proofs.Common.{◌≡◌, ◌+◌, length, true, rules, arith}
 use Rattle.std.proofs.lemmas.Grind.{common_steps}
-use Rattle.nor_save.specs.Identity.{most_identity}
+use Rattle.nor_scan.specs.Identity.{most_identity}
 use Rattle.nor_driver.proofs.ReadsInTurn.{looks_then, looks_more}
 use Rattle.nor_session.proofs.Changeable.{AreRead, shut_tells, prepared_all}
 use Rattle.nor_session.proofs.prepare.prepare.Goals as goal

@@ -1,5 +1,5 @@
 use Rattle.std.proofs.Common.{rules, arith}
-use Rattle.nor_chip.proofs.Sizes.{is_chip_size-in_blocks}
+use Rattle.nor_model.proofs.Sizes.{is_chip_size-in_blocks}
 use Rattle.nor_journal.proofs.Saved.{saved_few}
 use Rattle.nor_session.proofs.Rescanned.{nothing_rescanned, rescanned_more, all_rescanned}
 use Rattle.nor_session.proofs.prepare.scan_saved.Goals as goal

@@ -2,7 +2,7 @@ use Rattle.std.proofs.Common.{rules, arith, ◌∙◌, refl, sym}
 use Rattle.std.proofs.lemmas.Bool.{true≢false}
 use Rattle.std.proofs.lemmas.Result.{err_from_is_err_and}
 use Rattle.nor_journal.specs.MemVault.{held_by}
-use Rattle.nor_chip.proofs.Nature.{nature_then}
+use Rattle.nor_model.proofs.Nature.{nature_then}
 use Rattle.nor_probe.specs.Known.{IsModelled}
 use Rattle.nor_session.proofs.RehearsedRestores.{latch_alone}
 use Rattle.nor_session.proofs.RehearsedSessions.{session_sends, led, both_wear, both_send, both_write, undo_refused}

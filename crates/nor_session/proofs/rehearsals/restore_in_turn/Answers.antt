@@ -1,5 +1,5 @@
 use Rattle.std.proofs.Common.{rules, arith}
-use Rattle.nor_call.specs.declared.refusal.Refusal.TheVariants.{Stopped}
+use Rattle.nor_request.specs.declared.refusal.Refusal.TheVariants.{Stopped}
 use Rattle.nor_session.proofs.RehearsedRestores.{leaves_more, stopped_more, ended_at, refuses_before, last_ends}
 use Rattle.nor_session.proofs.rehearsals.restore_in_turn.Goals as goal
 

@@ -1,7 +1,7 @@
 use Rattle.std.proofs.Common.{◌+◌, length, rules, arith}
 use Rattle.std.proofs.lemmas.Bool.{false_from_ne_true}
 use Rattle.std.proofs.lemmas.Result.{err_from_is_err_and}
-use Rattle.nor_save.specs.Identity.{most_identity}
+use Rattle.nor_scan.specs.Identity.{most_identity}
 use Rattle.nor_session.specs.Bounds.{most_reads, most_of}
 use Rattle.nor_session.proofs.Restoring.{AreChanged, looks_most, looks_spend, prepare_answers, prepare_gives_up, prepare_tells, looks_leave, looks_back, changed_spends, changed_leaves, changed_back, change_answers, change_not_judged, change_gives_up, change_tells, sum_fits, restored_bounded, restored_counted, restored_checked, restored_sparing, restored_done, restored_back}
 use Rattle.nor_session.proofs.Changed.{two_writes, no_write}

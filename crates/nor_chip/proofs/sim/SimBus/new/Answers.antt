@@ -1,8 +1,8 @@
 use Rattle.std.proofs.Common.{ℕ, arith, ap, ◌∙◌, ◌/◌, ◌%◌, false}
 use Rattle.std.specs.Prelude.{slice_index, ◌==◌}
-use Rattle.nor_chip.proofs.StatusBits.{wel_set}
+use Rattle.nor_model.proofs.StatusBits.{wel_set}
 use Rattle.std.proofs.lemmas.Grind.{common_steps}
-use Rattle.nor_chip.proofs.Round.{get_or-replicate_all}
+use Rattle.nor_model.proofs.Round.{get_or-replicate_all}
 use Rattle.nor_chip.proofs.sim.SimBus.new.Goals as goal
 
 pub returns-clause-starts : goal.returns-clause-starts

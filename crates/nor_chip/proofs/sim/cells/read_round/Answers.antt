@@ -1,7 +1,7 @@
 use Rattle.std.proofs.Common.{inl, inr, arith}
 use Rattle.std.proofs.lemmas.Grind.{common_steps}
 use Rattle.std.proofs.lemmas.Bool.{cases_lt}
-use Rattle.nor_chip.proofs.Round.{run_on, run_round, written_before, written_within}
+use Rattle.nor_model.proofs.Round.{run_on, run_round, written_before, written_within}
 use Rattle.nor_chip.proofs.sim.cells.read_round.Goals as goal
 
 pub loop-done-preserved : goal.loop-done-preserved

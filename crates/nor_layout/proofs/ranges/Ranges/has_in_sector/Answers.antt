@@ -1,7 +1,7 @@
 use Rattle.std.proofs.Common.{◌∙◌, ◌+◌, ◌*◌, rules, tests}
 use Rattle.std.proofs.lemmas.Iterator.{YieldsList-from_slice}
 use Rattle.std.proofs.lemmas.Iterator.Search.{any_from_yields_List}
-use Rattle.nor_count.proofs.Below.{any_below-cases}
+use Rattle.nor_geometry.proofs.Below.{any_below-cases}
 use Rattle.nor_layout.specs.Ranges.{contains}
 use Rattle.nor_layout.proofs.Sectors.{is_in_sector, in_sector-is}
 use Rattle.nor_layout.proofs.ranges.Ranges.has_in_sector.Goals as goal

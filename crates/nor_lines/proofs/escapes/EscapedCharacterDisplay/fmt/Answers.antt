@@ -3,7 +3,7 @@ use Rattle.std.proofs.Common.{refl, rules, take}
 use Rattle.std.proofs.Math.Seq.{take-suc}
 use Rattle.std.proofs.Output.{has_written_append, has_written_of_eq}
 use Rattle.std.proofs.lemmas.Grind.{flat_map-append}
-use Rattle.nor_call.proofs.Printed.{padded_hex}
+use Rattle.nor_request.proofs.Printed.{padded_hex}
 use Rattle.nor_lines.specs.Escapes.{escaped_byte}
 use Rattle.nor_lines.proofs.escapes.EscapedCharacterDisplay.fmt.Goals as goal
 

@@ -1,6 +1,6 @@
 use Rattle.std.proofs.Common.{◌≡◌, ◌∙◌, List, ℕ, arith, length, subst, sym, inr}
 use Rattle.std.proofs.lemmas.Grind.{common_steps}
-use Rattle.nor_chip.specs.Bus.{Carries}
+use Rattle.nor_model.specs.Bus.{Carries}
 use Rattle.nor_serprog.proofs.SameReply.{same_reply, fits_again}
 use Rattle.nor_serprog.proofs.twice.ReadTwiceBus.transfer.Goals as goal
 

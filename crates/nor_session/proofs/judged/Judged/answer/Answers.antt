@@ -3,17 +3,17 @@ use Rattle.std.proofs.lemmas.Bool.{both_ways, lt-ltb}
 use Rattle.std.proofs.lemmas.Result.{err_from_is_err_and}
 use Rattle.nor_driver.specs.OnlyReads.{OnlyReads}
 use Rattle.nor_driver.proofs.RestsInTurn.{looks_after}
-use Rattle.nor_call.specs.Request.{scanned_sectors}
+use Rattle.nor_request.specs.Request.{scanned_sectors}
 use Rattle.nor_apply.specs.Spending.{Spends}
 use Rattle.nor_session.specs.Bounds.{most_reads, most_of}
 use Rattle.nor_session.specs.Session.{most_status_writes}
-use Rattle.nor_save.specs.Verdict.{NeedsStatusWrite}
+use Rattle.nor_scan.specs.Verdict.{NeedsStatusWrite}
 use Rattle.nor_session.proofs.Ready.{changes_of, has_opened, ready, scanned_few, spends_looks, spends_more, spends_ready, writes_few, bounded_by, touched_data}
 use Rattle.nor_session.proofs.ReadyChip.{small_first, opening_of, shows, named, most_sized, refused_puts, save_gives_up, save_tells}
 use Rattle.nor_session.proofs.SessionChanges.{never_written, change_gives_up, change_tells}
 use Rattle.nor_session.proofs.SessionEnds.{ready_chip, can_be_undone, done, session_checked, spared}
 use Rattle.nor_session.proofs.Naming.{save_names, save_number, work_names}
-use Rattle.nor_save.specs.Saving.{header_found}
+use Rattle.nor_scan.specs.Saving.{header_found}
 use Rattle.nor_session.proofs.Targeting.{none_written, few_none, change_writes, change_few}
 use Rattle.nor_session.proofs.OfJournal.{session_sends, counted}
 use Rattle.nor_session.proofs.judged.Judged.answer.Goals as goal

@@ -1,7 +1,0 @@
-use Rattle.std.proofs.Common.{ℕ, ◌<◌}
-use Rattle.nor_chip.specs.Offer.{ProtectsExactly, IsDefined}
-use Rattle.nor_chip.proofs.guard.code_for.Given as goal
-
--- no defined code below the loop's `code` protects exactly the range
-abbrev pub invariant-loop-code : goal.invariant-loop-code
-invariant-loop-code l = (lower : ℕ) → lower < l.code → IsDefined lower → ¬ ProtectsExactly l.size lower l.start l.len

@@ -1,0 +1,10 @@
+pub mod Guarded
+pub mod ProtectedAddresses
+pub mod Kept
+pub mod LeastCodes
+pub mod Nature
+pub mod Round
+pub mod Sizes
+pub mod StatusBits
+pub mod Steps
+pub mod PageBytes

@@ -1,0 +1,28 @@
+-- The command that the chip carries out at a transaction doesn't depend on the chip's bytes.
+use Rattle.std.proofs.Common.{◌≡◌, ℕ, List, [], refl, arith}
+use Rattle.nor_model.specs.declared.command.Command.{Command}
+use Rattle.nor_model.specs.declared.command.Command.TheVariants.{Poll}
+use Rattle.nor_model.specs.Chip.{Chip}
+use Rattle.nor_model.specs.Command.{command_of}
+use Rattle.nor_model.specs.Step.{Step, is_carried_out, done_of}
+
+-- Two chips agree in configuration, non-volatile bits, latch and `busy`; their bytes and operations in progress may
+-- differ.
+pub record Agrees (x y : Chip) : Type 0 where
+  pub config : y.config ≡ x.config
+  pub kept : y.kept ≡ x.kept
+  pub latch : y.latch ≡ x.latch
+  pub busy : y.busy ≡ x.busy
+
+-- whether a command is carried out doesn't depend on the bytes
+carried-agrees : (x y : Chip) (command : Command) → Agrees x y → is_carried_out y command ≡ is_carried_out x command
+carried-agrees x y Poll same = refl
+carried-agrees x y _ same = cc
+
+-- the command that the chip carries out doesn't depend on the bytes
+pub done-agrees : (x y : Chip) (out : List ℕ) (replies : ℕ) → Agrees x y → done_of y out replies ≡ done_of x out replies
+done-agrees x y out replies same = cc (carried-agrees x y (command_of y.config out replies) same)
+
+-- a transaction of which no byte is sent leaves the chip as it was
+pub nothing_sent : (chip : Chip) → Step chip [] [] chip
+nothing_sent chip = search arith

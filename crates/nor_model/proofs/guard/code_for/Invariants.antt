@@ -1,0 +1,7 @@
+use Rattle.std.proofs.Common.{ℕ, ◌<◌}
+use Rattle.nor_model.specs.Offer.{ProtectsExactly, IsDefined}
+use Rattle.nor_model.proofs.guard.code_for.Given as goal
+
+-- no defined code below the loop's `code` protects exactly the range
+abbrev pub invariant-loop-code : goal.invariant-loop-code
+invariant-loop-code l = (lower : ℕ) → lower < l.code → IsDefined lower → ¬ ProtectsExactly l.size lower l.start l.len

@@ -1,0 +1,123 @@
+-- The contract of a bus. Contracts see a bus as one state.
+use Rattle.std.specs.Prelude.{◌≡◌, ◌≤◌, ◌+◌, ◌⊎◌, ◌||◌, ℕ, Bool, true, false, List, [], length, take, Result, OnOk, OnErr}
+use Rattle.std.proofs.Common.{refl}
+use Rattle.nor_model.specs.declared.running.Running.TheVariants.{Unknown}
+use Rattle.nor_model.specs.Chip.{Chip}
+use Rattle.nor_model.specs.Power.{PowerLost}
+use Rattle.nor_model.specs.declared.sent.Sent.{Sent}
+use Rattle.nor_model.specs.Sent.{Notes}
+use Rattle.nor_model.specs.PolledReady.{polled_ready_after}
+use Rattle.nor_model.specs.declared.bus.Stopped.{Stopped}
+use Rattle.nor_model.specs.Step.{Step, done_of, wears}
+
+-- The state of a bus, as contracts see it.
+pub record BusState : Type 0 where
+  pub chip : Chip
+  -- how many more transactions the bus will carry out; code can't read this
+  pub left : ℕ
+  -- the bus obeys the contract of a bus
+  pub honest : Bool
+  -- the modifying commands that were sent, or that the bus was asked to send
+  pub sent : Sent
+  -- the sectors that were erased
+  pub worn : ℕ → Bool
+  -- a stop sends no byte of its transaction and keeps the chip's power, so it leaves the chip as it was
+  pub steady : Bool
+  -- the bus takes transactions of any length
+  pub unlimited : Bool
+  -- the last poll that received a reply showed that the chip is ready
+  pub polled_ready : Bool
+
+-- A bus is honest, steady or unlimited after a call if and only if it was so before the call. On an honest bus the
+-- chip's configuration stays the same: its ID, size, SFDP and all else that no command changes.
+pub record KeepsNature (old new : BusState) : Type 0 where
+  pub honest : new.honest ≡ old.honest
+  pub steady : new.steady ≡ old.steady
+  pub unlimited : new.unlimited ≡ old.unlimited
+  pub config : old.honest ≡ true → new.chip.config ≡ old.chip.config
+
+-- The bus is honest, and takes a transaction that sends `out` and reads `replies` bytes: the bus is unlimited, or the
+-- transaction sends at most 260 bytes (a page program) and reads at most 4,096 (a sector).
+pub record IsHonestFor (out : List ℕ) (replies : ℕ) (bus : BusState) : Type 0 where
+  pub honest : bus.honest ≡ true
+  pub fits : (bus.unlimited ≡ true) ⊎ ((length out ≤ 260) × (replies ≤ 4096))
+
+-- The effect of a transaction on every bus: the bus keeps its nature (`KeepsNature`), and notes the transaction in its
+-- record if it may modify a chip.
+pub record Sends (out : List ℕ) (old new : BusState) : Type 0 where
+  pub nature : KeepsNature old new
+  pub sent : Notes out old.sent new.sent
+
+-- The effect of a transaction on `polled_ready`, on every bus. If the bus stopped, `polled_ready` stays as it was.
+pub record RecordsPoll (out answer : List ℕ) (outcome : Result Unit Stopped) (old new : BusState) : Type 0 where
+  pub returned : OnOk outcome (new.polled_ready ≡ polled_ready_after out answer old.polled_ready)
+  pub stopped : OnErr outcome (new.polled_ready ≡ old.polled_ready)
+
+-- The effect of a stop. The first `count` bytes of the transaction were sent (none, some or all). The bytes `read` of
+-- the reply were read and are lost: none, some or all, and the definition also allows more than were asked for. The
+-- chip made the step that these bytes ask for, and then lost its power or kept it. On a steady bus no byte was sent and
+-- the chip is as it was.
+pub record AtStop (out : List ℕ) (old new : BusState) : Type 0 where
+  pub count : ℕ
+  pub read : List ℕ
+  pub reached : Chip
+  pub step : Step old.chip (take count out) read reached
+  pub chip : (new.chip ≡ reached) ⊎ PowerLost reached new.chip
+  pub worn : (s : ℕ) → new.worn s ≡ (old.worn s || wears (done_of old.chip (take count out) (length read)) s)
+  pub none : old.steady ≡ true → count ≡ 0
+  pub unsent : old.steady ≡ true → new.chip ≡ old.chip
+
+-- The bus stopped, because it had no transaction left to carry out, and the chip is as a stop may leave it.
+pub record Stops (out : List ℕ) (old new : BusState) : Type 0 where
+  pub none_left : old.left ≡ 0
+  pub left : new.left ≡ old.left
+  pub at_stop : AtStop out old new
+
+-- The transaction was carried out: the chip made one step, one transaction fewer is left, and the sectors of an erase
+-- that the chip carried out are recorded.
+pub record Carries (out answer : List ℕ) (old new : BusState) : Type 0 where
+  pub left : old.left ≡ new.left + 1
+  pub step : Step old.chip out answer new.chip
+  pub worn : (s : ℕ) → new.worn s ≡ (old.worn s || wears (done_of old.chip out (length answer)) s)
+
+-- The effect of `allow`: if the bus is honest, `n` transactions are left. Nothing else changed.
+pub record Allows (n : ℕ) (old new : BusState) : Type 0 where
+  pub chip : new.chip ≡ old.chip
+  pub left : old.honest ≡ true → new.left ≡ n
+  pub nature : KeepsNature old new
+  pub sent : new.sent ≡ old.sent
+  pub polled_ready : new.polled_ready ≡ old.polled_ready
+  pub worn : (s : ℕ) → new.worn s ≡ old.worn s
+
+-- An arbitrary chip, for a bus about whose chip nothing is promised.
+abbrev pub unknown_chip : Chip
+unknown_chip = record {
+  config = record {
+    id = [];
+    size = 65536;
+    kinds = record { k32 = false; k64 = false };
+    scheme = false;
+    unique = [];
+    sfdp = [];
+    sized = refl;
+  };
+  bytes = λ a. 0;
+  kept = record { one = 0; two = 0 };
+  latch = false;
+  busy = 0;
+  running = Unknown;
+}
+
+-- The state of a bus to a chip outside the model: only the record of what was sent and the last poll are known. The bus
+-- isn't honest, so nothing is claimed about its chip.
+abbrev pub unknown_bus : Sent → Bool → BusState
+unknown_bus sent polled_ready = record {
+  chip = unknown_chip;
+  left = 0;
+  honest = false;
+  sent = sent;
+  worn = λ s. false;
+  steady = false;
+  unlimited = false;
+  polled_ready = polled_ready;
+}

@@ -1,0 +1,65 @@
+-- The state of a chip.
+use Rattle.std.specs.Prelude.{◌≡◌, ◌<◌, ◌+◌, ◌*◌, ◌/◌, ◌%◌, ◌==◌, ◌||◌, [], ◌∷◌, ℕ, Bool, List, slice_index, slice_index_or, if◌then◌else◌}
+use Rattle.nor_model.specs.declared.config.Config.{Config}
+use Rattle.nor_model.specs.declared.running.Running.{Running}
+
+-- The non-volatile status bits: all bits of status 1 and 2 except BUSY, WEL and SUS.
+pub record KeptBits : Type 0 where
+  -- bits 2 to 7 of status 1, shifted down by two: BP0, BP1, BP2, TB, SEC, SRP0
+  pub one : ℕ
+  -- bits 0 to 6 of status 2: SRP1, QE, a reserved bit, LB1, LB2, LB3, CMP
+  pub two : ℕ
+
+-- the non-volatile bits of two status bytes
+abbrev pub kept_in : (status : List ℕ) → KeptBits
+kept_in status = record { one = slice_index status 0 / 4; two = slice_index status 1 % 128 }
+
+-- The state of a chip. Every combination of values is a chip, for example a busy chip with its latch clear. (W25Q64FV
+-- and W25Q128FV datasheets, status registers.)
+pub record Chip : Type 0 where
+  -- the properties that never change
+  pub config : Config
+  -- the byte at each address below the size
+  pub bytes : ℕ → ℕ
+  -- the non-volatile status bits
+  pub kept : KeptBits
+  -- the write enable latch, WEL
+  pub latch : Bool
+  -- how many more polls will show BUSY
+  pub busy : ℕ
+  -- the operation in progress; it matters only while the chip is busy
+  pub running : Running
+
+-- The ranges of values that hold for every chip that an honest bus reaches.
+pub record IsChip (chip : Chip) : Type 0 where
+  pub busy : chip.busy < 65536
+  pub kept1 : chip.kept.one < 64
+  pub kept2 : chip.kept.two < 128
+  pub bytes : (a : ℕ) → chip.bytes a < 256
+
+-- the byte that 05h reads: BUSY, WEL, and the non-volatile bits above them
+abbrev pub status1_of : Chip → ℕ
+status1_of chip = 4 * chip.kept.one + (if chip.latch then 2 else 0) + (if chip.busy == 0 then 0 else 1)
+
+-- the byte that 35h reads: SUS reads as 0
+abbrev pub status2_of : Chip → ℕ
+status2_of chip = chip.kept.two
+
+-- the two bytes that 05h and 35h would read
+abbrev pub status_of : Chip → List ℕ
+status_of chip = status1_of chip ∷ status2_of chip ∷ []
+
+-- SRP0 or SRP1 is set, so status writes are ignored. For SRP0 this assumes the worst case, that the WP# pin is low.
+abbrev pub is_locked : KeptBits → Bool
+is_locked kept = kept.one / 32 % 2 == 1 || kept.two % 2 == 1
+
+-- the SFDP byte at an address; FFh past the end of the SFDP bytes
+abbrev pub sfdp_byte : Config → (a : ℕ) → ℕ
+sfdp_byte config a = slice_index_or config.sfdp a 255
+
+-- Two chips have the same configuration, bytes and non-volatile status bits. The write enable latch, `busy` and
+-- `running` may differ.
+pub record IsSame (old new : Chip) : Type 0 where
+  pub config : new.config ≡ old.config
+  pub bytes : (a : ℕ) → new.bytes a ≡ old.bytes a
+  pub kept : new.kept ≡ old.kept

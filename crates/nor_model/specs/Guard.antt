@@ -1,0 +1,63 @@
+-- The addresses that the block protection bits protect from programs and erases. (After the status register protection
+-- tables of the W25Q64FV and W25Q128FV datasheets.)
+use Rattle.std.specs.Prelude.{◌+◌, ◌-◌, ◌*◌, ◌/◌, ◌%◌, ◌^◌, ◌==◌, ◌&&◌, ◌||◌, ℕ, Bool, not, nat_lt, nat_le, if◌then◌else◌}
+use Rattle.nor_model.specs.Chip.{Chip, KeptBits}
+
+-- The protection bits as one number below 64: CMP, SEC, TB, BP2, BP1, BP0, the highest first.
+abbrev pub code_of : KeptBits → ℕ
+code_of kept = 32 * (kept.two / 64 % 2) + kept.one % 32
+
+-- BP2, BP1 and BP0 as a number, from which the length of the selected range follows
+abbrev pub bp_of : (code : ℕ) → ℕ
+bp_of code = code % 8
+
+-- true if TB is set: the selected range is at the start of the chip, not at the end
+abbrev pub is_bottom : (code : ℕ) → Bool
+is_bottom code = code / 8 % 2 == 1
+
+-- true if SEC is set: BP counts sectors, not blocks
+abbrev pub names_sectors : (code : ℕ) → Bool
+names_sectors code = code / 16 % 2 == 1
+
+-- true if CMP is set: all addresses outside the selected range are protected
+abbrev pub is_complement : (code : ℕ) → Bool
+is_complement code = code / 32 % 2 == 1
+
+-- true for SEC with BP 110, which the datasheets don't define; the model then protects all addresses
+abbrev pub is_undefined : (code : ℕ) → Bool
+is_undefined code = names_sectors code && bp_of code == 6
+
+-- The length in bytes of the selected range: 0 for BP 000, the whole chip for BP 111. With SEC, BP 001 to 101 select 4,
+-- 8, 16, 32 and 32 KiB. Without SEC, BP 001 selects a 64th of the chip; each further step of BP doubles that, up to one
+-- half.
+abbrev pub named_length : (size code : ℕ) → ℕ
+named_length size code =
+    if bp_of code == 0 then 0
+    else if bp_of code == 7 then size
+    else if not (names_sectors code) then size / 2 ^ (7 - bp_of code)
+    else if bp_of code == 1 then 4096
+    else if bp_of code == 2 then 8192
+    else if bp_of code == 3 then 16384
+    else 32768
+
+-- the address `a` is in the selected range, at the start of the chip or at its end
+abbrev pub is_address_named : (size code a : ℕ) → Bool
+is_address_named size code a =
+    if is_bottom code then nat_lt a (named_length size code) else nat_le (size - named_length size code) a
+
+-- True if the code protects the address `a` of a chip of this size: an address of the selected range, or with CMP any
+-- other address of the chip. An undefined code protects all addresses of the chip.
+unfoldable pub protected_by : (size code a : ℕ) → Bool
+protected_by size code a =
+    nat_lt a size
+    && (is_undefined code
+    || (if is_complement code then not (is_address_named size code a) else is_address_named size code a))
+
+-- the address `a` of this chip is protected; on a chip without block protection none is
+abbrev pub is_protected : Chip → (a : ℕ) → Bool
+is_protected chip a = chip.config.scheme && protected_by chip.config.size (code_of chip.kept) a
+
+-- An address from `start` to `start + len - 1` is protected. Only the first and the last address are tested, because
+-- the protected addresses are at one end of the chip.
+abbrev pub is_block_protected : Chip → (start len : ℕ) → Bool
+is_block_protected chip start len = is_protected chip start || is_protected chip (start + len - 1)

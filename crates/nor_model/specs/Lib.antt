@@ -1,0 +1,16 @@
+pub mod Size
+pub mod Sfdp
+pub mod Chip
+pub mod Power
+pub mod Guard
+pub mod Command
+pub mod Step
+pub mod Sent
+pub mod PolledReady
+pub mod Bus
+pub mod TargetedSectors
+pub mod Makers
+pub mod Units
+pub mod Status
+pub mod Offer
+pub mod Offered

@@ -1,0 +1,30 @@
+-- The configurations that the functions of `Config` return.
+use Rattle.std.specs.Prelude.{◌≡◌, ◌-◌, ◌++◌, ℕ, Bool, true, false, List, [], ◌∷◌, length, replicate}
+use Rattle.nor_model.specs.declared.config.Config.{Config}
+use Rattle.nor_model.specs.declared.config.Kinds.{Kinds}
+use Rattle.nor_model.specs.Sfdp.{sfdp_of}
+
+-- every erase type
+abbrev pub all_kinds : Kinds
+all_kinds = record { k32 = true; k64 = true }
+
+-- A configuration with these properties. The SFDP bytes are padded with FFh, and the unique ID is zero.
+pub record HasParts (with_id : List ℕ) (with_size : ℕ) (with_kinds : Kinds) (with_scheme : Bool)
+    (with_sfdp : List ℕ) (config : Config) : Type 0 where
+  pub id : config.id ≡ with_id
+  pub size : config.size ≡ with_size
+  pub kinds : config.kinds ≡ with_kinds
+  pub scheme : config.scheme ≡ with_scheme
+  pub unique : config.unique ≡ replicate 8 0
+  pub sfdp : config.sfdp ≡ with_sfdp ++ replicate (256 - length with_sfdp) 255
+
+-- the configuration of the emulated chip TINY64
+abbrev pub IsTiny64 : Config → Type 0
+IsTiny64 = HasParts (0xFE ∷ 0x10 ∷ 0x10 ∷ []) 65536 all_kinds false (sfdp_of 0xFF 0xFF 0x07 0x00)
+
+-- the configurations of the emulated Winbond chips
+abbrev pub IsW25q64fv : Config → Type 0
+IsW25q64fv = HasParts (0xEF ∷ 0x40 ∷ 0x17 ∷ []) 8388608 all_kinds true (sfdp_of 0xFF 0xFF 0xFF 0x03)
+
+abbrev pub IsW25q128fv : Config → Type 0
+IsW25q128fv = HasParts (0xEF ∷ 0x40 ∷ 0x18 ∷ []) 16777216 all_kinds true (sfdp_of 0xFF 0xFF 0xFF 0x07)

@@ -1,0 +1,28 @@
+-- The ranges that protection codes can protect, and the code that is used for each.
+use Rattle.std.specs.Prelude.{◌≡◌, ◌<◌, ◌≤◌, ◌+◌, ◌↔◌, ℕ, true, false}
+use Rattle.nor_model.specs.Guard.{protected_by, is_undefined}
+
+-- on a chip of this size the code protects exactly the range of `len` bytes from `start`
+abbrev pub ProtectsExactly : (size code start len : ℕ) → Type 0
+ProtectsExactly size code start len = (a : ℕ) → (protected_by size code a ≡ true) ↔ ((start ≤ a) × (a < start + len))
+
+-- The code is defined, and protects exactly the range of `len` bytes from `start`. An empty range starts at 0.
+pub record IsRangeOf (size code start len : ℕ) : Type 0 where
+  pub defined : is_undefined code ≡ false
+  pub exactly : ProtectsExactly size code start len
+  pub plain : len ≡ 0 → start ≡ 0
+
+-- the datasheets define the code
+pub record IsDefined (code : ℕ) : Type 0 where
+  pub six_bits : code < 64
+  pub defined : is_undefined code ≡ false
+
+-- The least defined code that protects exactly this range.
+pub record IsLeastCode (size start len code : ℕ) : Type 0 where
+  pub defined : IsDefined code
+  pub protects : ProtectsExactly size code start len
+  pub least : (lower : ℕ) → lower < code → IsDefined lower → ¬ ProtectsExactly size lower start len
+
+-- No defined code protects exactly this range.
+abbrev pub IsNotOffered : (size start len : ℕ) → Type 0
+IsNotOffered size start len = (code : ℕ) → IsDefined code → ¬ ProtectsExactly size code start len

@@ -1,0 +1,62 @@
+-- The effect of a power failure on a chip.
+use Rattle.std.specs.Prelude.{◌≡◌, ◌<◌, ◌≤◌, ◌+◌, ◌*◌, ◌/◌, ◌%◌, ◌==◌, ◌&&◌, ◌⊎◌, ℕ, Bool, true, false, not, nat_lt, nat_le, if◌then◌else◌, ⊤}
+use Rattle.nor_model.specs.declared.running.Running.{Running}
+use Rattle.nor_model.specs.declared.running.Running.TheVariants.{Program, Erase, StatusWrite, Unknown}
+use Rattle.nor_model.specs.Chip.{Chip, IsSame, KeptBits}
+
+-- true if the operation works on the address `a`; for an unknown operation true for every address
+abbrev pub is_in_work : Running → (a : ℕ) → Bool
+is_in_work (Program page) a = a / 256 == page
+is_in_work (Erase start len) a = nat_le start a && nat_lt a (start + len)
+is_in_work (StatusWrite one two) a = false
+is_in_work Unknown a = true
+
+-- the operation in progress is known
+abbrev pub is_known_running : Running → Bool
+is_known_running Unknown = false
+is_known_running _ = true
+
+-- The page or erase block of the operation in progress lies on the chip, and the old status bits that a status write
+-- holds are in range.
+pub record RunsInside (size : ℕ) (running : Running) : Type 0 where
+  pub page : (p : ℕ) → running ≡ Program p → 256 * p + 256 ≤ size
+  pub unit : (start len : ℕ) → running ≡ Erase start len → start + len ≤ size
+  pub kept1 : (one two : ℕ) → running ≡ StatusWrite one two → one < 64
+  pub kept2 : (one two : ℕ) → running ≡ StatusWrite one two → two < 128
+
+-- The non-volatile status bits of a chip that lost its power during this operation. During a status write, they are
+-- those that the write set, or those from before it. During a program or an erase, they stay. During an unknown
+-- operation, they may change in any way.
+abbrev pub KeptCut : Running → (old new : KeptBits) → Type 0
+KeptCut (StatusWrite one two) old new = (new ≡ old) ⊎ (new ≡ record { one = one; two = two })
+KeptCut Unknown old new = ⊤
+KeptCut _ old new = new ≡ old
+
+-- The chip lost its power: the write enable latch is clear and nothing runs. An idle chip keeps its bytes and its
+-- non-volatile bits. On a busy chip, each byte that the operation works on may have any value, and all other bytes are
+-- as they were. `KeptCut` describes the non-volatile bits of a busy chip.
+pub record PowerLost (old new : Chip) : Type 0 where
+  pub config : new.config ≡ old.config
+  pub latch : new.latch ≡ false
+  pub busy : new.busy ≡ 0
+  pub bytes : (a : ℕ) → is_in_work old.running a ≡ false → new.bytes a ≡ old.bytes a
+  pub kept : KeptCut old.running old.kept new.kept
+  pub idle : old.busy ≡ 0 → IsSame old new
+
+-- a known operation is in progress, and works on the address `a`
+abbrev pub is_interrupted : Chip → ℕ → Bool
+is_interrupted chip a = not (chip.busy == 0) && is_known_running chip.running && is_in_work chip.running a
+
+-- the non-volatile status bits: those from before the status write if `running` is one, otherwise the chip's
+abbrev pub kept_before : Chip → KeptBits
+kept_before chip = elim chip.running [ StatusWrite one two ↦ record { one = one; two = two } | _ ↦ chip.kept ]
+
+-- The power failure of a simulated chip. If it was busy, each byte that its operation worked on is `fill`; a status
+-- write was undone if `fill` is even, and completed if it is odd. If the chip was idle or its operation is unknown,
+-- bytes and non-volatile bits are as they were.
+pub record PowerLostWith (fill : ℕ) (old new : Chip) : Type 0 where
+  pub config : new.config ≡ old.config
+  pub latch : new.latch ≡ false
+  pub busy : new.busy ≡ 0
+  pub bytes : (a : ℕ) → new.bytes a ≡ (if is_interrupted old a then fill else old.bytes a)
+  pub kept : new.kept ≡ (if not (old.busy == 0) && fill % 2 == 0 then kept_before old else old.kept)

@@ -1,0 +1,126 @@
+-- The record of the transactions over a bus that may modify a chip. A transaction is recorded by the bytes that it
+-- sends, even if the chip ignores it. (W25Q64FV datasheet, instruction set table.)
+use Rattle.std.specs.Prelude.{◌≡◌, ◌+◌, ◌*◌, ◌/◌, ◌-◌, ◌^◌, ◌==◌, ◌&&◌, ◌||◌, not, ℕ, Bool, true, false, List, [], ◌∷◌, min, nat_le, nat_lt, slice_index_or, if◌then◌else◌}
+use Rattle.nor_model.specs.declared.sent.TargetedSectors.{TargetedSectors}
+use Rattle.nor_model.specs.declared.sent.Sent.{Sent}
+use Rattle.nor_model.specs.Command.{begins_change, begins_quiet, is_change, is_erase_opcode}
+
+-- all 4,096 sectors that a 24-bit address can lie in (`all_targeted`), and no sector (`none_targeted`)
+abbrev pub all_targeted : TargetedSectors
+all_targeted = record { first = 0; count = 4096 }
+
+abbrev pub none_targeted : TargetedSectors
+none_targeted = record { first = 0; count = 0 }
+
+-- the aligned block of `count` sectors that contains this sector
+abbrev pub block_targeted : (count sector : ℕ) → TargetedSectors
+block_targeted count sector = record { first = sector / count * count; count = count }
+
+-- the sectors that an opcode targets if it is sent without an address: all for C7h (chip erase), none for any other
+-- opcode
+abbrev pub bare_targeted : (opcode : ℕ) → TargetedSectors
+bare_targeted opcode = if opcode == 0xC7 then all_targeted else none_targeted
+
+-- the sectors that an opcode targets if it is sent with an address in this sector
+abbrev pub addressed_targeted : (opcode sector : ℕ) → TargetedSectors
+addressed_targeted opcode sector =
+    if opcode == 0x02 || opcode == 0x20 then block_targeted 1 sector
+    else if opcode == 0x52 then block_targeted 8 sector
+    else if opcode == 0xD8 then block_targeted 16 sector
+    else bare_targeted opcode
+
+-- the sectors that a transaction targets with an erase or a program, by the bytes `out` that it sends
+abbrev pub targeted_by : (out : List ℕ) → TargetedSectors
+targeted_by [] = none_targeted
+targeted_by (opcode ∷ []) = bare_targeted opcode
+targeted_by (opcode ∷ x ∷ []) = bare_targeted opcode
+targeted_by (opcode ∷ x ∷ y ∷ []) = bare_targeted opcode
+targeted_by (opcode ∷ x ∷ y ∷ z ∷ rest) = addressed_targeted opcode ((65536 * x + 256 * y + z) / 4096)
+
+-- true if the sector is one of these consecutive sectors
+abbrev pub is_in_targeted : TargetedSectors → ℕ → Bool
+is_in_targeted target_sectors s = nat_le target_sectors.first s && nat_lt s (target_sectors.first + target_sectors.count)
+
+-- true if a transaction that sends `out` targets the sector
+abbrev pub targets : (out : List ℕ) → ℕ → Bool
+targets out s = is_in_targeted (targeted_by out) s
+
+-- true if the transaction begins with the opcode of an erase (`begins_erase`), of a page program (`begins_program`), of
+-- a status write (`begins_status_write`)
+abbrev pub begins_erase : (out : List ℕ) → Bool
+begins_erase [] = false
+begins_erase (opcode ∷ rest) = is_erase_opcode opcode
+
+abbrev pub begins_program : (out : List ℕ) → Bool
+begins_program [] = false
+begins_program (opcode ∷ rest) = opcode == 0x02
+
+abbrev pub begins_status_write : (out : List ℕ) → Bool
+begins_status_write [] = false
+begins_status_write (opcode ∷ rest) = opcode == 0x01
+
+-- true if the transaction is a status write with exactly these two bytes
+abbrev pub writes_status : (out : List ℕ) → (one two : ℕ) → Bool
+writes_status (opcode ∷ x ∷ y ∷ []) one two = opcode == 0x01 && x == one && y == two
+writes_status _ one two = false
+
+-- True if the model does not know the transaction. The model knows each transaction with a quiet opcode, and each that
+-- has the form of a modifying command. A real chip may carry out others: 60h erases the chip, 31h writes status 2, and
+-- 01h with one byte clears status 2.
+abbrev pub is_unknown_to_model : (out : List ℕ) → Bool
+is_unknown_to_model out = not (begins_quiet out || is_change out)
+
+-- ---- the record of these transactions
+
+-- true if a modifying opcode was sent
+abbrev pub is_stirred : Sent → Bool
+is_stirred sent = sent.stirred
+
+-- true if a transaction was sent that the model does not know
+abbrev pub has_unknown : Sent → Bool
+has_unknown sent = sent.unknown
+
+-- true if the sector was targeted
+abbrev pub is_targeted : Sent → ℕ → Bool
+is_targeted sent s = slice_index_or sent.targeted s false
+
+-- true if a status write with these two bytes was sent
+abbrev pub has_written : Sent → (one two : ℕ) → Bool
+has_written sent one two = nat_lt two 256 && slice_index_or sent.written (256 * one + two) false
+
+-- the numbers of erases, page programs and status writes that were sent; a count that reaches the greatest u64 stays
+-- there
+abbrev pub erases_of : Sent → ℕ
+erases_of sent = sent.erases
+
+abbrev pub programs_of : Sent → ℕ
+programs_of sent = sent.programs
+
+abbrev pub status_writes_of : Sent → ℕ
+status_writes_of sent = sent.status_writes
+
+-- Nothing was sent that may modify a chip.
+pub record IsNothing (sent : Sent) : Type 0 where
+  pub stirred : is_stirred sent ≡ false
+  pub unknown : has_unknown sent ≡ false
+  pub targeted : (s : ℕ) → is_targeted sent s ≡ false
+  pub written : (one two : ℕ) → has_written sent one two ≡ false
+  pub erases : erases_of sent ≡ 0
+  pub programs : programs_of sent ≡ 0
+  pub status_writes : status_writes_of sent ≡ 0
+
+-- `before`, plus one if `is` is true, but at most the greatest u64
+abbrev pub counted_once : (is : Bool) → (before : ℕ) → ℕ
+counted_once is before = if is then min (before + 1) (2 ^ 64 - 1) else before
+
+-- The effect on the record of a transaction that the bus sent, or was asked to send. If it sends nothing, or begins
+-- with a quiet opcode, the record stays as it was. Any other transaction is added to the record, by its bytes.
+pub record Notes (out : List ℕ) (old new : Sent) : Type 0 where
+  pub quiet : begins_quiet out ≡ true → new ≡ old
+  pub stirred : is_stirred new ≡ (is_stirred old || begins_change out)
+  pub unknown : has_unknown new ≡ (has_unknown old || is_unknown_to_model out)
+  pub targeted : (s : ℕ) → is_targeted new s ≡ (is_targeted old s || targets out s)
+  pub written : (one two : ℕ) → has_written new one two ≡ (has_written old one two || writes_status out one two)
+  pub erases : erases_of new ≡ counted_once (begins_erase out) (erases_of old)
+  pub programs : programs_of new ≡ counted_once (begins_program out) (programs_of old)
+  pub status_writes : status_writes_of new ≡ counted_once (begins_status_write out) (status_writes_of old)

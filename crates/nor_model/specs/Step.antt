@@ -1,0 +1,127 @@
+-- One step of the chip: the reply to a transaction that is carried out, and its effect. (W25Q64FV datasheet,
+-- instruction descriptions.) In this model an operation has its whole effect at once, and the chip is then busy for an
+-- arbitrary number of polls. Over the bus this looks like a chip that works while it is polled.
+use Rattle.std.specs.Prelude.{◌≡◌, ◌<◌, ◌+◌, ◌-◌, ◌*◌, ◌/◌, ◌%◌, ◌==◌, ◌&&◌, ℕ, Bool, true, false, not, Option, None, Some, List, [], ◌∷◌, length, drop, slice_index, slice_index_or, bit_and, bit_or, nat_lt, nat_le, if◌then◌else◌}
+use Rattle.nor_model.specs.declared.command.Command.{Command}
+use Rattle.nor_model.specs.declared.command.Command.TheVariants.{WriteEnable, WriteDisable, Poll, ReadStatus2, WriteStatus, Program, Erase, ReadData, ReadId, ReadSfdp, ReadUnique, Ignored}
+use Rattle.nor_model.specs.declared.running.Running.{Running}
+use Rattle.nor_model.specs.declared.running.Running.TheVariants as Runs
+use Rattle.nor_model.specs.Chip.{Chip, KeptBits, status1_of, status2_of, is_locked, sfdp_byte}
+use Rattle.nor_model.specs.Guard.{is_protected, is_block_protected}
+use Rattle.nor_model.specs.Command.{command_of}
+
+-- no operation is running
+abbrev pub is_idle : Chip → Bool
+is_idle chip = chip.busy == 0
+
+-- True if the chip carries the command out. A busy chip carries out only the two status reads. An operation also needs
+-- the write enable latch set; a status write needs SRP0 and SRP1 clear. A program or an erase is ignored if an address
+-- that it covers is protected. For a program one address is tested: protected ranges begin and end at whole KiB, and a
+-- program stays within one page of 256 bytes.
+abbrev pub is_carried_out : Chip → Command → Bool
+is_carried_out chip Poll = true
+is_carried_out chip ReadStatus2 = true
+is_carried_out chip (WriteStatus one two) = is_idle chip && chip.latch && not (is_locked chip.kept)
+is_carried_out chip (Program at) = is_idle chip && chip.latch && not (is_protected chip at)
+is_carried_out chip (Erase start len) = is_idle chip && chip.latch && not (is_block_protected chip start len)
+is_carried_out chip Ignored = false
+is_carried_out chip _ = is_idle chip
+
+-- the command that the chip carries out at a transaction that sends `out`, or `Ignored` if it carries out none
+abbrev pub done_of : Chip → (out : List ℕ) → (replies : ℕ) → Command
+done_of chip out replies =
+    let command = command_of chip.config out replies in if is_carried_out chip command then command else Ignored
+
+-- The reply byte with index `i`. A read of data continues at address 0 after the chip's end. Past the end of the ID, of
+-- the SFDP bytes and of the unique ID, and for all other commands, the reply is FFh.
+abbrev pub reply_byte : Chip → Command → (i : ℕ) → ℕ
+reply_byte chip Poll i = status1_of chip
+reply_byte chip ReadStatus2 i = status2_of chip
+reply_byte chip (ReadData at) i = chip.bytes ((at + i) % chip.config.size)
+reply_byte chip ReadId i = slice_index_or chip.config.id i 255
+reply_byte chip (ReadSfdp at) i = sfdp_byte chip.config (at + i)
+reply_byte chip ReadUnique i = slice_index_or chip.config.unique i 255
+reply_byte chip _ i = 255
+
+-- The last byte sent for the address `a` of the page of `at`, or `None` if none is. The first byte sent is for the
+-- address `at`, each further one for the next address; after the last address of the page comes its first one.
+unfoldable pub last_for : (at : ℕ) → (sent : List ℕ) → (a : ℕ) → Option ℕ
+last_for at [] a = None
+last_for at (byte ∷ sent) a = elim (last_for (at + 1) sent a) [
+  | Some later ↦ Some later
+  | None ↦ (if at % 256 == a % 256 then Some byte else None)
+]
+
+-- the byte after it was programmed with this byte, which can only clear bits; unchanged if no byte was sent for it
+abbrev pub lowered : (old : ℕ) → Option ℕ → ℕ
+lowered old None = old
+lowered old (Some byte) = bit_and old byte
+
+-- the byte at the address `a` after the command
+abbrev pub byte_after : Chip → Command → (sent : List ℕ) → (a : ℕ) → ℕ
+byte_after chip (Program at) sent a =
+    if a / 256 == at / 256 then lowered (chip.bytes a) (last_for at sent a) else chip.bytes a
+byte_after chip (Erase start len) sent a = if nat_le start a && nat_lt a (start + len) then 255 else chip.bytes a
+byte_after chip _ sent a = chip.bytes a
+
+-- The non-volatile status bits after the command. A status write sets BP, TB, SEC, SRP0, SRP1, QE and CMP as sent. It
+-- can set an LB bit but not clear it, and does not change the reserved bit.
+abbrev pub kept_after : Chip → Command → KeptBits
+kept_after chip (WriteStatus one two) = record {
+  one = one / 4;
+  two = bit_or (bit_and two 0b1000011) (bit_or (bit_and chip.kept.two 0b0111100) (bit_and two 0b0111000));
+}
+kept_after chip _ = chip.kept
+
+-- the command is an operation: the chip may be busy after it
+abbrev pub is_operation : Command → Bool
+is_operation (WriteStatus one two) = true
+is_operation (Program at) = true
+is_operation (Erase start len) = true
+is_operation _ = false
+
+-- `busy` after the command: any number below 65,536 after an operation, one less after a poll (0 stays 0), otherwise
+-- unchanged
+abbrev pub BusyAfter : Chip → Command → (busy : ℕ) → Type 0
+BusyAfter chip (WriteStatus one two) busy = busy < 65536
+BusyAfter chip (Program at) busy = busy < 65536
+BusyAfter chip (Erase start len) busy = busy < 65536
+BusyAfter chip Poll busy = busy ≡ chip.busy - 1
+BusyAfter chip _ busy = busy ≡ chip.busy
+
+-- The write enable latch after the command. An operation clears it when it ends: at once, or with the poll that shows
+-- the last BUSY.
+abbrev pub latch_after : Chip → Command → (busy : ℕ) → Bool
+latch_after chip WriteEnable busy = true
+latch_after chip WriteDisable busy = false
+latch_after chip (WriteStatus one two) busy = not (busy == 0)
+latch_after chip (Program at) busy = not (busy == 0)
+latch_after chip (Erase start len) busy = not (busy == 0)
+latch_after chip Poll busy = if chip.busy == 1 then false else chip.latch
+latch_after chip _ busy = chip.latch
+
+-- the operation in progress after the command: the command, if it is an operation, otherwise the one from before
+abbrev pub running_after : Chip → Command → Running
+running_after chip (WriteStatus one two) = Runs.StatusWrite chip.kept.one chip.kept.two
+running_after chip (Program at) = Runs.Program (at / 256)
+running_after chip (Erase start len) = Runs.Erase start len
+running_after chip _ = chip.running
+
+-- The effect of a command that is carried out: its reply, and the chip after it.
+pub record Does (command : Command) (sent : List ℕ) (old : Chip) (answer : List ℕ) (new : Chip) : Type 0 where
+  pub replies : (i : ℕ) → i < length answer → slice_index answer i ≡ reply_byte old command i
+  pub config : new.config ≡ old.config
+  pub bytes : (a : ℕ) → new.bytes a ≡ byte_after old command sent a
+  pub kept : new.kept ≡ kept_after old command
+  pub busy : BusyAfter old command new.busy
+  pub latch : new.latch ≡ latch_after old command new.busy
+  pub running : new.running ≡ running_after old command
+
+-- One step of the chip: `out` was sent and `answer` received. The data of a program follow its three address bytes.
+abbrev pub Step : (old : Chip) → (out answer : List ℕ) → (new : Chip) → Type 0
+Step old out answer new = Does (done_of old out (length answer)) (drop 4 out) old answer new
+
+-- the command is an erase of an erase block that holds this sector
+abbrev pub wears : Command → (sector : ℕ) → Bool
+wears (Erase start len) sector = nat_le start (4096 * sector) && nat_lt (4096 * sector) (start + len)
+wears _ sector = false

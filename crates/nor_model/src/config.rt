@@ -1,0 +1,161 @@
+//! The properties of a chip that never change, and those of the emulated chips.
+ghost use Rattle.std.specs.Prelude.{◌≡◌, ◌≤◌, ◌-◌, ◌*◌, ◌++◌, ◌↔◌, true, length, replicate, IsTrue, IsSome, IfSome};
+ghost use Rattle.nor_model.specs.Size.{is_chip_size};
+ghost use Rattle.nor_model.specs.Sfdp.{sfdp_with};
+
+/// The SFDP bytes of `TINY64`, from address 0: the header, one parameter header, and double words 1 to 9 of the basic
+/// flash parameter table (JESD216). The other emulated chips have the same bytes, except for the size in double word 2.
+/// These bytes were made for this project; a real Winbond chip has others.
+pub const TINY64_SFDP: [u8; 52] = [
+    0x53, 0x46, 0x44, 0x50, 0x00, 0x01, 0x00, 0xFF, // signature, revision 1.0, one header
+    0x00, 0x00, 0x01, 0x09, 0x10, 0x00, 0x00, 0xFF, // basic table, nine double words, at 10h
+    0x05, 0x20, 0x00, 0x00, // 1: 4 KiB erase by 20h, pages of 64 bytes or more, three address bytes
+    0xFF, 0xFF, 0x07, 0x00, // 2: size in bits, minus one
+    0x00, 0x00, 0x00, 0x00, 0x00, 0x00, 0x00, 0x00, 0x00, 0x00, // 3 to 7
+    0x00, 0x00, 0x00, 0x00, 0x00, 0x00, 0x00, 0x00, 0x00, 0x00, //
+    0x0C, 0x20, 0x0F, 0x52, // 8: erases of 4 KiB and 32 KiB
+    0x10, 0xD8, 0x00, 0x00, // 9: erases of 64 KiB
+];
+
+/// The length of a sector in bytes, the smallest erase block.
+pub const SECTOR_LEN: u32 = 4096;
+
+/// The greatest number of sectors of a chip: three address bytes reach 16 MiB.
+pub const MOST_SECTORS: u32 = 4096;
+
+/// The erase types of a chip in addition to 4 KiB (20h) and the whole chip (C7h), which every chip has.
+#[derive(Clone, Copy, Debug, PartialEq, Eq)]
+pub struct Kinds {
+    /// True if 52h erases 32 KiB.
+    pub k32: bool,
+    /// True if D8h erases 64 KiB.
+    pub k64: bool,
+}
+
+/// All erase types.
+pub const ALL_KINDS: Kinds = Kinds {
+    k32: true,
+    k64: true,
+};
+
+/// The properties of a chip that never change: the ID (9Fh), the size in bytes, the erase types, whether the chip has
+/// block protection (`scheme`), the unique ID (4Bh), and the SFDP bytes. Past the end of these bytes, the SFDP reads as
+/// FFh.
+#[derive(Clone, Copy)]
+pub struct Config {
+    pub id: [u8; 3],
+    pub size: u32,
+    pub kinds: Kinds,
+    pub scheme: bool,
+    pub unique: [u8; 8],
+    pub sfdp: [u8; 256],
+    pub ghost sized: { IsTrue (is_chip_size size) },
+}
+
+impl Config {
+    ghost use Rattle.nor_model.specs.Makers.{HasParts, all_kinds, IsTiny64, IsW25q64fv, IsW25q128fv};
+
+    /// Returns a configuration with these properties and a unique ID of zeros; `sfdp` has the SFDP bytes from address
+    /// 0. It allocates no memory.
+    ///
+    /// Returns `None` if the size is not a power of two from 65,536 to 16,777,216, or if there are more than 256 SFDP
+    /// bytes.
+    pub fn new(
+        id: [u8; 3],
+        size: u32,
+        k32: bool,
+        k64: bool,
+        scheme: bool,
+        sfdp: &[u8],
+    ) -> Option<Config>
+        ensures allowed { IsSome result ↔ ((is_chip_size size ≡ true) × (length sfdp.now ≤ 256)) }
+        ensures made { IfSome result (HasParts id size (record { k32 = k32; k64 = k64 }) scheme sfdp.now) }
+    {
+        if !is_chip_size(size) || sfdp.len() > 256 {
+            return None;
+        }
+        Some(Config {
+            id,
+            size,
+            kinds: Kinds { k32, k64 },
+            scheme,
+            unique: [0; 8],
+            sfdp: padded(sfdp),
+        })
+    }
+
+    /// Returns the emulated chip `TINY64`: 64 KiB, ID `FE 10 10`, all erase types, no block protection, identified only
+    /// by its SFDP.
+    pub fn tiny64() -> Config
+        ensures { IsTiny64 result }
+    {
+        Self::emulated([0xFE, 0x10, 0x10], 65_536, false)
+    }
+
+    /// Returns the emulated chip `W25Q64FV`: 8 MiB, ID `EF 40 17`, all erase types, with block protection. (Winbond
+    /// W25Q64FV datasheet.)
+    pub fn w25q64fv() -> Config
+        ensures { IsW25q64fv result }
+    {
+        Self::emulated([0xEF, 0x40, 0x17], 8_388_608, true)
+    }
+
+    /// Returns the emulated chip `W25Q128FV`: 16 MiB, ID `EF 40 18`, all erase types, with block protection. (Winbond
+    /// W25Q128FV datasheet.)
+    pub fn w25q128fv() -> Config
+        ensures { IsW25q128fv result }
+    {
+        Self::emulated([0xEF, 0x40, 0x18], 16_777_216, true)
+    }
+
+    // Returns an emulated chip with this size, all erase types, and a unique ID of zeros.
+    fn emulated(id: [u8; 3], size: u32, scheme: bool) -> Config
+        requires { IsTrue (is_chip_size size) }
+        ensures { HasParts id size all_kinds scheme (sfdp_with (8 * size - 1)) result }
+    {
+        Config {
+            id,
+            size,
+            kinds: ALL_KINDS,
+            scheme,
+            unique: [0; 8],
+            sfdp: padded(&sfdp_of(size)),
+        }
+    }
+
+    /// Returns this configuration with its unique ID replaced. (W25Q64FV datasheet, Read Unique ID Number.)
+    pub fn with_unique(self, unique: [u8; 8]) -> Config
+        ensures { result ≡ record self { unique = unique } }
+    {
+        let mut config = self;
+        config.unique = unique;
+        config
+    }
+}
+
+// True if the size is a power of two from 64 KiB to 16 MiB, the most that three address bytes reach.
+fn is_chip_size(size: u32) -> bool
+    ensures { result ≡ is_chip_size size }
+{
+    matches!(size, 0x1_0000..=0x100_0000) && size.is_power_of_two()
+}
+
+// Returns the SFDP bytes of an emulated chip of this size.
+fn sfdp_of(size: u32) -> [u8; 52]
+    requires { IsTrue (is_chip_size size) }
+    ensures { result ≡ sfdp_with (8 * size - 1) }
+{
+    let mut bytes = TINY64_SFDP;
+    bytes[0x14..0x18].copy_from_slice(&(8 * size - 1).to_le_bytes());
+    bytes
+}
+
+// Returns the SFDP bytes, padded with FFh to 256 bytes.
+fn padded(sfdp: &[u8]) -> [u8; 256]
+    requires { length sfdp.now ≤ 256 }
+    ensures { result ≡ sfdp.now ++ replicate (256 - length sfdp.now) 255 }
+{
+    let mut bytes = [0xFF; 256];
+    bytes[..sfdp.len()].copy_from_slice(sfdp);
+    bytes
+}

@@ -1,0 +1,44 @@
+//! The model of an SPI NOR flash chip, and the contract of a bus that carries transactions to it.
+//!
+//! ```rust
+//! use nor_model::{Config, code_for, protected};
+//!
+//! let chip = Config::w25q64fv();
+//! // the last 64 KiB: BP0 alone, so 04h in status 1
+//! assert_eq!(rt; code_for(0x7F0000, 0x10000, chip.size), Some(1));
+//! assert!(rt; protected([0x04, 0x00], chip.size, 0x7F0000));
+//! assert!(rt; !protected([0x04, 0x00], chip.size, 0x7EFFFF));
+//! ```
+//!
+//! `specs/` defines what the chip does at each transaction (`Chip`, `Guard`, `Command`, `Step`) and the contract of a
+//! bus (`Bus`). The crates above describe chips only by these definitions.
+//!
+//! - `bus.rt`: the traits `Bus` and `Meter`, and the error `Stopped`
+//! - `config.rt`: the properties of a chip that never change; the three emulated chips
+//! - `status.rt`: the status registers, their bits by name
+//! - `command.rt`: decodes the bytes of a transaction
+//! - `guard.rt`: the ranges that block protection protects
+//! - `guard/walk.rt`: an iterator over the ranges that can be protected
+//! - `running.rt`: the operation that a busy chip carries out
+//! - `sent.rt`: records which modifying commands were sent over a bus
+//! - `polled_ready.rt`: records whether the last poll showed that the chip is ready
+#![tactic(auto)]
+
+mod bus;
+mod command;
+mod config;
+mod guard;
+mod polled_ready;
+mod running;
+mod sent;
+mod status;
+
+pub use bus::{Bus, Meter, Stopped};
+pub use command::{Command, is_changing};
+pub use config::{ALL_KINDS, Config, Kinds, MOST_SECTORS, SECTOR_LEN, TINY64_SFDP};
+pub use guard::walk::Offered;
+pub use guard::{code_for, is_protected, offered, protected, protected_range, unit_protected};
+pub use polled_ready::polled_ready_after;
+pub use running::Running;
+pub use sent::Sent;
+pub use status::{Status, Status1, Status2};

@@ -1,0 +1,30 @@
+//! Defines what a session is asked for and what calls return: requests, reports, and errors with their numbers and
+//! texts.
+//!
+//! - `request.rt`: requests for a session
+//! - `report.rt`: what a call did
+//! - `refusal.rt`: the errors of calls, their numbers and their texts
+//!
+//! ```rust
+//! use nor_request::{Refusal, Request};
+//!
+//! // The whole chip, of any name, becomes FFh, and is read back then.
+//! let erase = Request::erase().verified();
+//! assert!(rt; erase.is_data());
+//! let refusal = Refusal::Protected { address: 0x1000 };
+//! assert_eq!(rt; refusal.number(), 10);
+//! let text = format!(in rt.alloc(); "{refusal}")?;
+//! assert_eq!(rt; text.as_str(), "protected at 0x001000");
+//! ```
+//!
+//! `specs/Request.antt` defines what a request asks of a chip, `specs/Refusal.antt` the numbers of errors,
+//! `specs/Texts.antt` their texts, and `specs/Tells.antt` what an error during identification means.
+#![tactic(auto)]
+
+mod refusal;
+mod report;
+mod request;
+
+pub use refusal::Refusal;
+pub use report::Report;
+pub use request::{Request, What};

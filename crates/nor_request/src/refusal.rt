@@ -1,0 +1,176 @@
+//! The errors of calls.
+ghost use Rattle.std.specs.Prelude.{◌≡◌, ◌↔◌, IsTrue, Some};
+ghost use Rattle.nor_request.specs.declared.refusal.Refusal.TheVariants as Refusals;
+ghost use Rattle.nor_request.specs.Refusal.{of_probe, of_operation};
+
+use nor_driver::OperationError;
+use nor_journal::{JournalFault, VaultFault};
+use nor_model::Stopped;
+use nor_probe::{ProbeFault, SfdpFault};
+use std::error::Error;
+use std::fmt;
+
+/// The reason why a call failed. `number` returns the number of the error, which is different for each variant. A
+/// session checks errors 1 to 10 in the order of their numbers, and returns the first that holds.
+#[derive(Clone, Copy, Debug, PartialEq, Eq)]
+pub enum Refusal {
+    /// 1: the ID reads `FF FF FF` or `00 00 00`, as it does if nothing drives the bus.
+    NoChip,
+    /// 2: the ID isn't in the table, and the chip's SFDP is refused for this reason.
+    UnknownChip(SfdpFault),
+    /// 3: the chip has another name than the one given.
+    OtherName,
+    /// 4: the image and the chip have different lengths, in bytes.
+    ImageSize { chip: u32, image: usize },
+    /// 5: an included address isn't on the chip.
+    RegionOutside,
+    /// 6: a request for a protection range, or a report of protection, on a chip without block protection.
+    NoProtection,
+    /// 7: the datasheets don't define which range the chip's protection bits select.
+    UndefinedProtection,
+    /// 8: no setting of the protection bits protects exactly the requested range.
+    RangeNotOffered,
+    /// 9: the status registers must be written, and they are locked (SRP0 or SRP1 is set).
+    StatusLocked,
+    /// 10: a sector that would change is protected, and the request doesn't lift protection. The address is that of the
+    /// lowest such sector.
+    Protected { address: u32 },
+    /// 11: the vault refused a piece of the journal, or its seal.
+    Vault,
+    /// 12: the bus stopped.
+    Stopped,
+    /// 13: 65,536 polls in a row showed BUSY. The address is that of the command that was waited for; it is 0 during
+    /// identification, for an erase of the chip, and for a status write.
+    Timeout { address: u32 },
+    /// 14: bytes that were read differ from the expected ones, first at this address.
+    Mismatch { address: u32 },
+    /// 15: the bytes aren't a journal.
+    BadJournal(JournalFault),
+    /// 16: the chip's ID or size differs from the journal's.
+    OtherChip,
+    /// 17: a status bit that flashnor never changes differs from the journal's.
+    StatusDiffers,
+    /// 18: out of memory.
+    Memory,
+    /// 19: the output failed after `written` bytes.
+    Output { written: u64 },
+    /// 20: the chip is another device than the journal's: the unique IDs differ.
+    OtherUnit,
+}
+
+impl Refusal {
+    ghost use Rattle.nor_request.specs.Refusal.{refusal_number};
+
+    /// Returns the error's number, which messages show: 1 to 20.
+    pub fn number(self) -> u8
+        ensures { result ≡ refusal_number self }
+    {
+        match self {
+            Refusal::NoChip => 1,
+            Refusal::UnknownChip(_) => 2,
+            Refusal::OtherName => 3,
+            Refusal::ImageSize { .. } => 4,
+            Refusal::RegionOutside => 5,
+            Refusal::NoProtection => 6,
+            Refusal::UndefinedProtection => 7,
+            Refusal::RangeNotOffered => 8,
+            Refusal::StatusLocked => 9,
+            Refusal::Protected { .. } => 10,
+            Refusal::Vault => 11,
+            Refusal::Stopped => 12,
+            Refusal::Timeout { .. } => 13,
+            Refusal::Mismatch { .. } => 14,
+            Refusal::BadJournal(_) => 15,
+            Refusal::OtherChip => 16,
+            Refusal::StatusDiffers => 17,
+            Refusal::Memory => 18,
+            Refusal::Output { .. } => 19,
+            Refusal::OtherUnit => 20,
+        }
+    }
+
+    /// True if the bus stopped (error 12).
+    pub fn is_stopped(self) -> bool
+        ensures { IsTrue result ↔ (self ≡ Refusals.Stopped) }
+    {
+        matches!(self, Refusal::Stopped)
+    }
+}
+
+// Implemented by hand, because a derived `Display` has no contract.
+impl fmt::Display for Refusal {
+    ghost use Rattle.nor_request.specs.Texts.{refusal_text};
+
+    ghost output = { λ refusal. Some (refusal_text refusal) };
+
+    #[tactic(auto, using(crate::proofs::Printed::padded_hex))]
+    fn fmt<W: fmt::Write>(&self, f: &mut fmt::Formatter<W>) -> fmt::Result {
+        match self {
+            Refusal::NoChip => f.write_str("no chip"),
+            Refusal::UnknownChip(fault) => write!(f, "unknown chip, SFDP fault {}", fault.number()),
+            Refusal::OtherName => f.write_str("another chip than named"),
+            Refusal::ImageSize { chip, image } => {
+                write!(f, "image of {image} bytes, chip of {chip} bytes")
+            }
+            Refusal::RegionOutside => f.write_str("region outside the chip"),
+            Refusal::NoProtection => f.write_str("no protection on this chip"),
+            Refusal::UndefinedProtection => f.write_str("undefined protection"),
+            Refusal::RangeNotOffered => f.write_str("range not offered"),
+            Refusal::StatusLocked => f.write_str("status locked"),
+            Refusal::Protected { address } => write!(f, "protected at 0x{address:06x}"),
+            Refusal::Vault => f.write_str("journal not written"),
+            Refusal::Stopped => f.write_str("stopped"),
+            Refusal::Timeout { address } => write!(f, "timeout at 0x{address:06x}"),
+            Refusal::Mismatch { address } => write!(f, "bytes differ at 0x{address:06x}"),
+            Refusal::BadJournal(fault) => write!(f, "journal fault {}", fault.number()),
+            Refusal::OtherChip => f.write_str("another chip than the journal's"),
+            Refusal::StatusDiffers => f.write_str("status differs from the journal's"),
+            Refusal::Memory => f.write_str("out of memory"),
+            Refusal::Output { written } => write!(f, "output failed after {written} bytes"),
+            Refusal::OtherUnit => f.write_str("another unit than the journal's"),
+        }
+    }
+}
+
+impl Error for Refusal {}
+
+impl From<ProbeFault> for Refusal {
+    ghost from_gives = { λ fault refusal. refusal ≡ of_probe fault };
+
+    fn from(fault: ProbeFault) -> Refusal {
+        match fault {
+            ProbeFault::NoChip => Refusal::NoChip,
+            ProbeFault::UnknownChip(fault) => Refusal::UnknownChip(fault),
+            ProbeFault::OtherName => Refusal::OtherName,
+            ProbeFault::Stopped => Refusal::Stopped,
+            ProbeFault::Timeout => Refusal::Timeout { address: 0 },
+        }
+    }
+}
+
+impl From<OperationError> for Refusal {
+    ghost from_gives = { λ halt refusal. refusal ≡ of_operation halt };
+
+    fn from(halt: OperationError) -> Refusal {
+        match halt {
+            OperationError::Stopped => Refusal::Stopped,
+            OperationError::Timeout { address } => Refusal::Timeout { address },
+        }
+    }
+}
+
+impl From<Stopped> for Refusal {
+    ghost from_gives = { λ _ refusal. refusal ≡ Refusals.Stopped };
+
+    fn from(_: Stopped) -> Refusal {
+        Refusal::Stopped
+    }
+}
+
+impl From<VaultFault> for Refusal {
+    ghost from_gives = { λ _ refusal. refusal ≡ Refusals.Vault };
+
+    fn from(_: VaultFault) -> Refusal {
+        Refusal::Vault
+    }
+}

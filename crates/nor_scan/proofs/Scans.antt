@@ -1,0 +1,292 @@
+-- The state of a scan between two sectors: the marks, the reads and the image.
+use Rattle.std.proofs.Common.{◌≡◌, ◌<◌, ◌≤◌, ◌+◌, ◌-◌, ◌*◌, ◌/◌, ◌%◌, ◌&&◌, ◌||◌, ◌∙◌, ℕ, Bool, true, false, List}
+use Rattle.std.proofs.Common.{Option, take, drop, length, slice_index, refl, ap, sym, subst, arith, inl, inr}
+use Rattle.std.specs.Prelude.{if◌then◌else◌, ◌==◌, nat_lt}
+use Rattle.std.proofs.lemmas.Bool.{cases_eq, eq-eqb, ne_eqb, or_left, and_left, both_ways, false_from_ne_true}
+use Rattle.std.proofs.lemmas.Bool.Decides.{nat_tests}
+use Rattle.std.proofs.Math.Bool.{and-false}
+use Rattle.nor_model.specs.declared.config.Config.{Config}
+use Rattle.nor_model.specs.Bus.{BusState}
+use Rattle.nor_driver.specs.OnlyReads.{OnlyReads, IsOpen}
+use Rattle.nor_geometry.specs.Below.{count_below}
+use Rattle.nor_layout.specs.Sectors.{includes, has_in_sector, NoneInSector}
+use Rattle.nor_journal.specs.Saved.{IsWholeSector, HasOneMore}
+use Rattle.nor_plan.specs.SectorSet.{has}
+use Rattle.nor_plan.specs.declared.plan.SectorPlan.{SectorPlan}
+use Rattle.nor_plan.specs.Content.{is_touched, is_raised}
+use Rattle.nor_geometry.specs.Counts.{sector_count}
+use Rattle.nor_request.specs.declared.request.Request.{Request}
+use Rattle.nor_scan.specs.declared.scanning.Scanned.{Scanned}
+use Rattle.nor_request.specs.Request.{is_data, scanned_sectors}
+use Rattle.nor_scan.specs.Scanning.{wanted_at, AreMarks, AreRight, IsBlank, HasMarked, ScansSector, Scans}
+use Rattle.nor_geometry.proofs.Counting.{count_below-zero, count_below-with, count_below-without, count_below-add}
+use Rattle.nor_geometry.proofs.Counting.{count_below-none, count_below-same}
+use Rattle.nor_geometry.proofs.Verdicts.{count_below-insert}
+use Rattle.nor_scan.proofs.Planned.{may_change-included, wanted-kept, untouched, unraised}
+use mathlib.Core.Path.{fun_ext}
+use Rattle.nor_driver.proofs.RestsInTurn.{HasLooked, has_looked-none, has_looked-more}
+use Rattle.nor_plan.proofs.Parts.{cut_out, put_back}
+use Rattle.nor_model.specs.Size.{is_chip_size}
+use Rattle.nor_model.proofs.Sizes.{is_chip_size-in_blocks}
+use Rattle.nor_layout.specs.declared.ranges.Span.{Span}
+use borrow.Rule.Slice.PartMut.{put_mid}
+
+-- Holds if the sectors below `n` were scanned, and no byte of the image from sector `n` on was changed.
+pub record HasScanned (request : Request) (size n : ℕ) (image image' : List ℕ) (old new : BusState)
+    (scanned : Scanned) : Type 0 where
+  pub marks : AreMarks n scanned
+  pub reads : scanned.reads ≡ count_below n (has_in_sector (includes request.included))
+  pub honest_reads : HasLooked scanned.reads old new
+  pub right : IsOpen size old → AreRight (wanted_at request image size old.chip.bytes) old.chip.bytes n scanned
+  pub merged : IsOpen size old → (a : ℕ) → has scanned.touched (a / 4096) ≡ true
+      → slice_index image' a ≡ wanted_at request image size old.chip.bytes a
+  pub rest : (a : ℕ) → 4096 * n ≤ a → slice_index image' a ≡ slice_index image a
+
+-- ---- marks
+
+-- A set that is right below `n` is right below `n + 1` after the result of the test of `n` was inserted.
+tested : (n s : ℕ) (test : ℕ → Bool) {verdict old new : Bool} → verdict ≡ test n → old ≡ (nat_lt s n && test s)
+    → new ≡ ((verdict && (s == n)) || old) → new ≡ (nat_lt s (n + 1) && test s)
+tested n s test {verdict} {old} {new} is was inserted = grind (arith, nat_tests)
+
+absent : (n : ℕ) (scanned : Scanned) → AreMarks n scanned → (s : ℕ) → n ≤ s → has scanned.touched s ≡ false
+absent n scanned are s above = false_from_ne_true _ (λ marked. let below = are.below s marked in absurd (omega arith))
+
+counted : (n : ℕ) (plan : SectorPlan) (old new : Scanned) (verdict : Bool) → plan.touched ≡ verdict → n < 4096
+    → AreMarks n old → HasMarked n plan old new
+    → old.count + (if verdict then 1 else 0) ≡ sector_count (has new.touched)
+counted n plan old new true is below are marked =
+    let one = count_below-insert 4096 n (has old.touched) (has new.touched) below (absent n old are n (omega arith))
+    (λ s. rw is at (marked.touched s)) in
+    omega (arith, are.count)
+counted n plan old new false is below are marked =
+    let same : (s : ℕ) → s < 4096 → has old.touched s ≡ has new.touched s =
+    λ s low. sym (rw is at (marked.touched s)) in
+    omega (arith, are.count, count_below-same 4096 (has old.touched) (has new.touched) same)
+
+-- `AreMarks` still holds after one more sector was marked.
+pub marks_more : (n : ℕ) (plan : SectorPlan) (old new : Scanned) → n < 4096
+    → (plan.raised ≡ true → plan.touched ≡ true) → AreMarks n old → HasMarked n plan old new → AreMarks (n + 1) new
+marks_more n plan old new below needed are marked = record {
+  below = λ s is. grind (arith, nat_tests, sym (marked.touched s) ∙ is, are.below s);
+  inside = λ s is. grind (arith, nat_tests, sym (marked.raised s) ∙ is, marked.touched s, are.inside s);
+  count = marked.count ∙ counted n plan old new plan.touched refl below are marked;
+}
+
+-- Marking a touched sector adds it to the set of touched sectors.
+pub marked_more : (n : ℕ) (plan : SectorPlan) (old new : Scanned) → plan.touched ≡ true → HasMarked n plan old new
+    → HasOneMore (has old.touched) n (has new.touched)
+marked_more n plan old new touched marked = record {
+  here = rw (marked.touched n, touched) (or_left (n == n) (has old.touched n) (eq-eqb n n refl));
+  others = λ s other. rw (marked.touched s, touched, ne_eqb s n other);
+}
+
+-- Marking a sector that isn't touched leaves the set of touched sectors as it was.
+pub marked_none : (n : ℕ) (plan : SectorPlan) (old new : Scanned) → plan.touched ≡ false → HasMarked n plan old new
+    → (s : ℕ) → has new.touched s ≡ has old.touched s
+marked_none n plan old new untouched marked s = rw untouched at (marked.touched s)
+
+-- ---- from sector to sector
+
+-- Holds if the loop is at sector `n` of the chip, and `verdict` is whether the sector has an included address.
+pub record IsAt (request : Request) (size n : ℕ) (verdict : Bool) : Type 0 where
+  pub about_bytes : is_data request.what ≡ true
+  pub below : n < size / 4096
+  pub small : size ≤ 16777216
+  pub included : has_in_sector (includes request.included) n ≡ verdict
+
+-- `IsAt` follows from the loop's bound and its test.
+pub is_at : {request : Request} {size n sectors : ℕ} {included : Option (List Span)} {test verdict : Bool}
+    → is_chip_size size ≡ true → (0 < sectors → (is_data request.what ≡ true) × (sectors ≡ size / 4096))
+    → n < sectors → included ≡ request.included → test ≡ has_in_sector (includes included) n → test ≡ verdict
+    → IsAt request size n verdict
+is_at {size = size} sized targets within same is so =
+    let target_sectors = targets (omega arith) in
+    record {
+      about_bytes = target_sectors.0;
+      below = omega (arith, target_sectors.1);
+      small = (is_chip_size-in_blocks size sized).small;
+      included = rw (← same) (sym is ∙ so);
+    }
+
+-- `HasScanned` holds before the first sector.
+pub nothing_scanned : (request : Request) (size : ℕ) (image : List ℕ) (state : BusState) (scanned : Scanned)
+    → IsBlank scanned → HasScanned request size 0 image image state state scanned
+nothing_scanned request size image state scanned blank = record {
+  marks = record {
+    below = λ s is. absurd (both_ways _ (blank.touched s) is);
+    inside = λ s is. absurd (both_ways _ (blank.raised s) is);
+    count = blank.count ∙ sym (count_below-none 4096 (has scanned.touched) (λ s below. blank.touched s));
+  };
+  reads = blank.reads ∙ sym (count_below-zero (has_in_sector (includes request.included)));
+  honest_reads = rw blank.reads (has_looked-none state);
+  right = λ is_open. record {
+    touched = λ s. rw (blank.touched s) (grind (arith, nat_tests));
+    raised = λ s. rw (blank.raised s) (grind (arith, nat_tests));
+  };
+  merged = λ is_open a is. absurd (both_ways _ (blank.touched (a / 4096)) is);
+  rest = λ a above. refl;
+}
+
+pub opened_later : (size reads : ℕ) (old mid : BusState) → IsOpen size old → HasLooked reads old mid → IsOpen size mid
+opened_later size reads old mid is_open honest_reads =
+    let was = (honest_reads.rested is_open.honest).unchanged in let busy = was.busy in let idle = is_open.idle in
+    record {
+      honest = honest_reads.nature.honest ∙ is_open.honest;
+      idle = omega arith;
+      same = ap (λ (config : Config). config.size) was.same.config ∙ is_open.same;
+    }
+
+-- ---- what follows from the sectors scanned so far
+
+module _ {request : Request} {size n : ℕ} {image image' : List ℕ} {old mid : BusState} {scanned : Scanned}
+    (was : HasScanned request size n image image' old mid scanned) where
+  -- `HasScanned` still holds after a sector without an included address was skipped.
+  pub skipped : IsAt request size n false → NoneInSector (includes request.included) n
+      → HasScanned request size (n + 1) image image' old mid scanned
+  skipped at excluded =
+      let content = old.chip.bytes in
+      let target_sectors = wanted_at request image size content in
+      let kept : (i : ℕ) → i < 4096 → target_sectors (4096 * n + i) ≡ content (4096 * n + i) = λ i below.
+      let within = at.below in
+      wanted-kept request image size content (4096 * n + i)
+      (may_change-included request size (4096 * n + i) at.about_bytes (omega arith) ∙ excluded i below) in
+      record {
+        marks = record {
+          below = λ s is. let below = was.marks.below s is in omega arith;
+          inside = was.marks.inside;
+          count = was.marks.count;
+        };
+        reads = was.reads ∙ sym (count_below-without n (has_in_sector (includes request.included)) at.included);
+        honest_reads = was.honest_reads;
+        right = λ is_open. record {
+          touched = λ s. tested n s (is_touched content target_sectors) (sym (untouched content target_sectors n kept))
+              ((was.right is_open).touched s) refl;
+          raised = λ s. tested n s (is_raised content target_sectors) (sym (unraised content target_sectors n kept))
+              ((was.right is_open).raised s) refl;
+        };
+        merged = was.merged;
+        rest = λ a above. was.rest a (omega arith);
+      }
+
+  later : IsOpen size old → IsOpen size mid
+  later is_open = opened_later size scanned.reads old mid is_open was.honest_reads
+
+  same_before : IsOpen size old → mid.chip.bytes ≡ old.chip.bytes
+  same_before is_open = fun_ext (was.honest_reads.rested is_open.honest).unchanged.same.bytes
+
+  -- a sector was read, and its part of the image filled
+  module _ {width : ℕ} {part' bytes : List ℕ} {plan : SectorPlan} {new : BusState} (at : IsAt request size n true)
+      (scans : ScansSector request size n (take width (drop (4096 * n) image')) part' bytes mid new plan)
+      (exact : width ≡ 4096) where
+    of_image : (i : ℕ) → i < 4096
+        → slice_index (take width (drop (4096 * n) image')) i ≡ slice_index image (4096 * n + i)
+    of_image i below = cut_out image' (4096 * n) width i exact below ∙ was.rest (4096 * n + i) (omega arith)
+
+    -- The plan is that of the chip as it was before the scan.
+    pub planned_before : IsOpen size old
+        → (plan.touched ≡ is_touched old.chip.bytes (wanted_at request image size old.chip.bytes) n)
+        × (plan.raised ≡ is_raised old.chip.bytes (wanted_at request image size old.chip.bytes) n)
+    planned_before is_open = rw (same_before is_open) at (scans.planned (later is_open) image of_image)
+
+    -- The bytes read are those of the chip as it was before the scan.
+    pub read_before : length bytes ≡ 4096 → IsOpen size old → IsWholeSector old.chip.bytes n bytes
+    read_before long is_open = record {
+      whole = long;
+      same = rw (same_before is_open) at (scans.shown (later is_open)).byte;
+    }
+
+    -- `HasScanned` still holds after one more sector was scanned.
+    pub scanned_more : {next : Scanned} → OnlyReads 1 mid new → HasMarked n plan scanned next → length part' ≡ 4096
+        → length image' ≡ size
+        → HasScanned request size (n + 1) image (put_mid (4096 * n) width image' part') old new next
+    scanned_more {next = next} only_reads marked whole long =
+        let within = at.below in let small = at.small in
+        let put = put_back n width image' part' exact whole (omega arith) in
+        let content = old.chip.bytes in
+        let target_sectors = wanted_at request image size content in
+        record {
+          marks = marks_more n plan scanned next (omega arith) scans.needed was.marks marked;
+          reads =
+              let next = count_below-with n (has_in_sector (includes request.included)) at.included in
+              omega (arith, was.reads, marked.reads);
+          honest_reads = rw marked.reads (has_looked-more scanned.reads old mid new was.honest_reads only_reads scans.read scans.polled_ready);
+          right = λ is_open.
+              let plans = planned_before is_open in
+              record {
+                touched = λ s.
+                    tested n s (is_touched content target_sectors) plans.0 ((was.right is_open).touched s) (marked.touched s);
+                raised = λ s.
+                    tested n s (is_raised content target_sectors) plans.1 ((was.right is_open).raised s) (marked.raised s);
+              };
+          merged = λ is_open a is. elim (cases_eq (a / 4096) n) [
+            | inl here ↦
+                let place : 4096 * n + a % 4096 ≡ a = omega arith in
+                let below : a % 4096 < 4096 = omega arith in
+                subst (λ (k : ℕ). slice_index (put_mid (4096 * n) width image' part') k ≡ target_sectors k) place
+                (put.inside (a % 4096) below ∙ rw (same_before is_open) at
+                (scans.merged (later is_open) image of_image _ below))
+            | inr other ↦
+                put.outside a other
+                ∙ was.merged is_open a
+                (sym (rw (ne_eqb (a / 4096) n other, and-false) at (marked.touched (a / 4096))) ∙ is)
+          ];
+          rest = λ a above. put.outside a (λ same. absurd (omega arith)) ∙ was.rest a (omega arith);
+        }
+
+  -- Before a sector with an included address, fewer sectors were read than the scan reads in all.
+  pub room : IsAt request size n true → scanned.reads < scanned_sectors request size
+  room at =
+      let test = has_in_sector (includes request.included) in
+      let below = at.below in
+      let e : n + 1 + (size / 4096 - (n + 1)) ≡ size / 4096 = omega arith in
+      rw at.about_bytes (omega (
+        arith,
+        was.reads,
+        count_below-with n test at.included,
+        ap (λ (k : ℕ). count_below k test) e,
+        count_below-add (n + 1) (size / 4096 - (n + 1)) test,
+      ))
+
+  -- `Scans` follows from the marks, the reads and the findings at the end of the loop.
+  scans_of : scanned.count ≤ scanned.reads → AreMarks (size / 4096) scanned
+      → scanned.reads ≡ scanned_sectors request size → (IsOpen size old
+      → AreRight (wanted_at request image size old.chip.bytes) old.chip.bytes (size / 4096) scanned)
+      → Scans request size image image' old mid scanned
+  scans_of few marks reads right = record {
+    marks = marks;
+    reads = reads;
+    few = few;
+    polled_ready = was.honest_reads.polled_ready;
+    rested = was.honest_reads.rested;
+    sent = was.honest_reads.sent;
+    right = right;
+    merged = was.merged;
+  }
+
+  -- For a write or an erase the loop reached the last sector.
+  pub all_scanned : is_data request.what ≡ true → n ≡ size / 4096 → scanned.count ≤ scanned.reads
+      → Scans request size image image' old mid scanned
+  all_scanned about_bytes end few =
+      scans_of few (rw (← end) was.marks) (rw (about_bytes, ← end) was.reads)
+      (λ is_open. rw (← end) (was.right is_open))
+
+  -- A protection range has nothing to scan.
+  pub none_to_scan : is_data request.what ≡ false → n ≡ 0 → scanned.count ≤ scanned.reads
+      → Scans request size image image' old mid scanned
+  none_to_scan other at_first few =
+      let content = old.chip.bytes in
+      let target_sectors = wanted_at request image size content in
+      let kept : (a : ℕ) → target_sectors a ≡ content a = λ a. wanted-kept request image size content a
+      (and_left (is_data request.what) (nat_lt a size && includes request.included a) other) in
+      let free : (s : ℕ) → has scanned.touched s ≡ false = λ s. absent n scanned was.marks s (omega arith) in
+      let flat : (s : ℕ) → has scanned.raised s ≡ false =
+      λ s. false_from_ne_true _ (λ is. absurd (both_ways _ (free s) (was.marks.inside s is))) in
+      scans_of few (record {
+        below = λ s is. absurd (both_ways _ (free s) is);
+        inside = was.marks.inside;
+        count = was.marks.count;
+      }) (rw other (rw at_first at was.reads ∙ count_below-zero _)) (λ is_open. record {
+        touched = λ s. rw (free s, untouched content target_sectors s (λ i below. kept (4096 * s + i)), and-false) refl;
+        raised = λ s. rw (flat s, unraised content target_sectors s (λ i below. kept (4096 * s + i)), and-false) refl;
+      })

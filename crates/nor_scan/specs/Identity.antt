@@ -1,0 +1,50 @@
+-- The result of the identification of a chip.
+use Rattle.std.specs.Prelude.{◌≡◌, ◌≤◌, ◌+◌, ℕ, true, Option, Ok, List, [], ◌∷◌}
+use Rattle.nor_model.specs.Chip.{status1_of}
+use Rattle.nor_model.specs.Bus.{BusState}
+use Rattle.nor_driver.specs.OnlyReads.{Rested}
+use Rattle.nor_driver.specs.Ready.{StaysReady}
+use Rattle.nor_driver.specs.Reads.{unique_of}
+use Rattle.nor_probe.specs.declared.table.ChipName.{ChipName}
+use Rattle.nor_probe.specs.declared.probes.Probed.{Probed}
+use Rattle.nor_probe.specs.Known.{shown_as, IsModelled}
+use Rattle.nor_probe.specs.Found.{part_in, IsPart, IsWanted, IsConfigOf}
+use Rattle.nor_scan.specs.declared.identity.Identity.{Identity}
+
+-- the greatest number of transactions of an identification: a probe, and the reads of status 2 and the unique ID
+abbrev pub most_identity : ℕ
+most_identity = 65542
+
+-- the two status bytes that were read
+abbrev pub status_read : Identity → List ℕ
+status_read identity = identity.found.status1 ∷ identity.status2 ∷ []
+
+-- Holds after the reads of status 2 and the unique ID that follow the probe. On a well-behaved bus status 2 is the
+-- chip's; the unique ID is the chip's only if the chip is also idle.
+pub record ReadsRest (probed : Probed) (old new : BusState) (identity : Identity) : Type 0 where
+  pub found : identity.found ≡ probed.found
+  pub transactions : identity.transactions ≡ probed.transactions + 2
+  pub polled_ready : StaysReady old new
+  pub rested : old.honest ≡ true → Rested old new
+  pub count : old.honest ≡ true → old.left ≡ new.left + 2
+  pub status2 : old.honest ≡ true → identity.status2 ≡ old.chip.kept.two
+  pub unique : old.honest ≡ true → old.chip.busy ≡ 0 → identity.unique ≡ unique_of old.chip.config
+
+-- Holds after an identification that succeeded. On every bus the chip is a row of the table or was found by SFDP, it
+-- has the requested name, and the last poll showed ready. On a well-behaved bus the contents and non-volatile status
+-- bits are unchanged, the chip is idle, and the values read are the chip's own. Its size, erase types and block
+-- protection are known only on a modelled bus.
+pub record ReadsIdentity (named : Option ChipName) (old new : BusState) (identity : Identity) : Type 0 where
+  pub part : IsPart identity.found
+  pub wanted : IsWanted named identity.found.name
+  pub least : 4 ≤ identity.transactions
+  pub most : identity.transactions ≤ most_identity
+  pub polled_ready : new.polled_ready ≡ true
+  pub rested : old.honest ≡ true → Rested old new
+  pub idle : old.honest ≡ true → new.chip.busy ≡ 0
+  pub shown : old.honest ≡ true → shown_as old.chip.config ≡ Ok (part_in identity.found)
+  pub genuine : IsModelled old → IsConfigOf old.chip.config identity.found
+  pub status1 : old.honest ≡ true → identity.found.status1 ≡ status1_of new.chip
+  pub status2 : old.honest ≡ true → identity.status2 ≡ new.chip.kept.two
+  pub unique : old.honest ≡ true → identity.unique ≡ unique_of new.chip.config
+  pub count : old.honest ≡ true → old.left ≡ new.left + identity.transactions

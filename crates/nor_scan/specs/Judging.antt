@@ -1,0 +1,92 @@
+-- The results of the two checks of a request: against the identification, and against the touched sectors.
+use Rattle.std.specs.Prelude.{◌≡◌, ℕ, Bool, true, List, length, Option, Result, IfOk, IfErr, MatchBool, MatchOption, ⊤}
+use Rattle.nor_model.specs.Chip.{Chip, kept_in}
+use Rattle.nor_model.specs.Guard.{code_of}
+use Rattle.nor_model.specs.Offer.{IsLeastCode}
+use Rattle.nor_plan.specs.declared.set.SectorSet.{SectorSet}
+use Rattle.nor_plan.specs.SectorSet.{HasSome}
+use Rattle.nor_plan.specs.Content.{is_touched}
+use Rattle.nor_request.specs.Request.{wanted}
+use Rattle.nor_scan.specs.declared.identity.Identity.{Identity}
+use Rattle.nor_request.specs.declared.request.Request.{Request}
+use Rattle.nor_request.specs.declared.request.What.{What}
+use Rattle.nor_request.specs.declared.request.What.TheVariants.{WpRange}
+use Rattle.nor_scan.specs.Identity.{status_read}
+use Rattle.nor_request.specs.declared.refusal.Refusal.{Refusal}
+use Rattle.nor_request.specs.declared.refusal.Refusal.TheVariants.{ImageSize, RegionOutside, NoProtection, UndefinedProtection, RangeNotOffered, StatusLocked, Protected}
+use Rattle.nor_scan.specs.Saving.{IsIdentityOf, IsLeastProtected, NoneProtected, SomeProtected, NeedsStatus}
+use Rattle.nor_scan.specs.Verdict.{IsNamed, IsVerdict, IdentityAccepts, ScanAccepts}
+
+-- ---- on every bus
+
+-- Holds for errors 4 to 8, which the check against the identification may return.
+abbrev pub IsIdentityRefusal : Refusal → Type 0
+IsIdentityRefusal (ImageSize chip image) = ⊤
+IsIdentityRefusal RegionOutside = ⊤
+IsIdentityRefusal NoProtection = ⊤
+IsIdentityRefusal UndefinedProtection = ⊤
+IsIdentityRefusal RangeNotOffered = ⊤
+IsIdentityRefusal _ = ⊥
+
+-- Holds if `code` has the protection bits that a session leaves. For a protection range these are the least value that
+-- protects exactly this range on a chip of the size that was found; for a write or an erase, the bits that were read.
+abbrev pub IsFoundCode : What → Identity → ℕ → Type 0
+IsFoundCode (WpRange start len) identity code = IsLeastCode identity.found.size start len code
+IsFoundCode _ identity code = code ≡ code_of (kept_in (status_read identity))
+
+-- Holds for errors 9 and 10, which the check against the touched sectors may return.
+abbrev pub IsScanRefusal : Refusal → Type 0
+IsScanRefusal StatusLocked = ⊤
+IsScanRefusal (Protected address) = ⊤
+IsScanRefusal _ = ⊥
+
+-- Holds if protection is lifted only for a request that sets `unlock`, and only if some sector is touched.
+abbrev pub Lifts : Request → SectorSet → Bool → Type 0
+Lifts request touched unlock = unlock ≡ true → (request.unlock ≡ true) × HasSome touched
+
+-- ---- for each chip with this identification
+
+-- Holds if acceptance is right. If a request with an image of this length is accepted, then `IdentityAccepts` holds with
+-- the returned protection bits, for each chip that has this identification and the requested name.
+abbrev pub AcceptsIdentity : Request → ℕ → Identity → Result ℕ Refusal → Type 0
+AcceptsIdentity request len identity judged = (chip : Chip) (image : List ℕ) → IsIdentityOf chip identity
+    → IsNamed request.named chip.config → length image ≡ len → IfOk judged (IdentityAccepts request image chip)
+
+-- Holds if a refusal is right: the error is the verdict for each chip that has this identification and the requested
+-- name, if the image has this length.
+abbrev pub RefusesIdentity : Request → ℕ → Identity → Result ℕ Refusal → Type 0
+RefusesIdentity request len identity judged = (chip : Chip) (image : List ℕ) → IsIdentityOf chip identity
+    → IsNamed request.named chip.config → length image ≡ len → IfErr judged (IsVerdict request image chip)
+
+-- Holds if the result is the first touched sector with a protected address, or `None` if there is no such sector, on
+-- each chip with this identification.
+abbrev pub FindsProtected : (ℕ → Bool) → Identity → Option ℕ → Type 0
+FindsProtected touched identity found =
+    (chip : Chip) → IsIdentityOf chip identity → MatchOption found (NoneProtected touched chip) (IsLeastProtected touched chip)
+
+-- Holds if `needed` says correctly whether each chip with this identification needs a status write, provided that
+-- `is_touched_protected` says correctly whether one of its touched sectors is protected.
+abbrev pub FindsNeed : Request → Identity → Bool → ℕ → Bool → Type 0
+FindsNeed request identity is_touched_protected code needed = (chip : Chip) (touched : ℕ → Bool) → IsIdentityOf chip identity
+    → MatchBool is_touched_protected (SomeProtected touched chip) (NoneProtected touched chip)
+    → MatchBool needed (NeedsStatus request.what request.unlock code touched chip)
+    (¬ NeedsStatus request.what request.unlock code touched chip)
+
+-- Holds if the promise is true for each chip that has this identification and these touched sectors, and whose
+-- identification was accepted with these protection bits.
+abbrev pub OfTouched : Request → Identity → ℕ → (ℕ → Bool) → (List ℕ → Chip → Type 0) → Type 0
+OfTouched request identity code touched promise = (chip : Chip) (image : List ℕ) → IsIdentityOf chip identity
+    → IdentityAccepts request image chip code
+    → ((s : ℕ) → touched s ≡ is_touched chip.bytes (wanted request image chip) s) → promise image chip
+
+-- Holds if acceptance is right: if the touched sectors are accepted, then `ScanAccepts` holds with the returned choice
+-- whether to lift protection, for each chip that `OfTouched` names.
+abbrev pub AcceptsScan : Request → Identity → ℕ → (ℕ → Bool) → Result Bool Refusal → Type 0
+AcceptsScan request identity code touched judged =
+    OfTouched request identity code touched (λ image chip. IfOk judged (ScanAccepts request image chip))
+
+-- Holds if a refusal is right: if the touched sectors are refused, the error is the verdict for each chip that
+-- `OfTouched` names.
+abbrev pub RefusesScan : Request → Identity → ℕ → (ℕ → Bool) → Result Bool Refusal → Type 0
+RefusesScan request identity code touched judged =
+    OfTouched request identity code touched (λ image chip. IfErr judged (IsVerdict request image chip))

@@ -1,0 +1,127 @@
+-- The effect of scans: which sectors are touched and raised, and what is written to the journal.
+use Rattle.std.specs.Prelude.{◌≡◌, ◌≢◌, ◌<◌, ◌≤◌, ◌+◌, ◌*◌, ◌/◌, ◌==◌, ◌&&◌, ◌||◌, ℕ, Bool, true, false, nat_lt, Result, Ok, Err, List, slice_index, if◌then◌else◌, ⊤}
+use Rattle.nor_model.specs.Bus.{BusState}
+use Rattle.nor_driver.specs.OnlyReads.{Rested, RanOutIfHonest, IsOpen}
+use Rattle.nor_journal.specs.declared.writer.Writer.{Writer}
+use Rattle.nor_journal.specs.Text.{Content, SameHeader, next_number}
+use Rattle.nor_journal.specs.Saved.{is_saved, IsJournalPrefix}
+use Rattle.nor_journal.specs.Vault.{VaultState, Refused, Accepted}
+use Rattle.nor_journal.specs.Writer.{HasWritten, HasPutSectors}
+use Rattle.nor_driver.specs.Ready.{StaysReady}
+use Rattle.nor_driver.specs.Reads.{HasRead, IsSectorOf}
+use Rattle.nor_plan.specs.declared.plan.SectorPlan.{SectorPlan}
+use Rattle.nor_plan.specs.SectorSet.{has}
+use Rattle.nor_geometry.specs.Counts.{sector_count}
+use Rattle.nor_plan.specs.Content.{is_touched, is_raised}
+use Rattle.nor_request.specs.declared.refusal.Refusal.{Refusal}
+use Rattle.nor_request.specs.declared.refusal.Refusal.TheVariants.{Vault, Stopped}
+use Rattle.nor_request.specs.declared.request.Request.{Request}
+use Rattle.nor_scan.specs.declared.scanning.Scanned.{Scanned}
+use Rattle.nor_request.specs.Request.{target, is_requested, scanned_sectors}
+
+-- the target byte at an address of a chip with this size and content: the image's byte or FFh at an address that the
+-- request includes, else the byte of `content`
+abbrev pub wanted_at : Request → (image : List ℕ) → (size : ℕ) → (content : ℕ → ℕ) → (a : ℕ) → ℕ
+wanted_at request image size content a = if is_requested request size a then target request.what image a else content a
+
+-- Holds if the sector was marked as its plan says, and the number of reads is one higher.
+pub record HasMarked (sector : ℕ) (plan : SectorPlan) (old new : Scanned) : Type 0 where
+  pub touched : (s : ℕ) → has new.touched s ≡ ((plan.touched && (s == sector)) || has old.touched s)
+  pub raised : (s : ℕ) → has new.raised s ≡ ((plan.raised && (s == sector)) || has old.raised s)
+  pub count : new.count ≡ old.count + (if plan.touched then 1 else 0)
+  pub reads : new.reads ≡ old.reads + 1
+
+-- Holds if no sector is marked, and none was read.
+pub record IsBlank (scanned : Scanned) : Type 0 where
+  pub touched : (s : ℕ) → has scanned.touched s ≡ false
+  pub raised : (s : ℕ) → has scanned.raised s ≡ false
+  pub count : scanned.count ≡ 0
+  pub reads : scanned.reads ≡ 0
+
+-- Holds on every bus: the marked sectors are below `n`, the raised sectors are touched, and `count` is the number of
+-- touched sectors.
+pub record AreMarks (n : ℕ) (scanned : Scanned) : Type 0 where
+  pub below : (s : ℕ) → has scanned.touched s ≡ true → s < n
+  pub inside : (s : ℕ) → has scanned.raised s ≡ true → has scanned.touched s ≡ true
+  pub count : scanned.count ≡ sector_count (has scanned.touched)
+
+-- Holds if the marks of the sectors below `n` are right: touched if some byte differs from the target, raised if some
+-- bit must go from 0 to 1.
+pub record AreRight (wanted content : ℕ → ℕ) (n : ℕ) (scanned : Scanned) : Type 0 where
+  pub touched : (s : ℕ) → has scanned.touched s ≡ (nat_lt s n && is_touched content wanted s)
+  pub raised : (s : ℕ) → has scanned.raised s ≡ (nat_lt s n && is_raised content wanted s)
+
+-- Holds after one sector was scanned: its bytes were read, and bytes that may not change were copied into its part of
+-- the image. The bytes, the part and the plan are known only on a well-behaved bus with an idle chip of this size.
+pub record ScansSector (request : Request) (size sector : ℕ) (part part' bytes : List ℕ)
+    (old new : BusState) (plan : SectorPlan) : Type 0 where
+  pub needed : plan.raised ≡ true → plan.touched ≡ true
+  pub polled_ready : StaysReady old new
+  pub read : old.honest ≡ true → HasRead old new
+  pub shown : IsOpen size old → IsSectorOf old.chip.bytes sector bytes
+  pub merged : IsOpen size old → (image : List ℕ)
+      → ((i : ℕ) → i < 4096 → slice_index part i ≡ slice_index image (4096 * sector + i))
+      → (i : ℕ) → i < 4096
+      → slice_index part' i ≡ wanted_at request image size old.chip.bytes (4096 * sector + i)
+  pub planned : IsOpen size old → (image : List ℕ)
+      → ((i : ℕ) → i < 4096 → slice_index part i ≡ slice_index image (4096 * sector + i))
+      → (plan.touched ≡ is_touched old.chip.bytes (wanted_at request image size old.chip.bytes) sector)
+      × (plan.raised ≡ is_raised old.chip.bytes (wanted_at request image size old.chip.bytes) sector)
+
+-- Holds after all sectors were scanned. Other clauses describe the journal.
+pub record Scans (request : Request) (size : ℕ) (image image' : List ℕ) (old new : BusState)
+    (scanned : Scanned) : Type 0 where
+  pub marks : AreMarks (size / 4096) scanned
+  pub reads : scanned.reads ≡ scanned_sectors request size
+  pub few : scanned.count ≤ scanned.reads
+  pub polled_ready : StaysReady old new
+  pub rested : old.honest ≡ true → Rested old new
+  pub sent : old.honest ≡ true → old.left ≡ new.left + scanned.reads
+  pub right : IsOpen size old
+      → AreRight (wanted_at request image size old.chip.bytes) old.chip.bytes (size / 4096) scanned
+  pub merged : IsOpen size old → (a : ℕ) → has scanned.touched (a / 4096) ≡ true
+      → slice_index image' a ≡ wanted_at request image size old.chip.bytes a
+
+-- Holds for the errors of a scan: 12 (the bus stopped; on a well-behaved bus fewer than `most` transactions were left)
+-- and 11 (the vault failed).
+abbrev pub ScanErrors : ℕ → (old new : BusState) → Refusal → Type 0
+ScanErrors most old new Stopped = RanOutIfHonest most old new
+ScanErrors most old new Vault = ⊤
+ScanErrors most old new _ = ⊥
+
+-- Holds for the vault after a scan: it accepted each piece, except after error 11.
+abbrev pub ScanPuts : {T : Type 0} → Result T Refusal → (old new : VaultState) → Type 0
+ScanPuts (Err Vault) old new = Refused old new
+ScanPuts _ old new = Accepted old new
+
+-- Holds on every bus if the vault was given this header of a journal, and records of sectors below `n`.
+pub record HasBegun {V : Type 0} (state : V → VaultState) (writer : Writer V) (head : Content) (n : ℕ) : Type 0 where
+  pub content : Content
+  pub written : HasWritten state writer content
+  pub same : SameHeader head content
+  pub next : next_number content ≤ n
+
+-- Holds if `HasBegun` does, and the records are those of exactly these sectors.
+pub record HasBegunWith {V : Type 0} (state : V → VaultState) (writer : Writer V) (head : Content) (n : ℕ)
+    (sectors : ℕ → Bool) : Type 0 where
+  pub begun : HasBegun state writer head n
+  pub saved : (s : ℕ) → is_saved begun.content s ≡ sectors s
+
+-- Holds if the promise is true, or the result is error 11.
+abbrev pub UnlessVault : {T : Type 0} → Result T Refusal → Type 0 → Type 0
+UnlessVault (Ok _) promise = promise
+UnlessVault (Err refusal) promise = refusal ≢ Vault → promise
+
+-- Holds if a `telling` vault has a prefix of the journal that has this header and saves the touched ones of the first
+-- `total` sectors.
+abbrev pub HoldsCut : VaultState → (head : Content) → (old : ℕ → ℕ) → (touched : ℕ → Bool) → (total : ℕ) → Type 0
+HoldsCut vault head old touched total = vault.telling ≡ true
+    → IsJournalPrefix head old (λ s. nat_lt s total && touched s) vault.bytes
+
+-- Holds if the vault was given the header, and the records of the touched sectors below some bound, which is at most
+-- `total`.
+pub record HasKeptBelow {V : Type 0} (state : V → VaultState) (writer : Writer V) (head : Content) (old : ℕ → ℕ)
+    (touched : ℕ → Bool) (total : ℕ) : Type 0 where
+  pub bound : ℕ
+  pub inside : bound ≤ total
+  pub kept : HasPutSectors state writer head old (λ s. nat_lt s bound && touched s) bound

@@ -1,0 +1,135 @@
+//! Checks whether a request is accepted, and with which error it is refused otherwise.
+ghost use Rattle.std.specs.Prelude.{◌≡◌, ◌<◌, ◌≤◌, ◌*◌, ◌/◌, ◌==◌, ℕ, Bool, true, false, length, IfOk, IfErr, IfSome, IfNone, MatchOption, MatchBool, IsTrue};
+ghost use Rattle.nor_model.specs.Chip.{Chip, kept_in};
+ghost use Rattle.nor_model.specs.Guard.{is_undefined, protected_by, code_of};
+ghost use Rattle.nor_model.specs.Size.{is_chip_size};
+ghost use Rattle.nor_plan.specs.SectorSet.{has, LiesBelow};
+ghost use Rattle.nor_request.specs.Request.{is_data};
+ghost use Rattle.nor_scan.specs.Identity.{status_read};
+ghost use Rattle.nor_scan.specs.Judging.{IsFoundCode, IsIdentityRefusal, IsScanRefusal, Lifts};
+ghost use Rattle.nor_scan.specs.Judging.{AcceptsIdentity, RefusesIdentity, FindsProtected, FindsNeed, AcceptsScan, RefusesScan};
+
+use crate::identity::Identity;
+use crate::{Refusal, Request, What};
+use nor_layout::reaches_past;
+use nor_model::{SECTOR_LEN, code_for, unit_protected};
+use nor_plan::SectorSet;
+
+/// Checks a request against the identification. `image` is the image's length in bytes. Returns the target protection
+/// bits as a number below 64; for a write or an erase these are the chip's own.
+///
+/// Returns error 4 (the image isn't as long as the chip) or 5 (an included address isn't on the chip) for a write or an
+/// erase. Returns 6 (no block protection) or 8 (a range that no protection bits select) for a protection range. For
+/// every request it returns 7 if the chip has block protection and its protection bits are undefined.
+#[tactic(auto, using(crate::proofs::Held::code_same, crate::proofs::OneVerdict::opening_judged, crate::proofs::OneVerdict::opening_accepted))]
+pub fn judge_identity(request: &Request, identity: &Identity, image: usize) -> Result<u8, Refusal>
+    requires { IsTrue (is_chip_size identity.now.found.size) }
+    ensures six_bits { IfOk result (λ code. code < 64) }
+    ensures sized { IfOk result (λ code. is_data request.now.what ≡ true → image ≡ identity.now.found.size) }
+    ensures faults { IfErr result IsIdentityRefusal }
+    ensures same_code { IfOk result (λ code. is_data request.now.what ≡ true
+        → code ≡ code_of (kept_in (status_read identity.now))) }
+    ensures found { IfOk result (IsFoundCode request.now.what identity.now) }
+    ensures accepts { AcceptsIdentity request.now image identity.now result }
+    ensures errors { RefusesIdentity request.now image identity.now result }
+{
+    let size = identity.found.size;
+    let code = identity.status().code();
+    let defined = !identity.found.scheme || !identity.status().is_undefined();
+    match request.what {
+        What::Write | What::Erase => {
+            if image != size as usize {
+                return Err(Refusal::ImageSize { chip: size, image });
+            }
+            if reaches_past(request.included.as_ref(), size) {
+                return Err(Refusal::RegionOutside);
+            }
+            if defined {
+                Ok(code)
+            } else {
+                Err(Refusal::UndefinedProtection)
+            }
+        }
+        What::WpRange { start, len } => {
+            if !identity.found.scheme {
+                return Err(Refusal::NoProtection);
+            }
+            if !defined {
+                return Err(Refusal::UndefinedProtection);
+            }
+            code_for(start, len, size).ok_or(Refusal::RangeNotOffered)
+        }
+    }
+}
+
+/// Returns the first sector of `touched` that has a protected address by the status that was read, or `None`.
+#[tactic(auto, using(crate::proofs::Held::code_same))]
+pub fn first_protected(touched: &SectorSet, identity: &Identity) -> Option<u32>
+    requires sized { IsTrue (is_chip_size identity.now.found.size) }
+    requires below { LiesBelow touched.now (identity.now.found.size / 4096) }
+    ensures held { FindsProtected (has touched.now) identity.now result }
+    ensures reachable { IfSome result (λ sector. sector < 4096) }
+    ensures found { IfSome result (λ sector. has touched.now sector ≡ true) }
+{
+    if !identity.found.scheme {
+        return None;
+    }
+    let size = identity.found.size;
+    let status = [identity.found.status1, identity.status2];
+    for sector in 0..size / SECTOR_LEN {
+        let start = SECTOR_LEN * sector;
+        if touched.contains(sector) && unit_protected(status, size, start, SECTOR_LEN) {
+            return Some(sector);
+        }
+    }
+    None
+}
+
+// Returns true if the status registers must be written: the target protection bits of a range differ from the chip's,
+// or `unlock` is set and a touched sector is protected (`is_touched_protected`).
+fn needs_status(
+    request: &Request,
+    identity: &Identity,
+    is_touched_protected: bool,
+    code: u8,
+) -> bool
+    ensures { FindsNeed request.now identity.now is_touched_protected code result }
+{
+    match request.what {
+        What::WpRange { .. } => code != identity.status().code(),
+        _ => request.unlock && is_touched_protected,
+    }
+}
+
+/// Checks a request against the touched sectors. `code` is the result of `judge_identity`. Returns whether protection
+/// must be lifted.
+///
+/// Returns error 9 if the status registers must be written and are locked, or 10 if a touched sector is protected and
+/// the request doesn't unlock. Error 10 has the address of the first such sector.
+#[tactic(auto, using(crate::proofs::OneVerdict::scan_judged, crate::proofs::OneVerdict::scan_accepted))]
+pub fn judge_scan(
+    request: &Request,
+    identity: &Identity,
+    touched: &SectorSet,
+    code: u8,
+) -> Result<bool, Refusal>
+    requires sized { IsTrue (is_chip_size identity.now.found.size) }
+    requires below { LiesBelow touched.now (identity.now.found.size / 4096) }
+    ensures faults { IfErr result IsScanRefusal }
+    ensures lifts { IfOk result (Lifts request.now touched.now) }
+    ensures accepts { AcceptsScan request.now identity.now code (has touched.now) result }
+    ensures errors { RefusesScan request.now identity.now code (has touched.now) result }
+{
+    let held = first_protected(touched, identity);
+    let writes = needs_status(request, identity, held.is_some(), code);
+    if writes && identity.status().is_locked() {
+        return Err(Refusal::StatusLocked);
+    }
+    match held {
+        None => Ok(false),
+        Some(_) if request.unlock => Ok(true),
+        Some(sector) => Err(Refusal::Protected {
+            address: SECTOR_LEN * sector,
+        }),
+    }
+}

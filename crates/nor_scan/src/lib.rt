@@ -1,0 +1,43 @@
+//! The part of a session before the first modifying command: identifies the chip, checks the request, scans the
+//! sectors, and writes the touched ones to the journal. nor_session adds the changes.
+//!
+//! - `identity.rt`: the identification, for sessions and restores
+//! - `judging.rt`: checks a request against the identification, and against the touched sectors
+//! - `scanning.rt`: reads the sectors, and finds those that the session will touch
+//! - `saving.rt`: scans, checks, and seals the journal
+//!
+//! ```rust
+//! use nor_chip::{Config, Delays, Meter, SimBus};
+//! use nor_journal::MemVault;
+//! use nor_scan::{Request, judge_identity, open, save};
+//!
+//! let idle = Delays { now: 0, each: 0 };
+//! let erased = vec![in rt.alloc(); 0xFF; 65536]?;
+//! let mut bus = SimBus::new(Config::tiny64(), erased, [0x00, 0x00], idle)?;
+//! bus.allow(u64::MAX);
+//!
+//! let mut image = vec![in rt.alloc(); 0xFF; 65536]?;
+//! image[0] = 0x5A;
+//! let request = Request::write();
+//! let mut vault = MemVault::new(rt.alloc());
+//! let opening = open(&mut bus, request.named)?;
+//! let code = judge_identity(&request, &opening, image.len())?;
+//! let saved = save(&mut bus, &mut vault, &mut image, &request, &opening, code)?;
+//! assert!(rt; saved.scanned.touched.contains(0) && !saved.scanned.raised.contains(0));
+//! assert!(rt; vault.is_sealed());
+//! ```
+//!
+//! `specs/Identity.antt` defines what the identification returns, `specs/Verdict.antt` which requests are refused, and
+//! `specs/SavedScan.antt` what is saved.
+#![tactic(auto)]
+
+mod identity;
+mod judging;
+mod saving;
+mod scanning;
+
+pub use identity::{Identity, open, read_on};
+pub use judging::{first_protected, judge_identity};
+pub use nor_request::{Refusal, Report, Request, What};
+pub use saving::{SavedScan, save};
+pub use scanning::Scanned;

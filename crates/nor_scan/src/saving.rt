@@ -1,0 +1,73 @@
+//! Scans the chip, and saves what a session will change before it changes anything.
+ghost use Rattle.std.specs.Prelude.{◌≡◌, ◌/◌, true, length, IfOk, IfErr, OnErr, IsTrue};
+ghost use Rattle.nor_model.specs.Size.{is_chip_size};
+ghost use Rattle.nor_driver.specs.OnlyReads.{OnlyReads};
+ghost use Rattle.nor_journal.specs.Vault.{IsFresh};
+ghost use Rattle.nor_plan.specs.SectorSet.{has};
+ghost use Rattle.nor_request.specs.Request.{scanned_sectors, is_data};
+ghost use Rattle.nor_scan.specs.Saving.{header_found};
+ghost use Rattle.nor_scan.specs.SavedScan.{HasSaved, SaveErrors, SavePuts, HoldsJournal, IsJournalOf, SaveBegins, SaveCuts};
+
+use crate::identity::Identity;
+use crate::judging::judge_scan;
+use crate::scanning::{Scanned, scan_all};
+use crate::{Refusal, Request};
+use nor_journal::{Vault, Writer};
+use nor_model::Bus;
+
+/// The result of a scan whose journal is sealed.
+#[derive(Clone, Copy)]
+pub struct SavedScan {
+    pub scanned: Scanned,
+    /// True if protection must be lifted before the changes.
+    pub unlock: bool,
+}
+
+/// Scans the chip, writes the touched sectors to the vault, checks the request against them, and seals the vault.
+/// `vault` must be empty and unsealed; for a write or an erase `image` must be as long as the chip. `code` is the
+/// result of `judge_identity`.
+///
+/// No modifying command is sent. If the bus is well-behaved and shows the identified chip, idle, then success sets the
+/// image's touched sectors to the target bytes, and a `telling` vault holds a journal of exactly the touched sectors.
+///
+/// Returns error 9 or 10 (each is the verdict on the identified chip, if the bus shows it and `judge_identity` accepted
+/// it), 11 (the vault failed) or 12 (the bus stopped). After an error the vault is unsealed. If it is `telling` and the
+/// bus shows the identified chip, it holds a prefix of the journal; after errors other than 11 that prefix ends after
+/// the header or a complete record.
+pub fn save<B: Bus, V: Vault>(
+    bus: &mut B,
+    vault: &mut V,
+    image: &mut [u8],
+    request: &Request,
+    identity: &Identity,
+    code: u8,
+) -> Result<SavedScan, Refusal>
+    requires sized { IsTrue (is_chip_size identity.now.found.size) }
+    requires whole { is_data request.now.what ≡ true → length image.old ≡ identity.now.found.size }
+    requires fresh { IsFresh (V.state vault.old) }
+    ensures leaves { OnlyReads (scanned_sectors request.now identity.now.found.size) (B.state bus.old) (B.state bus.new) }
+    ensures puts { SavePuts result (V.state vault.old) (V.state vault.new) }
+    ensures holds { HoldsJournal (V.state vault.new) }
+    ensures saves { IfOk result (λ saved. (V.state vault.new).telling ≡ true
+        → IsJournalOf (header_found identity.now) (has saved.scanned.touched) (V.state vault.new).bytes) }
+    ensures keeps { IfOk result
+        (HasSaved request.now identity.now code image.old image.new
+        (B.state bus.old) (B.state bus.new) (V.state vault.new)) }
+    ensures begins { IfErr result (SaveBegins request.now identity.now image.old (B.state bus.old) (V.state vault.new)) }
+    ensures cut { OnErr result (SaveCuts request.now identity.now image.old (B.state bus.old) (V.state vault.new)) }
+    ensures errors { IfErr result
+        (SaveErrors request.now identity.now code image.old (B.state bus.old) (B.state bus.new)) }
+{
+    let size = identity.found.size;
+    let mut writer = Writer::on(vault);
+    writer.header(
+        identity.found.id,
+        identity.unique,
+        identity.status().kept().bytes(),
+        size,
+    )?;
+    let scanned = scan_all(bus, &mut writer, image, request, size)?;
+    let unlock = judge_scan(request, identity, &scanned.touched, code)?;
+    writer.end()?;
+    Ok(SavedScan { scanned, unlock })
+}

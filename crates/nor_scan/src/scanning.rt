@@ -1,0 +1,146 @@
+//! Reads the sectors of a chip before anything is changed, and finds those that a session will change.
+ghost use Rattle.std.specs.Prelude.{◌≡◌, ◌≢◌, ◌<◌, ◌≤◌, ◌+◌, ◌*◌, ◌/◌, true, false, length, IfOk, IfErr, OnErr, IsTrue};
+ghost use Rattle.nor_model.specs.Size.{is_chip_size};
+ghost use Rattle.nor_driver.specs.OnlyReads.{OnlyReads, RanOutIfHonest, IsOpen};
+ghost use Rattle.nor_journal.specs.Text.{Content};
+ghost use Rattle.nor_journal.specs.Writer.{vault_of, vault_seen, HasPutSectors};
+ghost use Rattle.nor_plan.specs.SectorSet.{has, none};
+ghost use Rattle.nor_request.specs.Request.{scanned_sectors, is_data};
+ghost use Rattle.nor_plan.specs.Content.{is_touched};
+ghost use Rattle.nor_scan.specs.Scanning.{HasMarked, IsBlank, ScansSector, Scans, ScanErrors, ScanPuts};
+ghost use Rattle.nor_scan.specs.Scanning.{HasBegun, HasBegunWith, UnlessVault, HoldsCut, HasKeptBelow, wanted_at};
+ghost use Rattle.nor_request.specs.declared.refusal.Refusal.TheVariants as Refusals;
+
+use crate::{Refusal, Request, What};
+use nor_driver::read_sector;
+use nor_journal::{Vault, Writer};
+use nor_layout::{fill_excluded, includes_in_sector};
+use nor_model::{Bus, SECTOR_LEN, Stopped};
+use nor_plan::{Plan, SectorPlan, SectorSet};
+
+/// The result of a scan: the touched sectors, in which some byte differs from the target; the raised sectors, which
+/// must be erased; how many sectors are touched; and how many were read.
+#[derive(Clone, Copy)]
+pub struct Scanned {
+    pub touched: SectorSet,
+    pub raised: SectorSet,
+    pub count: u32,
+    pub reads: u32,
+}
+
+impl Scanned {
+    /// Returns the result before any sector was read.
+    pub fn none() -> Scanned
+        ensures { IsBlank result }
+    {
+        Scanned {
+            touched: SectorSet::new(),
+            raised: SectorSet::new(),
+            count: 0,
+            reads: 0,
+        }
+    }
+
+    /// Adds the plan of a sector that was read, and counts the read.
+    pub fn mark(&mut self, sector: u32, plan: SectorPlan)
+        requires reachable { sector < 4096 }
+        requires room { self.old.count ≤ self.old.reads }
+        requires few { self.old.reads < 4096 }
+        ensures { HasMarked sector plan self.old self.new }
+    {
+        if plan.touched {
+            self.touched.insert(sector);
+            self.count += 1;
+        }
+        if plan.raised {
+            self.raised.insert(sector);
+        }
+        self.reads += 1;
+    }
+}
+
+/// Reads a sector with an included address, copies the bytes that may not change into that sector's part of the image,
+/// and compares the two. For an erase the part is filled with FFh first.
+fn scan_sector<B: Bus>(
+    bus: &mut B,
+    request: &Request,
+    sector: u32,
+    part: &mut [u8],
+    bytes: &mut [u8; SECTOR_LEN as usize],
+    size: u32,
+) -> Result<SectorPlan, Stopped>
+    requires inside { 4096 * sector + 4096 ≤ size }
+    requires small { size ≤ 16777216 }
+    requires whole { length part.old ≡ 4096 }
+    requires data { is_data request.now.what ≡ true }
+    ensures leaves { OnlyReads 1 (B.state bus.old) (B.state bus.new) }
+    ensures scans { IfOk result
+        (ScansSector request.now size sector part.old part.new bytes.new (B.state bus.old) (B.state bus.new)) }
+    ensures stops { OnErr result (RanOutIfHonest 1 (B.state bus.old) (B.state bus.new)) }
+{
+    read_sector(bus, sector, &mut *bytes)?;
+    if let What::Erase = request.what {
+        part.fill(0xFF);
+    }
+    fill_excluded(request.included.as_ref(), sector, &mut *part, &*bytes);
+    Ok(Plan::of(&*bytes, &*part))
+}
+
+/// Reads each sector with an included address, in ascending order, copies the bytes that may not change into the image,
+/// and writes the touched sectors to the journal. A protection range has no sectors to read.
+///
+/// Returns error 11 (the vault failed) or 12 (the bus stopped).
+pub fn scan_all<B: Bus, V: Vault>(
+    bus: &mut B,
+    writer: &mut Writer<'_, V>,
+    image: &mut [u8],
+    request: &Request,
+    size: u32,
+) -> Result<Scanned, Refusal>
+    requires sized { IsTrue (is_chip_size size) }
+    requires whole { is_data request.now.what ≡ true → length image.old ≡ size }
+    requires unsealed { (vault_seen V.state writer.old).sealed ≡ false }
+    ensures leaves { OnlyReads (scanned_sectors request.now size) (B.state bus.old) (B.state bus.new) }
+    ensures scans { IfOk result (Scans request.now size image.old image.new (B.state bus.old) (B.state bus.new)) }
+    ensures same_vault { (vault_of writer.new).ghost_name ≡ (vault_of writer.old).ghost_name }
+    ensures puts { ScanPuts result (vault_seen V.state writer.old) (vault_seen V.state writer.new) }
+    ensures errors { IfErr result (ScanErrors (scanned_sectors request.now size) (B.state bus.old) (B.state bus.new)) }
+    ensures keeps { IsOpen size (B.state bus.old) → (head : Content) → head.size ≡ size
+        → HasPutSectors V.state writer.old head (B.state bus.old).chip.bytes none 0
+        → IfOk result (λ scanned. HasPutSectors V.state writer.new head (B.state bus.old).chip.bytes
+        (has scanned.touched) (size / 4096)) }
+    ensures begins { IsOpen size (B.state bus.old) → (head : Content) → head.size ≡ size
+        → HasPutSectors V.state writer.old head (B.state bus.old).chip.bytes none 0
+        → IfErr result (λ refusal. refusal ≢ Refusals.Vault
+        → HasKeptBelow V.state writer.new head (B.state bus.old).chip.bytes (is_touched (B.state bus.old).chip.bytes
+        (wanted_at request.now image.old size (B.state bus.old).chip.bytes)) (size / 4096)) }
+    ensures cut { IsOpen size (B.state bus.old) → (head : Content) → head.size ≡ size
+        → HasPutSectors V.state writer.old head (B.state bus.old).chip.bytes none 0
+        → OnErr result (HoldsCut (vault_seen V.state writer.new) head (B.state bus.old).chip.bytes
+        (is_touched (B.state bus.old).chip.bytes
+        (wanted_at request.now image.old size (B.state bus.old).chip.bytes)) (size / 4096)) }
+    ensures writes { (head : Content) → head.size ≡ size → HasBegun V.state writer.old head 0
+        → UnlessVault result (HasBegun V.state writer.new head (size / 4096)) }
+    ensures saves { (head : Content) → head.size ≡ size → HasBegunWith V.state writer.old head 0 none
+        → IfOk result (λ scanned. HasBegunWith V.state writer.new head (size / 4096) (has scanned.touched)) }
+{
+    let mut scanned = Scanned::none();
+    let mut bytes = [0; SECTOR_LEN as usize];
+    let sectors = if request.is_data() {
+        size / SECTOR_LEN
+    } else {
+        0
+    };
+    for sector in 0..sectors {
+        if includes_in_sector(request.included.as_ref(), sector) {
+            let start = (SECTOR_LEN * sector) as usize;
+            let part = &mut image[start..start + SECTOR_LEN as usize];
+            let plan = scan_sector(bus, request, sector, part, &mut bytes, size)?;
+            if plan.touched {
+                writer.add(sector, &bytes)?;
+            }
+            scanned.mark(sector, plan);
+        }
+    }
+    Ok(scanned)
+}
