@@ -243,14 +243,14 @@ NOTES = {
 # The subjects of both pages in their order, and the files whose definitions each of them has. If a definition needs one
 # of a later subject, the order gives way.
 SUBJECTS = {
-    "The chip": "nor_geometry: specs/Size nor_chip: src/config specs/Makers src/running specs/Sfdp specs/Chip",
-    "Protected addresses": "nor_chip: specs/Guard specs/Offer",
-    "Commands": "nor_chip: src/command specs/Command specs/TargetedSectors",
-    "The step of a chip": "nor_chip: specs/Step",
-    "A loss of power": "nor_chip: specs/Power",
-    "The bus, and its stops": "nor_chip: specs/Bus src/bus specs/Sent src/sent specs/PolledReady",
+    "The chip": "nor_geometry: specs/Size nor_model: src/config specs/Makers src/running specs/Sfdp specs/Chip",
+    "Protected addresses": "nor_model: specs/Guard specs/Offer",
+    "Commands": "nor_model: src/command specs/Command specs/TargetedSectors",
+    "The step of a chip": "nor_model: specs/Step",
+    "A loss of power": "nor_model: specs/Power",
+    "The bus, and its stops": "nor_model: specs/Bus src/bus specs/Sent src/sent specs/PolledReady",
     "Reading, and counting transactions": "nor_driver: specs/OnlyReads nor_apply: specs/Spending",
-    "IDs and status bits": "nor_chip: src/status nor_driver: specs/Reads specs/StatusWrites",
+    "IDs and status bits": "nor_model: src/status nor_driver: specs/Reads specs/StatusWrites",
     "SFDP": "nor_probe: src/sfdp specs/Sfdp",
     "Genuine chips": "nor_probe: src/table specs/Table src/probes specs/Known specs/Found",
     "The vault": "nor_journal: src/vault specs/Vault src/mem_vault specs/MemVault",

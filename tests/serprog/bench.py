@@ -7,6 +7,7 @@ from pathlib import Path
 from typing import NamedTuple
 
 import reference
+import time
 from chip import Chip
 from server import ARGUMENTS, O_SPIOP, Server, Traits, trace_line
 

@@ -61,11 +61,11 @@ ReportsSize found (answer.Size size) = size ≡ found.size
 ReportsSize found _ = ⊥
 
 -- The chip was identified, and the answer is about it; or the error of the identification was passed on.
-pub record HasLookedUp (errors : Found → Answer → Type 0) (named : Option ChipName) (old new : BusState)
+pub record HasLookedUp (reports : Found → Answer → Type 0) (named : Option ChipName) (old new : BusState)
     (outcome : Result Answer Refusal) : Type 0 where
   pub result : Result Found Refusal
   pub identified : HasIdentified named old new result
-  pub returned : AnswersCall errors result outcome
+  pub returned : AnswersCall reports result outcome
 
 -- the identification before a call returned an error, which is the fault of the run; nothing else was sent
 abbrev pub FailsToFind : Option ChipName → (old new : BusState) → Fault → Type 0

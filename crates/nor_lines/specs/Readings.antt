@@ -19,9 +19,9 @@ use Rattle.nor_lines.specs.declared.answers.Answer.TheVariants as answer
 
 -- the job returns the answer for the result of its call, or passes the error on
 abbrev pub AnswersCall : {T : Type 0} → (T → Answer → Type 0) → Result T Refusal → Result Answer Refusal → Type 0
-AnswersCall errors (Ok returned) (Ok answer) = errors returned answer
-AnswersCall errors (Err refusal) (Err passed) = passed ≡ refusal
-AnswersCall errors _ _ = ⊥
+AnswersCall reports (Ok returned) (Ok answer) = reports returned answer
+AnswersCall reports (Err refusal) (Err passed) = passed ≡ refusal
+AnswersCall reports _ _ = ⊥
 
 -- the answer is the chip's protection
 abbrev pub ReportsProtection : Protection → Answer → Type 0
@@ -44,13 +44,13 @@ ReportsVerified report (answer.Verified returned) = returned ≡ report
 ReportsVerified report _ = ⊥
 
 -- The chip's protection was requested, and reported or refused.
-pub record HasReported (errors : Protection → Answer → Type 0) (named : Option ChipName) (old new : BusState)
+pub record HasReported (reports : Protection → Answer → Type 0) (named : Option ChipName) (old new : BusState)
     (outcome : Result Answer Refusal) : Type 0 where
   pub result : Result Protection Refusal
   pub always : ProtectionAlways old new result
   pub honest : old.honest ≡ true → ProtectionHonest named old new result
   pub modelled : IsModelled old → ProtectionModelled named old result
-  pub returned : AnswersCall errors result outcome
+  pub returned : AnswersCall reports result outcome
 
 -- The chip was read out into a vault, in the given ranges, or the reading failed.
 pub record HasReadInto (named : Option ChipName) (ranges : Option (List Span)) (old new : BusState)

@@ -15,7 +15,7 @@ use Rattle.nor_probe.specs.Found.{most_probe}
 use Rattle.nor_driver.proofs.ReadsInTurn.{looks_more}
 use Rattle.nor_request.specs.declared.refusal.Refusal.{Refusal}
 use Rattle.nor_request.specs.declared.refusal.Refusal.TheVariants.{NoProtection, Stopped, Timeout}
-use Rattle.nor_request.specs.Tells.{IdentificationErrors}
+use Rattle.nor_request.specs.Errors.{IdentificationErrors}
 use Rattle.nor_read.specs.declared.protection.Protection.{Protection}
 use Rattle.nor_read.specs.Finding.{IsModelled, HasFound, ReadingErrors, most_status}
 use Rattle.nor_read.specs.Protecting.{IsProtectedRange, IsProtectionRefusal}

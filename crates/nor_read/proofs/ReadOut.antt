@@ -12,7 +12,7 @@ use Rattle.nor_probe.specs.Found.{most_probe}
 use Rattle.nor_request.specs.declared.refusal.Refusal.{Refusal}
 use Rattle.nor_request.specs.declared.refusal.Refusal.TheVariants.{RegionOutside, Stopped, Output}
 use Rattle.nor_request.specs.declared.report.Report.{Report}
-use Rattle.nor_request.specs.Tells.{IdentificationErrors}
+use Rattle.nor_request.specs.Errors.{IdentificationErrors}
 use Rattle.nor_read.specs.Finding.{IsModelled, HasFound, ReadingErrors, most_read}
 use Rattle.nor_read.specs.Reading.{ReadOutAlways, ReadOutHonest, ReadOutModelled, IsReadRefusal, ReadOutErrors}
 use Rattle.nor_read.specs.Reading.{Copies, ReadsAll, CopyErrors}

@@ -15,7 +15,7 @@ use Rattle.nor_driver.proofs.RestsInTurn.{HasLooked, rested_then}
 use Rattle.nor_request.specs.declared.refusal.Refusal.{Refusal}
 use Rattle.nor_request.specs.declared.refusal.Refusal.TheVariants.{Stopped, Timeout}
 use Rattle.nor_request.specs.declared.report.Report.{Report}
-use Rattle.nor_request.specs.Tells.{IdentificationErrors}
+use Rattle.nor_request.specs.Errors.{IdentificationErrors}
 use Rattle.nor_read.specs.Finding.{IsModelled, HasFound, IsNamed, IsPassed, IsTaken}
 use Rattle.nor_read.specs.Finding.{ReportsPart, ReportsReads, ReadingErrors, most_read}
 

@@ -2,7 +2,7 @@
 ghost use Rattle.std.specs.Prelude.{◌≡◌, ◌≤◌, ◌+◌, IfOk, IfErr};
 ghost use Rattle.nor_driver.specs.OnlyReads.{OnlyReads};
 ghost use Rattle.nor_probe.specs.Found.{most_probe};
-ghost use Rattle.nor_request.specs.Tells.{IdentificationErrors};
+ghost use Rattle.nor_request.specs.Errors.{IdentificationErrors};
 ghost use Rattle.nor_read.specs.Finding.{HasFound};
 
 use nor_model::Bus;

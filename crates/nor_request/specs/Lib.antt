@@ -1,4 +1,4 @@
 pub mod Refusal
 pub mod Request
-pub mod Tells
+pub mod Errors
 pub mod Texts

@@ -18,7 +18,7 @@
 //! ```
 //!
 //! `specs/Request.antt` defines what a request asks of a chip, `specs/Refusal.antt` the numbers of errors,
-//! `specs/Texts.antt` their texts, and `specs/Tells.antt` what an error during identification means.
+//! `specs/Texts.antt` their texts, and `specs/Errors.antt` what an error during identification means.
 #![tactic(auto)]
 
 mod refusal;

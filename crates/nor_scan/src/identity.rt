@@ -5,7 +5,7 @@ ghost use Rattle.nor_model.specs.Status.{bytes_of};
 ghost use Rattle.nor_driver.specs.OnlyReads.{OnlyReads, RanOutIfHonest};
 ghost use Rattle.nor_probe.specs.Found.{most_probe};
 ghost use Rattle.nor_scan.specs.Identity.{ReadsIdentity, status_read, ReadsRest, most_identity};
-ghost use Rattle.nor_request.specs.Tells.{IdentificationErrors};
+ghost use Rattle.nor_request.specs.Errors.{IdentificationErrors};
 
 use crate::Refusal;
 use nor_driver::{read_status2, read_unique};

@@ -19,7 +19,7 @@ use Rattle.nor_request.specs.declared.refusal.Refusal.TheVariants.{NoChip, Unkno
 use Rattle.nor_request.specs.Refusal.{refusal_number}
 use Rattle.nor_request.specs.Request.{scanned_sectors}
 use Rattle.nor_scan.specs.Identity.{ReadsIdentity, most_identity}
-use Rattle.nor_request.specs.Tells.{IdentificationErrors}
+use Rattle.nor_request.specs.Errors.{IdentificationErrors}
 use Rattle.nor_scan.specs.Saving.{IsIdentityOf, HasIdleChip}
 use Rattle.nor_scan.specs.SavedScan.{SavePuts, SaveErrors}
 use Rattle.nor_probe.specs.Known.{IsModelled}

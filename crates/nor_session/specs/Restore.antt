@@ -143,7 +143,7 @@ pub record RestoreAlways (journal : Content) (old new : BusState) (result : Resu
 pub record RestoreHonest (journal : Content) (old new : BusState) (result : Result Report Refusal) : Type 0 where
   -- a timeout does not occur, a stop occurs only if no transaction is left, and after an error that is checked first
   -- bytes and non-volatile status bits are as they were
-  pub fails_session : IfErr result (HonestErrors (most_of (length journal.saved)) IsCheckedFirst old new)
+  pub honest_errors : IfErr result (HonestErrors (most_of (length journal.saved)) IsCheckedFirst old new)
   -- the report counts exactly the transactions that were sent
   pub counted : IfOk result (λ report. old.left ≡ new.left + report.transactions)
   -- after success, if the chip has the journal's size, each saved sector in which a byte differed has the saved bytes;

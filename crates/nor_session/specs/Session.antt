@@ -227,7 +227,7 @@ pub record SessionHonest (request : Request) (image : List ℕ) (old new : BusSt
     (result : Result Report Refusal) : Type 0 where
   -- a timeout does not occur, a stop occurs only if no transaction is left, and after errors 1 to 11 bytes and
   -- non-volatile status bits are as they were
-  pub fails_session : IfErr result (HonestErrors (most_of 4096) (λ refusal. refusal_number refusal ≤ 11) old new)
+  pub honest_errors : IfErr result (HonestErrors (most_of 4096) (λ refusal. refusal_number refusal ≤ 11) old new)
   -- the report counts exactly the transactions that were sent
   pub counted : IfOk result (λ report. old.left ≡ new.left + report.transactions)
   -- after success, if the request asks for a check and the chip has the size that was found, each touched sector has

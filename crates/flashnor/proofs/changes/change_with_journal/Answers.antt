@@ -9,7 +9,7 @@ returns-in_err-report g c = λ modelled steady_or_idle.
     rw (p.1, p.2) (kept _ _ _ _ _ _ failed.always.only_reads (failed.modelled modelled).undo modelled
     (g.met.B.Bus.reaches c.args.bus.now modelled.honest) steady_or_idle _ (record {
       refuses = (failed.modelled modelled).errors;
-      same = stays _ _ _ (failed.honest modelled.honest).fails_session;
+      same = stays _ _ _ (failed.honest modelled.honest).honest_errors;
       unused = failed.always.answers.unused;
     }) (λ ok. cc))
 

@@ -28,7 +28,7 @@ returns-in_err-prepared g c =
           let only_reads = looks_most most (most_reads 4096) old new (omega arith) only_reads in
           search (rules, arith, none_sent, none_written, prepare_answers, prepare_names);
       honest = λ honest.
-          let fails_session = prepare_gives_up journal most old new refusal (omega arith) honest errors in search rules;
+          let honest_errors = prepare_gives_up journal most old new refusal (omega arith) honest errors in search rules;
       modelled = λ modelled.
           let returned = returned modelled errors in
           let leaves = looks_leave journal most old new (only_reads.honest_reads modelled.honest) in
@@ -55,7 +55,7 @@ returns-in_err-work g c =
           let late = false_from_ne_true _ (change_not_judged prepared.changes _ mid new refusal errors) in
           search (rules, changed_spends);
       honest = λ honest.
-          let fails_session = change_gives_up journal prepared old mid new refusal are honest errors in search rules;
+          let honest_errors = change_gives_up journal prepared old mid new refusal are honest errors in search rules;
       modelled = λ modelled. record {
         errors = change_tells journal prepared old mid new refusal are modelled errors;
         leaves = changed_leaves journal prepared old mid new are modelled;
