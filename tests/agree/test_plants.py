@@ -43,8 +43,8 @@ PLANTS = {
         ROWS, "docs/PROMISES.md", r"`transfer` of `SimBus` and `TraceBus`", "`transfer` of `SimBus` and `MemVault`",
         "`MemVault::transfer`"),
     "one call of several without the clause": (
-        ROWS, "docs/PROMISES.md", r"`session`, `restore`: `gives_up`", "`session`, `rehearse`: `gives_up`",
-        "`rehearse` has no clause `gives_up`"),
+        ROWS, "docs/PROMISES.md", r"`session`, `restore`: `honest_errors`", "`session`, `rehearse`: `honest_errors`",
+        "`rehearse` has no clause `honest_errors`"),
     "a definition that the clause doesn't say": (
         ROWS, "docs/PROMISES.md", r"`honest` \(`IsNoBusError`\)", "`modelled` (`IsNoBusError`)",
         "`modelled` doesn't say `IsNoBusError`"),

@@ -2,12 +2,12 @@
 import copy
 import os
 import subprocess
+import time
 from concurrent.futures import ThreadPoolExecutor
 from pathlib import Path
 from typing import NamedTuple
 
 import reference
-import time
 from chip import Chip
 from server import ARGUMENTS, O_SPIOP, Server, Traits, trace_line
 
