@@ -4,10 +4,10 @@
 //! use nor_model::{Config, code_for, protected};
 //!
 //! let chip = Config::w25q64fv();
-//! // the last 64 KiB: BP0 alone, so 04h in status 1
-//! assert_eq!(rt; code_for(0x7F0000, 0x10000, chip.size), Some(1));
-//! assert!(rt; protected([0x04, 0x00], chip.size, 0x7F0000));
-//! assert!(rt; !protected([0x04, 0x00], chip.size, 0x7EFFFF));
+//! // the last 128 KiB: only BP0 is set, so status 1 is 04h
+//! assert_eq!(rt; code_for(0x7E0000, 0x20000, chip.size), Some(1));
+//! assert!(rt; protected([0x04, 0x00], chip.size, 0x7E0000));
+//! assert!(rt; !protected([0x04, 0x00], chip.size, 0x7DFFFF));
 //! ```
 //!
 //! `specs/` defines what the chip does at each transaction (`Chip`, `Guard`, `Command`, `Step`) and the contract of a
