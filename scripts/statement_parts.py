@@ -42,7 +42,8 @@ NAMES = {
     "IsChip": "`IsChip chip`: bytes are below 256, status bits fit their registers, and `busy` is below 65,536.",
     "is_protected": "`is_protected chip a`: the protection bits of the chip protect the address `a`.",
     "is_block_protected":
-        "`is_block_protected chip start len`: the first or the last of the `len` addresses from `start` on is protected.",
+        "`is_block_protected chip start len`: the first or the last of the `len` addresses from `start` on is protected. "
+        "Protected addresses lie at one end of the chip, so this holds if any of them is protected.",
     "code_of": "`code_of kept`: the protection bits CMP, SEC, TB, BP2, BP1 and BP0 as one number, CMP the highest.",
     "is_undefined": "`is_undefined code`: SEC is set and BP is 110, for which the datasheets define no range.",
     "IsLeastCode":
@@ -88,7 +89,9 @@ NAMES = {
     "Notes":
         "`Notes out old new`: a transaction that sends nothing, or begins with 03h, 04h, 05h, 35h, 4Bh, 5Ah or 9Fh, "
         "leaves the record as it was; any other is added to it.",
-    "RecordsPoll": "`RecordsPoll out answer result old new`: `polled_ready` says what the last poll replied.",
+    "RecordsPoll":
+        "`RecordsPoll out answer result old new`: the bus records in `polled_ready` whether the last poll showed that "
+        "the chip is ready. Only clauses of STATEMENT-FULL.md use this.",
     "Report": "`Report`: the chip that was found, and the numbers of sectors, erases, programs and transactions.",
     "refusal_number": "`refusal_number refusal`: the number in the comment above the case of `Refusal`.",
     "IsRestoreVerdict":
