@@ -1,5 +1,5 @@
 #!/usr/bin/env python3
-"""scripts/promises.py: whether the tables of PROMISES, STATEMENT, TESTING and README name what there is.
+"""scripts/promises.py: whether the tables of PROMISES, STATEMENT, TESTING, HARDWARE and README name what there is.
 
 A cell that tells where a promise stands has parts between semicolons, each of these forms:
 
@@ -22,7 +22,7 @@ sys.dont_write_bytecode = True  # nothing else is to be left in scripts/
 import contracts
 import texts
 
-PAGES = "docs/PROMISES.md", "docs/STATEMENT.md", "docs/TESTING.md", "README.md"
+PAGES = "docs/PROMISES.md", "docs/STATEMENT.md", "docs/TESTING.md", "docs/HARDWARE.md", "README.md"
 # The heads of the columns that tell where a promise stands, and of those that name tests. TESTING.md must have the
 # first of the latter, each other page one of the former.
 PROMISING, TESTING = ["Call, clause"], ["Test", "Command"]
@@ -278,7 +278,7 @@ def main():
     count = 0
     for page in PAGES:
         cells = [(number, heads[column], cell, heads) for number, heads, column, cell in texts.cells_of(page)]
-        if page == "README.md":  # of its tables only that of promises names what the sources have
+        if page in ("README.md", "docs/HARDWARE.md"):  # of their tables only that of promises names what the sources have
             cells = [cell for cell in cells if PROMISING[0] in cell[3]]
         needed = TESTING[0] if page == "docs/TESTING.md" else PROMISING[0]
         if not any(head == needed for _, head, _, _ in cells):

@@ -40,7 +40,8 @@ NAMES = {
     "wears": "`wears command s`: the command is an erase whose block has sector `s`.",
     "is_known_running": "`is_known_running running`: the operation isn't `Unknown`.",
     "IsChip": "`IsChip chip`: bytes are below 256, status bits fit their registers, and `busy` is below 65,536.",
-    "is_protected": "`is_protected chip a`: the protection bits of the chip protect the address `a`.",
+    "is_protected":
+        "`is_protected chip a`: the chip has block protection, and its protection bits protect the address `a`.",
     "is_block_protected":
         "`is_block_protected chip start len`: the first or the last of the `len` addresses from `start` on is protected. "
         "Protected addresses lie at one end of the chip, so this holds if any of them is protected.",
@@ -70,7 +71,9 @@ NAMES = {
     "Ranges": "`Ranges`: at most 64 spans of addresses. In contracts its value is the list of them.",
     "includes": "`includes ranges a`: `a` is in one of the spans; without ranges each address is included.",
     "ReachesPast": "`ReachesPast ranges size`: some included address is `size` or greater; never without ranges.",
-    "is_touched": "`is_touched old wanted s`: some byte of sector `s` differs between `old` and `wanted`.",
+    "is_touched":
+        "`is_touched old wanted s`: some byte of sector `s` differs between `old` and `wanted`. A sector is *raised* if "
+        "some bit of it must go from 0 to 1, which needs an erase.",
     "text":
         "`text c`: the bytes of the journal with the content `c`: magic, ID, unique ID, status, size, saved sectors, "
         "end mark, and the SHA-256 of all these.",

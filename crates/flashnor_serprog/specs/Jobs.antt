@@ -1,4 +1,4 @@
--- What a job does on a chip, on every bus: its call to the engine, its answer, and the faults that occur before the call.
+-- The effect of a job on a chip, on every bus: its call to the engine, its result, and the faults before the call.
 use Rattle.std.specs.Prelude.{◌≡◌, ◌⊎◌, ℕ, true, List, Option, None, Some, Result, Ok, Err, IfOk, replicate}
 use Rattle.nor_model.specs.Bus.{BusState}
 use Rattle.nor_files.specs.Files.{FilesState, View}

@@ -1,4 +1,4 @@
--- What a job may send to the chip, on every bus.
+-- The commands that a job may send to the chip, on every bus.
 use Rattle.std.specs.Prelude.{◌≡◌, ◌⊎◌, ℕ, Bool, true, false, List, Some}
 use Rattle.nor_model.specs.Bus.{BusState}
 use Rattle.nor_files.specs.Files.{FilesState, IsDurable, is_lawful}
@@ -42,7 +42,8 @@ pub record SendsRestore (bytes : List ℕ) (old new : BusState) : Type 0 where
   pub journal : IsJournal bytes
   pub sends : SendsSaved (IsSavedCode journal.content) 1 journal.content old new
 
--- What a job may send: a change and a restore as their journals allow, any other job no modifying command.
+-- Holds if a job sent only what it may: a change or a restore as its journal allows, any other job no modifying
+-- command.
 abbrev pub SendsOnly : Task → (bytes : List ℕ) → (old new : BusState) → FilesState → Type 0
 SendsOnly (task.Change change) bytes old new after =
     SendsChange (what_of change.wanted) change.journal_use old new after

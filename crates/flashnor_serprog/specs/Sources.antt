@@ -1,4 +1,4 @@
--- The files of a job: their roles, and what is read from them before the programmer is used.
+-- The files of a job: their roles, and the contents that are read before the programmer is used.
 use Rattle.std.specs.Prelude.{◌≡◌, ◌⊎◌, [], ℕ, List, Option, Some, ⊤}
 use Rattle.std.specs.Borrow.{Bor}
 use Rattle.nor_files.specs.Files.{Nature, View}
@@ -87,7 +87,7 @@ abbrev pub FailsJournal : View → Text → Fault → Type 0
 FailsJournal view name (end.Refused (BadJournal why)) = (bytes : List ℕ) × IsRead view name 16793662 bytes × HasFault bytes why
 FailsJournal view name fault = IsSharingFault view name 16793662 fault
 
--- the faults of reading what a task needs
+-- the faults of reading the files that a task needs
 abbrev pub FailsSources : View → Task → Fault → Type 0
 FailsSources view (task.Read file regions) fault = FailsToInclude view regions fault
 FailsSources view (task.Verify file regions) fault =
