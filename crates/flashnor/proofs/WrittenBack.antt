@@ -63,9 +63,9 @@ are_put None bytes None old new same fails put = tt
 are_put (Some name) bytes None old new same fails put = λ _. put refl
 are_put name bytes (Some of) old new same fails put = (fails.0, rw same fails.1)
 
-pub reply_digits : (name failed : Option (Bor Text)) (view : View)
+pub reported : (name failed : Option (Bor Text)) (view : View)
     → IfSome failed (λ is. (name ≡ Some is) × Happens view (Unwritten is.now)) → IsReportedOf name failed view
-reply_digits name failed view is = grind arith
+reported name failed view is = grind arith
 
 pub told_before : (name failed : Option (Bor Text)) (old mid : View) → mid.nature ≡ old.nature
     → IsReportedOf name failed mid

@@ -144,7 +144,7 @@ pub record IsCalled (files after : FilesState) (job : ChipJob) (unwritten : Unwr
   pub started : StartsBus job.programmer content bus
   pub new : BusState
   pub does : DoesTraced files after job (sim_state bus) new outcome
-  pub reply_digits : AreReported (puts_back job.task) job.programmer unwritten files.view
+  pub reported : AreReported (puts_back job.task) job.programmer unwritten files.view
   pub left : AreAtRest files → puts_back job.task ≡ true
       → ArePutBack job.programmer new.chip unwritten.image unwritten.status after
   pub traced : OnSome unwritten.trace (unwritten.trace ≡ job.programmer.trace)

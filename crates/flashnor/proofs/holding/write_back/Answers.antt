@@ -1,4 +1,4 @@
-use Rattle.flashnor.proofs.WrittenBack.{both_amid, both_put, told_before, reply_digits}
+use Rattle.flashnor.proofs.WrittenBack.{both_amid, both_put, told_before, reported}
 use Rattle.flashnor.proofs.holding.write_back.Goals as goal
 
 pub returns-clause-put : goal.returns-clause-put
@@ -11,7 +11,7 @@ returns-clause-amid g c = λ two bytes bits ready.
 
 pub returns-clause-fails : goal.returns-clause-fails
 returns-clause-fails g c = (
-  reply_digits _ _ _ c.put_back-image.ensures.fails,
+  reported _ _ _ c.put_back-image.ensures.fails,
   told_before _ _ (g.R.Store.state c.args.rt.now).view (g.R.Store.state c.put_back-image.new.rt).view
-      c.put_back-image.ensures.nature (reply_digits _ _ _ c.put_back-status.ensures.fails),
+      c.put_back-image.ensures.nature (reported _ _ _ c.put_back-status.ensures.fails),
 )

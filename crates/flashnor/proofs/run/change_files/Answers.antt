@@ -65,7 +65,7 @@ returns g c =
           does_after job.programmer s2 s3 back.nature back.others job.task d.0 job.named _ _ _ puts roles2.image_journal
               roles2.status_journal d.2,
         );
-        reply_digits = rw puts (
+        reported = rw puts (
           told_before _ _ s0.view s2.view (called.nature ∙ held.nature) back.fails.0,
           told_before _ _ s0.view s2.view (called.nature ∙ held.nature) back.fails.1,
         );

@@ -16,7 +16,7 @@ returns-clause-ok g c =
       started = c.start-bus.ensures;
       new = _;
       does = c.in_ok-called.ensures.ok c.start-bus.ensures.opens.ready;
-      reply_digits = rw c.requires.only_reads (refl, refl);
+      reported = rw c.requires.only_reads (refl, refl);
       left = λ rest puts. absurd (true≢false (sym puts ∙ c.requires.only_reads));
       traced = c.in_ok-called.ensures.lost;
     }) c.returned-answer.ensures
