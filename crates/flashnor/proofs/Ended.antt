@@ -3,7 +3,7 @@ use Rattle.std.proofs.Common.{◌≡◌, ◌≢◌, ℕ, List, Option, Result, O
 use Rattle.nor_request.specs.declared.refusal.Refusal.{Refusal}
 use Rattle.nor_words.specs.Text.{Text}
 use Rattle.clap.specs.Words.{IsAmong}
-use Rattle.nor_words.specs.Words.{IsJob, IsRefusedSetting, refusals_of}
+use Rattle.nor_words.specs.Words.{IsJob, IsRefusedArguments, refusals_of}
 use Rattle.nor_words.specs.declared.job.ChipJob.{ChipJob}
 use Rattle.nor_words.specs.declared.job.Job.TheVariants as job
 use Rattle.nor_words.specs.declared.words.UsageFault.{UsageFault}
@@ -118,7 +118,7 @@ module _ (files after : FilesState) (words : List Text) where
         (prints.printed well.0)
 
     -- if the arguments ask for nothing, the run does not succeed
-    fails : IsRefusedSetting words → ending.status ≢ 0
+    fails : IsRefusedArguments words → ending.status ≢ 0
     fails refused none = elim (succeeds none) [
       | inl help ↦ refused.no_help help
       | inr done ↦ refused.no_job done.1.0 done.1.1

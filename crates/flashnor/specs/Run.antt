@@ -20,7 +20,7 @@ use Rattle.nor_request.specs.declared.refusal.Refusal.TheVariants.{Memory, BadJo
 use Rattle.nor_words.specs.Text.{Text}
 use Rattle.clap.specs.Words.{IsAmong}
 use Rattle.clap.specs.declared.error.kind.ErrorKind.TheVariants as kind
-use Rattle.nor_words.specs.Words.{IsJob, IsFault, IsRefusedSetting, refusals_of}
+use Rattle.nor_words.specs.Words.{IsJob, IsFault, IsRefusedArguments, refusals_of}
 use Rattle.nor_words.specs.declared.job.Change.{Change}
 use Rattle.nor_words.specs.declared.job.ChipJob.{ChipJob}
 use Rattle.nor_words.specs.declared.job.Job.{Job}
@@ -322,7 +322,7 @@ arguments_of args = map string_bytes (drop 1 (into_iter_items args))
 pub record IsStatus (files after : FilesState) (words : List Text) (out out' err err' : Option (List ℕ))
     (ending : Ending) : Type 0 where
   pub few : ending.status ≤ 1
-  pub refused : IsRefusedSetting words → ending.status ≡ 1
+  pub refused : IsRefusedArguments words → ending.status ≡ 1
   pub succeeds : ending.status ≡ 0 → RunSucceeds files after words out out'
   -- the result of the run, and what was printed about it
   pub outcome : Result Answer Fault

@@ -56,7 +56,7 @@ where
     ending.status
 }
 
-/// Ends a run that could not keep the descriptors of the standard streams in use. ReadsIdentity no file, prints the fault, and
+/// Ends a run that could not keep the descriptors of the standard streams in use. Opens no file, prints the fault, and
 /// returns the exit status, which is 1.
 pub fn end_without_streams<O: Write, E: Write>(output: &mut O, errors: &mut E) -> u8
     ensures { EndsWith (IsWithoutStreams (O.contents output.old) (O.contents output.new)

@@ -1,4 +1,4 @@
-//! ReadsIdentity the device of a programmer and identifies the programmer.
+//! Opens the device of a programmer and identifies the programmer.
 
 use crate::port::DevicePort;
 use crate::progress::Shown;
@@ -20,7 +20,7 @@ pub type ChipBus<'a> = Shown<
     ReadAhead<ReadTwice<Paced<BatchingBus<DevicePort>, &'a HostRuntime>>>,
 >;
 
-/// ReadsIdentity and locks the device, identifies the programmer, and selects the chip if `cs=` is given. Sends no transaction.
+/// Opens and locks the device, identifies the programmer, and selects the chip if `cs=` is given. Sends no transaction.
 ///
 /// If `image` is given, data that equals it is read once. It must be the image that the job writes or compares: then no
 /// data that was read once gets into a journal.
@@ -49,7 +49,7 @@ pub fn connect<'a>(
     Ok(Shown::new(ReadAhead::new(bus, longest_read), rt))
 }
 
-// ReadsIdentity the device, and locks it against a second run. Returns `NoDevice` and opens nothing if the file is no character
+// Opens the device, and locks it against a second run. Returns `NoDevice` and opens nothing if the file is no character
 // device, because the first bytes sent would overwrite a regular file.
 fn open_device(rt: &HostRuntime, name: &str) -> Result<File, ProgrammerFault> {
     match fs::metadata(rt, name) {

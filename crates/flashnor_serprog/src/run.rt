@@ -49,7 +49,7 @@ pub fn run_words<O: Write, E: Write>(
     }
 }
 
-/// Ends a run that could not keep descriptors 0, 1 and 2 open. ReadsIdentity no file, prints the fault, and returns the exit
+/// Ends a run that could not keep descriptors 0, 1 and 2 open. Opens no file, prints the fault, and returns the exit
 /// status, which is 1.
 pub fn end_without_streams<E: Write>(errors: &mut E) -> u8
     ensures { result ≡ 1 }

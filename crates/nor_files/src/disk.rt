@@ -189,7 +189,7 @@ where
     }
 }
 
-/// ReadsFile the rest of `file`, but not more than `most` bytes. If the file reports its length, memory for that many bytes
+/// Reads the rest of `file`, but not more than `most` bytes. If the file reports its length, memory for that many bytes
 /// is allocated at once.
 pub fn read_up_to<F: Read + OpenFile + Drop>(
     alloc: Global,

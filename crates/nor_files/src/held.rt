@@ -17,7 +17,7 @@ pub struct Held<F> {
     pub file: Option<F>,
 }
 
-/// ReadsIdentity and locks exclusively a file of the chip that the run will write. A missing file is recorded as missing. Fails
+/// Opens and locks exclusively a file of the chip that the run will write. A missing file is recorded as missing. Fails
 /// if the name refers to anything but a regular file, or if the file can't be opened for writing or locked.
 pub fn hold_chip<R: Files>(files: &R, alloc: Global, name: &str) -> Result<Held<R::File>, LockFault>
 where
@@ -32,7 +32,7 @@ where
     Ok(Held { name: owned, file })
 }
 
-/// ReadsIdentity a journal that the run reads, and locks it for reading. A name that doesn't refer to a regular file is
+/// Opens a journal that the run reads, and locks it for reading. A name that doesn't refer to a regular file is
 /// recorded as missing.
 pub fn hold_journal<R: Files>(
     files: &R,
@@ -79,7 +79,7 @@ fn is_nowhere<R: Files>(files: &R, name: &str) -> Result<bool, LockFault> {
     }
 }
 
-// ReadsIdentity the named regular file for reading and writing, and locks it exclusively.
+// Opens the named regular file for reading and writing, and locks it exclusively.
 fn open_alone<R: Files>(files: &R, name: &str) -> Result<R::File, LockFault>
 where
     R::File: LockFile,
@@ -96,7 +96,7 @@ where
     }
 }
 
-// ReadsIdentity the named file for reading and writing. The error is `Unheld` if it can only be opened for reading.
+// Opens the named file for reading and writing. The error is `Unheld` if it can only be opened for reading.
 fn open_both<R: Files>(files: &R, name: &str) -> Result<R::File, LockFault> {
     let opened = OpenOptions::new().read(true).write(true).open(files, name);
     match opened {
@@ -108,7 +108,7 @@ fn open_both<R: Files>(files: &R, name: &str) -> Result<R::File, LockFault> {
     }
 }
 
-// ReadsIdentity the named file for reading, and locks it against runs that write it.
+// Opens the named file for reading, and locks it against runs that write it.
 fn open_shared<R: Files>(files: &R, name: &str) -> Result<R::File, LockFault>
 where
     R::File: LockFile,

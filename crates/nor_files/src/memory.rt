@@ -56,7 +56,7 @@ impl Memory {
         Ok(())
     }
 
-    /// Creates `write_over` write only the first half of its bytes, and fail, if it is the last call that is left. Only a
+    /// Makes `write_over` write only the first half of its bytes, and fail, if it is the last call that is left. Only a
     /// write of no bytes then succeeds.
     pub fn tear(&mut self)
         ensures left { self.new.left ≡ self.old.left }

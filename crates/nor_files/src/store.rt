@@ -148,7 +148,7 @@ pub trait Store: AllocGlobal {
             ReadsFile name.now most (option_map (λ bytes. bytes.items) found) (state self.now).view) }
         ensures unread { OnErr result ((state self.now).view.nature.fails (Unread name.now) ≡ true) };
 
-    /// ReadsIdentity and locks the named file, if it exists, so that it can be overwritten later. The lock keeps other runs off
+    /// Opens and locks the named file, if it exists, so that it can be overwritten later. The lock keeps other runs off
     /// until the store is dropped; contracts don't describe locks. Returns whether the file exists. On lawful files,
     /// all files are as they were.
     fn hold(&mut self, name: &str) -> Result<bool, LockFault>

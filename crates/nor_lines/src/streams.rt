@@ -19,7 +19,7 @@ pub struct Streams<F> {
     _errors: F,
 }
 
-/// ReadsIdentity a directory three times. Call this function before any other file is opened.
+/// Opens a directory three times. Call this function before any other file is opened.
 ///
 /// Each of the descriptors 0, 1 and 2 that was closed then refers to the directory, and printing to it fails. Otherwise
 /// the next file opened would get that descriptor, and printed lines would overwrite its first bytes.

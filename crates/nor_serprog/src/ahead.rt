@@ -16,7 +16,7 @@ const SECTOR_LEN: u32 = 4096;
 const READ_DATA: u8 = 0x03;
 
 /// A bus that reads data (03h) ahead, if reads follow each other. A read that begins where the last block ended reads a
-/// block of twice the length, up to 64 KiB. ReadsAs inside the last block are answered from memory.
+/// block of twice the length, up to 64 KiB. Reads inside the last block are answered from memory.
 ///
 /// The block is forgotten at each transaction other than a read of data, and if the bus inside stops. A block ends at a
 /// multiple of 64 KiB at the latest, so it never reaches past the end of a chip. It is never longer than the bus inside
@@ -70,7 +70,7 @@ impl<B: Bus + Drop> ReadAhead<B> {
 impl<B: Bus> ReadAhead<B> {
     ghost use Rattle.nor_serprog.specs.Ahead.{ahead_of, begin, held, block_of};
 
-    // ReadsAs `reply` out of the block, which is read first if it does not hold all of these bytes.
+    // Reads `reply` out of the block, which is read first if it does not hold all of these bytes.
     fn read(&mut self, address: u32, reply: &mut [u8]) -> Result<(), Stopped>
         requires address { address ≤ 16777215 }
         requires len { length reply.old ≤ 65536 }
@@ -84,7 +84,7 @@ impl<B: Bus> ReadAhead<B> {
         Ok(())
     }
 
-    // ReadsAs a block that begins with these bytes, unless the block holds them.
+    // Reads a block that begins with these bytes, unless the block holds them.
     fn hold(&mut self, address: u32, len: u32) -> Result<(), Stopped>
         requires address { address ≤ 16777215 }
         requires len { len ≤ 65536 }
@@ -109,7 +109,7 @@ impl<B: Bus> ReadAhead<B> {
         )
     }
 
-    // ReadsAs a block of this length.
+    // Reads a block of this length.
     fn fill(&mut self, address: u32, len: u32) -> Result<(), Stopped>
         requires address { address ≤ 16777215 }
         requires len { len ≤ 65536 }

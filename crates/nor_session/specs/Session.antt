@@ -262,6 +262,5 @@ pub record SessionModelled (request : Request) (image : List ℕ) (old new : Bus
   -- session could have written
   pub cut : vault'.sealed ≡ false → vault'.telling ≡ true
       → OnErr result (HoldsBegun request image old.chip vault'.bytes)
-  -- at every exit after the seal the request is accepted, the chip changed only as `MayChange` allows, and a faithful
-  -- vault holds the journal that can undo the session
+  -- at every exit after the seal the session can be undone
   pub undo : vault'.sealed ≡ true → CanBeUndone request image old new vault'

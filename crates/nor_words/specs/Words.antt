@@ -37,6 +37,6 @@ BecomesFault error fault =
     ⊎ ((kind_of error ≢ kind.OutOfMemory) × (fault ≡ why.Words error))
 
 -- Holds if the arguments ask neither for a job nor for help.
-pub record IsRefusedSetting (words : List Text) : Type 0 where
+pub record IsRefusedArguments (words : List Text) : Type 0 where
   pub no_job : (job : Job) → IsJob words job → ⊥
   pub no_help : IsAmong kind.DisplayHelp (refusals_of words) → ⊥

@@ -248,7 +248,7 @@ fn choices() -> &'static [Choice; 18]
     &CHOICES
 }
 
-// AddsSetting an option for each row, in the order of the table.
+// Adds an option for each row, in the order of the table.
 fn add_choices<'a>(
     alloc: Global,
     command: Command<'a>,

@@ -231,7 +231,7 @@ impl Stage {
         length
     }
 
-    /// HasIdleChip BUSY in all 65,536 polls of each wait of a call in turn, and never afterwards. The chip is idle, so that
+    /// Shows BUSY in all 65,536 polls of each wait of a call in turn, and never afterwards. The chip is idle, so that
     /// without a fault each wait has one poll. Asserts that the call then returns a timeout and sends nothing more.
     /// Returns the number of waits.
     pub fn time_out_each(&self, rt: &impl Abort, call: Call) -> u64 {
