@@ -117,7 +117,7 @@ module _ (files after : FilesState) (words : List Text) where
         succeeds_by outcome out out' (subst (AnswersArguments files after words outcome) well.1 answers)
         (prints.printed well.0)
 
-    -- if the arguments ask for nothing, the run does not succeed
+    -- if the arguments ask neither for a job nor for help, the exit status isn't 0
     fails : IsRefusedArguments words → ending.status ≢ 0
     fails refused none = elim (succeeds none) [
       | inl help ↦ refused.no_help help

@@ -107,7 +107,7 @@ FailsToFill named wanted.Erase old new fault = FailsToFind named old new fault
     ⊎ ((chip : Found) × HasIdentified named old new (Ok chip) × (fault ≡ end.Refused Memory))
 FailsToFill named _ old new fault = ⊥
 
--- The session of a change was run with its journal in a new file. Only an erase identifies the chip before.
+-- The session of a change was run with its journal in a new file. Only the job `-E` identifies the chip before.
 pub record HasChanged (named : Option ChipName) (change : Change) (ranges : Option (List Span)) (bytes : List ℕ)
     (file : Text) (before : View) (after : FilesState) (old new : BusState)
     (outcome : Result Answer Refusal) : Type 0 where
@@ -123,7 +123,7 @@ HasChangedBy named change ranges bytes (uses.Journal file) before after old new 
     HasChanged named change ranges bytes file.now before after old new outcome
 HasChangedBy named change ranges bytes (uses.Rehearse stops) before after old new outcome = ⊥
 
--- The faults of a change before its session. Nothing was sent, except for an erase, which identifies the chip.
+-- The faults of a change before its session. Nothing was sent, except by the job `-E`, which identifies the chip first.
 abbrev pub FailsToChange : Option ChipName → Wanted → JournalUse → View → (old new : BusState) → Fault → Type 0
 FailsToChange named wanted (uses.Rehearse stops) view old new fault =
     (new ≡ old) × (fault ≡ end.Usage usage.Journal)
