@@ -29,8 +29,8 @@ use Rattle.flashnor.specs.Run.{DoesJob, IsViewBut}
 use Rattle.nor_lines.specs.Stored.{AreTwo}
 use Rattle.flashnor.specs.Tasks.{journal_of, keeps_journal, puts_back}
 use Rattle.nor_lines.specs.declared.answers.Answer.{Answer}
-use Rattle.flashnor.proofs.KeepsFile.{StayApart, lawful_after, not_that}
-use Rattle.flashnor.proofs.KeepsFile.{settled_after}
+use Rattle.flashnor.proofs.Stays.{StayApart, lawful_after, not_that}
+use Rattle.flashnor.proofs.Stays.{settled_after}
 use Rattle.flashnor.proofs.Traced.{reads_before}
 
 -- ---- the chip and the journal after the call

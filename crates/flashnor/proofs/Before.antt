@@ -14,7 +14,7 @@ use Rattle.flashnor.specs.Roles.{HasOwnTrace, HaveOneRole, named_by}
 use Rattle.flashnor.specs.Run.{KeepsChange, KeepsFiles, StayBut}
 use Rattle.nor_lines.specs.Stored.{AreTwo, IsNot, LeavesNoMoreOf, MakesNothing, StaysOf}
 use Rattle.flashnor.specs.Tasks.{journal_by, journal_of, keeps_journal, made_by, puts_back}
-use Rattle.flashnor.proofs.KeepsFile.{StayApart, apart, known_after, known_at_rest, not_after, not_that, stays_same}
+use Rattle.flashnor.proofs.Stays.{StayApart, apart, known_after, known_at_rest, not_after, not_that, stays_same}
 
 -- a promise about all files holds for the file that is named, if one is
 pub leaves_of : (old new : FilesState) (name : Option (Bor Text)) → LeaveNoMore old new → LeavesNoMoreOf name old new

@@ -39,8 +39,8 @@ use Rattle.nor_lines.specs.declared.answers.Answer.{Answer}
 use Rattle.flashnor.specs.declared.holding.Held.{Held}
 use Rattle.flashnor.specs.declared.holding.Unwritten.{Unwritten}
 use Rattle.flashnor.proofs.Before.{image_made, status_made}
-use Rattle.flashnor.proofs.KeepsFile.{StayApart, known_after, known_at_rest, lawful_after, not_after, not_that, rest_on}
-use Rattle.flashnor.proofs.KeepsFile.{settled_after, stays_on}
+use Rattle.flashnor.proofs.Stays.{StayApart, known_after, known_at_rest, lawful_after, not_after, not_that, rest_on}
+use Rattle.flashnor.proofs.Stays.{settled_after, stays_on}
 use Rattle.flashnor.proofs.Traced.{missing_before, reads_before}
 use Rattle.flashnor.proofs.AfterCall.{buffer_before, kept_after, ranges_before}
 use Rattle.flashnor.proofs.Reopened.{as_long, as_many, found_either, of_gone, of_none, opened_many, opened_size}

@@ -11,7 +11,7 @@ use Rattle.nor_words.specs.declared.programmer.Programmer.{Programmer}
 use Rattle.flashnor.specs.Chips.{ArePutBack}
 use Rattle.flashnor.specs.Holding.{AreAmid, AreReady, IsReady, LeavesAmid, MakesDurable}
 use Rattle.nor_lines.specs.Stored.{ArePut, AreTwo, Happens, IsNot, IsReportedOf}
-use Rattle.flashnor.proofs.KeepsFile.{known_after, lawful_after, not_after, not_that, settled_after}
+use Rattle.flashnor.proofs.Stays.{known_after, lawful_after, not_after, not_that, settled_after}
 
 -- Holds if each file stays whose name is apart from the given one.
 abbrev OthersOf : Option (Bor Text) → (old new : FilesState) → Type 0
