@@ -2,7 +2,7 @@
 ghost use Rattle.std.specs.Prelude.{◌≡◌, IfOk, vec_len};
 
 use crate::fault::Fault;
-use crate::timing::{TargetedSectors, Work, compare, look_at};
+use crate::timing::{Measurement, Work, compare, look_at};
 use nor_chip::{Config, Delays, MOST_SECTORS, Meter, SECTOR_LEN, SimBus};
 use nor_driver::{Erase, EraseBlock, erase, program_page, read_sector};
 use std::alloc::{AllocError, Global};
@@ -15,21 +15,21 @@ const PAGES: u32 = 65536;
 
 const SECTOR: usize = SECTOR_LEN as usize;
 
-const READS: TargetedSectors = TargetedSectors {
+const READS: Measurement = Measurement {
     what: "reads of a sector",
     beside: "a copy",
     at_most: 2.0,
     rounds: 301,
 };
 
-const ERASES: TargetedSectors = TargetedSectors {
+const ERASES: Measurement = Measurement {
     what: "erases of a sector",
     beside: "a copy",
     at_most: 2.0,
     rounds: 301,
 };
 
-const PROGRAMS: TargetedSectors = TargetedSectors {
+const PROGRAMS: Measurement = Measurement {
     what: "programs of a page",
     beside: "a copy",
     at_most: 6.0,

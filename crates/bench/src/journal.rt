@@ -4,7 +4,7 @@ ghost use Rattle.std.specs.Prelude.{◌≡◌, true, OnOk};
 ghost use Rattle.nor_journal.specs.Vault.{IsFresh};
 
 use crate::fault::Fault;
-use crate::timing::{TargetedSectors, Work, compare};
+use crate::timing::{Measurement, Work, compare};
 use nor_chip::{MOST_SECTORS, SECTOR_LEN};
 use nor_journal::{Journal, MemVault, Vault, VaultFault, Writer};
 use sha2::{Digest, Sha256};
@@ -14,14 +14,14 @@ use std::rt::Clock;
 /// The size of the chip in bytes. It has `MOST_SECTORS` sectors.
 const CHIP: u32 = 16777216;
 
-const WRITING: TargetedSectors = TargetedSectors {
+const WRITING: Measurement = Measurement {
     what: "a journal written",
     beside: "SHA-256",
     at_most: 1.4,
     rounds: 15,
 };
 
-const READING: TargetedSectors = TargetedSectors {
+const READING: Measurement = Measurement {
     what: "a journal read",
     beside: "SHA-256",
     at_most: 1.2,

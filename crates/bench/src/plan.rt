@@ -1,7 +1,7 @@
 //! Comparisons of two sectors that differ only in the last byte.
 
 use crate::fault::Fault;
-use crate::timing::{TargetedSectors, Work, compare, look_at};
+use crate::timing::{Measurement, Work, compare, look_at};
 use nor_chip::SECTOR_LEN;
 use nor_plan::{bounds, differs};
 use std::alloc::{AllocError, Global};
@@ -10,14 +10,14 @@ use std::rt::Clock;
 /// The number of comparisons between two readings of the clock.
 const PASSES: u32 = 1000;
 
-const DIFFERS: TargetedSectors = TargetedSectors {
+const DIFFERS: Measurement = Measurement {
     what: "whether a sector differs",
     beside: "a copy",
     at_most: 2.0,
     rounds: 10001,
 };
 
-const BOUNDS: TargetedSectors = TargetedSectors {
+const BOUNDS: Measurement = Measurement {
     what: "bounds of what differs",
     beside: "a copy",
     at_most: 3.0,

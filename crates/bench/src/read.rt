@@ -1,7 +1,7 @@
 //! A readout of a whole W25Q128FV into memory, and a verification against an image.
 
 use crate::fault::Fault;
-use crate::timing::{TargetedSectors, Work, compare};
+use crate::timing::{Measurement, Work, compare};
 use nor_chip::{Config, Delays, Meter, SimBus};
 use nor_journal::MemVault;
 use nor_read::{read_out, verify};
@@ -11,14 +11,14 @@ use std::rt::Clock;
 /// The size of the chip in bytes.
 const CHIP: usize = 16777216;
 
-const READING: TargetedSectors = TargetedSectors {
+const READING: Measurement = Measurement {
     what: "a chip read out",
     beside: "a copy",
     at_most: 3.0,
     rounds: 31,
 };
 
-const VERIFYING: TargetedSectors = TargetedSectors {
+const VERIFYING: Measurement = Measurement {
     what: "a chip verified",
     beside: "a copy",
     at_most: 3.0,

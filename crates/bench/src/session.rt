@@ -2,7 +2,7 @@
 
 use crate::fault::Fault;
 use crate::read::Copies;
-use crate::timing::{TargetedSectors, Work, compare};
+use crate::timing::{Measurement, Work, compare};
 use nor_chip::{Config, Delays, Meter, SimBus};
 use nor_driver::{Erase, EraseBlock, erase};
 use nor_journal::{Journal, MemVault};
@@ -22,28 +22,28 @@ const WRITE: Request = Request {
     verify: true,
 };
 
-const WRITING: TargetedSectors = TargetedSectors {
+const WRITING: Measurement = Measurement {
     what: "a whole image written",
     beside: "SHA-256 of its journal",
     at_most: 2.0,
     rounds: 5,
 };
 
-const RESTORING: TargetedSectors = TargetedSectors {
+const RESTORING: Measurement = Measurement {
     what: "a whole chip restored",
     beside: "SHA-256 of the journal",
     at_most: 2.0,
     rounds: 5,
 };
 
-const LOOKING: TargetedSectors = TargetedSectors {
+const LOOKING: Measurement = Measurement {
     what: "a session that changes nothing",
     beside: "a copy of the chip",
     at_most: 4.0,
     rounds: 15,
 };
 
-const TOUCHING: TargetedSectors = TargetedSectors {
+const TOUCHING: Measurement = Measurement {
     what: "a session that changes a byte",
     beside: "a copy of the chip",
     at_most: 4.0,

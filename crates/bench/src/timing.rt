@@ -21,7 +21,7 @@ pub fn look_at(bytes: &[u8; SECTOR_LEN as usize], sum: u64) -> u64 {
 /// A measurement: the name of the work (`what`) and of the reference (`beside`), and the greatest acceptable ratio of
 /// the work's time to the reference's (`at_most`).
 #[derive(Clone, Copy)]
-pub struct TargetedSectors {
+pub struct Measurement {
     pub what: &'static str,
     pub beside: &'static str,
     pub at_most: f64,
@@ -32,19 +32,19 @@ pub struct TargetedSectors {
 /// The shortest times of the work and of the reference.
 #[derive(Clone, Copy)]
 struct Outcome {
-    target_sectors: TargetedSectors,
+    measurement: Measurement,
     work: Duration,
     plain: Duration,
 }
 
 impl fmt::Display for Outcome {
     fn fmt<W: fmt::Write>(&self, f: &mut fmt::Formatter<W>) -> fmt::Result {
-        let TargetedSectors {
+        let Measurement {
             what,
             beside,
             at_most,
             rounds: _,
-        } = self.target_sectors;
+        } = self.measurement;
         let times = self.work.as_secs_f64() / self.plain.as_secs_f64();
         let mark = if times > at_most {
             ": longer than wanted"
@@ -61,7 +61,7 @@ impl fmt::Display for Outcome {
 /// Prints the lines for two pieces of work, of 111 ms and 150 ms, with a reference of 100 ms. The gate compares these
 /// lines, which tests their form.
 pub fn answer<R: Print>(rt: &R) -> Result<(), Fault> {
-    let target_sectors = TargetedSectors {
+    let measurement = Measurement {
         what: "timing",
         beside: "a copy",
         at_most: 1.4,
@@ -70,34 +70,34 @@ pub fn answer<R: Print>(rt: &R) -> Result<(), Fault> {
     let plain = Duration::from_millis(100);
     let work = Duration::from_millis(111);
     rt.println(Outcome {
-        target_sectors,
+        measurement,
         work,
         plain,
     })?;
     let work = Duration::from_millis(150);
     rt.println(Outcome {
-        target_sectors,
+        measurement,
         work,
         plain,
     })?;
     Ok(())
 }
 
-/// Times `work` and its reference `plain` in turn, each `target_sectors.rounds` times, and prints the ratio of their shortest
+/// Times `work` and its reference `plain` in turn, each `measurement.rounds` times, and prints the ratio of their shortest
 /// times. A slow moment of the machine then affects both. Returns the sum of all their results, modulo 2^64.
 pub fn compare<R: Clock + Print, W: Work, P: Work>(
     rt: &R,
-    target_sectors: TargetedSectors,
+    measurement: Measurement,
     work: &mut W,
     plain: &mut P,
 ) -> Result<u64, Fault> {
     let mut sum = 0;
     let mut outcome = Outcome {
-        target_sectors,
+        measurement,
         work: Duration::MAX,
         plain: Duration::MAX,
     };
-    for _ in 0..target_sectors.rounds {
+    for _ in 0..measurement.rounds {
         outcome.plain = outcome.plain.min(time(rt, plain, &mut sum)?);
         outcome.work = outcome.work.min(time(rt, work, &mut sum)?);
     }

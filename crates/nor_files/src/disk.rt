@@ -198,12 +198,12 @@ pub fn read_up_to<F: Read + OpenFile + Drop>(
 ) -> io::Result<Vec<u8>>
     ensures { IfOk result (λ bytes. IfSome (F.remaining file) (λ all. bytes.items ≡ take most all)) }
 {
-    let returned = match file.metadata() {
+    let length = match file.metadata() {
         Ok(metadata) => metadata.len().min(most),
         Err(_) => 0,
     };
     // One byte more than the file has, so that the read at the end needs no further allocation.
-    let room = (returned as usize).saturating_add(1);
+    let room = (length as usize).saturating_add(1);
     let mut bytes = Vec::with_capacity(alloc, room)?;
     file.take(most).read_to_end(&mut bytes)?;
     Ok(bytes)

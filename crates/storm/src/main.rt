@@ -67,7 +67,7 @@ mod words;
 mod wrongs;
 
 use fault::Fault;
-use runs::OperationError;
+use runs::FailedCase;
 use std::process::ExitCode;
 use std::{env, io};
 use words::Job;
@@ -110,11 +110,11 @@ fn run_all(rt: &HostRuntime, job: Job) -> Result<ExitCode, Fault> {
 // Runs the cases of a seed, and prints the tally. Returns the number of cases that agreed before the first failure, and
 // the number of failures: 0 or 1. If a kind of case is too rare, that is a failure, too.
 fn run(rt: &HostRuntime, job: Job, seed: u64) -> Result<(u64, u64), Fault> {
-    let (tally, halt) = runs::run(rt.alloc(), job, seed);
+    let (tally, failed) = runs::run(rt.alloc(), job, seed);
     eprintln!(rt; "Seed {seed}. {tally}")?;
-    if let Some(halt) = &halt {
-        let agreed = halt.case.saturating_sub(job.first);
-        tell(rt, seed, halt)?;
+    if let Some(failed) = &failed {
+        let agreed = failed.case.saturating_sub(job.first);
+        tell(rt, seed, failed)?;
         return Ok((agreed, 1));
     }
     if !tally.is_telling(job.count) {
@@ -128,9 +128,9 @@ fn run(rt: &HostRuntime, job: Job, seed: u64) -> Result<(u64, u64), Fault> {
 }
 
 // Prints the case and the fault that ended a run, and the command that runs this case again.
-fn tell(rt: &HostRuntime, seed: u64, halt: &OperationError) -> io::Result<()> {
-    let case = halt.case;
-    tell_fault(rt, seed, case, &halt.fault)?;
+fn tell(rt: &HostRuntime, seed: u64, failed: &FailedCase) -> io::Result<()> {
+    let case = failed.case;
+    tell_fault(rt, seed, case, &failed.fault)?;
     println!(rt; "Run it again with: storm {seed} 1 {case}")
 }
 

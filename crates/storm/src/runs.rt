@@ -17,17 +17,17 @@ use std::alloc::Global;
 
 /// The number of the case that ended a run, and its fault.
 #[derive(Drop)]
-pub struct OperationError {
+pub struct FailedCase {
     pub case: u64,
     pub fault: Fault,
 }
 
 /// Runs the job's cases for this seed up to the first failure. Returns the counts of cases, and the failure, if any.
-pub fn run(alloc: Global, job: Job, seed: u64) -> (Tally, Option<OperationError>) {
+pub fn run(alloc: Global, job: Job, seed: u64) -> (Tally, Option<FailedCase>) {
     let mut tally = Tally::NONE;
     for case in job.first..job.first.saturating_add(job.count) {
         if let Err(fault) = run_case(alloc, seed, case, &mut tally) {
-            return (tally, Some(OperationError { case, fault }));
+            return (tally, Some(FailedCase { case, fault }));
         }
     }
     (tally, None)

@@ -18,7 +18,7 @@ pub fn answer(alloc: Global, bus: &mut Way<'_>, call: Call<'_>) -> Result<String
     match call {
         Call::Wait(address) => match wait(bus, address) {
             Ok(waited) => Ok(format!(in alloc; "{:02x} {}", waited.status1, waited.polls)?),
-            Err(halt) => Ok(text_of(alloc, Err(halt))?),
+            Err(error) => Ok(text_of(alloc, Err(error))?),
         },
         Call::Program(address, words) => {
             let bytes = bytes_of(alloc, words)?;

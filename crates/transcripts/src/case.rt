@@ -2,7 +2,7 @@
 
 use crate::actions;
 use crate::answers::{Answers, Left};
-use crate::fault::{Fault, OperationError};
+use crate::fault::{Fault, LineFault};
 use crate::setup::Setup;
 use crate::step::Step;
 use std::alloc::Global;
@@ -24,7 +24,7 @@ pub struct Case<'a> {
 }
 
 /// Parses the cases of a text. Returns the fault of the first line that can't be parsed, and the line's number.
-pub fn cases_of<'a>(alloc: Global, text: &'a str) -> Result<Vec<Case<'a>>, OperationError> {
+pub fn cases_of<'a>(alloc: Global, text: &'a str) -> Result<Vec<Case<'a>>, LineFault> {
     let mut cases = Vec::new(alloc);
     let mut number = 0_usize;
     for line in text.lines() {
@@ -68,7 +68,7 @@ fn read_line<'a>(
 impl Case<'_> {
     /// Plays the case on a chip of its own, and returns the first failure. A case fails if it has no line `chip`, or
     /// neither an action nor a check.
-    pub fn play(&self, alloc: Global) -> Result<(), OperationError> {
+    pub fn play(&self, alloc: Global) -> Result<(), LineFault> {
         let Some(setup) = self.setup else {
             return at(self.number, Err(Fault::Unread));
         };
@@ -82,10 +82,10 @@ impl Case<'_> {
 
     // Performs all actions on a new bus, and returns the chip and the number of transactions. Returns the fault of the
     // first action that fails, or `Lost` if a line of the trace was lost.
-    fn act(&self, alloc: Global, setup: Setup, log: &mut Vec<u8>) -> Result<Left, OperationError> {
+    fn act(&self, alloc: Global, setup: Setup, log: &mut Vec<u8>) -> Result<Left, LineFault> {
         let mut bus = match setup.bus(alloc, log) {
             Ok(bus) => bus,
-            Err(fault) => return Err(OperationError {
+            Err(fault) => return Err(LineFault {
                 line: self.number,
                 fault,
             }),
@@ -96,7 +96,7 @@ impl Case<'_> {
             }
         }
         if bus.lost() {
-            return Err(OperationError {
+            return Err(LineFault {
                 line: self.number,
                 fault: Fault::Lost,
             });
@@ -109,7 +109,7 @@ impl Case<'_> {
     }
 
     // Makes all checks. If one of them compared a line of the trace, checks that the trace has no further lines.
-    fn ask(&self, alloc: Global, mut answers: Answers<'_>) -> Result<(), OperationError> {
+    fn ask(&self, alloc: Global, mut answers: Answers<'_>) -> Result<(), LineFault> {
         for line in &self.lines {
             if let Step::Asks(question) = line.step {
                 at(line.number, answers.check(alloc, question))?;
@@ -120,9 +120,9 @@ impl Case<'_> {
 }
 
 // Adds the line number to a fault.
-fn at(line: usize, outcome: Result<(), Fault>) -> Result<(), OperationError> {
+fn at(line: usize, outcome: Result<(), Fault>) -> Result<(), LineFault> {
     match outcome {
         Ok(()) => Ok(()),
-        Err(fault) => Err(OperationError { line, fault }),
+        Err(fault) => Err(LineFault { line, fault }),
     }
 }

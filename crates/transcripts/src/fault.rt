@@ -26,7 +26,7 @@ pub enum Fault {
 
 /// A fault, and the number of the line where it occurred.
 #[derive(Debug, Drop)]
-pub struct OperationError {
+pub struct LineFault {
     pub line: usize,
     pub fault: Fault,
 }

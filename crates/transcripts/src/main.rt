@@ -28,7 +28,7 @@ mod setup;
 mod step;
 
 use case::{Case, cases_of};
-use fault::{Fault, OperationError};
+use fault::{Fault, LineFault};
 use std::io;
 use std::process::ExitCode;
 
@@ -36,7 +36,7 @@ fn main(rt: HostRuntime) -> Result<ExitCode, Fault> {
     let text = io::read_to_string(rt.alloc(), rt.stdin())?;
     match cases_of(rt.alloc(), &text) {
         Ok(cases) => play(&rt, &cases),
-        Err(OperationError { line, fault }) => {
+        Err(LineFault { line, fault }) => {
             println!(rt; "Line {line} {fault}.")?;
             Ok(ExitCode::FAILURE)
         }
@@ -48,7 +48,7 @@ fn play(rt: &(impl Print + AllocGlobal), cases: &[Case<'_>]) -> Result<ExitCode,
     let mut failed = 0_u64;
     let mut passed = 0_u64;
     for case in cases {
-        if let Err(OperationError { line, fault }) = case.play(rt.alloc()) {
+        if let Err(LineFault { line, fault }) = case.play(rt.alloc()) {
             failed = failed.saturating_add(1);
             println!(rt; "{}: line {line}: {fault}.", case.name)?;
         } else {
