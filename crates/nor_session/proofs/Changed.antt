@@ -24,7 +24,7 @@ use Rattle.nor_session.specs.Changing.{touched_count, HasBytes, DoesCheck, DoesC
 pub two_writes : (changes : Changes) → status_writes changes ≤ 2
 two_writes changes = grind (arith, nat_tests)
 
--- if the changes neither lift protection nor write it at the end, they need no status write
+-- if the changes lift no protection, and write no protection bits at the end, they need no status write
 pub no_write : (changes : Changes) → ¬ ((changes.unlock || writes_code changes) ≡ true) → status_writes changes ≤ 0
 no_write changes never = grind (arith, nat_tests)
 

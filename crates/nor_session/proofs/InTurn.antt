@@ -80,7 +80,7 @@ lost_back journal first old new can loses = record {
   within = lost_within (open_addresses journal first) first old new loses.known loses.lost can.within;
 }
 
--- a journal that can restore a chip can turn it into the original one even if it then loses its power
+-- if a journal can restore the original chip, it can still do so after the chip was left alone or lost its power
 leads_kept : (journal : Content) (first : Chip) (new taken : BusState) → CanRestore journal first new → MayLosePower new taken → LeadsTo journal first taken.chip
 leads_kept journal first new taken can (inl same) = leads_same journal first new.chip taken.chip (leads_to journal first new can) same
 leads_kept journal first new taken can (inr loses) = leads_to journal first taken (lost_back journal first new taken can loses)

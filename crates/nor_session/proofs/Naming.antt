@@ -48,8 +48,8 @@ change_names changes (Timeout address) such (inr touched) = inr (such (address /
 change_names changes (Mismatch address) such touched = such (address / 4096) touched
 change_names changes _ such names = tt
 
--- the changes touch only sectors that the journal of the sealed vault saves, so an error names an address in one of
--- them
+-- the changes touch only sectors that the journal of a sealed faithful vault saves, so an error of the changes names an
+-- address that `NamesAddress` allows
 pub work_names : (changes : Changes) (head : Content) (vault : VaultState) (refusal : Refusal) → vault.sealed ≡ true
     → (vault.telling ≡ true → IsJournalOf head (touched_in changes) vault.bytes)
     → NamesTouchedSector changes refusal → NamesAddress vault refusal

@@ -46,7 +46,7 @@ pub is_opening : (request : Request) (identity : Identity) (old mid : BusState) 
     → ReadsIdentity request.named old mid identity → IsIdentityOf old.chip identity
 is_opening request identity old mid = opening_of
 
--- if the chip was idle before the identification, the status 1 that was read is the chip's, with the write enable latch
+-- if the chip was idle before the identification, the status 1 that was read is the chip's, including WEL
 pub told_idle : (named : Option ChipName) (identity : Identity) (old mid : BusState) → old.honest ≡ true → ReadsIdentity named old mid identity → old.chip.busy ≡ 0 → identity.found.status1 ≡ status1_of old.chip
 told_idle named identity old mid honest opens idle =
     let rested = opens.rested honest in let latch = rested.idle_latch idle in
@@ -86,7 +86,7 @@ save_gives_up request image identity code few old mid new _ honest only_reads op
     same_then old.chip mid.chip new.chip (opens.rested honest).unchanged.same
     ((more.honest_reads (only_reads.nature.honest ∙ honest)).stays.steady_or_idle (inr (opens.idle honest)))
 
--- after an error a vault is faithful and sealed exactly if it was so before
+-- an error doesn't change whether the vault is faithful and whether it is sealed
 pub refused_puts : (refusal : Refusal) (old new : VaultState) → SavePuts (Err refusal) old new
     → (new.telling ≡ old.telling) × (new.sealed ≡ old.sealed)
 refused_puts Vault old new puts = (puts.telling, puts.sealed)

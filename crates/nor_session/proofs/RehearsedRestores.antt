@@ -82,7 +82,7 @@ module _ {n : ℕ} {journal : Content} {old mid new : BusState} (allows : Allows
 
 -- ---- restores in turn
 
--- This many restores were stopped. If that is none, the latch is set only if it was set before.
+-- Holds if `n` restores were stopped. If `n` is 0, the latch is set only if it was set before.
 pub record AreStopped (journal : Content) (stops : List ℕ) (old now : BusState) (n : ℕ) : Type 0 where
   pub leaves : LeavesRestores journal n old now
   pub stopped : IsModelled old → (i : ℕ) → i < n → slice_index stops i < most_of (length journal.saved)
@@ -180,7 +180,7 @@ pub latch_alone : {request : Request} {image bytes stops : List ℕ} {allowance 
 latch_alone {ended = ended} restores shows undoes modelled unsent few set =
     let (done, one) = unstopped restores ended undoes.some few in shows.latch modelled done (undoes.latch unsent one set)
 
--- bytes that are a journal, or can restore a chip, are read without an error
+-- bytes that aren't a journal can't restore a chip, so the error of reading them is one that `RefusesUndo` allows
 pub unread : (bytes : List ℕ) (old : BusState) (fault : JournalFault) → ((content : Content) → IsContent content → bytes ≡ text content → ⊥)
     → RefusesUndo bytes old (BadJournal fault)
 unread bytes old fault never = search arith

@@ -193,7 +193,7 @@ module _ {request : Request} {image text later : List ℕ} {old mid new : BusSta
       let before = session.writes in let after = undone.writes in
       omega (arith, count, one, before, after)
 
-  -- an error of these restores is one of `restore`, and names a sector that the sealed journal saves
+  -- an error of these restores is one of `restore`, and names an address that `NamesAddress` allows
   pub undo_refused : (had : VaultState) (refusal : Refusal) → RefusesUndo text mid refusal
       → IsRehearsalRefusal had vault refusal × NamesAddress vault refusal
   undo_refused had refusal refuses = (

@@ -28,7 +28,7 @@ named_by : (chip : Chip) (outcome : Result Part ProbeFault) → shown_as chip.co
 named_by chip (Ok part) is ok = record { part = part; shown = is; wanted = tt }
 named_by chip (Err fault) is ok = absurd cc
 
--- a known chip has a name
+-- a known chip is identified as some chip type
 pub named_known : (chip : Chip) → IsKnown chip.config → IsNamed None chip.config
 named_known chip known = named_by chip (shown_as chip.config) refl known.shown
 

@@ -57,7 +57,8 @@ more_before journal i number saved s is at =
     let more = saved_in-take_more journal i (record { number = number; bytes = saved }) s is at in
     grind (arith, nat_tests)
 
--- a set that is right for the sectors so far is right for one sector more, after the result of its test was inserted
+-- if a set is right for the sectors so far, it is right for the next sector too, once the result of that sector's test
+-- is inserted
 tested : (n s : ℕ) (test : ℕ → Bool) (verdict before after old new : Bool) → verdict ≡ test n
     → after ≡ ((s == n) || before) → old ≡ (before && test s) → new ≡ ((verdict && (s == n)) || old)
     → new ≡ (after && test s)
@@ -129,7 +130,7 @@ rescanned_more {journal = journal} {i = i} {s = s} {saved = saved} {bytes = byte
 
 -- ---- the end
 
--- a sector that isn't saved isn't changed, so it is neither touched nor raised
+-- a sector that isn't saved isn't changed, so it is neither touched (`untouched_other`) nor raised (`unraised_other`)
 pub untouched_other : (journal : Content) (content : ℕ → ℕ) (s : ℕ) → is_saved journal s ≡ false → is_touched content (restored journal content) s ≡ false
 untouched_other journal content s none = search (arith, restored_other, sector_at, untouched)
 

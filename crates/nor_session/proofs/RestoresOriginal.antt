@@ -26,7 +26,7 @@ use Rattle.nor_session.specs.Session.{CanBeUndone}
 use Rattle.nor_session.specs.Rehearsing.{CanUndo}
 use Rattle.nor_session.proofs.JudgedAgain.{accepted_named, accepted_free}
 
--- a journal with the chip's header that saves its sectors saves the chip (`SavesChip`)
+-- a journal that has a chip's header, and saves sectors of that chip, saves the chip (`SavesChip`)
 pub saves_chip : (first : Chip) (saved : ℕ → Bool) (journal : Content) → first.kept.two < 128 → SameHeader (header_of first) journal
     → Saves first.bytes saved journal → SavesChip journal first
 saves_chip first saved journal small same saves =
@@ -55,7 +55,7 @@ can_give_back saved first text state journal leads read = record {
       leads.within;
 }
 
--- The bytes of a faithful vault that a session sealed can restore the original chip.
+-- The bytes of a faithful vault that a session sealed can restore the original chip, if that is genuine.
 pub restorable : (request : Request) (image : List ℕ) (old new : BusState) (vault : VaultState) → IsChip old.chip → IsGenuine old.chip.config → vault.telling ≡ true
     → CanBeUndone request image old new vault → CanUndo (is_touched old.chip.bytes (wanted request image old.chip)) old.chip vault.bytes new
 restorable request image old new vault is genuine telling undone = record {

@@ -62,7 +62,7 @@ module _ (request : Request) (image image' : List ℕ) (identity : Identity) (st
       record {
         accepted = of.scan.accepted;
         journal = chip.journal;
-        -- `MayChange` holds from the original chip to the target
+        -- `MayChange` holds from the start of the session to its exit
         changes = change_then is.honest_reads.nature.steady (same_change unchanged.same of.idle unchanged.worn)
             (change_as (λ s hit. sym (of.touched s) ∙ hit) (λ s hit. sym (of.raised s) ∙ hit)
             (λ a plain hit. of.merged a hit) (leaves.reached honest can));

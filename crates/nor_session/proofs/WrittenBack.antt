@@ -56,8 +56,8 @@ within_both places first old new opened over before after =
     let kept = λ (shut : is_writable first ≡ false). kept_over first.kept over (before.kept shut) (after.kept shut) in
     search (arith, either)
 
--- if the journal can restore the chip before and the chip after, it can restore each chip that is opened while the
--- files are overwritten from one to the other
+-- if the journal can restore the original chip from the chip before and from the one after, it can do so from each chip
+-- that is opened while the files of the former are overwritten with the latter
 pub restore_over : (journal : Content) (first : Chip) (old new opened : BusState) → CanRestore journal first old
     → CanRestore journal first new → IsWrittenOver old.chip new.chip opened.chip → CanRestore journal first opened
 restore_over journal first old new opened before after over = search (arith, within_both)

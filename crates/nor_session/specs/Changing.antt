@@ -76,7 +76,7 @@ pub record LeavesChange (changes : Changes) (wanted : ℕ → ℕ) (old new : Bu
 
 -- Holds after the changes and their check succeeded, with the counts of `work`. If there was nothing to change, no
 -- modifying command was sent. If `verify` is set, and a well-behaved bus has an idle chip with the touched sectors
--- (`CanCheck`), each touched byte is the target one, even if the chip ignored commands.
+-- (`CanCheck`), each byte of a touched sector is the target one, even if the chip ignored commands.
 pub record DoesChange (changes : Changes) (wanted : ℕ → ℕ) (verify : Bool) (old new : BusState)
     (work : Work) : Type 0 where
   pub erases : work.erases ≡ fewest_erases changes.kinds (changes.size / 4096) (raised_in changes)

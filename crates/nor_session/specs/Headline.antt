@@ -23,8 +23,8 @@ pub record IsOfType (journal : Content) (config : Config) : Type 0 where
   pub id : journal.id ≡ id_of config
   pub size : journal.size ≡ config.size
 
--- Holds if the journal saves this chip: its unique ID, if the journal has one; its non-volatile status bits; the bytes
--- of the saved sectors.
+-- Holds if the journal saves this chip: its ID and size; its unique ID, if the journal has one; its non-volatile status
+-- bits; the bytes of the saved sectors.
 pub record SavesChip (journal : Content) (first : Chip) : Type 0 where
   pub kind : IsOfType journal first.config
   pub unit : IfSome journal.unique (λ unique. unique ≡ unique_of first.config)

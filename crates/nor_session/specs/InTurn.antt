@@ -12,8 +12,8 @@ use Rattle.nor_session.specs.Session.{CanBeUndone}
 use Rattle.nor_session.specs.Restore.{NeedsStatusFrom}
 use Rattle.nor_session.specs.WrittenOver.{IsWrittenOver}
 
--- Holds if a session on a modelled bus left this journal of its original chip: its vault, which is faithful, was sealed
--- and holds the journal. The session ended, or was stopped anywhere after the seal.
+-- Holds if a session on a modelled bus left this journal of its original chip in a faithful vault, and what a session
+-- promises after the seal holds (`CanBeUndone`). The session ended, or was stopped anywhere after the seal.
 pub record LeavesJournal (request : Request) (image : List ℕ) (old new : BusState) (journal : Content) : Type 0 where
   pub modelled : IsModelled old
   pub is : IsChip old.chip

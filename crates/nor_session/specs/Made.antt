@@ -31,9 +31,9 @@ pub record IsTargetChip (wanted : ℕ → ℕ) (old new : Chip) : Type 0 where
   pub idle : new.busy ≡ 0
   pub latch : new.latch ≡ true → old.latch ≡ true
 
--- Holds if only the raised sectors were erased, and the report is right. It has what the chip's replies show, and its
--- status 1, of which BUSY and WEL are known only if the chip was idle. It counts the touched sectors, the erases (the
--- least possible number) and the programs.
+-- Holds if only the raised sectors were erased, and the report is right. It has the chip type that the chip's replies
+-- show, and the chip's status 1, of which BUSY and WEL are known only if the chip was idle. It counts the touched
+-- sectors, the erases (the least possible number) and the programs.
 pub record IsReported (wanted : ℕ → ℕ) (old new : BusState) (report : Report) : Type 0 where
   pub worn : (s : ℕ) → new.worn s ≡ (old.worn s || is_raised old.chip.bytes wanted s)
   pub shown : shown_as old.chip.config ≡ Ok (part_in report.found)

@@ -108,9 +108,9 @@ pub record IsRefusedFor (journal : Content) (old new : BusState) (refusal : Refu
   pub same : old.honest ≡ true → IsSame old.chip new.chip
   pub verdict : IsModelled old → RestoreJudges journal old.chip refusal
 
--- The meaning of an error before the first change. After a stop on a well-behaved bus, fewer than `most` transactions
--- were left. A timeout names address 0, and does not occur on a well-behaved bus. Any other error is that of a failed
--- check.
+-- The meaning of an error before the first change. If the bus stopped and is well-behaved, fewer than `most`
+-- transactions were left at the start. A timeout names address 0, and does not occur on a well-behaved bus. Any other
+-- error is that of a failed check.
 abbrev pub PrepareErrors : Content → ℕ → (old new : BusState) → Refusal → Type 0
 PrepareErrors journal most old new Stopped = RanOutIfHonest most old new
 PrepareErrors journal most old new (Timeout address) = (address ≡ 0) × (old.honest ≡ true → ⊥)
@@ -128,8 +128,8 @@ pub record PlansSaved (sector : ℕ) (saved bytes : List ℕ) (old new : BusStat
   pub planned : (content wanted : ℕ → ℕ) → AreBytesOf content bytes → AreBytesOf wanted saved
       → IsPlan content wanted 4096 plan
 
--- Holds after each saved sector was read once. Its marks are right on a well-behaved bus with an idle chip of the
--- journal's size: touched if a byte differs from the saved one, raised if a bit must go from 0 to 1.
+-- Holds after each saved sector was read once. The scan's marks are right on a well-behaved bus with an idle chip of
+-- the journal's size: touched if a byte differs from the saved one, raised if a bit must go from 0 to 1.
 pub record ScansSaved (journal : Content) (old new : BusState) (scanned : Scanned) : Type 0 where
   pub marks : AreMarks (journal.size / 4096) scanned
   pub saved : (s : ℕ) → has scanned.touched s ≡ true → is_saved journal s ≡ true
@@ -163,7 +163,7 @@ pub record AreChanges (journal : Content) (identity : Identity) (scanned : Scann
 abbrev pub NeedsStatusWith : Content → (touched : ℕ → Bool) → Chip → Type 0
 NeedsStatusWith journal touched chip = (code_of chip.kept ≢ code_of (kept_in journal.status)) ⊎ SomeProtected touched chip
 
--- Holds if protection is lifted exactly when a touched sector is protected, and a locked status isn't written.
+-- Holds if protection is lifted if and only if a touched sector is protected, and a locked status isn't written.
 pub record MayChangeStatus (journal : Content) (touched : ℕ → Bool) (chip : Chip) (changes : Changes) : Type 0 where
   pub lifts : changes.unlock ≡ true → SomeProtected touched chip
   pub free : changes.unlock ≡ true ⊎ NoneProtected touched chip

@@ -30,8 +30,8 @@ first_allowance [] = most_of 4096
 first_allowance (first ∷ later) = first
 
 -- Describes the result of a rehearsal with this number of stops, on every bus. Restores were run if and only if the
--- vault was sealed: at least one, and at most one per stop, or one without stops. The session ended only if the vault
--- was sealed; without stops it ended.
+-- vault was sealed: at least one, and at most as many as there are stops, or one without stops. The session ended only
+-- if the vault was sealed; without stops it ended.
 pub record IsRehearsal (stops : ℕ) (vault : VaultState) (rehearsal : Rehearsal) : Type 0 where
   pub seal : rehearsal.sealed ≡ vault.sealed
   pub ended : rehearsal.ended ≡ true → rehearsal.sealed ≡ true
@@ -40,8 +40,8 @@ pub record IsRehearsal (stops : ℕ) (vault : VaultState) (rehearsal : Rehearsal
   pub none : rehearsal.sealed ≡ false → rehearsal.restores ≡ 0
   pub whole : stops ≡ 0 → rehearsal.ended ≡ true
 
--- the fewest transactions of a session with this number of erases: those of the identification and the scan, and three
--- for each erase and each program
+-- the fewest transactions of a session with this number of erases: four for the identification, one for each scanned
+-- sector, and three for each erase and each program
 abbrev pub least_needed : Request → (image : List ℕ) → Chip → (erases : ℕ) → ℕ
 least_needed request image chip erases =
     4 + scanned_sectors request chip.config.size + 3 * (erases + pages_of chip.bytes (wanted request image chip))
@@ -109,7 +109,7 @@ pub record RehearsalAlways (request : Request) (stops : List ℕ) (old new : Bus
   pub counts : IfOk result (IsRehearsal (length stops) vault')
   -- an error is one of the session's, or after the seal one of a restore's
   pub answers : IfErr result (IsRehearsalRefusal vault vault')
-  -- an error names an address in a sector that the journal saves, or 0
+  -- a timeout or mismatch names an address that `NamesAddress` allows
   pub names : IfErr result (NamesAddress vault')
   -- if the vault was sealed, the rehearsal succeeds only if the last poll showed that the chip is ready
   pub polled_ready : IfOk result (λ rehearsal. rehearsal.sealed ≡ true → new.polled_ready ≡ true)
@@ -153,7 +153,7 @@ pub record RehearsalModelled (request : Request) (image stops : List ℕ) (old n
       rehearsal.restores)
   -- at the end, if no restore was run, or if session and first restore ended, the latch is set only if it was before
   pub latch : IfOk result (λ r. r.restores ≤ (if r.ended then 1 else 0) → new.chip.latch ≡ true → old.chip.latch ≡ true)
-  -- the last of them was allowed no more than its stop
+  -- the stop of the last restore, if it had one, fits the transactions that are left (`FitsLastStop`)
   pub last : IfOk result (λ rehearsal. rehearsal.sealed ≡ true
       → FitsLastStop (sector_count (is_touched old.chip.bytes (wanted request image old.chip))) (drop 1 stops)
       new.left rehearsal.restores)

@@ -38,10 +38,11 @@ pub record CanUndo (saved : ℕ → Bool) (first : Chip) (text : List ℕ) (stat
   pub free : is_locked first.kept ≡ true → NoneProtected saved first
   pub within : IsWithin (addresses_of saved) first state
 
--- At every exit of the session. On a modelled bus: if the vault isn't sealed, the chip is as it was, and the latch is
--- set only if it was set before; if the vault is sealed, it can restore the chip, and the request is accepted; only
--- touched sectors were erased. On every bus: no modifying command was sent before the seal, and a sealed vault holds a
--- journal that saves the sectors that were targeted.
+-- At every exit of the session. On a modelled bus: if the vault isn't sealed, the latch is set only if it was set
+-- before, and bytes and non-volatile bits are as they were, if the bus is steady or the chip was idle; if the vault is
+-- sealed, its bytes can restore the chip, and the request is accepted; only touched sectors were erased. On every bus:
+-- no modifying command was sent before the seal, and a sealed vault holds a journal that saves the sectors that were
+-- targeted.
 pub record LeavesSession (request : Request) (image : List ℕ) (old new : BusState) (vault : VaultState) : Type 0 where
   pub nature : KeepsNature old new
   pub same : IsModelled old → IsSteadyOrIdle old → vault.sealed ≡ false → IsSame old.chip new.chip
@@ -62,8 +63,9 @@ pub record HasWantedBits (what : What) (old new : Chip) : Type 0 where
   pub is_wanted : IsWantedCode what old code
   pub kept : new.kept ≡ with_code code old.kept
 
--- The session was allowed this many transactions. It ended, and the chip is the target; or it was stopped because the
--- allowance was too small, and no transaction is left. If it ended, the latch is set only if it was set before.
+-- The session was allowed `allowance` transactions. On a modelled bus, if it ended, the chip is the target, and the
+-- latch is set only if it was set before; if it was stopped, the allowance was below the bound. After a stop on a
+-- well-behaved bus no transaction is left.
 pub record RunsSession (request : Request) (image : List ℕ) (allowance : ℕ) (old new : BusState) (vault : VaultState)
     (ended : Bool) : Type 0 where
   pub seals : ended ≡ true → vault.sealed ≡ true
@@ -75,8 +77,8 @@ pub record RunsSession (request : Request) (image : List ℕ) (allowance : ℕ) 
   pub below : IsModelled old → ended ≡ false → allowance < most_of (old.chip.config.size / 4096)
   pub seal : IsModelled old → SealFits request allowance old.chip vault.sealed
 
--- Holds if the session returned this error: the verdict, or that the vault failed. On a well-behaved bus this is
--- neither a stop nor a timeout.
+-- Holds if the session returned this error. On a modelled bus it is the verdict, or the vault failed. On a well-behaved
+-- bus it is neither a stop nor a timeout.
 pub record RefusesSession (request : Request) (image : List ℕ) (old new : BusState) (before after : VaultState)
     (refusal : Refusal) : Type 0 where
   pub answers : SessionReturns before after refusal
@@ -98,9 +100,9 @@ pub record LeavesRestores (journal : Content) (restores : ℕ) (old new : BusSta
   pub sends : SendsSaved (IsSavedCode journal) restores journal old new
   pub writes : WritesStatusAtMost (2 * restores) old new
 
--- One restore was allowed this many transactions. It ended, and restored each chip that the journal could restore; or
--- it was stopped because the allowance was too small, and no transaction is left. If it ended, the latch is set only if
--- it was set before.
+-- One restore was allowed `allowance` transactions. On a modelled bus, if it ended, it restored each chip that the
+-- journal could restore, and the latch is set only if it was set before. On a well-behaved bus, if it was stopped, the
+-- allowance was below the bound, and no transaction is left.
 pub record RunsRestore (journal : Content) (allowance : ℕ) (old new : BusState) (ended : Bool) : Type 0 where
   pub back : IsModelled old → ended ≡ true → (first : Chip) → CanRestore journal first old → IsSame first new.chip
   pub latch : IsModelled old → ended ≡ true → new.chip.latch ≡ true → old.chip.latch ≡ true
@@ -108,8 +110,8 @@ pub record RunsRestore (journal : Content) (allowance : ℕ) (old new : BusState
   pub none_left : old.honest ≡ true → ended ≡ false → new.left ≡ 0
   pub below : old.honest ≡ true → ended ≡ false → allowance < most_of (length journal.saved)
 
--- Restores in turn ended, and restored each chip that the journal could restore. If none was stopped, the latch is set
--- only if it was set before.
+-- Restores were run in turn until one ended. On a modelled bus they restored each chip that the journal could restore,
+-- and if none was stopped, the latch is set only if it was set before.
 pub record RunsRestores (journal : Content) (stops : List ℕ) (old new : BusState) (restores : ℕ) : Type 0 where
   pub some : 1 ≤ restores
   pub most : restores ≤ length stops + 1
@@ -129,8 +131,8 @@ pub record StopsRestores (journal : Content) (old : BusState) (refusal : Refusal
 
 -- ---- restores from bytes
 
--- The restores ended, and restored the chip that the bytes can restore. If none was stopped, the latch is set only if
--- it was set before.
+-- Restores were run in turn until one ended. On a modelled bus they restored the chip that the bytes can restore, and
+-- if none was stopped, the latch is set only if it was set before.
 pub record Undoes (text : List ℕ) (stops : List ℕ) (old new : BusState) (restores : ℕ) : Type 0 where
   pub some : 1 ≤ restores
   pub most : restores ≤ length stops + 1
@@ -152,7 +154,8 @@ SendsFromJournal text restores old new =
     (journal : IsJournal text) → SendsSaved (IsSavedCode journal.content) restores journal.content old new
 
 -- Holds if the restores returned this error. If the bytes are a journal, it is an error of a restore. On a well-behaved
--- bus it is neither a stop nor a timeout. If the bytes can restore the chip of a modelled bus, no error is returned.
+-- bus it is neither a stop nor a timeout. If the bytes can restore the original chip on a modelled bus, no error is
+-- returned.
 pub record RefusesUndo (text : List ℕ) (old : BusState) (refusal : Refusal) : Type 0 where
   pub answers : IsJournal text → IsRestoreRefusal refusal
   pub names : NamesSector (λ sector. SavesSector sector text) refusal

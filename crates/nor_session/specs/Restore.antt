@@ -27,7 +27,8 @@ use Rattle.nor_session.specs.Session.{NamesSector, IsWithinBound, IsSavedCode, S
 
 -- ---- the target
 
--- the byte that a restore writes at an address: the saved one in a saved sector, elsewhere the present one
+-- the target byte of a restore at an address: in a saved sector the saved byte, elsewhere the byte that is there
+-- (`old`)
 abbrev pub restored : Content → (old : ℕ → ℕ) → (a : ℕ) → ℕ
 restored journal old a = if is_saved journal (a / 4096) then saved_byte journal a else old a
 
@@ -66,7 +67,7 @@ checked_in_order = 1 ∷ 2 ∷ 16 ∷ 20 ∷ 17 ∷ 9 ∷ []
 abbrev pub IsCheckedFirst : Refusal → Type 0
 IsCheckedFirst refusal = list_any (λ n. refusal_number refusal == n) checked_in_order ≡ true
 
--- the number of elements of a list before `n`
+-- the number of elements of a list before the first `n`; the length of a list that doesn't contain `n`
 abbrev pub index_in : List ℕ → ℕ → ℕ
 index_in [] n = 0
 index_in (first ∷ later) n = if first == n then 0 else 1 + index_in later n
@@ -126,9 +127,9 @@ pub record RestoreAlways (journal : Content) (old new : BusState) (result : Resu
   pub sends : SendsSaved (IsSavedCode journal) 1 journal old new
   -- at every exit the status was written at most twice
   pub writes : WritesStatusAtMost 2 old new
-  -- an error is one that a restore returns
+  -- an error is one that `IsRestoreRefusal` allows
   pub answers : IfErr result IsRestoreRefusal
-  -- an error names an address in a saved sector, or 0
+  -- a timeout names 0 or an address in a saved sector, a mismatch names an address in a saved sector
   pub names : IfErr result (NamesSector (λ sector. is_saved journal sector ≡ true))
   -- after an error that is checked first, no modifying command was sent, and on a well-behaved bus at most the
   -- transactions of identifying and scanning the largest chip
@@ -155,8 +156,8 @@ pub record RestoreHonest (journal : Content) (old new : BusState) (result : Resu
 pub record RestoreModelled (journal : Content) (old new : BusState) (result : Result Report Refusal) : Type 0 where
   -- an error is the verdict, or a stop because too few transactions were left
   pub errors : IfErr result (RestoreErrors journal old new)
-  -- at every exit, if the bus is steady or the chip was idle, only saved sectors and the protection bits may have
-  -- changed; in any case only sectors in which a bit had to go from 0 to 1 were erased
+  -- at every exit, only sectors in which a bit had to go from 0 to 1 were erased; if the bus is steady or the chip was
+  -- idle, the bytes outside the saved sectors and the status bits that flashnor never changes are as they were
   pub leaves : LeavesRestore journal old new
   -- after success the chip has what the journal saved
   pub done : IfOk result (IsRestored journal old new)

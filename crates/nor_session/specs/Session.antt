@@ -52,8 +52,9 @@ NamesSector IsSuch (Timeout address) = (address ≡ 0) ⊎ IsSuch (address / 409
 NamesSector IsSuch (Mismatch address) = IsSuch (address / 4096)
 NamesSector IsSuch _ = ⊤
 
--- Holds if the address that the error names is right: before the seal no address in a sector, after it one in a sector
--- that the journal of a faithful vault saves. A timeout may also name 0.
+-- Holds if the address that the error names is right. Before the seal a timeout names 0, and no mismatch occurs. After
+-- the seal of a faithful vault, a timeout names 0 or an address in a sector that its journal saves, and a mismatch
+-- names an address in such a sector.
 pub record NamesAddress (vault : VaultState) (refusal : Refusal) : Type 0 where
   pub early : vault.sealed ≡ false → NamesSector (λ s. ⊥) refusal
   pub late : vault.sealed ≡ true → vault.telling ≡ true → NamesSector (λ s. SavesSector s vault.bytes) refusal
@@ -92,8 +93,8 @@ pub record WritesOnly (IsCode : (code : ℕ) → Type 0) (journal : Content) (on
 -- What was sent that may modify a chip, by a number of calls with the same journal. Each sector that was targeted is
 -- one that had been targeted before, or that the journal saves, or it lies past the end of a chip that the journal
 -- saves whole. All calls together sent, for each call and saved sector, at most one erase and sixteen page programs.
--- Each status write has bytes that had been written before, or is as `WritesOnly` says. Nothing was sent that the model
--- does not know.
+-- Each status write has bytes that had been written before, or is as `WritesOnly` says. No transaction that is unknown
+-- to the model was sent.
 pub record SendsSaved (IsCode : ℕ → Type 0) (calls : ℕ) (journal : Content) (old new : BusState) : Type 0 where
   pub targeted : (s : ℕ) → (is_targeted new.sent s ≡ is_targeted old.sent s)
       ⊎ ((is_saved journal s ≡ true) ⊎ IsPastChipEnd journal s)
@@ -103,8 +104,8 @@ pub record SendsSaved (IsCode : ℕ → Type 0) (calls : ℕ) (journal : Content
   pub programs : programs_of new.sent ≤ programs_of old.sent + calls * (16 * sector_count (is_saved journal))
   pub unknown : has_unknown new.sent ≡ has_unknown old.sent
 
--- Holds if no more erases and page programs were sent than the largest chip has sectors and pages, and nothing that the
--- model does not know.
+-- Holds if no more erases and page programs were sent than the largest chip has sectors and pages, and no transaction
+-- that is unknown to the model.
 pub record SendsFew (old new : BusState) : Type 0 where
   pub erases : erases_of new.sent ≤ erases_of old.sent + 4096
   pub programs : programs_of new.sent ≤ programs_of old.sent + 65536
@@ -174,7 +175,8 @@ pub record IsDone (request : Request) (image : List ℕ) (old new : BusState) (r
 -- Holds at every exit after the seal, on a modelled bus. The request is accepted. A faithful vault holds the journal of
 -- the original chip, which saves exactly the touched sectors. The chip changed only as `MayChange` allows: in bytes of
 -- touched sectors and in protection bits. Only raised sectors were erased, and on a steady bus each byte outside these
--- is the old or the target one. At least the transactions of the identification and the scan were sent.
+-- is the old or the target one. At least four transactions (the shortest identification), and one for each scanned
+-- sector, were sent.
 pub record CanBeUndone (request : Request) (image : List ℕ) (old new : BusState) (vault : VaultState) : Type 0 where
   pub accepted : IsAccepted request image old.chip
   pub journal : vault.telling ≡ true
@@ -213,9 +215,9 @@ pub record SessionAlways (request : Request) (old new : BusState) (vault vault' 
       × SendsSaved (IsWrittenCode request.what journal.content) 1 journal.content old new
   -- if a faithful vault is sealed, it holds a journal
   pub holds : HoldsJournal vault'
-  -- an error is one that a session returns
+  -- an error is one that `SessionReturns` allows
   pub answers : IfErr result (SessionReturns vault vault')
-  -- an error names an address in a sector that the journal of a faithful vault saves, or 0
+  -- a timeout or mismatch names an address that `NamesAddress` allows
   pub names : IfErr result (NamesAddress vault')
   -- after success the vault is sealed and did not fail, and the report is within its bounds and counts what was sent
   pub ends : IfOk result (EndsSealed request old new vault vault')
@@ -262,5 +264,6 @@ pub record SessionModelled (request : Request) (image : List ℕ) (old new : Bus
   -- session could have written
   pub cut : vault'.sealed ≡ false → vault'.telling ≡ true
       → OnErr result (HoldsBegun request image old.chip vault'.bytes)
-  -- at every exit after the seal the session can be undone
+  -- at every exit after the seal: the request is accepted, the chip changed only as `MayChange` allows, and a faithful
+  -- vault holds the journal that can undo the session (`CanBeUndone`)
   pub undo : vault'.sealed ≡ true → CanBeUndone request image old new vault'

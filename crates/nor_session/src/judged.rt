@@ -23,8 +23,8 @@ pub(crate) struct Judged<'a, B: Bus, V: Vault> {
 }
 
 impl<'a, B: Bus, V: Vault> Judged<'a, B, V> {
-    /// Saves the touched sectors, changes them, and returns the session's report. The clause has all promises of a
-    /// session, counted from the session's start.
+    /// Saves the touched sectors, changes them, and returns the session's report. The clause states all promises of a
+    /// session, from each state of the bus in which the session may have begun.
     pub(crate) fn answer(self) -> Result<Report, Refusal>
         requires fresh { IsFresh (V.state self.vault.now) }
         requires judged { IsJudged self.request.now (length self.image.now) self.identity self.code }

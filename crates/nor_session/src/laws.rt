@@ -14,15 +14,16 @@ ghost use Rattle.nor_session.specs.Restore.{IsRestored};
 ghost use Rattle.nor_session.specs.Session.{CanBeUndone, HoldsBegun};
 ghost use Rattle.nor_session.specs.WrittenOver.{IsWrittenOver};
 
-/// A restore changes nothing if the chip is already the saved one, for example after another restore.
+/// A restore that succeeds on a modelled bus changes nothing if the chip is already the saved one, for example after
+/// another restore.
 pub fn restored_stays()
     ensures { (journal : Content) (first : Chip) (old new : BusState) (report : Report)
         → SavesChip journal first → IsSame first old.chip → IsRestored journal old new report
         → ChangesNothing journal old new report }
 {}
 
-/// If a journal can restore a chip before it loses its power, it can restore the chip afterwards. So the power may fail
-/// between a session that was stopped and its restore, and between restores.
+/// If a journal can restore a chip, it still can after the chip has lost its power, if the bus isn't steady or the chip
+/// was idle. So the power may fail between a session that was stopped and its restore, and between restores.
 pub fn power_lost_restores_original()
     ensures { (journal : Content) (first : Chip) (old new : BusState)
         → CanRestore journal first old → LosesPower old new → CanRestore journal first new }
@@ -56,17 +57,17 @@ pub fn undone_in_turn()
         → IsRestored journal back' end last → IsSame old.chip end.chip }
 {}
 
-/// After a session the journal that is read from its sealed vault can restore the original chip. So what `session`
-/// promises is what `restore` needs.
+/// After a session on a modelled bus, the journal that is read from its sealed `telling` vault can restore the original
+/// chip. So what `session` promises is what `restore` needs.
 pub fn read_restores_original()
     ensures { (request : Request) (image : List ℕ) (old new : BusState) (vault : VaultState) (journal : Content)
         → IsModelled old → IsChip old.chip → vault.telling ≡ true → CanBeUndone request image old new vault
         → IsContent journal → vault.bytes ≡ text journal → CanRestore journal old.chip new }
 {}
 
-/// A vault that was never sealed may hold the whole journal, for example if only its seal failed. If its bytes are read
-/// as a journal, that journal can restore the original chip from an idle chip with the same bytes and non-volatile
-/// status bits.
+/// A `telling` vault that was never sealed may hold the whole journal, for example if only its seal failed. If its
+/// bytes are read as a journal, that journal can restore the original chip of a modelled bus from an idle chip with the
+/// same bytes and non-volatile status bits.
 pub fn begun_restores_original()
     ensures { (request : Request) (image : List ℕ) (old new : BusState) (bytes : List ℕ) (journal : Content)
         → IsModelled old → IsChip old.chip → HoldsBegun request image old.chip bytes
@@ -74,8 +75,9 @@ pub fn begun_restores_original()
         → CanRestore journal old.chip new }
 {}
 
-/// After a session its journal can restore the original chip from files that held the chip before the session and were
-/// being overwritten with the chip after it, wherever that was interrupted.
+/// The chip's files held it as it was before a session on a modelled bus, and were being overwritten with the chip
+/// after the session. Wherever that was interrupted, the journal in the session's `telling` vault can restore the
+/// original chip from these files.
 pub fn session_written_over()
     ensures { (request : Request) (image : List ℕ) (old new opened : BusState) (vault : VaultState) (journal : Content)
         → IsModelled old → IsChip old.chip → vault.telling ≡ true → CanBeUndone request image old new vault
@@ -83,8 +85,9 @@ pub fn session_written_over()
         → CanRestore journal old.chip opened }
 {}
 
-/// A journal that can restore a chip before a restore and after it can restore that chip from files that were being
-/// overwritten from the one to the other.
+/// If a journal can restore the original chip both from the chip before a restore and from the chip after it, it can do
+/// so from files that were being overwritten, too. These held the chip before the restore, and were being overwritten
+/// with the one after it.
 pub fn restore_written_over()
     ensures { (journal : Content) (first : Chip) (old new opened : BusState)
         → CanRestore journal first old → CanRestore journal first new → IsWrittenOver old.chip new.chip opened.chip

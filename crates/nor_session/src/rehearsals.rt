@@ -75,7 +75,7 @@ const OPENING: u64 = 65_542;
 // The most transactions of an operation: write enable, its command and 65,536 polls.
 const OPERATION: u64 = 65_538;
 
-// Returns the most transactions of a session on a chip of 16 MiB. No call needs more.
+// Returns the most transactions of a session on a chip of 16 MiB. No session or restore needs more.
 fn most_needed() -> u64
     ensures { result ≡ most_of 4096 }
 {
@@ -166,7 +166,7 @@ fn restore_in_turn<B: Meter>(
     Err(Refusal::Stopped)
 }
 
-// Restores with this many transactions allowed. Returns whether the restore ended; if not, the bus stopped.
+// Allows the given number of transactions, and restores. Returns whether the restore ended; if not, the bus stopped.
 fn ends_under<B: Meter>(bus: &mut B, journal: &Journal<'_>, allowance: u64) -> Result<bool, Refusal>
     ensures leaves { LeavesRestores journal.now 1 (B.state bus.old) (B.state bus.new) }
     ensures shows { IfOk result (RunsRestore journal.now allowance (B.state bus.old) (B.state bus.new)) }

@@ -1,4 +1,4 @@
-//! A restore: makes the chip again what a journal saved.
+//! A restore: writes the sectors and protection bits of a journal back to the chip.
 ghost use Rattle.std.specs.Prelude.{◌≡◌, true};
 ghost use Rattle.nor_probe.specs.Known.{IsModelled};
 ghost use Rattle.nor_session.specs.Headline.{RestoresOriginal};
