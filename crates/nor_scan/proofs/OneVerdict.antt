@@ -38,7 +38,8 @@ pub record FitsProtection (request : Request) (chip : Chip) : Type 0 where
   pub scheme : is_data request.what ≡ false → chip.config.scheme ≡ true
   pub defined : chip.config.scheme ≡ true → is_undefined (code_of chip.kept) ≡ false
 
--- Holds if this error of the check against the identification is true of the chip, for an image of this length.
+-- Holds if the check against the identification, for an image of this length, fails with this error on the chip. For
+-- each error this includes those earlier checks of the code that the proof needs.
 abbrev pub OpeningJudges : Request → (image : ℕ) → Chip → Refusal → Type 0
 OpeningJudges request image chip (ImageSize size len) =
     (is_data request.what ≡ true) × (size ≡ chip.config.size) × (len ≡ image) × (image ≢ chip.config.size)
@@ -56,7 +57,7 @@ pub record OpeningPasses (request : Request) (image : ℕ) (chip : Chip) (code :
   pub protection : FitsProtection request chip
   pub is_wanted : IsWantedCode request.what chip code
 
--- Holds if this error of the check after the scan is true of the chip, given its touched sectors.
+-- Holds if this error of the check after the scan applies to the chip, given its touched sectors.
 abbrev pub ScanJudges : Request → (code : ℕ) → (touched : ℕ → Bool) → Chip → Refusal → Type 0
 ScanJudges request code touched chip StatusLocked =
     (is_locked chip.kept ≡ true) × NeedsStatus request.what request.unlock code touched chip
@@ -109,7 +110,7 @@ needs_unlock : (what : What) (unlock : Bool) (code : ℕ) (touched : ℕ → Boo
 needs_unlock (WpRange start len) unlock code touched chip about_bytes off needs = absurd cc
 needs_unlock _ unlock code touched chip about_bytes off needs = let on = needs.0 in absurd cc
 
--- Protection is not lifted unless the request sets `unlock`.
+-- If the request doesn't set `unlock`, protection isn't lifted.
 never_lifted : (unlock lifted : Bool) → (lifted ≡ true → unlock ≡ true) → unlock ≡ false → lifted ≡ false
 never_lifted unlock lifted asked off = grind arith
 
@@ -200,7 +201,8 @@ module _ (request : Request) (image : List ℕ) (chip : Chip) where
       let touched = (and_parts (touches s) (is_block_protected chip (4096 * s) 4096) held).0 in
       needs_unlock request.what request.unlock needs.0 _ chip (touched_data request image chip s touched) off needs.2
 
-  -- No error below `n` applies if none up to 8 does, and neither 9 nor 10 applies if it is below `n`.
+  -- If none of errors 1 to 8 applies, and errors 9 and 10 don't apply if they are below `n`, no error below `n`
+  -- applies.
   scan_first : (n : ℕ) (refusal : Refusal) → NoneHoldsTo 8 request image chip
       → (9 < n → ¬ RefusalHolds request image chip StatusLocked)
       → (10 < n → (address : ℕ) → ¬ RefusalHolds request image chip (Protected address))

@@ -44,7 +44,7 @@ pub record HasScanned (request : Request) (size n : ℕ) (image image' : List �
 
 -- ---- marks
 
--- A set that is right below `n` is right below `n + 1` after the result of the test of `n` was inserted.
+-- If a set is right below `n`, and the result of the test of `n` is inserted, the set is right below `n + 1`.
 tested : (n s : ℕ) (test : ℕ → Bool) {verdict old new : Bool} → verdict ≡ test n → old ≡ (nat_lt s n && test s)
     → new ≡ ((verdict && (s == n)) || old) → new ≡ (nat_lt s (n + 1) && test s)
 tested n s test {verdict} {old} {new} is was inserted = grind (arith, nat_tests)

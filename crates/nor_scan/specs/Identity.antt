@@ -20,7 +20,7 @@ abbrev pub status_read : Identity → List ℕ
 status_read identity = identity.found.status1 ∷ identity.status2 ∷ []
 
 -- Holds after the reads of status 2 and the unique ID that follow the probe. On a well-behaved bus status 2 is the
--- chip's; the unique ID is the chip's only if the chip is also idle.
+-- chip's, and if the chip is idle, so is the unique ID.
 pub record ReadsRest (probed : Probed) (old new : BusState) (identity : Identity) : Type 0 where
   pub found : identity.found ≡ probed.found
   pub transactions : identity.transactions ≡ probed.transactions + 2

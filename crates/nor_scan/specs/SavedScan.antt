@@ -19,8 +19,8 @@ use Rattle.nor_scan.specs.Judging.{Lifts}
 use Rattle.nor_scan.specs.Saving.{IsIdentityOf, HasIdleChip, header_of}
 use Rattle.nor_scan.specs.Verdict.{IsVerdict, IdentityAccepts, ScanAccepts}
 
--- Holds for the vault after `save`: it was sealed after success, and not sealed after an error. Its count of refusals
--- is one higher after error 11, and else as it was.
+-- Holds for the vault after `save`: it is sealed after success, and after an error only if it was sealed before. Its
+-- count of refusals is one higher after error 11, and else as it was.
 abbrev pub SavePuts : Result SavedScan Refusal → (old new : VaultState) → Type 0
 SavePuts (Ok saved) old new = Completed old new
 SavePuts (Err Vault) old new = Refused old new
@@ -66,8 +66,8 @@ pub record HasSaved (request : Request) (identity : Identity) (code : ℕ) (imag
   pub chip : (chip : Chip) → IsIdentityOf chip identity → HasIdleChip chip old
       → HasSavedChip request code image image' chip vault saved
 
--- Holds if the error is the verdict for the chip that the bus shows, if that chip is idle and has this identification,
--- and the identification accepted the request.
+-- Holds if the error is the verdict for the chip of a well-behaved bus, if that chip is idle and has this
+-- identification, and the identification accepted the request.
 abbrev pub JudgesChip : Request → Identity → ℕ → List ℕ → BusState → Refusal → Type 0
 JudgesChip request identity code image old refusal =
     (chip : Chip) → IsIdentityOf chip identity → HasIdleChip chip old → IdentityAccepts request image chip code
@@ -90,15 +90,15 @@ pub record HasWholeRecords (head : Content) (old : ℕ → ℕ) (touched : ℕ �
   pub saves : Saves old (λ s. nat_lt s bound && touched s) content
   pub is : bytes ≡ front content
 
--- Holds if a `telling` vault, after any error including 11, has a prefix of the journal of the chip that the bus shows,
--- if that chip has this identification.
+-- States what a `telling` vault has after any error, including 11. If a well-behaved bus shows an idle chip with this
+-- identification, the vault has a prefix of that chip's journal.
 abbrev pub SaveCuts : Request → Identity → List ℕ → BusState → VaultState → Type 0
 SaveCuts request identity image old vault = vault.telling ≡ true
     → (chip : Chip) → IsIdentityOf chip identity → HasIdleChip chip old
     → IsJournalPrefix (header_of chip) chip.bytes (is_touched chip.bytes (wanted request image chip)) vault.bytes
 
--- Holds if a `telling` vault, after an error other than 11, has the header and complete records of the journal of the
--- chip that the bus shows, if that chip has this identification.
+-- States what a `telling` vault has after an error other than 11. If a well-behaved bus shows an idle chip with this
+-- identification, the vault has the header and complete records of that chip's journal.
 abbrev pub SaveBegins : Request → Identity → List ℕ → BusState → VaultState → Refusal → Type 0
 SaveBegins request identity image old vault refusal = refusal ≢ Vault → vault.telling ≡ true
     → (chip : Chip) → IsIdentityOf chip identity → HasIdleChip chip old

@@ -32,7 +32,7 @@ impl Identity {
 }
 
 /// Waits until the chip is ready, finds it by its ID or SFDP, and reads status 2 and the unique ID. With `named` the
-/// chip must have this name. It sends at most 65,542 transactions on a well-behaved bus.
+/// chip must have this name. On a well-behaved bus at most 65,542 transactions are sent.
 ///
 /// Returns error 1 (no chip), 2 (unknown chip), 3 (other name), 12 (the bus stopped) or 13 with address 0 (the chip
 /// stayed busy; not on a well-behaved bus).

@@ -1,4 +1,4 @@
-//! Scans the chip, and saves what a session will change before it changes anything.
+//! Scans the chip and, before anything is changed, saves what the session will change.
 ghost use Rattle.std.specs.Prelude.{◌≡◌, ◌/◌, true, length, IfOk, IfErr, OnErr, IsTrue};
 ghost use Rattle.nor_model.specs.Size.{is_chip_size};
 ghost use Rattle.nor_driver.specs.OnlyReads.{OnlyReads};
@@ -30,10 +30,10 @@ pub struct SavedScan {
 /// No modifying command is sent. If the bus is well-behaved and shows the identified chip, idle, then success sets the
 /// image's touched sectors to the target bytes, and a `telling` vault holds a journal of exactly the touched sectors.
 ///
-/// Returns error 9 or 10 (each is the verdict on the identified chip, if the bus shows it and `judge_identity` accepted
-/// it), 11 (the vault failed) or 12 (the bus stopped). After an error the vault is unsealed. If it is `telling` and the
-/// bus shows the identified chip, it holds a prefix of the journal; after errors other than 11 that prefix ends after
-/// the header or a complete record.
+/// Returns error 9 or 10 (the verdict on the request, if a well-behaved bus shows the identified chip, idle, and
+/// `judge_identity` accepted the request), 11 (the vault failed) or 12 (the bus stopped). After an error the vault is
+/// unsealed. If it is `telling` and a well-behaved bus shows the identified chip, idle, it holds a prefix of the
+/// journal; after errors other than 11 that prefix ends after the header or a complete record.
 pub fn save<B: Bus, V: Vault>(
     bus: &mut B,
     vault: &mut V,
