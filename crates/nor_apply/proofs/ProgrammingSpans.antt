@@ -61,8 +61,8 @@ page_inside : (sector first a : ℕ) → first < 4096 → is_in_page (4096 * sec
     → only sector (a / 4096) ≡ true
 page_inside sector first a below page = grind (arith, nat_tests)
 
--- `MayChange` holds for a program, even if it was interrupted, if each byte that it programs to the end is as it was or
--- the target one
+-- `MayChange` holds for a program, even if it was interrupted, if the complete program would leave each byte as it was
+-- or as the target one
 span_change : (sector at : ℕ) (sent : List ℕ) (wanted : ℕ → ℕ) (now new : BusState)
     → ((a : ℕ) → is_in_page at a ≡ true → only sector (a / 4096) ≡ true)
     → ((a : ℕ) → (programmed at sent now.chip.bytes a ≡ now.chip.bytes a)
@@ -174,7 +174,7 @@ filled_all {sector} {old} {wanted} {spans} {first} {new} whole are can filled =
 
 -- ---- the number of spans
 
--- some number of two adjacent ranges passes the test exactly if some number of the joined range does
+-- some number of two adjacent ranges passes the test if and only if some number of the joined range does
 any_of_range : (test : ℕ → Bool) (from m n at all : ℕ) → at ≡ from + m → all ≡ m + n
     → (any_below m (λ i. test (from + i)) || list_any test (range_with_len at n)) ≡ any_below all (λ i. test (from + i))
 any_of_range test from m zero at all place sum =
@@ -185,7 +185,7 @@ any_of_range test from m (suc n) at all place sum =
     sym (or_assoc (any_below m (λ i. test (from + i))) (test at) (list_any test (range_with_len (at + 1) n)))
     ∙ rw (← one_more) (any_of_range test from (m + 1) n (at + 1) all (omega arith) (omega arith))
 
--- a page of the sector differs from its target exactly if the chip's page does, when `old` are the sector's bytes
+-- if `old` has the sector's bytes, a page of it differs from its target if and only if the chip's page does
 page_same : (content : ℕ → ℕ) (sector : ℕ) (old wanted : List ℕ) → length old ≡ 4096 → IsSectorOf content sector old
     → (page : ℕ) → page < 16 → page_differs old wanted page
     ≡ is_page_other content (byte_of sector wanted) (16 * sector + page)

@@ -38,8 +38,8 @@ abbrev pub status_writes : Changes → ℕ
 status_writes changes = (if changes.unlock then 1 else 0) + (if writes_code changes then 1 else 0)
 
 -- True if the changes ask for a status write of these two bytes. They are the status that was read, with BUSY, WEL and
--- SUS clear, and with all protection bits clear if protection is lifted first, or with the target's protection bits if
--- these are written at the end.
+-- SUS clear. If protection is lifted first, all protection bits may be clear; if the target's protection bits are
+-- written at the end, the bytes may have these.
 abbrev pub is_status_asked : Changes → (one two : ℕ) → Bool
 is_status_asked changes one two =
     (changes.unlock && is_status_with_code changes.status 0 one two)
@@ -105,8 +105,8 @@ pub record LeavesApply (changes : Changes) (wanted : ℕ → ℕ) (old new : Bus
 
 -- Holds if `apply` returned the counts `work`. On every bus it sent exactly these numbers of erases, page programs and
 -- status writes (`SendsExactly`); if no sector is touched and no status write is needed, it sent no modifying command.
--- On a well-behaved bus, if `CanApply` held at the start, the changes are complete, and the programs are one for each
--- page that differed from the target after the erases.
+-- On a well-behaved bus, if `CanApply` held at the start, the changes are complete, and one program was sent for each
+-- page of a touched sector that differed from the target after the erases.
 pub record DoesApply (changes : Changes) (wanted : ℕ → ℕ) (old new : BusState) (work : Work) : Type 0 where
   pub erases : work.erases ≡ length (planned changes.kinds (changes.size / 4096) (raised_in changes))
   pub fewer_erases : work.erases ≤ sector_count (raised_in changes)

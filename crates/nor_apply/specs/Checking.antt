@@ -22,8 +22,8 @@ pub record IsFirstMismatch (sectors : ℕ → Bool) (wanted content : ℕ → �
   pub before : (a : ℕ) → a < address → sectors (a / 4096) ≡ true → content a ≡ wanted a
 
 -- Holds if the verification succeeded with `sent` transactions. Each sector was read once. On a well-behaved bus bytes,
--- non-volatile bits and erased sectors are as they were (`Rested`), and if `CanCheck` holds, each byte is the target
--- one.
+-- non-volatile bits and erased sectors are as they were (`Rested`), and if `CanCheck` holds, each byte of these sectors
+-- is the target one.
 pub record DoesChecks (sectors : ℕ → Bool) (wanted : ℕ → ℕ) (old new : BusState) (sent : ℕ) : Type 0 where
   pub reads : sent ≡ sector_count sectors
   pub polled_ready : StaysReady old new

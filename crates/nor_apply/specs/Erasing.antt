@@ -24,9 +24,9 @@ pub record LeavesErases (sectors : ℕ → Bool) (kinds : Kinds) (size : ℕ) (o
   pub sends : SendsWithin (erasing (may_target sectors size) (sector_count sectors)) old new
   pub reached : old.honest ≡ true → CanEraseAll sectors kinds size old.chip → MayChange sectors sectors blank old new
 
--- Holds after the erases succeeded. Their number is the length of the planned list, which is the shortest that covers
--- the set. If there was no erase, the record of modifying commands is as it was. On a well-behaved bus, if
--- `CanEraseAll` held at the start, all bytes of the sectors are FFh.
+-- Holds after the erases succeeded. Their number is the length of the planned list, which is the shortest that erases
+-- exactly these sectors. If there was no erase, the record of modifying commands is as it was. On a well-behaved bus,
+-- if `CanEraseAll` held at the start, all bytes of the sectors are FFh.
 pub record DoesErases (sectors : ℕ → Bool) (kinds : Kinds) (size : ℕ) (old new : BusState)
     (tally : Tally) : Type 0 where
   pub count : tally.count ≡ length (planned kinds (size / 4096) sectors)
