@@ -42,7 +42,7 @@ same_from_bit x y e = grind (arith, nat_tests)
 other_from_bit : (x y : ℕ) → ◌≡◌ {A = ℕ} (cond (not (nat_eq x y)) 1 0) 1 → x ≢ y
 other_from_bit x y e same = grind (arith, nat_tests)
 
--- the bit at the logarithm of a number is set
+-- the bit at a number's binary logarithm, rounded down, is set
 highest_bit : (n r : ℕ) → 2 ^ r ≤ n → n < 2 * 2 ^ r → bit_at n r ≡ 1
 highest_bit n r least most =
     let above = le-div 1 n (2 ^ r) (pow_pos r) (omega (arith, least)) in
@@ -62,7 +62,7 @@ module _ (f g : ℕ → ℕ) (at mask : ℕ) (is : IsMask mask (λ i. not (nat_e
       let lane : i < 32 = omega arith in
       (lane, other_from_bit _ _ (sym (is.bits i lane) ∙ one))
 
-  -- if the mask is 0, the functions agree at all these positions
+  -- if the mask is 0, the two functions agree at all 32 positions from `at` on
   pub passed_block : mask ≡ 0 → (k : ℕ) → at ≤ k → k < at + 32 → f k ≡ g k
   passed_block none k low high = clear_lane k low high (ap (λ m. bit_at m (k - at)) none ∙ bit_at-zero (k - at))
 
@@ -70,7 +70,7 @@ module _ (f g : ℕ → ℕ) (at mask : ℕ) (is : IsMask mask (λ i. not (nat_e
   passed_before before none k high =
       elim (cases_lt k at) [ inl earlier ↦ before k earlier | inr here ↦ passed_block none k here high ]
 
-  -- if the mask isn't 0, its lowest bit is at the first difference
+  -- if the mask isn't 0, its lowest set bit shows the first of these positions at which the functions differ
   pub first_in_block : 0 < mask → let t = trailing_zeros w64
       mask in (t < 32) × (f (at + t) ≢ g (at + t)) × ((k : ℕ) → at ≤ k → k < at + t → f k ≡ g k)
   first_in_block some =
@@ -78,7 +78,7 @@ module _ (f g : ℕ → ℕ) (at mask : ℕ) (is : IsMask mask (λ i. not (nat_e
       let first = set_lane (trailing_zeros w64 mask) lowest.1 in
       (first.0, first.1, λ k low before. clear_lane k low (omega (arith, first.0)) (lowest.2 (k - at) (omega arith)))
 
-  -- the highest bit of the mask is at the last difference
+  -- the highest set bit of the mask shows the last of these positions at which the functions differ
   pub last_in_block : (r : ℕ) → 2 ^ r ≤ mask → mask < 2 * 2 ^ r
       → (r < 32) × (f (at + r) ≢ g (at + r)) × ((k : ℕ) → at + r < k → k < at + 32 → f k ≡ g k)
   last_in_block r least most =

@@ -80,7 +80,8 @@ module _ (old target : List ℕ) where
   pub spans_from-end : (page : ℕ) → page_count old ≤ page → spans_from old target page ≡ []
   spans_from-end page past = let none : page_count old - page ≡ 0 = omega arith in rw none
 
-  -- from page `page` on, the spans are the span of that page, if it has one, followed by those of the later pages
+  -- from `page` on there is one page more than from `page + 1` on (`pages_left`), so the spans from `page` on are the
+  -- span of that page, if it has one, followed by those of the later pages
   pages_left : (page : ℕ) → page < page_count old → page_count old - page ≡ suc (page_count old - (page + 1))
   pages_left page there = omega arith
 

@@ -10,7 +10,7 @@ use Rattle.nor_driver.specs.declared.units.EraseBlock.TheVariants.{Sector, Block
 use Rattle.nor_driver.specs.Units.{sectors_in, is_aligned}
 use Rattle.nor_plan.specs.Planned.{holds_run, holds_block, planned_block}
 
--- a run of sectors is in the set if and only if each of its sectors is
+-- a run of sectors is in the set if and only if each of its sectors is (`holds_run-at` and `holds_run-from`)
 pub holds_run-at : (set : ℕ → Bool) (from count : ℕ) → holds_run set from count ≡ true → (s : ℕ) → from ≤ s
     → s < from + count → set s ≡ true
 unfolding holds_run

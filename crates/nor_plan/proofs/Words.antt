@@ -67,7 +67,7 @@ module _ (set : SectorSet) (from first index k bits : ℕ) (place : first ≡ in
       let column : s % 64 ≡ k + (s - first) = omega arith in
       rw (row, column, shifted, bit_at-shifted (get_or set.words index 0) k (s - first))
 
-  -- if no bit is left, no remaining sector of the word is in the set
+  -- if `bits` is 0, no sector of the word from `first` on is in the set
   pub none_in_word : NoneBetween set from first → bits ≡ 0 → NoneBetween set from (index * 64 + 64)
   none_in_word before none s low high =
       elim (cases_lt s first) [
@@ -75,7 +75,7 @@ module _ (set : SectorSet) (from first index k bits : ℕ) (place : first ≡ in
         | inr here ↦ has_at s here high ∙ rw (none, bit_at-zero)
       ]
 
-  -- if some bit is left, the lowest one is the least sector of the set that is `from` or above
+  -- if `bits` isn't 0, its lowest set bit shows the least sector of the set that is `from` or above
   pub least_in_word : NoneBetween set from first → 0 < bits → index < 64 → from ≤ first
       → get_or set.words index 0 < 2 ^ 64
       → IsLeastFrom set from (first + trailing_zeros w64 bits)

@@ -7,8 +7,8 @@ use Rattle.nor_driver.specs.declared.units.Erase.{Erase}
 use Rattle.nor_driver.specs.declared.units.EraseBlock.{EraseBlock}
 use Rattle.nor_driver.specs.declared.units.EraseBlock.TheVariants.{Sector, Block32, Block64, Chip}
 
--- A chip with these erase types has this erase block. (`has_block` tests a configuration. Only the erase types of a chip
--- that was found are known.)
+-- A chip with these erase types has this erase block. (`has_block` is the same test for a configuration. Of a chip that
+-- was found, only the erase types are known.)
 abbrev pub is_offered : Kinds → EraseBlock → Bool
 is_offered kinds Sector = true
 is_offered kinds Block32 = kinds.k32
@@ -27,7 +27,7 @@ abbrev pub erased_by : (total : ℕ) → List Erase → (sector : ℕ) → Bool
 erased_by total erases sector = list_any (erases_sector total sector) erases
 
 -- A list of erases covers a set of sectors: the erases, in any order and with any overlap, erase exactly the sectors of
--- the set. Each of them is an erase that the chip has.
+-- the set. Each erase is one that the chip has, is aligned, and ends on the chip.
 pub record Covers (kinds : Kinds) (total : ℕ) (erases : List Erase) (set : ℕ → Bool) : Type 0 where
   pub units : All (IsErase kinds total) erases
   pub union : (sector : ℕ) → erased_by total erases sector ≡ set sector

@@ -54,7 +54,8 @@ planned kinds total set = planned_from (holds_run set 0 total) kinds set 0
 abbrev pub fewest_erases : Kinds → ℕ → (ℕ → Bool) → ℕ
 fewest_erases kinds total set = length (planned kinds total set)
 
--- `count` is the least number of erases that cover the set: some list of this length covers it, and none is shorter.
+-- `count` is the least number of erases that cover the set: some list of this length covers it, and no shorter list
+-- does.
 pub record IsLeastLength (kinds : Kinds) (total : ℕ) (set : ℕ → Bool) (count : ℕ) : Type 0 where
   pub some : List Erase
   pub covers : Covers kinds total some set

@@ -32,7 +32,8 @@ pub fn spans<'a>(old: &'a [u8], target: &'a [u8]) -> Spans<'a>
     Spans::new(old, target)
 }
 
-/// Returns the first span of the page `page` or a later one, and the number of the page after it.
+/// Returns the first span that lies on the page `page` or a later one, and the number of the page after the span's
+/// page.
 #[tactic(auto, using(crate::proofs::PageSpans::page_steps))]
 fn next_span(old: &[u8], target: &[u8], page: usize) -> Option<(PageSpan, usize)>
     requires { length old.now ≡ length target.now }
