@@ -25,14 +25,14 @@ pub is_err : {T : Type 0} (outcome : Result T Refusal) (refusal : Refusal)
 is_err (Ok value) refusal is = absurd is
 is_err (Err passed) refusal is = ap Err is
 
--- Holds if no more transactions were sent than a call takes for the largest chip, and on a modelled bus no more than it
--- takes for this chip.
+-- Holds if no modifying command was sent. On a well-behaved bus the transactions sent are within the bound for the
+-- largest chip, and on a modelled bus within the bound for this chip.
 pub record Sends (old new : BusState) : Type 0 where
   pub largest : OnlyReads (most_read 16777216) old new
   pub own : IsModelled old → OnlyReads (most_read old.chip.config.size) old new
 
--- Holds after a stop: fewer transactions were left than a call takes for the largest chip, and on a modelled bus fewer
--- than it takes for this chip.
+-- Holds after a stop. On a well-behaved bus fewer transactions were left than the bound for the largest chip, and on a
+-- modelled bus fewer than the bound for this chip.
 pub record OperationFails (old new : BusState) : Type 0 where
   pub largest : old.honest ≡ true → RanOut (most_read 16777216) old new
   pub own : IsModelled old → RanOut (most_read old.chip.config.size) old new

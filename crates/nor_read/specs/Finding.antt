@@ -73,7 +73,7 @@ pub record ReportsPart (named : Option ChipName) (report : Report) : Type 0 wher
   pub touched : report.touched ≡ 0
   pub erases : report.erases ≡ 0
   pub programs : report.programs ≡ 0
-  -- The report counts no more transactions than a chip of this size takes.
+  -- The report counts at most the transactions of the bound for a chip of this size.
   pub most : report.transactions ≤ most_read report.found.size
 
 -- Describes, on a well-behaved bus, the report of a call that read `reads` sectors: it has what the chip's replies
@@ -103,9 +103,9 @@ IsFindRefusal Stopped = ⊤
 IsFindRefusal (Timeout address) = address ≡ 0
 IsFindRefusal _ = ⊥
 
--- The meaning of errors on a well-behaved bus. An error of the probe has its cause in the chip; after a stop fewer than
--- `most` transactions were left; there is no timeout. After any error except a stop, contents and non-volatile status
--- bits are as before.
+-- The meaning of errors on a well-behaved bus. Errors 1 to 3 mean what `ProbeErrors` says about the chip; a stop means
+-- that fewer than `most` transactions were left; there is no timeout. After any error except a stop, contents and
+-- non-volatile status bits are as before.
 abbrev pub ReadingErrors : ℕ → Option ChipName → (old new : BusState) → Refusal → Type 0
 ReadingErrors most named old new NoChip = ProbeErrors named old new Probes.NoChip
 ReadingErrors most named old new (UnknownChip fault) = ProbeErrors named old new (Probes.UnknownChip fault)

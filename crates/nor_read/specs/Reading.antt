@@ -19,13 +19,13 @@ use Rattle.nor_read.specs.Finding.{IsPassed, IsTaken, ReportsPart, ReportsReads,
 abbrev pub copied : Option (List Span) → (ℕ → ℕ) → ℕ → ℕ
 copied included content a = if includes included a then content a else 255
 
--- Holds if the vault has `count` bytes more than before.
+-- Holds if the vault has the bytes from before, and `count` bytes after them.
 pub record Grows (count : ℕ) (old new : VaultState) : Type 0 where
   pub bytes : List ℕ
   pub long : length bytes ≡ count
   pub grown : new.bytes ≡ old.bytes ++ bytes
 
--- Holds if the vault has `count` bytes more than before, and these are the first ones of the copy of a chip with this
+-- Holds if the vault has the bytes from before, and after them the first `count` bytes of the copy of a chip with this
 -- content.
 pub record Copies (included : Option (List Span)) (content : ℕ → ℕ) (count : ℕ) (old new : VaultState) : Type 0 where
   pub bytes : List ℕ
@@ -35,22 +35,23 @@ pub record Copies (included : Option (List Span)) (content : ℕ → ℕ) (count
 
 -- ---- the promises of `read_out`
 
--- Holds if the vault refused nothing, and accepted `count` bytes.
+-- Holds if the vault refused nothing, and a `telling` vault accepted `count` bytes.
 pub record TakesWhole (count : ℕ) (old new : VaultState) : Type 0 where
   -- Nothing was refused, and the vault is sealed if and only if it was sealed before.
   pub accepted : Accepted old new
-  -- A `telling` vault has this number of bytes more.
+  -- A `telling` vault has `count` bytes more.
   pub grows : old.telling ≡ true → Grows count old new
 
--- Holds if the vault refused a piece, after it accepted `written` bytes in all.
+-- Holds if the vault refused one piece. For a `telling` vault, `written` counts all bytes that it accepted, including
+-- those that it accepted of the refused piece.
 pub record TakesPart (written : ℕ) (old new : VaultState) : Type 0 where
   -- The vault refused one call more, and is sealed if and only if it was sealed before.
   pub refused : Refused old new
-  -- A `telling` vault has this number of bytes more.
+  -- A `telling` vault has `written` bytes more.
   pub grows : old.telling ≡ true → Grows written old new
 
--- Holds for the errors that `read_out` may return, on every bus. Error 19 has the number of bytes that the vault
--- accepted; with any other error the vault refused nothing.
+-- Holds for the errors that `read_out` may return, on every bus. After error 19 the vault refused one piece, and the
+-- error has the number of bytes that a `telling` vault accepted. After any other error the vault refused nothing.
 abbrev pub IsReadRefusal : (vault vault' : VaultState) → Refusal → Type 0
 IsReadRefusal vault vault' (Output written) = TakesPart written vault vault'
 IsReadRefusal vault vault' RegionOutside = Accepted vault vault'
@@ -66,9 +67,10 @@ pub record ReadOutAlways (named : Option ChipName) (included : Option (List Span
   pub reports : IfOk result (ReportsPart named)
   -- No included address is past the end of the chip that was found.
   pub fits : IfOk result (λ report. FitsInto included report.found.size)
-  -- The number of bytes that the vault accepted is the size of the chip that was found.
+  -- The vault refused nothing. A `telling` vault accepted as many bytes as the chip that was found has.
   pub whole : IfOk result (λ report. TakesWhole report.found.size vault vault')
-  -- An error is one of those that `read_out` may return, and error 19 has the number of bytes that the vault accepted.
+  -- An error is one of those that `read_out` may return, and error 19 has the number of bytes that a `telling` vault
+  -- accepted.
   pub refuses : IfErr result (IsReadRefusal vault vault')
   -- The call succeeds only if the last poll showed ready.
   pub polled_ready : OnOk result (new.polled_ready ≡ true)
@@ -110,7 +112,7 @@ pub record ReadOutModelled (named : Option ChipName) (included : Option (List Sp
   pub copy : IfOk result (λ report. vault.telling ≡ true
       → Copies included old.chip.bytes old.chip.config.size vault vault')
   -- Error 5 means that an included address isn't on the chip, error 12 that too few transactions were left. Error 19
-  -- has the number of bytes that were copied.
+  -- has the number of bytes of the copy that a `telling` vault has.
   pub errors : IfErr result (ReadOutErrors named included old new vault vault')
 
 -- ---- piece by piece, and each of these sector by sector
@@ -149,7 +151,8 @@ pub record ReadsAll (included : Option (List Span)) (size : ℕ) (old new : BusS
   pub took : TakesWhole size vault vault'
   pub copy : IsOpen size old → vault.telling ≡ true → Copies included old.chip.bytes size vault vault'
 
--- Holds after the vault refused a piece of the copy. It accepted `written` bytes of the copy in all.
+-- Holds after the vault refused a piece of the copy. In all it accepted `written` bytes of the copy, if it is
+-- `telling`.
 pub record BreaksCopy (included : Option (List Span)) (size written : ℕ) (old new : BusState)
     (vault vault' : VaultState) : Type 0 where
   pub rested : old.honest ≡ true → Rested old new

@@ -40,7 +40,7 @@ pub record IsOtherSize (named : Option ChipName) (image : List ℕ) (config : Co
   pub differ : length image ≢ config.size
 
 -- Holds if the chip has the requested name, all included addresses and the image's length, and `address` is the first
--- included address at which they differ.
+-- included address at which chip and image differ.
 pub record IsMismatch (named : Option ChipName) (included : Option (List Span)) (image : List ℕ) (chip : Chip)
     (address : ℕ) : Type 0 where
   pub taken : IsTaken named included chip.config

@@ -26,8 +26,8 @@ const PIECE_LEN: usize = 65_536;
 /// before. On a well-behaved bus success leaves the chip's contents and non-volatile status bits as they were.
 ///
 /// Returns error 1 (no chip), 2 (unknown chip), 3 (other name), 5 (an included address isn't on the chip), 12 (the bus
-/// stopped) or 19 (the vault failed), or, if the bus isn't well-behaved, 13 (the chip stayed busy). Error 19 has the
-/// number of bytes that the vault accepted.
+/// stopped) or 19 (the vault failed). Returns 13 (the chip stayed busy) only if the bus isn't well-behaved. Error 19
+/// has the number of bytes that a `telling` vault accepted.
 pub fn read_out<B: Bus, V: Vault>(
     bus: &mut B,
     included: Option<&Ranges>,

@@ -15,7 +15,7 @@ use nor_plan::bounds;
 use nor_probe::ChipName;
 use nor_request::{Refusal, Report};
 
-// The result of a comparison: the first address that differs, if any, and how many sectors were read.
+// The result of a comparison: the first included address that differs, if any, and how many sectors were read.
 #[derive(Clone, Copy)]
 struct Compared {
     first: Option<u32>,
@@ -26,9 +26,9 @@ struct Compared {
 /// each sector that has an included address once, in ascending order, even after a difference. On a modelled bus
 /// success means that all included bytes are equal.
 ///
-/// Returns error 1 (no chip), 2 (unknown chip) or 3 (other name). Returns 4 if the image isn't as long as the chip, 5
-/// if an included address isn't on the chip, 12 if the bus stopped, 13 if the chip stayed busy (not on a well-behaved
-/// bus), and 14 with the first address that differs.
+/// Returns error 1 (no chip), 2 (unknown chip), 3 (other name), 4 (the image isn't as long as the chip) or 5 (an
+/// included address isn't on the chip). Returns 12 if the bus stopped, 13 if the chip stayed busy (not on a
+/// well-behaved bus), and 14 with the first included address that differs.
 pub fn verify<B: Bus>(
     bus: &mut B,
     image: &[u8],
@@ -60,7 +60,8 @@ pub fn verify<B: Bus>(
     }
 }
 
-// Compares all sectors of a chip of this size.
+// Compares the included bytes of a chip of this size, sector by sector. Returns the first address that differs, and how
+// many sectors were read.
 fn compare_all<B: Bus>(
     bus: &mut B,
     image: &[u8],
