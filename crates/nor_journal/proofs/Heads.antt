@@ -35,7 +35,7 @@ said k bytes magic unique status fits long begins is two =
     rw (← begins, ← is, ← two, ← id, number, ← take-add 8 3 bytes, ← take-add 11 k bytes)
     (rw (← take-add (11 + k) 2 bytes, ← take-add (11 + k + 2) 4 bytes) (sym (take-append-drop (11 + k + 2 + 4) bytes)))
 
--- Holds if `unique` is the part when it has eight bytes, and None when it has another length.
+-- Holds if `part` has eight bytes and `unique` is `part`, or `part` has another length and `unique` is None.
 abbrev IsUnique : (part : List ℕ) → Option (List ℕ) → Type 0
 IsUnique part unique = MatchOption unique (length part ≢ 8) (λ u. (part ≡ u) × (length u ≡ 8))
 

@@ -101,8 +101,8 @@ saved_in-take_more c i s n is e =
     let parts = take-rising (c.size / 4096) 0 c.saved i s is.saved e in
     rw (take-sector c.saved i s e) (saved_in-push (c.size / 4096) 0 (take i c.saved) s n parts.0 parts.1)
 
--- the number of record i is not below the least number that may follow the records before it; after record i that least
--- number is one more than its number
+-- the number of record i is at least the least number that may follow the records before it, and the least number that
+-- may follow record i is one more than its number
 pub take-next : (c : Content) (i : ℕ) (s : SavedSector) → IsContent c → slice_get c.saved i ≡ Some s → (least_after 0 (take i c.saved) ≤ s.number) × (least_after 0 (take (i + 1) c.saved) ≡ s.number + 1)
 take-next c i s is e = (
   (take-rising (c.size / 4096) 0 c.saved i s is.saved e).1,

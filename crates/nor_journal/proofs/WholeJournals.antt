@@ -1,4 +1,4 @@
--- The journal that a partly written content is completed to: it saves the sectors of a given set of the chip.
+-- A partly written content can be completed to a journal that saves the chip's sectors of a given set.
 use Rattle.std.proofs.Common.{◌≡◌, ℕ, zero, suc, ◌+◌, ◌*◌, ◌/◌, ◌<◌, ◌≤◌, Bool, true, false, List, [], ◌++◌, length}
 use Rattle.std.proofs.Common.{map, drop, ◌-◌, refl, sym, ap, subst, ◌∙◌, arith, inl, inr}
 use Rattle.std.specs.Prelude.{◌&&◌, nat_lt}

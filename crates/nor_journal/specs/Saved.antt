@@ -27,7 +27,7 @@ pub record IsWholeSector (old : ℕ → ℕ) (s : ℕ) (bytes : List ℕ) : Type
   pub whole : length bytes ≡ 4096
   pub same : (i : ℕ) → i < 4096 → slice_index bytes i ≡ old (4096 * s + i)
 
--- Holds if the content saves exactly the sectors in `saved`, with the bytes `old` of the chip.
+-- Holds if the content is valid, and saves exactly the sectors in `saved` of a chip with the contents `old`.
 pub record Saves (old : ℕ → ℕ) (saved : ℕ → Bool) (content : Content) : Type 0 where
   pub is : IsContent content
   pub sectors : (s : ℕ) → saved s ≡ true → IsSomeAnd (saved_in content.saved s) (IsWholeSector old s)
@@ -38,14 +38,15 @@ pub record HasOneMore (saved : ℕ → Bool) (sector : ℕ) (more : ℕ → Bool
   pub here : more sector ≡ true
   pub others : (s : ℕ) → s ≢ sector → more s ≡ saved s
 
--- Holds if the bytes are a prefix of a journal with this header that saves exactly these sectors.
+-- Holds if the bytes are a prefix of a journal with this header that saves exactly these sectors of a chip with the
+-- contents `old`.
 pub record IsJournalPrefix (head : Content) (old : ℕ → ℕ) (saved : ℕ → Bool) (bytes : List ℕ) : Type 0 where
   pub content : Content
   pub same : SameHeader head content
   pub saves : Saves old saved content
   pub begins : StartsWith (text content) bytes
 
--- Holds if the bytes are a journal with this header that saves exactly these sectors.
+-- Holds if the bytes are a journal with this header that saves exactly these sectors of a chip with the contents `old`.
 pub record JournalSaves (head : Content) (old : ℕ → ℕ) (saved : ℕ → Bool) (bytes : List ℕ) : Type 0 where
   pub content : Content
   pub same : SameHeader head content

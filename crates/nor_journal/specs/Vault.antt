@@ -7,7 +7,7 @@ use Rattle.nor_journal.specs.declared.vault.VaultFault.{VaultFault}
 pub record VaultState : Type 0 where
   -- true for a faithful vault, which holds exactly the bytes it accepted
   pub telling : Bool
-  -- the bytes that were accepted, in order; of a vault that isn't faithful only whether there are any is known
+  -- the bytes that were accepted, in order; for a vault that isn't faithful, only whether it accepted any byte is known
   pub bytes : List ℕ
   -- true if the vault was sealed
   pub sealed : Bool

@@ -7,9 +7,9 @@ use crate::vault::{Vault, VaultFault};
 
 /// A wrapper of another vault that refuses one call and passes every other call on.
 ///
-/// It refuses the `nth` call of `put` or `seal`, counted from 1; if `nth` is 0, it refuses none. A refused `put` first
-/// writes the first `kept` bytes of the piece, or all of a shorter piece, to the inner vault. It counts its own
-/// refusals and those of the inner vault.
+/// It refuses the `nth` call, counting the calls of `put` and `seal` together, from 1; if `nth` is 0, it refuses none.
+/// A refused `put` first writes the first `kept` bytes of the piece, or all of a shorter piece, to the inner vault. It
+/// counts its own refusals and those of the inner vault.
 #[derive(Drop)]
 pub struct BrokenVault<V: Vault> {
     inner: V,
@@ -20,8 +20,8 @@ pub struct BrokenVault<V: Vault> {
 }
 
 impl<V: Vault> BrokenVault<V> {
-    /// Returns a vault over `inner` that refuses its `nth` call, after the first `kept` bytes of the piece if it is a
-    /// `put`.
+    /// Returns a vault over `inner` that refuses its `nth` call. If that call is a `put`, the vault first writes the
+    /// first `kept` bytes of the piece.
     pub fn new(inner: V, nth: u64, kept: usize) -> BrokenVault<V>
         ensures state { ⟦<BrokenVault<V> as Vault>⟧.state result ≡ record (V.state inner) { failures = 0 } }
         ensures inner { inner_vault result ≡ inner }

@@ -42,10 +42,11 @@ impl<'a> Journal<'a> {
     pub fn read(bytes: &'a [u8]) -> Result<Journal<'a>, JournalFault>
         // If it succeeds, the bytes are the encoding of the returned content.
         ensures found { IfOk result (λ journal. IsContent journal × (bytes.now ≡ text journal)) }
-        // The encoding of a content is read, and returns this content.
+        // If the bytes are the encoding of a content, the call succeeds and returns this content.
         ensures only { (c : Content) → IsContent c → bytes.now ≡ text c
             → IsOkAnd result (λ journal. journal ≡ c) }
-        // A journal with this header that saves these sectors is read, with the same header and sectors.
+        // If the bytes are a journal with the header `head` that saves exactly the sectors `saved` of a chip with the
+        // contents `old`, the returned journal has this header, and saves these sectors.
         ensures kept { (head : Content) (old : ℕ → ℕ) (saved : ℕ → Bool)
             → JournalSaves head old saved bytes.now
             → IsOkAnd result (λ journal. SameHeader head journal × Saves old saved journal) }
