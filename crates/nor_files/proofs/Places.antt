@@ -144,8 +144,8 @@ module _ (files : List Stored) (at : ℕ) (was now : Stored) (place : was ≡ ge
   lent_updated None there = refl
   lent_updated (Some name) there = set_there name files at now was (still_named name) ∙ there
 
--- if an entry for the file of a name is appended and this file is then replaced, the file was replaced in the first
--- list, too
+-- if the list `kept` has the same file for each name as `old`, a file that was replaced in `kept` was also replaced in
+-- `old`
 pub updated_since : {name : Name} {old kept new : List Stored} {was now : Stored}
     → ((any : Name) → file_named kept any ≡ file_named old any) → IsUpdated name kept new was now
     → IsUpdated name old new was now

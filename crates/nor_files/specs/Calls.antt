@@ -85,7 +85,8 @@ Places name (Err _) old new = KeepsFile name old new
 -- ---- changing
 
 -- `has` is a mix of the old bytes `had` and the written `bytes`: each byte is from one of the two, in any combination.
--- Past the end of either list the byte from there is 0. The length is from that of `had` to that of the longer list.
+-- Past the end of either list the byte from there is 0. The length is at least that of `had`, and at most that of the
+-- longer of the two lists.
 pub record IsMixed (had bytes has : List ℕ) : Type 0 where
   pub shortest : length had ≤ length has
   pub longest : length has ≤ max (length had) (length bytes)

@@ -65,8 +65,8 @@ MayBe [] seen left = left ≡ seen
 MayBe (step ∷ earlier) seen left = (left ≡ seen) ⊎ (MayBe earlier (content_found step.before) left
     ⊎ Becomes step.change (MayBe earlier (content_found step.before)) left)
 
--- a content that may be left; with `true` a host crash may remove the file, so it may be missing; with `false` it
--- exists if and only if a read finds it
+-- A content that may be left. With `true` a host crash may remove the file, so the file may be missing. With `false`
+-- the file is left if and only if a read finds it now.
 abbrev pub OrMissing : Bool → Type 0 → (seen left : Found) → Type 0
 OrMissing true May seen left = (left ≡ None) ⊎ May
 OrMissing false May seen left = (is_some left ≡ is_some seen) × May

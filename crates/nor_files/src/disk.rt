@@ -18,8 +18,9 @@ use std::{fs, io};
 /// The system's files, through the runtime. Contracts know nothing about them: that each call works on the named file
 /// and obeys the contract of `Store` is assumed, and tested.
 ///
-/// Files opened by `hold` and `share` stay open and locked until the store is dropped. Each later call on the same name
-/// works on the file that was opened and locked, even if the name refers to another file by then.
+/// Files opened by `hold` and `share` stay open and locked until the store is dropped. A later `read_named`, `sync`,
+/// `write_over` or `set_len` of the same name works on the file that was opened and locked, even if the name refers to
+/// another file by then.
 #[derive(Drop)]
 pub struct Disk<'a, R: Files> {
     files: &'a R,
@@ -189,8 +190,8 @@ where
     }
 }
 
-/// Reads the rest of `file`, but not more than `most` bytes. If the file reports its length, memory for that many bytes
-/// is allocated at once.
+/// Reads the rest of `file`, but not more than `most` bytes. If the file reports its length, memory for this length, or
+/// for `most` bytes if that is less, is allocated at once.
 pub fn read_up_to<F: Read + OpenFile + Drop>(
     alloc: Global,
     file: F,

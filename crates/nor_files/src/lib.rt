@@ -22,7 +22,7 @@
 //! - `making.rt`: creating and truncating the system's files; `VaultedFile`, the file that a vault writes to
 //! - `folder.rt`: syncing a directory
 //! - `identity.rt`: whether two names refer to one of the system's files
-//! - `memory.rt`: `Memory`, files in memory that obey the contract, and fail after a given number of calls
+//! - `memory.rt`: `Memory`, files in memory that obey the contract, and on which only a given number of calls succeed
 //! - `stored.rt`: one file in memory, and what a host crash may leave of it
 //!
 //! `specs/Files.antt` has the state that contracts see, `specs/Calls.antt` the effect of each call.

@@ -107,7 +107,8 @@ impl Memory {
         self.files.iter().position(|file| file.is_named(name))
     }
 
-    // Returns the index of the named file. Fails with `NotFound` if it is missing, or a vault or log in it is borrowed.
+    // Returns the index of the entry for the named file. Fails with `NotFound` if the file is missing, or if a vault or
+    // log in it is borrowed.
     fn find(&self, name: &str) -> io::Result<usize>
         ensures { IfOk result (λ at. position (is_named name.now) self.now.files.items ≡ Some at) }
     {

@@ -213,8 +213,8 @@ pub trait Store: AllocGlobal {
             → SetsLength name.now len result (state self.old) (state self.new) }
         ensures fails { OnErr result ((state self.old).view.nature.fails (Unwritten name.now) ≡ true) };
 
-    /// Creates the named file, which must not exist, empty. A host crash may remove it again until its directory is
-    /// synced. On lawful files, a failure leaves the file as it was.
+    /// Creates the named file, which must not exist; the new file is empty. A host crash may remove it again until its
+    /// directory is synced. On lawful files, a failure leaves the file as it was.
     fn make(&mut self, name: &str) -> io::Result<()>
         ensures nature { (state self.new).view.nature ≡ (state self.old).view.nature }
         ensures alone { is_lawful (state self.old).view ≡ true
