@@ -77,7 +77,8 @@ without_spaces-taken (b ∷ spaces) name blank all = grind (arith, nat_tests, wi
 
 -- ---- lines
 
--- an address doesn't contain a byte that is neither a hexadecimal digit nor `x`, for example `:` or a space
+-- an address consists of hexadecimal digits (`digits_lack`) and an optional `0x`, so it contains no other byte, such as
+-- `:` or a space (`address_lacks`)
 digits_lack : (byte : ℕ) → is_hex_digit byte ≡ false → (digits : List ℕ) → list_all is_hex_digit digits ≡ true
     → lacks byte digits ≡ true
 digits_lack byte other [] all = refl
@@ -102,7 +103,7 @@ line_says-taken line region is =
     let forward = le-ltb region.end region.start is.forward in
     rw (is.line_is, first, second, third, start, end, forward, is.named) refl
 
--- if a line defines a region, an optional part without which it would define none is there
+-- if a line defines a region, and would define none without an optional part, it has that part
 some_of : {A : Type 0} (P : A → Type 0) (o : Option A) (gives : Option A → Result Region LineFault) (region : Region)
     → IfSome o P → ¬ (gives None ≡ Ok region) → gives o ≡ Ok region → (x : A) × P x × (gives (Some x) ≡ Ok region)
 some_of P o gives region is none e = grind arith

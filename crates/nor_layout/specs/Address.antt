@@ -2,7 +2,7 @@
 use Rattle.std.specs.Prelude.{ℕ, ◌+◌, ◌-◌, ◌*◌, ◌^◌, Bool, ◌&&◌, ◌||◌, ◌==◌, nat_le, if◌then◌else◌, List, [], ◌∷◌, length, Option, Some, None}
 use Rattle.std.specs.List.{list_all}
 
--- 0 to 9, A to F, a to f
+-- true for the characters 0 to 9, A to F and a to f
 abbrev pub is_hex_digit : ℕ → Bool
 is_hex_digit byte =
     (nat_le 48 byte && nat_le byte 57) || (nat_le 65 byte && nat_le byte 70)

@@ -19,7 +19,7 @@ layout_fault_number TooMany = 6
 layout_fault_number Memory = 7
 layout_fault_number NoRegion = 8
 
--- the number of the line that has the fault
+-- the number of the line that has the fault, or None if the fault isn't in one line
 abbrev pub line_of_fault : LayoutFault → Option ℕ
 line_of_fault (InLine line fault) = Some line
 line_of_fault TooMany = None

@@ -11,12 +11,13 @@ is_in_span span address = nat_le span.first address && nat_le address span.last
 abbrev pub contains : (spans : List Span) → (address : ℕ) → Bool
 contains spans address = list_any (λ span. is_in_span span address) spans
 
--- True if at least one address is between the span and the first of the following spans.
+-- True if at least one address is between the span and the first of the following spans, if there is one.
 abbrev pub IsApartFrom : Span → List Span → Type 0
 IsApartFrom span [] = ⊤
 IsApartFrom span (next ∷ spans) = span.last + 1 < next.first
 
--- True if the spans are in ascending order, and at least one address is between each two.
+-- True if no span ends before it begins, the spans are in ascending order, and at least one address is between each
+-- two.
 abbrev pub AreDisjoint : List Span → Type 0
 AreDisjoint [] = ⊤
 AreDisjoint (span ∷ spans) = (span.first ≤ span.last) × IsApartFrom span spans × AreDisjoint spans

@@ -54,6 +54,6 @@ abbrev pub first_of : Option Span → Span → Option Span
 first_of None span = Some span
 first_of (Some next) span = if nat_le next.first span.first then Some next else Some span
 
--- `span` if it reaches the address `done` and begins before `next`, or if there is no `next`; else `next`
+-- `span` if it reaches the address `done`, and either begins before `next` or there is no `next`; else `next`
 abbrev pub sooner : Option Span → Span → (done : ℕ) → Option Span
 sooner next span done = if nat_lt span.last done then next else first_of next span

@@ -46,7 +46,7 @@ pub fn reaches_past(included: Option<&Ranges>, size: u32) -> bool
     }
 }
 
-/// Copies the bytes of sector number `sector` that aren't included from `other` to `bytes`.
+/// Copies from `other` to `bytes` those bytes of sector number `sector` that aren't included.
 ///
 /// Both slices must have 4,096 bytes. The included bytes of `bytes` don't change. If `bytes` has the sector's bytes of
 /// an image and `other` those of a chip, `bytes` then has the target of a write (`merged_byte`).

@@ -55,7 +55,7 @@ fn are_known(regions: &[Region], names: &[u8]) -> bool
         .all(|name| is_named(regions, name))
 }
 
-/// AddsRegion the region of line `number` to `regions`, or nothing if the line is empty.
+/// Adds the region of line `number` to `regions`, or nothing if the line is empty.
 ///
 /// Returns a fault of the line, or `TooMany` if there are 64 regions already, or `Memory` if an allocation fails.
 #[tactic(auto, unfolding(crate::specs::Text::with_line))]
@@ -100,7 +100,8 @@ impl Layout {
         ensures exact { ReadsLayout result (layout_says text.now) }
         ensures asks { IfErr result (λ fault. fault ≡ LayoutFault.Memory → AsksMemory text.now) }
 
-        // A layout that is returned is in the grammar. A text in the grammar is read, except if memory runs out.
+        // If a layout is returned, the text is in the grammar, with these regions. A text in the grammar is read,
+        // except if memory runs out.
         ensures found { IfOk result (λ layout. IsLayout text.now layout) }
         ensures taken { (regions : List Region) → IsLayout text.now regions → ReadsLayout result (Ok regions) }
     {

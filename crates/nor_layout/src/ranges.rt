@@ -68,7 +68,7 @@ fn has_backwards(spans: &[Span]) -> bool
     spans.iter().any(|span| span.last < span.first)
 }
 
-// Returns `span` if it reaches the address `done` and begins before `next`, or if there is no `next`; else `next`.
+// Returns `span` if it reaches the address `done`, and either begins before `next` or there is no `next`; else `next`.
 fn sooner(next: Option<Span>, span: &Span, done: u64) -> Option<Span>
     ensures { result ≡ sooner next span.now done }
 {
@@ -206,7 +206,7 @@ impl Ranges {
         PlacesIn::new(self.spans(), sector)
     }
 
-    /// Copies the bytes of sector number `sector` whose addresses aren't in the set from `other` to `bytes`.
+    /// Copies from `other` to `bytes` those bytes of sector number `sector` whose addresses aren't in the set.
     ///
     /// Both slices must have 4,096 bytes. The other bytes of `bytes` don't change.
     pub(crate) fn fill_excluded(&self, sector: u32, bytes: &mut [u8], other: &[u8])
