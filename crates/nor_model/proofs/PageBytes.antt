@@ -17,7 +17,7 @@ last_for-apart at (byte ∷ sent) a apart =
     let later = last_for-apart (at + 1) sent a (λ i small same. apart (suc i) (omega arith) (omega arith)) in
     rw (later, ne_eqb (at % 256) (a % 256) (λ same. apart 0 (omega arith) (omega arith))) refl
 
--- the byte at index `i` is the last one sent for its address if at most 256 bytes follow from there
+-- the byte at index `i` is the last one sent for its address if at most 256 bytes are sent from index `i` on
 pub last_for-at : (at : ℕ) (sent : List ℕ) (a i : ℕ) → i < length sent → length sent ≤ i + 256
     → (at + i) % 256 ≡ a % 256 → last_for at sent a ≡ Some (slice_index sent i)
 unfolding last_for

@@ -5,7 +5,7 @@ use Rattle.std.proofs.lemmas.Bool.Decides.{nat_tests}
 use Rattle.std.proofs.lemmas.Nat.{and_le_r, and_mask, or_comm, or_disjoint, or_lt, or_shifted}
 use Rattle.std.proofs.lemmas.Nat.Bits.{and_high, and_pow}
 
--- setting WEL or BUSY in a byte in which it is clear adds its value
+-- setting WEL in a byte in which WEL and BUSY are clear, or BUSY in a byte in which BUSY is clear, adds the bit's value
 pub or_latch : (n : ℕ) → n % 4 ≡ 0 → bit_or n 2 ≡ n + 2
 or_latch n clear = or_disjoint n 2 (omega (arith, and_pow n 1))
 

@@ -17,11 +17,11 @@ pub record BusState : Type 0 where
   pub left : ℕ
   -- the bus obeys the contract of a bus
   pub honest : Bool
-  -- the modifying commands that were sent, or that the bus was asked to send
+  -- the record of the transactions that may modify a chip, and that were sent or that the bus was asked to send
   pub sent : Sent
   -- the sectors that were erased
   pub worn : ℕ → Bool
-  -- a stop sends no byte of its transaction and keeps the chip's power, so it leaves the chip as it was
+  -- a stop of the honest bus sends no byte of its transaction and keeps the chip's power, so the chip stays as it was
   pub steady : Bool
   -- the bus takes transactions of any length
   pub unlimited : Bool
@@ -36,8 +36,8 @@ pub record KeepsNature (old new : BusState) : Type 0 where
   pub unlimited : new.unlimited ≡ old.unlimited
   pub config : old.honest ≡ true → new.chip.config ≡ old.chip.config
 
--- The bus is honest, and takes a transaction that sends `out` and reads `replies` bytes: the bus is unlimited, or the
--- transaction sends at most 260 bytes (a page program) and reads at most 4,096 (a sector).
+-- The bus is honest, and takes a transaction that sends `out` and reads `replies` bytes. An unlimited bus takes every
+-- transaction, any other bus those that send at most 260 bytes (a page program) and read at most 4,096 (a sector).
 pub record IsHonestFor (out : List ℕ) (replies : ℕ) (bus : BusState) : Type 0 where
   pub honest : bus.honest ≡ true
   pub fits : (bus.unlimited ≡ true) ⊎ ((length out ≤ 260) × (replies ≤ 4096))
@@ -80,7 +80,7 @@ pub record Carries (out answer : List ℕ) (old new : BusState) : Type 0 where
   pub step : Step old.chip out answer new.chip
   pub worn : (s : ℕ) → new.worn s ≡ (old.worn s || wears (done_of old.chip out (length answer)) s)
 
--- The effect of `allow`: if the bus is honest, `n` transactions are left. Nothing else changed.
+-- The effect of `allow`: `n` transactions are left if the bus is honest. Nothing except `left` changed.
 pub record Allows (n : ℕ) (old new : BusState) : Type 0 where
   pub chip : new.chip ≡ old.chip
   pub left : old.honest ≡ true → new.left ≡ n

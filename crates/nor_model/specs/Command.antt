@@ -48,13 +48,14 @@ command_of config (opcode ∷ x ∷ y ∷ z ∷ fifth ∷ []) replies =
 command_of config (opcode ∷ x ∷ y ∷ z ∷ fifth ∷ sixth ∷ rest) replies =
     if opcode == 0x02 && replies == 0 then Program (address_of config x y z) else Ignored
 
--- true for the quiet opcodes: those that read, and write disable (04h), which only clears the write enable latch
+-- true for the quiet opcodes: the six with which the model reads, and write disable (04h), which only clears the write
+-- enable latch
 abbrev pub is_quiet_opcode : (opcode : ℕ) → Bool
 is_quiet_opcode opcode =
     opcode == 0x03 || opcode == 0x04 || opcode == 0x05 || opcode == 0x35
     || opcode == 0x4B || opcode == 0x5A || opcode == 0x9F
 
--- true for the opcodes of an erase
+-- true for the model's four opcodes of an erase
 abbrev pub is_erase_opcode : (opcode : ℕ) → Bool
 is_erase_opcode opcode = opcode == 0x20 || opcode == 0x52 || opcode == 0xD8 || opcode == 0xC7
 

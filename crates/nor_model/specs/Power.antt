@@ -51,9 +51,9 @@ is_interrupted chip a = not (chip.busy == 0) && is_known_running chip.running &&
 abbrev pub kept_before : Chip → KeptBits
 kept_before chip = elim chip.running [ StatusWrite one two ↦ record { one = one; two = two } | _ ↦ chip.kept ]
 
--- The power failure of a simulated chip. If it was busy, each byte that its operation worked on is `fill`; a status
--- write was undone if `fill` is even, and completed if it is odd. If the chip was idle or its operation is unknown,
--- bytes and non-volatile bits are as they were.
+-- The power failure of a simulated chip. If the chip was busy, each byte that its operation worked on is `fill`; a
+-- status write was undone if `fill` is even, and completed if it is odd. If the chip was idle or its operation is
+-- unknown, bytes and non-volatile bits are as they were.
 pub record PowerLostWith (fill : ℕ) (old new : Chip) : Type 0 where
   pub config : new.config ≡ old.config
   pub latch : new.latch ≡ false

@@ -45,8 +45,8 @@ is_in_targeted target_sectors s = nat_le target_sectors.first s && nat_lt s (tar
 abbrev pub targets : (out : List ℕ) → ℕ → Bool
 targets out s = is_in_targeted (targeted_by out) s
 
--- true if the transaction begins with the opcode of an erase (`begins_erase`), of a page program (`begins_program`), of
--- a status write (`begins_status_write`)
+-- true if the transaction begins with the opcode of an erase (`begins_erase`), of a page program (`begins_program`) or
+-- of a status write (`begins_status_write`)
 abbrev pub begins_erase : (out : List ℕ) → Bool
 begins_erase [] = false
 begins_erase (opcode ∷ rest) = is_erase_opcode opcode
@@ -64,9 +64,9 @@ abbrev pub writes_status : (out : List ℕ) → (one two : ℕ) → Bool
 writes_status (opcode ∷ x ∷ y ∷ []) one two = opcode == 0x01 && x == one && y == two
 writes_status _ one two = false
 
--- True if the model does not know the transaction. The model knows each transaction with a quiet opcode, and each that
--- has the form of a modifying command. A real chip may carry out others: 60h erases the chip, 31h writes status 2, and
--- 01h with one byte clears status 2.
+-- True if the model does not know the transaction. The model knows each transaction that sends nothing, that begins
+-- with a quiet opcode, or that has the form of a modifying command. A real chip may carry out others: 60h erases the
+-- chip, 31h writes status 2, and 01h with one data byte clears bits of status 2.
 abbrev pub is_unknown_to_model : (out : List ℕ) → Bool
 is_unknown_to_model out = not (begins_quiet out || is_change out)
 

@@ -43,8 +43,9 @@ reply_byte chip (ReadSfdp at) i = sfdp_byte chip.config (at + i)
 reply_byte chip ReadUnique i = slice_index_or chip.config.unique i 255
 reply_byte chip _ i = 255
 
--- The last byte sent for the address `a` of the page of `at`, or `None` if none is. The first byte sent is for the
--- address `at`, each further one for the next address; after the last address of the page comes its first one.
+-- The last byte sent for the address `a` of the page of `at`, or `None` if no byte is sent for it. The first byte sent
+-- is for the address `at`, each further one for the next address; after the last address of the page comes its first
+-- one.
 unfoldable pub last_for : (at : ℕ) → (sent : List ℕ) → (a : ℕ) → Option ℕ
 last_for at [] a = None
 last_for at (byte ∷ sent) a = elim (last_for (at + 1) sent a) [
@@ -107,7 +108,7 @@ running_after chip (Program at) = Runs.Program (at / 256)
 running_after chip (Erase start len) = Runs.Erase start len
 running_after chip _ = chip.running
 
--- The effect of a command that is carried out: its reply, and the chip after it.
+-- The effect of a command that is carried out, or of `Ignored`: its reply, and the chip after it.
 pub record Does (command : Command) (sent : List ℕ) (old : Chip) (answer : List ℕ) (new : Chip) : Type 0 where
   pub replies : (i : ℕ) → i < length answer → slice_index answer i ≡ reply_byte old command i
   pub config : new.config ≡ old.config

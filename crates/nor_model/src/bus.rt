@@ -5,7 +5,8 @@ ghost use Rattle.nor_model.specs.Bus.{BusState, IsHonestFor, Sends, Stops, Carri
 
 use std::fmt;
 
-/// The bus did not carry out the whole transaction: its power failed, or its allowance was used up.
+/// The bus did not carry out the whole transaction, for example because its connection or its power failed, or because
+/// its allowance was used up.
 #[derive(Clone, Copy, Debug, PartialEq, Eq)]
 pub struct Stopped;
 
@@ -28,9 +29,9 @@ impl std::error::Error for Stopped {}
 /// first bytes of the transaction (none, some or all) and have read bytes of the reply, which are lost. The chip may
 /// then have lost its power.
 ///
-/// A faulty bus, which isn't honest, may do anything else, but `sends` and `records_poll` hold for it too. It stays honest or
-/// not, steady or not and unlimited or not; it records each transaction that may modify a chip; and `polled_ready` follows the
-/// replies to its polls.
+/// A faulty bus, which isn't honest, may do anything else, but `sends` and `records_poll` hold for every bus. No call
+/// changes whether a bus is honest, steady or unlimited. Every bus records each transaction that may modify a chip, and
+/// `polled_ready` follows the replies to its polls.
 pub trait Bus {
     ghost state: { Self → BusState };
 

@@ -117,7 +117,7 @@ pub(crate) fn is_quiet(out: &[u8]) -> bool
 }
 
 /// Returns whether `out` has the form of a modifying command: one of the seven opcodes, followed by the number of bytes
-/// that its command takes.
+/// that its command takes (02h: an address and at least one byte).
 pub(crate) fn is_change(out: &[u8]) -> bool
     ensures { result ≡ is_change out.now }
 {

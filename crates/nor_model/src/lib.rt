@@ -11,7 +11,7 @@
 //! ```
 //!
 //! `specs/` defines what the chip does at each transaction (`Chip`, `Guard`, `Command`, `Step`) and the contract of a
-//! bus (`Bus`). The crates above describe chips only by these definitions.
+//! bus (`Bus`). The crates that depend on this one describe chips only by these definitions.
 //!
 //! - `bus.rt`: the traits `Bus` and `Meter`, and the error `Stopped`
 //! - `config.rt`: the properties of a chip that never change; the three emulated chips
@@ -20,7 +20,7 @@
 //! - `guard.rt`: the ranges that block protection protects
 //! - `guard/walk.rt`: an iterator over the ranges that can be protected
 //! - `running.rt`: the operation that a busy chip carries out
-//! - `sent.rt`: records which modifying commands were sent over a bus
+//! - `sent.rt`: records the transactions over a bus that may modify a chip
 //! - `polled_ready.rt`: records whether the last poll showed that the chip is ready
 #![tactic(auto)]
 

@@ -5,10 +5,14 @@ ghost use Rattle.nor_model.specs.Sent.{targeted_by, bare_targeted, addressed_tar
 use crate::command::{is_change, is_changing, is_quiet};
 use crate::{MOST_SECTORS, SECTOR_LEN};
 
-/// The record of the transactions that a bus sent, or was asked to send, and that may modify a chip. It contains
-/// whether a modifying opcode was sent; whether a transaction was sent that the model does not know; which sectors
-/// erases and programs targeted; which bytes status writes had; and the numbers of erases, programs and status writes.
-/// A bus has one record, and notes each transaction in it before it sends anything.
+/// The record of the transactions that a bus sent, or was asked to send, and that may modify a chip. A bus has one
+/// record, and notes each transaction in it before it sends anything. The record contains:
+///
+/// - whether a modifying opcode was sent
+/// - whether a transaction was sent that the model does not know
+/// - which sectors erases and programs targeted
+/// - which bytes status writes had
+/// - the numbers of erases, programs and status writes
 #[derive(Drop)]
 pub struct Sent {
     stirred: bool,

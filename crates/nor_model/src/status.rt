@@ -131,7 +131,7 @@ impl Status2 {
     // The non-volatile bits that are not protection bits.
     const FIXED: Status2 = Status2(Self::KEPT.0 & !Self::CODE.0);
 
-    // The bits that a status write sets as sent.
+    // The bits that take the value that a status write sends.
     const WRITTEN: Status2 = Status2(Self::SRP1.0 | Self::QE.0 | Self::CMP.0);
 
     // The one-time programmable bits: a status write can set them but not clear them.
