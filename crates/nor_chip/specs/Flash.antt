@@ -18,8 +18,8 @@ chip_of flash = record {
   running = flash.running;
 }
 
--- An operation begins: the chip is busy for the given number of polls. Its latch is set, unless that number is 0.
--- Bytes, configuration and non-volatile bits are as they were.
+-- An operation begins: the chip is busy for the given number of polls. The write enable latch is clear if that number
+-- is 0, otherwise set. Bytes, configuration and non-volatile bits are as they were.
 pub record Begins (runs : Running) (polls : ℕ) (old new : Chip) : Type 0 where
   pub config : new.config ≡ old.config
   pub bytes : (a : ℕ) → new.bytes a ≡ old.bytes a
@@ -28,9 +28,10 @@ pub record Begins (runs : Running) (polls : ℕ) (old new : Chip) : Type 0 where
   pub running : new.running ≡ runs
   pub latch : new.latch ≡ not (new.busy == 0)
 
--- The operation in progress was interrupted. Each byte that it works on is `fill`, and all other bytes are as they
--- were. A status write was undone if `fill` is even; otherwise the non-volatile bits are as they were. An unknown
--- operation changed nothing.
+-- The operation in progress was interrupted. Each byte that a program or an erase works on is `fill`, and all other
+-- bytes are as they were. With an even `fill` a status write was undone: the non-volatile bits are those from before
+-- it. With an odd `fill` it is complete: the non-volatile bits keep the values that it wrote. Any other operation
+-- leaves these bits as they were.
 pub record CutsOff (fill : ℕ) (old new : Chip) : Type 0 where
   pub config : new.config ≡ old.config
   pub bytes : (a : ℕ)

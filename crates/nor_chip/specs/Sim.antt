@@ -9,8 +9,8 @@ use Rattle.nor_model.specs.Power.{PowerLostWith}
 use Rattle.nor_model.specs.Step.{Step, is_operation, done_of, wears}
 use Rattle.nor_model.specs.Bus.{BusState}
 
--- The state of a simulated bus. It is always honest, and takes transactions of any length. It is steady if neither
--- `lose` nor `tear` set an effect of a stop.
+-- The state of a simulated bus. The bus is always honest, and takes transactions of any length. The bus is steady if
+-- and only if the settings of `lose` and `tear` are both `None`.
 abbrev pub sim_state : SimBus → BusState
 sim_state bus = record {
   chip = chip_of bus.flash;
@@ -60,8 +60,8 @@ abbrev pub WornTo : (torn : Option ℕ) → (out : List ℕ) → Chip → (old n
 WornTo None out chip old new = (s : ℕ) → new s ≡ old s
 WornTo (Some count) out chip old new = (s : ℕ) → new s ≡ (old s || wears (done_of chip (take count out) 0) s)
 
--- The effect of a stop on the chip: `torn` sets how many bytes of the transaction it carries out, and `fill` whether
--- and how it then loses its power.
+-- The effect of a stop on the chip: `torn` sets how many bytes of the transaction are sent to the chip, and `fill`
+-- whether and how the chip then loses its power.
 pub record TearsOff (torn fill : Option ℕ) (out : List ℕ) (old new : Chip) : Type 0 where
   pub reached : Chip
   pub torn_off : TornTo torn out old reached

@@ -58,15 +58,15 @@ pub record IsWithheld {B : Type 0} (byte : ℕ) (asked answer : List ℕ) (outco
   pub replies : answer ≡ replicate (length asked) byte
 
 -- The transaction was passed on to the bus inside. Each reply byte is `byte_for` of the byte that the bus inside
--- replied. If that bus is honest, it carried the transaction out.
+-- replied. If that bus is honest and takes a transaction of this length, it carried the transaction out.
 pub record IsPassedOn (byte_for : ℕ → ℕ) (out asked answer : List ℕ) (old new : BusState) : Type 0 where
   pub replied : List ℕ
   pub as_many : length answer ≡ length replied
   pub replies : (i : ℕ) → i < length answer → slice_index answer i ≡ byte_for (slice_index replied i)
   pub inner : IsHonestFor out (length asked) old → Carries out replied old new
 
--- A transaction that is passed on succeeds (`IsPassedOn`), or the bus inside stops. At a stop of an honest bus inside,
--- the reply is as it was.
+-- A transaction that is passed on succeeds (`IsPassedOn`), or the bus inside stops. If that bus is honest and takes a
+-- transaction of this length, a stop leaves the reply as it was, and the chip as `Stops` allows.
 abbrev pub GoesThrough : (ℕ → ℕ) → (out asked answer : List ℕ) → Result Unit Stopped → (old new : BusState) → Type 0
 GoesThrough byte_for out asked answer (Ok done) old new = IsPassedOn byte_for out asked answer old new
 GoesThrough byte_for out asked answer (Err stopped) old new =

@@ -13,7 +13,7 @@ use nor_model::{Bus, Meter, Sent, Stopped, polled_ready_after};
 pub enum Spoil {
     /// No transaction is carried out, and each reply byte is this one.
     Fill(u8),
-    /// From the transaction with this number, bit 0 (BUSY) is set in each byte that a poll replies.
+    /// From the transaction with this number on, bit 0 (BUSY) is set in each reply byte of a poll.
     BusyFrom(u64),
     /// The transaction with this number isn't carried out, and each of its reply bytes is FFh.
     Drop(u64),

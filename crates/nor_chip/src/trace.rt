@@ -18,7 +18,7 @@ const PIECE: usize = 64;
 /// A transaction at which the bus inside stops has no line, even if some or all of its bytes were sent to the chip
 /// before it was cut.
 ///
-/// It allocates no memory and buffers nothing. If each write costs a system call, use a log with a buffer, such as
+/// The bus allocates no memory and buffers nothing. If each write costs a system call, use a log with a buffer, such as
 /// `BufWriter`.
 #[derive(Drop)]
 pub struct TraceBus<B, L> {

@@ -194,8 +194,9 @@ impl Flash {
         self.busy = 0;
     }
 
-    // Interrupts the running operation. Each byte that a program or erase works on becomes `fill`; a status write is
-    // undone if `fill` is even. An unknown operation changes nothing.
+    // Interrupts the running operation. Each byte that a program or erase works on becomes `fill`. A status write is
+    // undone if `fill` is even; if `fill` is odd, the status bits keep the values that it wrote. If the operation is
+    // unknown, bytes and status bits stay.
     fn cut(&mut self, fill: u8)
         ensures cut { CutsOff fill (chip_of self.old) (chip_of self.new) }
         ensures pace { self.new.each ≡ self.old.each }
