@@ -63,7 +63,8 @@ named unit sector x y z names below s is =
     let first : 0 ≡ sector / 4096 * 4096 = omega (arith, below) in
     grind (arith, nat_tests)
 
--- the result of an erase command, if its range is an erase block that the chip may have
+-- after a write enable, the chip carries out an erase of an erase block if it is idle, has the erase type and protects
+-- no address of the block
 erased_where : (chip : Chip) (has : Bool) (start start' len len' : ℕ) → start ≡ start' → len ≡ len'
     → (let command = cond has (Commands.Erase start len) Commands.Ignored in
     cond (is_carried_out (record chip { latch = true }) command) command Commands.Ignored)

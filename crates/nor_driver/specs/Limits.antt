@@ -63,7 +63,8 @@ pub record SendsExactly (erases programs status_writes : ℕ) (old new : BusStat
   pub programmed : CountsUp programs (programs_of old.sent) (programs_of new.sent)
   pub wrote_status : CountsUp status_writes (status_writes_of old.sent) (status_writes_of new.sent)
 
--- At every exit of an operation, on every bus: a modifying opcode was sent, and nothing beyond these limits.
+-- At every exit of an operation, on every bus: the bus was asked to send a modifying opcode, and nothing beyond these
+-- limits.
 pub record Stirs (limits : Limits) (old new : BusState) : Type 0 where
   pub nature : KeepsNature old new
   pub stirred : is_stirred new.sent ≡ true

@@ -49,8 +49,9 @@ abbrev pub ChangesOnly : Bool → (ℕ → Bool) → (wanted old new : ℕ → �
 ChangesOnly steady places wanted old new =
     (a : ℕ) → (new a ≡ old a) ⊎ ((places a ≡ true) × (steady ≡ true → new a ≡ wanted a))
 
--- On an honest bus, an operation that the chip ignored has ended. Only the write enable latch may have changed. It is
--- set if the chip was idle before, and clear if the chip was busy with another operation, which has ended too.
+-- On an honest bus, an operation that the chip ignored has ended. Bytes, non-volatile bits and erased sectors are as
+-- they were. The write enable latch is set if the chip was idle before, and clear if the chip was busy with another
+-- operation, which has ended too.
 pub record HasIgnored (old new : BusState) : Type 0 where
   pub same : IsSame old.chip new.chip
   pub worn : (s : ℕ) → new.worn s ≡ old.worn s

@@ -33,9 +33,9 @@ is_sector_of at s = is_in_targeted (block_targeted 1 (at / 4096)) s
 abbrev pub is_in_page : (at a : ℕ) → Bool
 is_in_page at a = a / 256 == at / 256
 
--- On an honest bus, at every exit: bytes outside the page, non-volatile bits and erased sectors are as they were. In
--- the page each byte is as it was or as programmed; if the bus isn't steady, it may have any value. A chip that is
--- still busy executes this program.
+-- On an honest bus, at every exit of a program that the chip can carry out: bytes outside the page, non-volatile bits
+-- and erased sectors are as they were. On a steady bus each byte in the page is as it was or as programmed; on any
+-- other bus it may have any value. A chip that is still busy executes this program.
 pub record MayProgram (at : ℕ) (sent : List ℕ) (old new : BusState) : Type 0 where
   pub config : new.chip.config ≡ old.chip.config
   pub bytes : ChangesOnly old.steady (is_in_page at) (programmed at sent old.chip.bytes) old.chip.bytes new.chip.bytes

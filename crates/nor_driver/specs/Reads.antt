@@ -57,7 +57,8 @@ pub record IsSectorOf (content : ℕ → ℕ) (sector : ℕ) (bytes : List ℕ) 
   pub byte : (i : ℕ) → i < 4096 → slice_index bytes i ≡ content (4096 * sector + i)
 
 -- The results of reads of the ID, status 2, the unique ID and SFDP bytes. On an honest bus each read leaves the chip as
--- it was, and returns the chip's bytes if the chip is idle. Status 2 is also that of a busy chip.
+-- it was, and returns the chip's bytes if the chip is idle. The read of status 2 returns the chip's byte even if the
+-- chip is busy.
 pub record ReadsId (old new : BusState) (id : List ℕ) : Type 0 where
   pub read : old.honest ≡ true → HasRead old new
   pub returned : old.honest ≡ true → old.chip.busy ≡ 0 → id ≡ id_of old.chip.config

@@ -35,8 +35,9 @@ pub record CanWriteStatus (status : Status) (chip : Chip) : Type 0 where
 abbrev pub takes_status : Chip → Bool
 takes_status chip = is_idle chip && not (is_locked chip.kept)
 
--- On an honest bus, at every exit: bytes and erased sectors are as they were. The non-volatile bits are as they were,
--- or differ by having the protection bits of `code`. A chip that is still busy executes this status write.
+-- On an honest bus, at every exit of a status write that the chip can carry out: bytes and erased sectors are as they
+-- were. The non-volatile bits are as they were, or have the protection bits of `code` and are otherwise as they were. A
+-- chip that is still busy executes this status write.
 pub record MayWriteStatus (code : ℕ) (old new : BusState) : Type 0 where
   pub config : new.chip.config ≡ old.chip.config
   pub bytes : (a : ℕ) → new.chip.bytes a ≡ old.chip.bytes a
