@@ -6,15 +6,15 @@ use Rattle.nor_geometry.specs.Below.{any_below, count_below}
 use Rattle.nor_geometry.proofs.Below.{any_below-some}
 use Rattle.nor_geometry.proofs.Counting.{any_below-all, count_below-same}
 
--- `verdict` equals `any_below` if true is returned only with a number below n that passes, and false only if all
--- numbers below n fail
+-- `verdict` equals `any_below` if it is true only if some number below n passes, and false only if all numbers below n
+-- fail
 pub any_below-decided : (n : ℕ) (verdict : Bool) (test : ℕ → Bool) (P Q : ℕ → Type 0) → ((k : ℕ) → P k → test k ≡ true) → ((k : ℕ) → Q k → test k ≡ false)
     → MatchBool verdict ((k : ℕ) × (k < n) × P k) ((k : ℕ) → k < n → Q k) → verdict ≡ any_below n test
 any_below-decided n true test P Q passes fails some = sym (any_below-some n some.0 test some.1 (passes some.0 some.2))
 any_below-decided n false test P Q passes fails none = sym (any_below-all n test (λ k below. fails k (none k below)))
 
--- if `q` accepts k, which is below n and which `p` rejects, and otherwise the same numbers as `p`, the count of `q` is
--- greater by 1
+-- if k is below n, `p` rejects k, and `q` accepts k and the numbers that `p` accepts, then the count of `q` is greater
+-- by 1 than that of `p`
 pub count_below-insert : (n k : ℕ) (p q : ℕ → Bool) → k < n → p k ≡ false → ((s : ℕ) → q s ≡ ((s == k) || p s)) → count_below n q ≡ count_below n p + 1
 unfolding count_below
 count_below-insert zero k p q below fails inserted = absurd (omega arith)
