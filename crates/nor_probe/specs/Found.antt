@@ -79,8 +79,8 @@ pub record Finds (old new : BusState) (found : Found) : Type 0 where
   pub status1 : found.status1 ≡ status1_of new.chip
   pub count : old.left ≡ new.left + needed old.chip
 
--- The chip found is known, and has the ID, size, erase types and block protection of this configuration. For a genuine
--- chip this follows from `shown_as config ≡ Ok (part_in found)`, which also gives the name.
+-- The configuration is that of a known chip, and the chip found has its ID, size, erase types and block protection. For
+-- a genuine chip this follows from `shown_as config ≡ Ok (part_in found)`, which also gives the name.
 pub record IsConfigOf (config : Config) (found : Found) : Type 0 where
   pub known : IsKnown config
   pub id : found.id ≡ id_of config

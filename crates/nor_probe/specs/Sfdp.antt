@@ -1,6 +1,6 @@
 -- The meaning of SFDP bytes: the header, the first parameter header, and double words 1, 2, 8 and 9 of the basic flash
 -- parameter table (JESD216). `header` has the eight bytes at 0, `first` the eight bytes of the first parameter header,
--- and `table` the 36 bytes at the address that it points to. Bits that no definition here uses are ignored.
+-- and `table` the 36 bytes at the address that `first` points to. Bits that no definition here uses are ignored.
 use Rattle.std.specs.Prelude.{ℕ, ◌==◌, ◌+◌, ◌-◌, ◌*◌, ◌/◌, ◌%◌, ◌^◌, nat_lt, nat_le, Bool, not, ◌&&◌, ◌||◌, if◌then◌else◌, List, [], ◌∷◌, ◌++◌, Result, Ok, Err, slice_index}
 use Rattle.byteorder.specs.Endian.{little_from}
 use Rattle.nor_model.specs.Size.{is_chip_size}

@@ -62,10 +62,10 @@ pub struct Probed {
 /// Identifies the chip on the bus. Waits until it is idle, with at most 65,536 polls (05h), reads its ID (9Fh) and, if
 /// the ID isn't in the table, its SFDP with three reads (5Ah). If `named` is given, the chip must have this name.
 ///
-/// On any bus a returned chip has the given name, and the last poll showed that it is ready. It is a row of the table,
-/// or was identified by SFDP and has a supported size. On a well-behaved bus (`honest`) it is what the chip shows about
-/// itself, the chip is idle, and its bytes and non-volatile status bits are unchanged. On a modelled bus its ID, size,
-/// erase types and block protection are those of the chip's configuration.
+/// On any bus a returned chip has the given name, if one is given, and the last poll showed that it is ready. It is a
+/// row of the table, or was identified by SFDP and has a supported size. On a well-behaved bus (`honest`) it is what
+/// the chip shows about itself, the chip is idle, and its bytes and non-volatile status bits are unchanged. On a
+/// modelled bus the returned ID, size, erase types and block protection are those of the chip's configuration.
 ///
 /// Returns `NoChip`, `UnknownChip` or `OtherName`, checked in this order; `Stopped` if the bus stopped; and `Timeout`
 /// if 65,536 polls showed BUSY, which doesn't occur on a well-behaved bus.
@@ -166,8 +166,8 @@ fn is_no_chip(id: [u8; 3]) -> bool
     id == [0xFF; 3] || id == [0; 3]
 }
 
-// Reads the SFDP, and returns the size and the erase types that it gives. On a well-behaved bus they are the chip's own
-// if it is idle.
+// Reads the SFDP, and returns the size and the erase types that it gives. On a well-behaved bus the SFDP is the chip's
+// own if the chip is idle.
 fn read_geometry<B: Bus>(bus: &mut B) -> Result<Geometry, ProbeFault>
     ensures leaves { OnlyReads 3 (B.state bus.old) (B.state bus.new) }
     ensures polled_ready { (B.state bus.new).polled_ready ≡ (B.state bus.old).polled_ready }
@@ -192,8 +192,8 @@ struct Parameters {
     table: [u8; 36],
 }
 
-// Reads the SFDP header, the first parameter header, and 36 bytes of the table that it points to. On a well-behaved bus
-// they are the chip's own if it is idle.
+// Reads the SFDP header, the first parameter header, and 36 bytes of the table that the parameter header points to. On
+// a well-behaved bus these bytes are the chip's own if the chip is idle.
 fn read_parts<B: Bus>(bus: &mut B) -> Result<Parameters, Stopped>
     ensures leaves { OnlyReads 3 (B.state bus.old) (B.state bus.new) }
     ensures polled_ready { (B.state bus.new).polled_ready ≡ (B.state bus.old).polled_ready }
