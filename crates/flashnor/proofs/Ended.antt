@@ -135,7 +135,7 @@ module _ (files after : FilesState) (words : List Text) where
       prints = prints;
     }
 
--- a run without memory for its arguments changed no file
+-- a run that had no memory for its arguments changed no file
 pub is_without_memory : (files : FilesState) (words : List Text) (out out' err err' : Option (List ℕ)) (ending : Ending)
     → HasPrinted (Err (end.Usage usage.Memory)) all_written out out' err err' ending → IsStatus files files words out out' err err' ending
 is_without_memory files words out out' err err' ending prints =

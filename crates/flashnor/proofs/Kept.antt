@@ -149,13 +149,13 @@ module _ (job : ChipJob) (held : Held) (s0 s1 s2 : FilesState) (bus bus' : BusSt
           idle = from.idle;
         }
 
-    -- the files stay from the locking of the chip's files to the end of the call
+    -- all files except the trace and the created one stay from the locking of the chip's files to the end of the call
     call_stays : (made : Option (Bor Text)) → StayApart job.programmer.trace made s1 s2 → (name : Text)
         → IsNot s0.view.nature job.programmer.trace name → IsNot s0.view.nature made name → KeepsFile name s1 s2
     call_stays made stay' name traced other =
         stay' name (not_after job.programmer.trace name nature1 traced) (not_after made name nature1 other)
 
-    -- the files stay from the end of the call on
+    -- all files except the chip's stay from the end of the call on
     last_stays : (name : Text) → IsNot s0.view.nature job.programmer.image name
         → IsNot s0.view.nature job.programmer.status name → KeepsFile name s2 s3
     last_stays name image status =

@@ -97,7 +97,7 @@ module _ {T E : Type 0} {name : Name} {had bytes : List ℕ} {a b : FilesState} 
 
 -- ---- the contents of a file that is created
 
--- the contents of a new file before it is overwritten: zero bytes, one more than `bytes` has
+-- the contents of a new file before it is overwritten: bytes of the value 0, one more than `bytes` has
 abbrev pub blank : List ℕ → List ℕ
 blank bytes = with_length (length bytes + 1) []
 
@@ -140,7 +140,7 @@ pub record IsChanged {T E : Type 0} (name : Name) (bytes content : List ℕ) (re
   pub seen : (one : T) → result ≡ Ok one → (had : List ℕ) → IsReadyFile name false had bytes old
       → new.view.seen name ≡ Some content
 
--- Holds if the file exists with this content, and a host crash may only lose its name.
+-- Holds if the file exists with this content, and a host crash leaves either this content or no file.
 pub record IsNew (name : Name) (bytes content : List ℕ) (old new : FilesState) : Type 0 where
   pub work : WorkOn name old new
   pub whole : length content ≡ length bytes → content ≡ bytes

@@ -109,6 +109,6 @@ passes_none bus modelled steady_or_idle = record {
   name = tt;
 }
 
--- a bus to which nothing was sent was only read
+-- a bus to which nothing was sent satisfies `OnlyReads`
 pub looks_none : (most : ℕ) (bus : BusState) → OnlyReads most bus bus
 looks_none most bus = looks_more 0 most bus bus (omega arith) (looks_at_none bus)

@@ -16,12 +16,12 @@ use Rattle.flashnor.proofs.Shown.{size_with}
 
 -- ---- files of the right length
 
--- if no file is named, the missing bytes stand for it
+-- if no file is named, the bytes are those that stand for a missing file
 pub of_none : (view : View) (name : Option (Bor Text)) (len : ℕ) (missing bytes : List ℕ) → name ≡ None
     → AreOfFile view name len missing bytes → bytes ≡ missing
 of_none view name len missing bytes none are = grind arith
 
--- if the file that is named was not found, the missing bytes stand for it
+-- if the file that is named was not found, the bytes are those that stand for a missing file
 pub of_gone : {view : View} {name : Option (Bor Text)} {len : ℕ} {missing bytes : List ℕ}
     → (are : AreOfFile view name len missing bytes) → are.found ≡ None → bytes ≡ missing
 of_gone {missing = missing} are gone = are.same ∙ ap (λ (found : Found). unwrap_or found missing) gone

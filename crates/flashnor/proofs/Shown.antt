@@ -37,7 +37,7 @@ by_geometry config is_size is_kinds (Ok geometry) described ok =
     rw (size, kinds) refl
 by_geometry config is_size is_kinds (Err fault) described ok = cc
 
--- a chip with the ID of TINY64 is known by its SFDP
+-- a chip with the ID of TINY64 shows the chip type that its SFDP gives
 by_id : (config : Config) (id : List ℕ) → id ≡ 254 ∷ 16 ∷ 16 ∷ []
     → (if is_no_chip id then Err NoChip else listed_or (part_by_sfdp id (chip_says config)) (row_of id))
     ≡ part_by_sfdp (254 ∷ 16 ∷ 16 ∷ []) (chip_says config)

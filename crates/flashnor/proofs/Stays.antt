@@ -44,7 +44,8 @@ abbrev pub StayApart : (one other : Option (Bor Text)) → (old new : FilesState
 StayApart one other old new = (any : Name) → IsNot old.view.nature one any → IsNot old.view.nature other any
     → KeepsFile any old new
 
--- A property of `None` and of each file whose name is apart from two names holds for a name that is apart from both.
+-- If `Holds` is true of `None`, and of each file whose name is apart from two names, it is true of a name that is apart
+-- from both.
 pub apart : (nature : Nature) (Holds : Option (Bor Text) → Type 0) → Holds None
     → (name one other : Option (Bor Text)) → AreTwo nature name one → AreTwo nature name other
     → ((file : Bor Text) → IsNot nature one file.now → IsNot nature other file.now → Holds (Some file)) → Holds name

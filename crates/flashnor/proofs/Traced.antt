@@ -28,7 +28,7 @@ view_apart trace old mid nature others = record {
   stays = λ any not known. let stays = others known.lawful any not in (stays.out, stays.seen);
 }
 
--- if all known files stay, and then all except the trace, all except the trace stay over both steps
+-- if a first step keeps all known files, and a second one all except the trace, both together keep all except the trace
 pub view_before : (trace : Option (Bor Text)) (old mid : FilesState) (amid : View) → mid.view.nature ≡ old.view.nature
     → KnownStay old mid → IsViewBut trace mid.view amid → IsViewBut trace old.view amid
 view_before trace old mid amid nature stay but = record {
@@ -55,7 +55,8 @@ missing_before trace file old amid not but gone = λ known.
     let same = but.stays file.now not known in
     sym same.1 ∙ gone (record { lawful = lawful_after but.nature known.lawful; in_store = same.0 ∙ known.in_store })
 
--- if a host crash may leave no more of a journal than after the trace was created, it may leave no more than before
+-- if a host crash may leave of a journal only what it could leave after the trace was created, that is also what it
+-- could leave before the trace was created
 pub makes_nothing_before : (name : Bor Text) (journal : Option (Bor Text)) (old mid new : FilesState)
     → mid.view.nature ≡ old.view.nature → IsNot old.view.nature journal name.now
     → (is_lawful old.view ≡ true → OthersStay name.now old mid) → MakesNothing journal mid new

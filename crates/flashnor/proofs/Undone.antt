@@ -88,7 +88,8 @@ found_one (Some one) None was left files same can = absurd same
 turned : (one other : Option (Bor Text)) → NameOne one other → NameOne other one
 turned one other same = grind arith
 
--- if a host crash may leave no more of a file than before, a run may find no more of it
+-- if a host crash may leave of a file only what it could leave before, a run may find of it only what it could find
+-- before
 less_of : (one other : Option (Bor Text)) (was left : Found) (old new : FilesState) → NameOne one other
     → LeavesNoMoreOf other old new → MayFind one was left new → MayFind one was left old
 less_of None None was left old new same less can = can

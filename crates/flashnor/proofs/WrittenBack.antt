@@ -17,7 +17,7 @@ use Rattle.flashnor.proofs.Stays.{known_after, lawful_after, not_after, not_that
 abbrev OthersOf : Option (Bor Text) → (old new : FilesState) → Type 0
 OthersOf name old new = is_lawful old.view ≡ true → (any : Name) → IsNot old.view.nature name any → KeepsFile any old new
 
--- Holds after a file was written, if one is named, or could not be written.
+-- Holds after the named file was written or could not be written, or if no file is named.
 abbrev PutsBack : Option (Bor Text) → (there : Bool) → (bytes : List ℕ) → (failed : Option (Bor Text))
     → (old new : FilesState) → Type 0
 PutsBack name there bytes failed old new = record {

@@ -42,16 +42,17 @@ abbrev pub ReportsChange : Request → List ℕ → (old new : BusState) → Ans
 ReportsChange request image old new (answer.Done report) = IsDone request image old new report
 ReportsChange request image old new _ = ⊥
 
--- Holds after a session returned an error. After errors 1 to 11 the chip is as before, after errors 1 to 8 the vault is
--- too.
+-- Holds after a session returned an error. After errors 1 to 11 the chip is as before. After errors 1 to 8 the vault is
+-- as before, too.
 pub record FailsSession (request : Request) (image : List ℕ) (old new : BusState)
     (vault vault' : VaultState) (refusal : Refusal) : Type 0 where
   pub refuses : SessionErrors request image old new vault vault' refusal
   pub same : refusal_number refusal ≤ 11 → IsSame old.chip new.chip
   pub unused : refusal_number refusal ≤ 8 → vault' ≡ vault
 
--- Holds for a chip that a later run opens. If the vault isn't sealed, it is the original chip. If the vault is sealed
--- and faithful (`telling`), a journal whose encoding is the vault's bytes can restore the original chip from it.
+-- Holds for a chip that a later run opens. If the vault isn't sealed, the opened chip is the original chip. If the
+-- vault is sealed and faithful (`telling`), a journal whose encoding is the vault's bytes can restore the original chip
+-- from the opened one.
 pub record IsSafe (old opened : BusState) (vault : VaultState) : Type 0 where
   pub same : vault.sealed ≡ false → IsSame old.chip opened.chip
   pub back : vault.sealed ≡ true → vault.telling ≡ true
@@ -74,8 +75,8 @@ pub record HasKeptChange (request : Request) (image : List ℕ) (old new : BusSt
 pub record IsRehearsed (request : Request) (image stops : List ℕ) (chip : Chip)
     (vault : VaultState) (rehearsal : Rehearsal) : Type 0 where
   pub counts : IsRehearsal (length stops) vault rehearsal
-  -- The session ended if it was allowed the bound of all sessions on a chip of this size; and only if it was allowed at
-  -- least the fewest transactions that this session needs.
+  -- The session ended if it was allowed the bound of all sessions on a chip of this size; and only if its request is
+  -- accepted, and it was allowed at least the fewest transactions that it needs.
   pub ended : most_of (chip.config.size / 4096) ≤ first_allowance stops → rehearsal.ended ≡ true
   pub enough : rehearsal.ended ≡ true → CanEnd request image (first_allowance stops) chip
   -- The journal was sealed if the identification and the scan were allowed their bound; and only if the request is
@@ -122,7 +123,7 @@ HasDone request image (uses.Rehearse stops) old new vault vault' outcome =
     HasRehearsed request image stops.items old new vault vault' outcome
 
 -- Describes the result of a change or a rehearsal, with its journal in a file or in memory. A journal in a file is a
--- new file: before the change the file was missing.
+-- new file: if the files obey their contract, the file was missing before the change.
 pub record HasMadeChange (request : Request) (image : List ℕ) (kept : JournalUse) (old new : BusState)
     (before : View) (after : FilesState) (outcome : Result Answer Refusal) : Type 0 where
   pub missing : IsMissing (journal_of kept) before
@@ -144,7 +145,8 @@ abbrev pub ProbeRefuses : Option ChipName → (old new : BusState) → Refusal �
 ProbeRefuses named old new refusal =
     (fault : ProbeFault) × (refusal ≡ of_probe fault) × ProbeErrors named old new fault
 
--- Holds after a restore returned an error: it does not accept the chip, which is then as before, or the bus stopped.
+-- Holds after a restore returned an error: the restore does not accept the chip, which is then as before, or the bus
+-- stopped.
 pub record RestoreRefuses (journal : Journal) (old new : BusState) (refusal : Refusal) : Type 0 where
   pub refuses : RestoreErrors journal old new refusal
   pub same : IsCheckedFirst refusal → IsSame old.chip new.chip

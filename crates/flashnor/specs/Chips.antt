@@ -34,8 +34,8 @@ abbrev pub allowance_of : Programmer → ℕ
 allowance_of programmer = unwrap_or programmer.stop 18446744073709551615
 
 -- Holds for a well-behaved (`honest`) bus to the emulated chip, which is idle; nothing was sent yet. The bus carries
--- out the number of transactions that `stop=` gives (`allowance_of`). If `power=` is given it is not steady: a stop
--- cuts the chip's power.
+-- out the number of transactions that `stop=` gives (`allowance_of`). If `power=` is given, the bus is not steady: a
+-- stop cuts the chip's power.
 pub record IsReady (programmer : Programmer) (bus : BusState) : Type 0 where
   pub config : IsConfigWith programmer.chip programmer.unique bus.chip.config
   pub idle : bus.chip.busy ≡ 0

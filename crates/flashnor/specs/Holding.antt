@@ -22,7 +22,7 @@ pub record IsHeld (name : Option (Bor Text)) (found : Found) (old new : FilesSta
   pub stay : AllStay old new
   pub settled : MakesDurable name found new
 
--- the contents of a file that exists if `there` is set, and else is missing
+-- the contents of a file that exists if `there` is true, and otherwise is missing
 abbrev pub was : (there : Bool) → List ℕ → Found
 was true bytes = Some bytes
 was false bytes = None

@@ -76,8 +76,8 @@ LeavesAsLong (Some name) old new = (had : List ℕ) → old.view.seen name.now �
 -- Holds at every exit of a run that changes a chip, with its journal in the file of this name, which was missing
 -- before. One of two cases holds. `same`: all contents that a host crash may leave of the chip's files open to the
 -- original chip. `back`: a host crash leaves the journal's file as one journal, which can restore the original chip. A
--- missing file of the chip may be moved aside. A file of the chip that existed keeps its length. Every other file stays,
--- if its name is apart from those of the trace, the chip's files and the journal.
+-- file of the chip that was missing may be moved aside; one that existed keeps its length. Every other file stays, if
+-- its name is apart from those of the trace, the chip's files and the journal.
 pub record LeavesOriginalRestorable (programmer : Programmer) (file : Text) (old new : FilesState) : Type 0 where
   pub missing : old.view.seen file ≡ None
   pub others : (name : Text) → IsNoFileOf old.view.nature programmer name → AreApart old.view.nature file name

@@ -113,7 +113,7 @@ must_differ job role.Image role.Wanted = false
 must_differ job earlier later =
     nat_lt (order_of earlier) (order_of later) && (is_written job earlier || is_written job later)
 
--- the fault names the later of the two files, which is one file with the earlier
+-- the fault names the later of the two files, which is the same file as the earlier one
 abbrev pub IsShared : Nature → (earlier later : Option (Bor Text)) → Fault → Type 0
 IsShared nature earlier later (end.File file.Taken of) = IsSomeAnd earlier (λ one. IsSomeAnd later (λ other.
     (of.now ≡ other.now) × (nature.fails (Shared one.now other.now) ≡ true)))

@@ -209,8 +209,8 @@ pub record StayBut (programmer : Programmer) (made : Option (Bor Text)) (old new
   pub others : (name : Name) → IsNot old.view.nature programmer.trace name → IsNot old.view.nature made name
       → KeepsFile name old new
 
--- Holds for a change: with a journal in a file, the original chip can still be restored; a rehearsal leaves the files
--- as they were, except the trace.
+-- Holds for a change. With a journal in a file, nothing was changed yet, or the original chip can be restored. A
+-- rehearsal leaves the files as they were, except the trace.
 abbrev pub KeepsChange : Programmer → JournalUse → (old new : FilesState) → Type 0
 KeepsChange programmer (uses.Journal file) old new = KeepsOriginalFiles programmer file.now old new
 KeepsChange programmer (uses.Rehearse stops) old new = StayBut programmer None old new
@@ -318,7 +318,7 @@ abbrev pub arguments_of : IntoIter (String Global) Global → List Text
 arguments_of args = map string_bytes (drop 1 (into_iter_items args))
 
 -- Describes how a run ended, and what the streams hold before and after, if known. The status is 0 or 1. It is 1 if the
--- arguments ask for nothing, and 0 only if the run succeeds.
+-- arguments ask neither for a job nor for help, and 0 only if the run succeeds.
 pub record IsStatus (files after : FilesState) (words : List Text) (out out' err err' : Option (List ℕ))
     (ending : Ending) : Type 0 where
   pub few : ending.status ≤ 1

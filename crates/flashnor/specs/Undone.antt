@@ -17,8 +17,8 @@ use Rattle.flashnor.specs.declared.holding.Unwritten.{Unwritten}
 use Rattle.nor_lines.specs.declared.messages.Fault.{Fault}
 
 -- Holds for the files that a run finds after an earlier run ended, was killed, or was interrupted by a host crash. No
--- file is open for a vault or a log. The journal is one that may be left. Each file of the chip is too, unless it was
--- missing at first and was moved aside.
+-- file is open for a vault or a log. The journal's file has contents that may be left of it, and so does each file of
+-- the chip. A file of the chip that was missing at first may have been moved aside instead.
 pub record Follows {programmer : Programmer} {start : FilesState} (file : Text) (first : Opened programmer start)
     (old new : FilesState) : Type 0 where
   pub rest : AreAtRest new

@@ -1,4 +1,4 @@
-//! Laws about runs that follow one another, each interrupted anywhere by a kill or a host crash.
+//! Laws about runs that follow one another, each of which a kill or a host crash may interrupt anywhere.
 ghost use Rattle.std.specs.Prelude.{◌≡◌, Ok, Result};
 ghost use Rattle.nor_words.specs.Text.{Text};
 ghost use Rattle.nor_words.specs.declared.job.ChipJob.{ChipJob};
