@@ -99,7 +99,8 @@ missed frame out old sent new idle whole opcode goes s m =
       };
     }
 
--- The lemmas `exchanged`, `cut_off` and `missed` for every command. For a command other than O_SPIOP they hold trivially.
+-- The lemmas `exchanged`, `cut_off` and `missed` for every command. They hold trivially for a command other than
+-- O_SPIOP.
 pub exchanged_by : (command : Command) (frame reply : List ℕ) (len : ℕ) (old sent new : PortState)
     → IsIdle old.device → IsFrame frame → ReadsAs frame command → IsSent frame old sent → TakesAnswer reply sent new
     → length reply ≡ len → IfOperates command (λ out replies. len ≡ replies → Exchanged out reply old new)

@@ -36,13 +36,14 @@ frame_of (Operate out replies) = operation_frame out.now replies
 frame_of (SetFrequency hertz) = 0x14 ∷ four_of hertz
 frame_of (SetPins enabled) = 0x15 ∷ (if enabled then 1 else 0) ∷ []
 
--- The command fits into one frame of this crate: O_SPIOP sends at most 260 bytes, and its number of reply bytes has 24
--- bits.
+-- The command fits into one frame of this crate: O_SPIOP sends at most 260 bytes, and its number of reply bytes fits in
+-- 24 bits.
 abbrev pub FitsFrame : Command → Type 0
 FitsFrame (Operate out replies) = (length out.now ≤ 260) × (replies < 16777216)
 FitsFrame _ = ⊤
 
--- The number of argument bytes after an opcode, except O_SPIOP and "write n" (0Dh): `long_len` describes their frames.
+-- The number of argument bytes after an opcode up to 15h, except O_SPIOP and "write n" (0Dh), whose frames `long_len`
+-- describes. It is 0 for all later opcodes.
 abbrev pub argument_count : (opcode : ℕ) → ℕ
 argument_count opcode =
     if opcode == 0x12 || opcode == 0x15 then 1
@@ -57,7 +58,8 @@ abbrev pub long_len : List ℕ → Option ℕ
 long_len (a ∷ b ∷ c ∷ rest) = Some (7 + number_in a b c)
 long_len _ = None
 
--- The length of the frame that begins with these bytes, as a programmer reads it: `None` until the bytes determine it.
+-- The length of the frame that begins with these bytes, as a programmer reads it if it has no commands after 15h:
+-- `None` until the bytes determine it.
 abbrev pub frame_len : (begun : List ℕ) → Option ℕ
 frame_len [] = None
 frame_len (opcode ∷ rest) =

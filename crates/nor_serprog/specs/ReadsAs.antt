@@ -16,7 +16,7 @@ address_in _ = 0
 abbrev pub part : (bytes : List ℕ) → (at n : ℕ) → List ℕ
 part bytes at n = take n (drop at bytes)
 
--- No modifying command was sent and no poll was made.
+-- The record of modifying commands and the record of the last poll are as they were.
 pub record KeepsRecord (old new : BusState) : Type 0 where
   pub sent : new.sent ≡ old.sent
   pub polled_ready : new.polled_ready ≡ old.polled_ready

@@ -28,7 +28,7 @@ Expects twice out answer = elim twice.expected [
 abbrev pub view_of : BusState → BusState
 view_of inside = unknown_bus inside.sent inside.polled_ready
 
--- True if a transaction reads data (03h).
+-- True if a transaction begins with 03h, the opcode of a read of data.
 abbrev pub begins_read : (out : List ℕ) → Bool
 begins_read [] = false
 begins_read (opcode ∷ rest) = opcode == 0x03

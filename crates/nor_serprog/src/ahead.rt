@@ -7,8 +7,8 @@ ghost use Rattle.nor_serprog.specs.Twice.{view_of};
 
 use nor_model::{Bus, Stopped};
 
-// The greatest length of a block. The size of a chip is a multiple of it (a power of two from 64 KiB), so a block that
-// lies between two of its multiples does not reach past the end of a chip.
+// The greatest length of a block. The size of a chip is a power of two from 64 KiB, and so a multiple of this length.
+// Therefore a block that lies between two multiples of this length does not reach past the end of a chip.
 const LONGEST_BLOCK: u32 = 1 << 16;
 
 const SECTOR_LEN: u32 = 4096;
@@ -18,9 +18,10 @@ const READ_DATA: u8 = 0x03;
 /// A bus that reads data (03h) ahead, if reads follow each other. A read that begins where the last block ended reads a
 /// block of twice the length, up to 64 KiB. Reads inside the last block are answered from memory.
 ///
-/// The block is forgotten at each transaction other than a read of data, and if the bus inside stops. A block ends at a
-/// multiple of 64 KiB at the latest, so it never reaches past the end of a chip. It is never longer than the bus inside
-/// can read. A read that is longer than such a block, or reaches past a multiple of 64 KiB, is passed on as it is.
+/// The block is forgotten at each transaction that is passed on as it is, and if the bus inside stops. A block ends at
+/// a multiple of 64 KiB at the latest, so it never reaches past the end of a chip. It is never longer than the bus
+/// inside can read. A transaction is passed on as it is if it is no read of data, is longer than such a block, or
+/// reaches past a multiple of 64 KiB.
 ///
 /// A read over this bus may be no transaction over the bus inside, or a longer one, so this bus is not honest as `Bus`
 /// defines it, even if the bus inside is. Nobody else may modify the chip meanwhile.
@@ -42,8 +43,8 @@ pub struct ReadAhead<B> {
 impl<B: Bus + Drop> ReadAhead<B> {
     ghost use Rattle.nor_serprog.specs.Ahead.{ahead_of, held};
 
-    /// Returns a bus that reads ahead over `bus`, which can read `longest_read` bytes in a transaction. That must be at
-    /// least 4,096.
+    /// Returns a bus that reads ahead over `bus`, which can read `longest_read` bytes in a transaction. If that is less
+    /// than 4,096, nothing is read ahead.
     pub fn new(bus: B, longest_read: u32) -> ReadAhead<B>
         ensures bus { ahead_of result ≡ bus }
         ensures empty { held result ≡ 0 }

@@ -52,8 +52,8 @@ impl<P: Port + Drop> Batch<P> {
     /// Makes one transaction, or lets it wait for the next one if it is a modifying command without a reply.
     ///
     /// The frames that wait are sent first, together with this one if all fit into the serial buffer. Returns `TooLong`
-    /// if the transaction does not fit into one frame; nothing was sent then, and what waited still waits. After any
-    /// other error nothing waits.
+    /// if the transaction does not fit into one frame, or reads more than the programmer can; nothing was sent then,
+    /// and what waited still waits. After any other error nothing waits.
     pub(crate) fn transact(&mut self, out: &[u8], reply: &mut [u8]) -> Result<(), Failure<P::Cause>>
         ensures silent { is_in_step (batch_link self.old) ≡ false → self.new ≡ self.old }
         ensures was_in_step { OnOk result (is_in_step (batch_link self.old) ≡ true) }

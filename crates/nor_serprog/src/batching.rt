@@ -9,15 +9,15 @@ use crate::batch::Batch;
 use crate::{Failure, Link, Port, Programmer, Sync};
 use nor_model::{Bus, Sent, Stopped, polled_ready_after};
 
-/// A bus to the chip at a serial programmer, over any port, that needs fewer round trips than `SerprogBus`: a modifying
-/// command without a reply is sent together with the next transaction that reads a reply. After a modifying command
-/// the engine polls, so write enable, page program and the first poll are one write to the port.
+/// A bus to the chip at a serial programmer, over any port. It needs fewer round trips than `SerprogBus`: a modifying
+/// command without a reply is sent together with the next transaction of another kind. After a modifying command the
+/// engine polls, so write enable, page program and the first poll are one write to the port.
 ///
 /// - `transfer` of a modifying command (06h, 01h, 02h, 20h, 52h, D8h, C7h) that reads no reply returns `Ok` before the
 ///   command is sent. If it fails later, the transaction that sends it returns `Stopped`.
 /// - Every other transaction first sends what waits, in order. If it returns `Ok`, nothing waits.
 /// - `flush` sends what waits. Without `flush` or a later transaction a command is never sent. A session or restore
-///   that returns `Ok` has polled last, so nothing waits then.
+///   that returns `Ok` has polled after its last modifying command, so nothing waits then.
 /// - What waits fits into the programmer's serial buffer together with what is sent with it. Nothing waits if the
 ///   programmer does not report the size of that buffer.
 ///
@@ -68,8 +68,8 @@ impl<P: Port + Drop> BatchingBus<P> {
         self.batch.link().port()
     }
 
-    /// Returns the cause of the last transaction that failed. A transaction that is rejected because an earlier one
-    /// failed does not replace the earlier cause.
+    /// Returns the cause of the last transaction or `flush` that failed. A transaction that is rejected because an
+    /// earlier one failed does not replace the earlier cause.
     pub fn cause(&self) -> Option<&Failure<P::Cause>>
         ensures { option_copied result ≡ cause_of self.now }
     {
@@ -93,7 +93,7 @@ impl<P: Port + Drop> BatchingBus<P> {
     }
 
     /// Synchronizes the programmer after a transaction failed, as `Link::synchronize` does. A programmer that is in
-    /// step is left alone. The record of modifying commands and polls is kept. After a failure nothing waits.
+    /// step is left alone; otherwise nothing waits afterwards. The record of modifying commands and polls is kept.
     pub fn synchronize(&mut self) -> Result<(), Failure<P::Cause>>
         ensures sent { sent_of self.new ≡ sent_of self.old }
         ensures polled_ready { polled_ready_of self.new ≡ polled_ready_of self.old }

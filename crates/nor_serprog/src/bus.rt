@@ -11,9 +11,9 @@ use nor_model::{Bus, Sent, Stopped, polled_ready_after};
 /// A bus to the chip at a serial programmer, over any port. One transaction is one O_SPIOP (serprog protocol,
 /// flashrom's Documentation/serprog-protocol.txt).
 ///
-/// Over an honest port this bus is honest, and its chip is the programmer's. Each transaction of at most 260 bytes and
-/// 4,096 replies is one step of the chip, and fails only if fewer than three calls of the port are left. After such a
-/// failure the chip may have carried out any part of the transaction, and may have lost its power.
+/// Over an honest port this bus is honest, and its chip is the programmer's. Each transaction that sends at most 260
+/// bytes and reads at most 4,096 is one step of the chip, and fails only if fewer than three calls of the port are
+/// left. After such a failure the chip may have carried out any part of the transaction, and may have lost its power.
 ///
 /// Over any port the modifying commands that were sent and the replies to polls are recorded; a modifying command is
 /// recorded before its first byte is sent. A transaction that sends more than 260 bytes, or reads more than the

@@ -22,8 +22,8 @@ const REPLIES_END: u32 = 1 << 24;
 /// The bytes of one command.
 pub type Frame = ArrayVec<u8, LONGEST_FRAME>;
 
-/// A command of the serprog protocol, version 1 (flashrom's Documentation/serprog-protocol.txt). Commands for parallel
-/// chips are left out.
+/// A command of the serprog protocol, version 1 (flashrom's Documentation/serprog-protocol.txt). The commands for
+/// parallel chips are left out, and so are commands after 15h.
 #[derive(Clone, Copy, Debug, PartialEq, Eq)]
 pub enum Command<'a> {
     /// 00h, NOP: no effect.
@@ -54,7 +54,7 @@ pub enum Command<'a> {
     SetPins(bool),
 }
 
-/// The command does not fit into a frame: it sends more than 260 bytes to the chip, or reads 2^24 or more.
+/// The command does not fit into a frame: it sends more than 260 bytes to the chip, or reads 2^24 bytes or more.
 #[derive(Clone, Copy, Debug, PartialEq, Eq, Error)]
 #[error("a transaction that sends more than 260 bytes or reads 16777216 or more does not fit into a serprog frame")]
 pub struct TooLong;
@@ -129,7 +129,8 @@ fn operation(out: &[u8], replies: u32) -> Result<Frame, TooLong>
 /// Returns the length of the frame that begins with these bytes, as a programmer reads it, or `None` until the bytes
 /// determine it. Bytes that follow never change a length that is known, so no frame is a prefix of another.
 ///
-/// The function knows all commands of the protocol, including those for parallel chips.
+/// The function knows the commands 00h to 15h, including those for parallel chips. It takes any other opcode for a
+/// command without arguments.
 pub fn frame_len(begun: &[u8]) -> Option<usize>
     ensures value { result ≡ frame_len_of begun.now }
     ensures known { (more : List ℕ) → IsSome result → frame_len_of (begun.now ++ more) ≡ result }
@@ -145,7 +146,7 @@ pub fn frame_len(begun: &[u8]) -> Option<usize>
     }
 }
 
-// Returns the number of argument bytes after an opcode that has a fixed number of them.
+// Returns the number of argument bytes after an opcode that has a fixed number of them, and 0 for opcodes after 15h.
 fn arguments_len(opcode: u8) -> usize
     ensures { result ≡ argument_count opcode }
 {

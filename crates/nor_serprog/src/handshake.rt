@@ -31,7 +31,8 @@ pub enum HandshakeFault<C> {
     /// The programmer speaks another version of the protocol.
     #[error("the programmer speaks version {0} of serprog, and only version 1 is known")]
     Version(u16),
-    /// The programmer lacks the command with this opcode: O_SPIOP (13h), or S_SPI_FREQ (14h) if a clock was requested.
+    /// The programmer lacks the command with this opcode. For `identify` that is O_SPIOP (13h), or S_SPI_FREQ (14h) if
+    /// a clock was requested.
     #[error("the programmer lacks command {0:02X}h, which is needed here")]
     Lacks(u8),
     /// The programmer doesn't support SPI, or supports other types of bus too and has no command that selects one. The
@@ -134,8 +135,8 @@ impl Programmer {
         self.longest_read
     }
 
-    /// Returns the size of the serial buffer in bytes, or 0 if the programmer lacks the query (Q_SERBUF). So many bytes
-    /// may be sent before their replies are read.
+    /// Returns the size of the serial buffer in bytes, or 0 if the programmer lacks the query (Q_SERBUF). That number
+    /// of bytes may be sent before their replies are read.
     pub fn serial_buffer(&self) -> u16 {
         self.serial_buffer
     }
@@ -233,9 +234,9 @@ fn query_limit<P: Port + Drop>(
     }
 }
 
-// Returns the size of the serial buffer, or 0 if the programmer lacks the query. Returns `SmallBuffer` if the longest
-// frame does not fit into it; but a programmer with a limit of writes accepts frames of that length, regardless of its
-// buffer.
+// Returns the size of the serial buffer, or 0 if the programmer lacks the query. Returns `SmallBuffer` if the
+// programmer lacks Q_WRNMAXLEN, and the longest frame does not fit into the buffer. A programmer that has Q_WRNMAXLEN
+// accepts frames of the length that it allows, regardless of its buffer.
 fn query_buffer<P: Port + Drop>(
     link: &mut Link<P>,
     commands: &Map,

@@ -172,7 +172,8 @@ impl<P: Port + Drop> Link<P> {
     /// many bytes as `reply` holds. Before the last frame there are `earlier` frames, which request no reply bytes.
     ///
     /// After an error nothing more is sent, until `synchronize` returns `Ok`; the programmer may have carried out any
-    /// of the frames. If the link was out of step, the call returns `OutOfStep` or `CutFrame` and uses no port.
+    /// of the frames. If the link was out of step, the call returns `OutOfStep` or `CutFrame` and does not use the
+    /// port.
     pub(crate) fn exchange_batch(
         &mut self,
         frames: &[u8],

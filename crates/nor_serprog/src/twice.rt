@@ -18,12 +18,12 @@ const READ_DATA: u8 = 0x03;
 /// of more than 65,536 bytes is rejected.
 ///
 /// If an image is expected (`expecting`), a read whose reply equals the image at its address is carried out once. A
-/// session saves no sector that equals the image, so all that its journal saves was read twice.
+/// session saves no sector that equals the image, so each sector that its journal saves was read twice.
 ///
 /// An error that is the same in both reads is not detected. A read over this bus is two transactions over the bus
-/// inside, so this bus is not honest as `Bus` defines it, even if the bus inside is. If the bus inside is honest, a
-/// read that succeeds had the same reply twice, or returned the expected bytes. A read of at most 65,536 bytes then
-/// fails only if no transaction is left afterwards.
+/// inside, so this bus is not honest as `Bus` defines it, even if the bus inside is. If the bus inside is honest and
+/// takes a read of this length, a read that succeeds had the same reply twice, or returned the expected bytes. A read
+/// of at most 65,536 bytes then fails only if no transaction is left afterwards.
 #[derive(Drop)]
 pub struct ReadTwice<B> {
     bus: B,
