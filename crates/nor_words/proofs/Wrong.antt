@@ -13,7 +13,7 @@ use Rattle.nor_words.specs.declared.programmer.Programmer.{Programmer}
 abbrev text_at : Option (Bor Text) → Option Text
 text_at = option_map (λ t. t.now)
 
--- Holds if the value describes this programmer, or if it describes none and this is `None`.
+-- Holds if `found` is the programmer that the value describes, or `None` if the value describes none.
 abbrev pub Means : Option Text → Option Programmer → Type 0
 Means text found = MatchOption found (passes_test is_programmer_text text ≡ false)
     (λ programmer. IsSomeAnd text (λ t. IsProgrammer t programmer))

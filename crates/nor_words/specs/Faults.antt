@@ -22,7 +22,8 @@ passes_test test text = option_map_or test text false
 abbrev pub is_no : (Text → Bool) → Option Text → Bool
 is_no test = passes_test (λ text. not (test text))
 
--- fault 6: true if a change doesn't have exactly one of `--journal` and `--rehearse`, or anything else has one of them
+-- fault 6: true if a change doesn't have exactly one of `--journal` and `--rehearse`, or if any other operation has one
+-- of them or both
 abbrev pub has_wrong_journal : Texts → Bool
 has_wrong_journal given =
     not (nat_eq (how_many (is_some given.journal ∷ is_some given.rehearse ∷ [])) (if asks_change given then 1 else 0))

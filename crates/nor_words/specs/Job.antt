@@ -35,7 +35,8 @@ IsWantedByArguments given (want.Write image) = NamesFile given.write image
 IsWantedByArguments given want.Erase = given.erase ≡ true
 IsWantedByArguments given (want.Range start len) = option_and_then range_of given.wp_range ≡ Some (start, len)
 
--- Holds if the journal is kept in the file named after `--journal`, or rehearsed with the stops after `--rehearse`.
+-- Holds if the journal is kept in the file that `--journal` names, or the change is rehearsed with the stops that
+-- `--rehearse` gives.
 abbrev pub IsJournalUse : Texts → JournalUse → Type 0
 IsJournalUse given (uses.Journal file) = NamesFile given.journal file
 IsJournalUse given (uses.Rehearse stops) = option_and_then stops_of given.rehearse ≡ Some stops.items
@@ -65,7 +66,8 @@ pub record IsChipJob (given : Texts) (on_chip : ChipJob) : Type 0 where
   pub named : on_chip.named ≡ option_map name_of given.chip
   pub task : IsTask given on_chip.task
 
--- Holds if the job lists the chips and `-L` is given, or is the given job on a chip and `-L` isn't.
+-- Holds if `-L` is given and the job lists the chips, or if `-L` isn't given and the job is the one on a chip that the
+-- options ask for.
 abbrev pub IsAsked : Texts → Job → Type 0
 IsAsked given job.List = given.list ≡ true
 IsAsked given (job.Chip on_chip) = (given.list ≡ false) × IsChipJob given on_chip

@@ -240,7 +240,8 @@ impl<'a> Given<'a> {
         self.read.is_some() || self.verify.is_some() || self.is_new_content()
     }
 
-    // Fault 6: true if a change doesn't have exactly one of `--journal` and `--rehearse`, or anything else has one.
+    // Fault 6: true if a change doesn't have exactly one of `--journal` and `--rehearse`, or if any other operation has
+    // one of them or both.
     fn has_wrong_journal(&self) -> bool
         ensures { result ≡ has_wrong_journal (texts_of self.now) }
     {

@@ -88,7 +88,7 @@ pub struct Change<'a> {
     pub regions: Option<Regions<'a>>,
     /// `--unlock`: lift protection that is in the way, and set it again at the end.
     pub unlock: bool,
-    /// Without `-n`: read what was written back, and compare.
+    /// Without `-n`: read back what was written, and compare it.
     pub verify: bool,
     pub journal_use: JournalUse<'a>,
 }

@@ -73,7 +73,7 @@ pub struct Programmer<'a> {
     pub stop: Option<u64>,
     /// `unique=HEX`: the chip's unique ID, as 16 hexadecimal digits.
     pub unique: Option<[u8; 8]>,
-    /// `busy=N`: the number of polls that return BUSY after each operation.
+    /// `busy=N`: the number of polls that show BUSY after each operation.
     pub busy: Option<u16>,
     /// `power=HH`: each stop is a power failure, and each byte that a running program or erase works on becomes this
     /// byte.

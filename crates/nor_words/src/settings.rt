@@ -24,7 +24,7 @@ impl<'a> Settings<'a> {
     ghost use Rattle.nor_words.specs.Settings.{AddsSetting, IsRefusedSetting};
 
     /// Takes in one more setting. Returns `None` if its key is unknown or was taken in before, or if its value isn't
-    /// one of this key.
+    /// valid for this key.
     pub fn take_in(&mut self, setting: &'a str) -> Option<()>
         ensures { MatchOption result (IsRefusedSetting setting.now self.old)
             (λ _. (is_setting setting.now ≡ true) × AddsSetting setting.now self.old self.new) }
