@@ -18,12 +18,13 @@ abbrev pub place : Option ℕ → List ℕ
 place (Some number) = codes " at line " ++ decimal number
 place None = []
 
--- the text of a failure of the file of this name, with its control characters escaped
+-- the text of a failure of the file of this name, with the name's control characters escaped
 abbrev pub file_text : FileFault → Text → List ℕ
 file_text fault name =
     concat (codes "File fault " ∷ decimal (file_number fault) ∷ codes ": " ∷ escaped name ∷ codes "." ∷ [])
 
--- the text of a fault; `None` for usage fault 1 and for help, whose texts contain what the parser says
+-- the text of a fault; `None` for a fault of the parser (usage fault 1) and for help, whose texts contain what the
+-- parser says
 abbrev pub text_of : Fault → Option (List ℕ)
 text_of (end.Usage fault) = usage_text fault
 text_of end.NoText = Some (codes "error: invalid UTF-8 was detected in one or more arguments\n\nUsage fault 1.")

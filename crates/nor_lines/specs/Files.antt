@@ -1,4 +1,4 @@
--- The faults of files. A fault of a file occurs only if the `View` of the files allows that failure of the file of that
+-- The faults of files. A fault of a file occurs only if the `View` of the files allows that failure for a file of that
 -- name.
 use Rattle.std.specs.Prelude.{◌≡◌, ◌≢◌, ◌<◌, ◌+◌, ◌⊎◌, ℕ, List, None, length}
 use Rattle.nor_request.specs.declared.refusal.Refusal.TheVariants.{Memory}
@@ -59,7 +59,7 @@ IsLockingFault view name len (end.File file.Taken of) = (of.now ≡ name) × Hap
 IsLockingFault view name len fault = IsOpeningFault view name len fault
 
 -- Holds for the faults of locking and reading a journal. In addition to the faults of reading it, the lock may fail, or
--- another process may have locked it.
+-- another process may have locked the journal.
 abbrev pub IsSharingFault : View → Text → ℕ → Fault → Type 0
 IsSharingFault view name most (end.File file.Write of) = (of.now ≡ name) × Happens view (Unheld name)
 IsSharingFault view name most (end.File file.Taken of) = (of.now ≡ name) × Happens view (Busy name)

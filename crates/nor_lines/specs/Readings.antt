@@ -61,8 +61,8 @@ pub record HasReadInto (named : Option ChipName) (ranges : Option (List Span)) (
   pub modelled : IsModelled old → ReadOutModelled named ranges old new empty filled result
   pub returned : AnswersCall ReportsReadOut result outcome
 
--- The chip was read out into a file. If the files obey their contract, the file has exactly the bytes that were put
--- into its vault.
+-- The chip was read out into a file, or the reading failed. If the files obey their contract, the file has exactly the
+-- bytes that were put into its vault.
 pub record HasReadOut (named : Option ChipName) (file : Text) (ranges : Option (List Span)) (old new : BusState)
     (after : View) (outcome : Result Answer Refusal) : Type 0 where
   pub empty : VaultState

@@ -8,7 +8,7 @@ use Rattle.nor_lines.specs.declared.messages.Fault.{Fault}
 use Rattle.nor_lines.specs.declared.messages.Fault.TheVariants as end
 use Rattle.nor_lines.specs.declared.messages.FileFault.TheVariants as file
 
--- the fault names the later of the two files, which is one file with the earlier
+-- the fault names the later of the two files, which is the same file as the earlier one
 abbrev pub IsShared : Nature → (earlier later : Option (Bor Text)) → Fault → Type 0
 IsShared nature earlier later (end.File file.Taken of) = IsSomeAnd earlier (λ one. IsSomeAnd later (λ other.
     (of.now ≡ other.now) × (nature.fails (Shared one.now other.now) ≡ true)))
@@ -26,11 +26,11 @@ IsUnseenFile nature named (end.File file.Read of) = IsSomeAnd named (λ name.
     (of.now ≡ name.now) × (nature.fails (Unread of.now) ≡ true))
 IsUnseenFile nature named _ = ⊥
 
--- the two files are one, or a name of them can't be looked up
+-- the fault is that the two names refer to one file, or that one of the names can't be looked up
 abbrev pub FailsApart : Nature → (earlier later : Option (Bor Text)) → Fault → Type 0
 FailsApart nature earlier later fault = IsShared nature earlier later fault
     ⊎ (IsUnseenFile nature earlier fault ⊎ IsUnseenFile nature later fault)
 
--- the program prints to this file, or its name can't be looked up
+-- the fault is that the program prints to this file, or that its name can't be looked up
 abbrev pub FailsUnprinted : Nature → Option (Bor Text) → Fault → Type 0
 FailsUnprinted nature name fault = IsPrintedTo nature name fault ⊎ IsUnseenFile nature name fault

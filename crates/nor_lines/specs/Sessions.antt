@@ -30,8 +30,8 @@ pub record HasRunSession (request : Request) (image : List ℕ) (old new : BusSt
   pub modelled : IsModelled old → SessionModelled request image old new vault vault' result
   pub returned : AnswersCall TellsReport result outcome
 
--- A session was run with its journal in a new file: before the session the file was missing. If the files obey their
--- contract, the file has exactly the bytes of the session's vault, and after the seal a host crash does not lose them.
+-- A session was run with its journal in a new file. If the files obey their contract, the file was missing before the
+-- session, and has exactly the bytes of the session's vault. After the seal a host crash does not lose them.
 pub record HasRunInFile (request : Request) (image : List ℕ) (file : Text) (before : View) (after : FilesState)
     (old new : BusState) (outcome : Result Answer Refusal) : Type 0 where
   pub missing : IsKnownFile file before → before.seen file ≡ None

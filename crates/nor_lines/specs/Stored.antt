@@ -11,25 +11,27 @@ use Rattle.nor_words.specs.Text.{Text}
 abbrev pub Happens : View → Failure → Type 0
 Happens view failure = view.nature.fails failure ≡ true
 
--- Holds if at most `most` bytes of the file were read, and these are the bytes.
+-- Holds if these are the first `most` bytes of the file, or all if it has fewer. This is claimed only if the files obey
+-- their contract and no vault or log in this file is borrowed.
 abbrev pub IsRead : View → Text → ℕ → List ℕ → Type 0
 IsRead view name most bytes = ReadsFile name most (Some bytes) view
 
--- Holds if `found` has the bytes that were read from a file, or is `None` if no file is named or it is missing. If the
--- file has more than `len` bytes, `len` and one more are read.
+-- Holds if `found` has the bytes that were read from a file, or is `None` if no file is named or the named file is
+-- missing. If the file has more than `len` bytes, `len` and one more are read. The premise for a named file is that of
+-- `IsRead`.
 abbrev pub IsFileFound : View → Option (Bor Text) → ℕ → Option (List ℕ) → Type 0
 IsFileFound view None len found = found ≡ None
 IsFileFound view (Some name) len found = ReadsFile name.now (len + 1) found view
 
--- Holds if the bytes are those of a file that is named and has exactly `len` bytes; or the bytes `missing` if no file
--- is named or it is missing.
+-- Holds if the bytes are those of the named file, which has exactly `len` bytes; or the bytes `missing` if no file is
+-- named or the named file is missing.
 pub record AreOfFile (view : View) (name : Option (Bor Text)) (len : ℕ) (missing bytes : List ℕ) : Type 0 where
   pub found : Option (List ℕ)
   pub is_found : IsFileFound view name len found
   pub whole : IfSome found (λ all. length all ≡ len)
   pub same : bytes ≡ unwrap_or found missing
 
--- Holds if no file is named, or if the named file durably has exactly these bytes, as long as the files obey their
+-- Holds if no file is named, or if the named file durably has exactly these bytes, provided that the files obey their
 -- contract.
 abbrev pub Has : Option (Bor Text) → List ℕ → FilesState → Type 0
 Has None bytes files = ⊤
@@ -66,7 +68,8 @@ abbrev pub LeavesNoMoreOf : Option (Bor Text) → (old new : FilesState) → Typ
 LeavesNoMoreOf None old new = ⊤
 LeavesNoMoreOf (Some name) old new = LeavesNoMore name.now old new
 
--- Holds if no file is named, or if the file of that name is known to be missing.
+-- Holds if no file is named, or if the file of that name is missing. A file that isn't known (`IsKnownFile`) is not
+-- covered.
 abbrev pub IsMissing : Option (Bor Text) → View → Type 0
 IsMissing None view = ⊤
 IsMissing (Some name) view = IsKnownFile name.now view → view.seen name.now ≡ None

@@ -17,7 +17,7 @@ pub enum FileFault {
     Read = 1,
     /// The file can't be created, truncated, locked, written or synced, or it is the trace and lost a line.
     Write,
-    /// The image has another length than the chip, or the status file does not have two bytes.
+    /// The file with the chip's bytes has another length than the chip, or the status file does not have two bytes.
     Length,
     /// The journal of a change already exists, or a file that would be truncated is a journal.
     Exists,
@@ -49,7 +49,7 @@ pub enum Fault<'a> {
     Layout(LayoutFault),
     /// A failure of the file of this name.
     File { fault: FileFault, name: &'a str },
-    /// An error of a call, or error 18 if memory ran out while files were read.
+    /// An error of a call; or, before the call, error 15 for an invalid journal or error 18 if memory ran out.
     Refused(Refusal),
 }
 
