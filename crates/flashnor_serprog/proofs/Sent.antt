@@ -34,7 +34,7 @@ reads_on old mid new one other = other ∙ one
 unsent : (old new : BusState) → new ≡ old → KeepsSent old new
 unsent old new same = ap (λ (bus : BusState). bus.sent) same
 
--- what a call sent, it sent since an earlier state, if it was only read in between
+-- limits on what a call sent hold since an earlier state, too, if nothing that may modify a chip was sent in between
 sends_after : (IsCode : ℕ → Type 0) (journal : Journal) (old mid new : BusState) → KeepsSent old mid
     → SendsSaved IsCode 1 journal mid new → SendsSaved IsCode 1 journal old new
 sends_after IsCode journal old mid new same sends = record {

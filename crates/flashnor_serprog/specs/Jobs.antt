@@ -72,15 +72,15 @@ abbrev pub FailsToFind : Option ChipName → (old new : BusState) → Fault → 
 FailsToFind named old new fault =
     (refusal : Refusal) × HasIdentified named old new (Err refusal) × (fault ≡ end.Refused refusal)
 
--- after the identification, and before anything else was sent, the file of this name could not be created or emptied, or
--- memory ran out
+-- after the identification, and before anything else was sent, the file of this name could not be created or emptied,
+-- or memory ran out
 abbrev pub FailsToMake : Option ChipName → Text → View → (old new : BusState) → Fault → Type 0
 FailsToMake named file view old new fault =
     (chip : Found) × HasIdentified named old new (Ok chip) × IsMaking view file fault
 
 -- ---- reading
 
--- The chip was identified, and then read into the file, in the given ranges.
+-- The chip was identified, and then read into the file, in the given ranges, or the reading failed.
 pub record HasReadChip (named : Option ChipName) (file : Text) (ranges : Option (List Span)) (after : View)
     (old new : BusState) (outcome : Result Answer Refusal) : Type 0 where
   pub found : BusState
@@ -94,8 +94,8 @@ FailsToRead named file view old new fault =
 
 -- ---- changes
 
--- The buffer of a session, after nothing or an identification was sent: for an erase FFh for each byte of the chip that
--- was identified, otherwise the given bytes.
+-- The buffer of a session. For an erase the chip was identified, and the buffer has FFh for each of its bytes.
+-- Otherwise nothing was sent, and the buffer has the given bytes.
 abbrev pub IsBufferOf : Option ChipName → Wanted → (bytes : List ℕ) → (old new : BusState) → (image : List ℕ) → Type 0
 IsBufferOf named wanted.Erase bytes old new image =
     (chip : Found) × HasIdentified named old new (Ok chip) × (image ≡ replicate chip.size 255)
@@ -147,7 +147,7 @@ abbrev pub IsNamedFirst : Option ChipName → (old new : BusState) → Type 0
 IsNamedFirst None old new = new ≡ old
 IsNamedFirst (Some name) old new = (chip : Found) × HasIdentified (Some name) old new (Ok chip)
 
--- The restore of the journal that these bytes are, after the chip's name was checked, if one is given.
+-- The bytes are a journal, and a restore from it was run, after the chip's name was checked if one is given.
 pub record HasRestored (named : Option ChipName) (bytes : List ℕ) (old new : BusState)
     (outcome : Result Answer Refusal) : Type 0 where
   pub journal : Journal

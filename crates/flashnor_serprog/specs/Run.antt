@@ -39,8 +39,8 @@ abbrev pub HasPrinted : Result Answer Fault → (out out' : Option (List ℕ)) �
 HasPrinted (Ok found) out out' = Prints (AreLines found) out out'
 HasPrinted (Err fault) out out' = ⊥
 
--- A run of a job on a chip, from this state of the bus to that. The status is 0 or 1, and 0 only if the job ended with
--- an answer and the answer's lines were printed.
+-- A run of a job on a chip, with the states of the bus before and after it. The status is 0 or 1, and 0 only if the job
+-- ended with an answer and the answer's lines were printed.
 pub record HasRun (operation : Operation) (ranges : Option (List Span)) (bytes : List ℕ) (before : View)
     (after : FilesState) (out out' : Option (List ℕ)) (status : ℕ) : Type 0 where
   pub first : BusState

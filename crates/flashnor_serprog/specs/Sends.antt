@@ -22,8 +22,9 @@ changes _ = false
 abbrev pub KeepsSent : (old new : BusState) → Type 0
 KeepsSent old new = new.sent ≡ old.sent
 
--- The file is durably one journal, even if the host then crashes. What was sent erases and programs only sectors that
--- the journal saves, or past the end of a chip that it saves as a whole, and writes only status bits that it allows.
+-- The file durably has one journal, which a host crash does not lose. Erases and programs were sent only for sectors
+-- that the journal saves, or that lie past the end of a chip that it saves whole. Each status write has bits that
+-- `WritesOnly` allows for this journal and request.
 pub record SendsJournalled (what : What) (file : Text) (old new : BusState) (after : FilesState) : Type 0 where
   pub bytes : List ℕ
   pub journal : IsJournal bytes
@@ -36,8 +37,9 @@ SendsChange what (uses.Journal file) old new after =
     KeepsSent old new ⊎ (is_lawful after.view ≡ true → SendsJournalled what file.now old new after)
 SendsChange what (uses.Rehearse stops) old new after = KeepsSent old new
 
--- The bytes are a journal. What was sent erases and programs only sectors that it saves, or past the end of a chip that
--- it saves as a whole, and writes only status bits that it saves.
+-- The bytes are a journal. Erases and programs were sent only for sectors that the journal saves, or that lie past the
+-- end of a chip that it saves whole. Each status write has the status bits that the journal saves, or the same bits
+-- with all protection bits clear.
 pub record SendsRestore (bytes : List ℕ) (old new : BusState) : Type 0 where
   pub journal : IsJournal bytes
   pub sends : SendsSaved (IsSavedCode journal.content) 1 journal.content old new

@@ -61,8 +61,8 @@ abbrev pub IsImage : View → Wanted → List ℕ → Type 0
 IsImage view (wanted.Write image) bytes = IsRead view image.now 16777217 bytes
 IsImage view _ bytes = bytes ≡ []
 
--- The ranges of the job's regions, and the bytes of its image or journal. At most one byte more is read than the largest
--- chip or the longest journal has.
+-- The ranges of the job's regions, and the bytes of its image or journal. At most one byte more is read than the
+-- largest chip or the longest journal has.
 abbrev pub AreSources : View → Task → Option (List Span) → List ℕ → Type 0
 AreSources view (task.Read file regions) ranges bytes = AreRangesOf view regions ranges
 AreSources view (task.Verify file regions) ranges bytes =
@@ -82,7 +82,7 @@ abbrev pub IsThere : View → JournalUse → Fault → Type 0
 IsThere view (uses.Journal name) (end.File file.Exists of) = (of.now ≡ name.now) × Happens view (There name.now)
 IsThere view _ fault = ⊥
 
--- the journal could not be locked or read, or has a fault, which is error 15
+-- the journal could not be locked or read, or is invalid, which is error 15
 abbrev pub FailsJournal : View → Text → Fault → Type 0
 FailsJournal view name (end.Refused (BadJournal why)) = (bytes : List ℕ) × IsRead view name 16793662 bytes × HasFault bytes why
 FailsJournal view name fault = IsSharingFault view name 16793662 fault

@@ -10,7 +10,7 @@ pub const HELP: Help = Help {
     notes: NOTES,
 };
 
-// Each line has at most 80 columns.
+// Each line except the first has at most 80 columns.
 const NOTES: &str = "\
 TEXT of -p is serprog: and then KEY=VALUE, between commas, each key at most once:
   dev=PATH      The serial port of the programmer; this key is required

@@ -28,8 +28,8 @@ use std::alloc::Global;
 /// The clauses hold on every bus: the promises of each call (`DoesTask`), the faults before the call with the commands
 /// sent until then (`FailsBefore`), and that only the file that the task creates is changed.
 ///
-/// A read identifies the chip before it empties its file, so a file is kept if there is no chip. An erase identifies the
-/// chip to know its size, before its journal is created.
+/// A read identifies the chip before it empties its file, so a file is kept if there is no chip. An erase identifies
+/// the chip to know its size, before its journal is created.
 pub fn perform<'a, R: Store, B: Bus>(
     rt: &mut R,
     bus: &mut B,

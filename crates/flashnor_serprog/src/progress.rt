@@ -6,7 +6,8 @@ use std::fs;
 use std::os::unix::fs::FileTypeExt;
 
 // The steps of a job. A job may omit a step, and the order varies: `--unlock` sends a status write before the erases,
-// and some sectors are read again before they are programmed, which counts as `ReadBack`.
+// and some sectors are read again before they are programmed. After the first modifying command each read counts as
+// `ReadBack`.
 #[derive(Clone, Copy)]
 enum Step {
     Identify,
@@ -62,7 +63,7 @@ const SEALED: &str = "SEALED: the chip is changed from here on.";
 
 const CHANGED: &str = "The chip is changed from here on.";
 
-// The number of transactions of one step after which a line is printed.
+// The number of transactions of one step from one printed line to the next.
 const LINE_EACH: u64 = 256;
 
 /// A bus that prints a line to standard error before the first transaction of each step, and before every 256th one

@@ -74,7 +74,7 @@ impl<'a> Settings<'a> {
 }
 
 // Returns a clock in hertz, or `None` if the value isn't one. 0 isn't one: serprog has no such clock. A number with
-// leading zeros is decimal, as flashrom reads it.
+// leading zeros is decimal.
 fn read_hertz(value: &str) -> Option<u32> {
     let hertz = u32::try_from(read_number(value)?).ok()?;
     if hertz == 0 { None } else { Some(hertz) }

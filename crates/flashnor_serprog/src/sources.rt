@@ -39,8 +39,8 @@ impl Sources {
 
 /// Reads the files that a task needs: the layout, then the image or the journal. Each file is as it was.
 ///
-/// Returns the faults of `read_included`, `read_file` and `read_journal`, error 15 for an invalid journal, or file fault
-/// 4 if the journal of a change exists.
+/// Returns the faults of `read_included`, `read_file` and `read_journal`, error 15 for an invalid journal, or file
+/// fault 4 if the journal of a change exists.
 pub fn read_sources<'a, R: Store>(rt: &mut R, task: &Task<'a>) -> Result<Sources, Fault<'a>>
     ensures same { AreUntouched (R.state rt.old) (R.state rt.new) }
     ensures ok { IfOk result (λ sources.
