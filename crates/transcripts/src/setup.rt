@@ -101,7 +101,7 @@ fn spoil_of(key: &str, value: &str) -> Result<Spoil, Fault> {
 
 // Returns the configuration with this name. In addition to the emulated chips there are two chips of 128 KiB, which are
 // larger than an erase block of 64 KiB. `BLOCKS` has erase blocks of 32 and 64 KiB and no block protection; `SECTORS`
-// has block protection and only 4 KiB sectors.
+// has block protection and no erase blocks of 32 and 64 KiB.
 fn config_of(name: &str) -> Option<Config> {
     let id = [0xAA, 0x11, 0x22];
     match name {
