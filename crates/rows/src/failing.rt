@@ -11,13 +11,13 @@ pub enum Fault {
     Stop,
     /// The bus inverts each bit of the reply.
     Spoil,
-    /// If it is a poll, it shows BUSY, and so do the polls of the 65,535 transactions after it. These are all polls of
-    /// one wait.
+    /// If the transaction is a poll, it shows BUSY, and so does each poll among the 65,535 transactions after it. All
+    /// of these transactions are polls of one wait.
     Busy,
 }
 
-/// A bus on which at most one transaction fails, or the polls of one wait. It carries out the ones after that, up to
-/// its allowance.
+/// A bus on which at most one transaction fails, or the polls of one wait. It carries out the transactions after that,
+/// up to its allowance, which begins anew after each failure.
 #[derive(Drop)]
 pub struct OnceBus {
     pub bus: SimBus,
@@ -27,13 +27,15 @@ pub struct OnceBus {
     allowed: u64,
     /// The number of transactions requested, including the one that failed.
     pub asked: u64,
-    /// The first four bytes sent in the transaction that failed. If it sent fewer, its first byte and zeros.
+    /// The first four bytes sent in the transaction after the first `behind`. If it sent fewer, its first byte and
+    /// zeros; zeros before that transaction. With `Busy` a transaction that isn't a poll doesn't fail, but is recorded.
     pub met: [u8; 4],
     polled_ready: bool,
 }
 
 impl OnceBus {
-    /// Returns a bus that carries out `allowed` transactions, except that the one after the first `behind` fails.
+    /// Returns a bus that carries out `allowed` transactions, except that the transaction after the first `behind`
+    /// fails.
     pub fn new(mut bus: SimBus, allowed: u64, fault: Fault, behind: Option<u64>) -> OnceBus {
         bus.allow(allowed);
         OnceBus {
@@ -47,7 +49,7 @@ impl OnceBus {
         }
     }
 
-    // Returns the first bytes of the transaction that fails, or that begins to: those of `out` if it is this one.
+    // Returns the value of `met` after the next transaction, which sends `out`.
     fn met_at(&self, out: &[u8]) -> [u8; 4] {
         if self.behind == Some(self.asked) {
             beginning(out)

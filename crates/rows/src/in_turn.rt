@@ -1,5 +1,5 @@
-//! Two sessions that follow each other, each stopped after each of its transactions that follow the seal, and the two
-//! restores in reverse order.
+//! Two sessions that follow each other, and the two restores in reverse order. The first session is stopped after each
+//! number of transactions that is enough for its seal, and the second after each number of transactions.
 use crate::held::assert_held;
 use crate::row::{Row, Start};
 use crate::runs::{AMPLE, Cut, Runs};
@@ -23,7 +23,7 @@ fn write_again(rt: &impl Abort, alloc: Global, bus: SimBus, row: Row, allowed: u
 }
 
 // Restores from the second journal, if it is sealed, and then from the first. The restore from the second journal is
-// stopped once, after `allowed` transactions. Returns the chip.
+// allowed `allowed` transactions, and is repeated if that stops it. Returns the chip.
 fn undo_both(rt: &impl Abort, second: Cut, first: MemVault, allowed: u64) -> SimBus {
     let mut second = second;
     if second.vault.is_sealed() && second.restore(rt, allowed).is_none() {
@@ -57,17 +57,18 @@ fn stop_second(rt: &impl Abort, alloc: Global, runs: &Runs, other: Row, n: u64) 
 }
 
 // The first session raises a bit of byte 0, and the second writes four bytes from FEh on; all are in the first sector.
-// The first session is stopped after 23 transactions, when it has sealed its journal, to 29, or it ends after 30. The
-// second session sends 23 transactions before its seal. It raises byte 0 with an erase if the first session was stopped
-// before its erase or ended; otherwise the byte is erased.
+// The first session is stopped after 23 to 29 transactions, or it ends after 30. After 23 its journal is sealed. The
+// second session sends 23 transactions before its seal. It raises byte 0 with an erase, except if the first session was
+// stopped between its erase and its program: then the byte is FFh.
 //
-// - It sends three transactions for each erase and program, and one to verify. If it doesn't erase, it reads the sector
-//   again before it programs it.
+// - After its seal the second session sends three transactions for each erase and program, and one to verify. If it
+//   doesn't erase the sector, it reads the sector again before the program.
 // - After the stops 23 and 24 of the first session, byte 0 is 00h: 23 + 3 * 3 + 1. After the stops 25 to 27 it is FFh:
 //   23 + 1 + 2 * 3 + 1. After 28 and 29, and at the end, it is 01h, and has to be raised again.
 const LENGTHS: [u64; 8] = [33, 33, 31, 31, 31, 33, 33, 33];
 
-// The same, if the stop of the first session loses a reply. The chip is then as after one transaction more.
+// The lengths of the second session if the stop of the first one loses a reply. The chip is then as after one
+// transaction more.
 const LENGTHS_AFTER_A_LOST_REPLY: [u64; 8] = [33, 31, 31, 31, 33, 33, 33, 33];
 
 #[test]

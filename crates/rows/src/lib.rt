@@ -16,7 +16,7 @@
 //! - `undone.rt`: sessions that are stopped, restores that are stopped, too, and a second restore
 //! - `torn.rt`: sessions and restores that are stopped inside each of their transactions
 //! - `lost.rt`: sessions and restores that lose the reply to each of their transactions
-//! - `in_turn.rt`: two sessions that are stopped, and the two restores in reverse order
+//! - `in_turn.rt`: two sessions, each stopped, and the two restores in reverse order
 //! - `power.rt`: sessions and restores during which the chip loses its power
 //! - `rehearsed.rt`: rehearsals with each stop, and on faulty buses
 //! - `allowances.rt`: how many transactions a rehearsal allows each of its calls
@@ -50,7 +50,7 @@
 //! - `kernels.rt`: nor_plan's comparisons of two slices
 //! - `sets.rt`: sets of addresses made from spans
 //! - `texts.rt`: malformed and very long layouts and journals
-//! - `words.rt`: arguments of each number, with enough memory
+//! - `words.rt`: command lines of 1 to 14 arguments, with enough memory
 #![tactic(auto)]
 
 #[cfg(test)]

@@ -93,7 +93,8 @@ fn a_sealed_vault_is_durable(rt: HostRuntime) -> Result<(), io::Error> {
     Ok(())
 }
 
-// A file is made, and given two bytes and a length.
+// Creates the file `status`, makes its name durable, sets its length, writes two bytes and syncs them. Then opens the
+// log `trace`.
 fn fill<S: Store>(files: &mut S) -> io::Result<()> {
     files.make("status")?;
     files.sync_folder("status")?;

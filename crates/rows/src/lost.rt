@@ -66,8 +66,8 @@ fn assert_restored(rt: &impl Abort, runs: &Runs, mut left: Cut) {
     runs.assert_as_before(rt, &left.bus);
 }
 
-// Each row has its start and the first number of transactions after which the session stops. The large chips start
-// three transactions before the seal.
+// Each row has its start and the first number of transactions after which the session stops. For the large chips this
+// is three transactions before the seal, or six on the slow one, whose first wait has three more polls.
 const SESSIONS: [(Row, Start, u64); 10] = [
     (Row::AByteIsProgrammed, Start::IDLE, 0),
     (Row::AByteIsProgrammed, Start::SLOW, 0),

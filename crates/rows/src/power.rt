@@ -2,9 +2,10 @@
 //! polls after each operation. An interrupted erase or program leaves 00h, 5Ah or FFh in the bytes that it works on.
 //!
 //! Each test counts its runs: one for a stop before the seal, and after any other stop one more than the restore has
-//! transactions. An operation takes five transactions. After a loss of power the chip is idle, so the identification
-//! has one poll. A restore that only reads the sector has 8 transactions. Any other has 9 and five for each operation,
-//! and one more if it programs the sector without an erase, since it then reads it again.
+//! transactions. The end of the session counts as its last stop. An operation takes five transactions. After a loss of
+//! power the chip is idle, so the identification has one poll. A restore that only reads the sector has 8 transactions.
+//! Any other has 9 and five for each operation, and one more if it programs the sector without an erase, since it then
+//! reads it again.
 use crate::held::assert_held;
 use crate::row::{Row, Start};
 use crate::runs::Runs;

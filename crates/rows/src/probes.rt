@@ -105,7 +105,7 @@ type Said = Result<(u32, Kinds), SfdpFault>;
 // are:
 //
 // - from 00h on, the header, with the major revision at 05h
-// - from 08h on, the parameter header, with its revision at 0Ah, the table's length at 0Bh and its address at 0Ch
+// - from 08h on, the parameter header, with its major revision at 0Ah, the table's length at 0Bh and its address at 0Ch
 // - from 10h on, the table, with the erase granularity and the address bytes in double word 1, the size in double word
 //   2 (14h), and the erase types in double words 8 and 9 (2Ch)
 //
@@ -172,7 +172,7 @@ const W25Q64FV_SENT: &str = "05 > 04\n9f > ef4017\n";
 
 const W25Q128FV_SENT: &str = "05 > 04\n9f > ef4018\n";
 
-// A chip that a probe by a name may find.
+// The chip of a probe, with or without a name. `Ones` and `Zeros` are IDs that mean that there is no chip.
 #[derive(Clone, Copy)]
 enum Sample {
     Small,
@@ -206,7 +206,8 @@ const NONE: Answer = Err(ProbeFault::NoChip);
 
 const UNKNOWN: Answer = Err(ProbeFault::UnknownChip(SfdpFault::Signature));
 
-// Probes by a name. Returns the result, and whether the transactions sent are exactly those of the trace `sent`.
+// Probes with or without a name. Returns the result, and whether the transactions sent are exactly those of the trace
+// `sent`.
 fn probed(
     rt: &impl Abort,
     alloc: Global,
@@ -220,8 +221,9 @@ fn probed(
     (told, log.as_slice() == sent.as_bytes())
 }
 
-// The probe finds a chip by an ID of the table even if its SFDP bytes differ. Names are compared byte by byte. An ID of
-// three bytes 00h or three bytes FFh means that no chip drives the bus.
+// Each row has the chip, the name, the result, and the transactions sent. The probe finds a chip by an ID of the table
+// even if its SFDP bytes differ. Names are compared byte by byte. An ID of three bytes 00h or three bytes FFh means
+// that no chip drives the bus.
 const PROBES: &[(Sample, Option<&str>, Answer, &str)] = &[
     (Sample::Small, None, SMALL, W25Q64FV_SENT),
     (Sample::Small, Some("W25Q64FV"), SMALL, W25Q64FV_SENT),

@@ -268,8 +268,9 @@ impl Stage {
 }
 
 // Returns the expected error and number of transactions of a call if the reply of transaction `n`, counted from 0, is
-// spoilt. `met` has the first bytes of that transaction. Returns `None` unless the reply is that of a poll, or of a
-// sector that is compared or written to the output.
+// spoilt. `right` has both without a fault, `touched` is the number of sectors that the call compares at its end, and
+// `met` has the first bytes of that transaction. Returns `None` unless the reply is that of a poll, or of a sector that
+// is compared or written to the output.
 fn told_of_spoilt(
     call: Call,
     touched: u64,

@@ -7,8 +7,8 @@ use crate::runs::Runs;
 use std::alloc::Global;
 use std::process::Abort;
 
-// The numbers of bytes that a stop sends. The longest transactions of the rows are a read of the SFDP, which sends five
-// bytes, and a program of two bytes, which sends six.
+// The numbers of bytes that a stop sends for the rows that program at most two bytes of a page. Their longest
+// transactions are a read of the SFDP, which sends five bytes, and a program of two bytes, which sends six.
 const SHORT: [u32; 7] = [0, 1, 2, 3, 4, 5, 6];
 
 // The numbers of bytes that a stop sends for the row that programs whole pages. A program of a page sends 260 bytes, of
@@ -105,7 +105,7 @@ fn stop_all(rt: &impl Abort, alloc: Global, row: Row, counts: &[u32]) -> Stops {
     stops
 }
 
-// Each row has the numbers of stops at which the chip keeps its power, and loses it. The sessions send 28, 30, 30, 31,
+// Each row has the numbers of stops at which the chip keeps its power, and loses it. The sessions send 28, 30, 28, 31,
 // 38 and 42 transactions on an idle chip. On the other chips each operation takes two more polls, and on the slow chip
 // the first wait takes three more.
 const SESSIONS: [(Row, u64, u64); 6] = [

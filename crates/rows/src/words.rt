@@ -1,4 +1,4 @@
-//! Arguments of the command line, of each number, with enough memory.
+//! Command lines of 1 to 14 arguments, with enough memory.
 use nor_words::request_of;
 use std::alloc::Global;
 use std::process::Abort;
@@ -13,7 +13,8 @@ const WRITE: [&str; 6] = [
     "j",
 ];
 
-// Arguments that may be added to those of a write. Some of these groups together have 0 to 8 arguments.
+// Groups of arguments that may be added to those of a write. Together the added groups have 0 to 8 arguments, and each
+// of these numbers occurs.
 const MORE: [&[&str]; 4] = [
     &["-n"],
     &["--unlock"],
@@ -21,7 +22,7 @@ const MORE: [&[&str]; 4] = [
     &["-l", "map", "-i", "part"],
 ];
 
-// Commands of other operations, with the least arguments and more.
+// Command lines of other operations, of 1 to 5 arguments.
 const OTHERS: [&[&str]; 6] = [
     &["-L"],
     &["-pdummy:emulate=TINY64", "-rcopy"],
@@ -60,7 +61,7 @@ fn write_with(rt: &impl Abort, alloc: Global, choice: u32) -> Vec<String> {
 }
 
 // The contract of `request_of` lets it return out of memory for any arguments, so it doesn't exclude a body that always
-// does, or for some number of arguments. These tests do, for one to 14 arguments.
+// does, or one that does for some number of arguments. These tests exclude both, for 1 to 14 arguments.
 #[test]
 fn words_memory(rt: HostRuntime) {
     for words in OTHERS {
