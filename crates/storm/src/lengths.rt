@@ -38,7 +38,7 @@ pub fn included_sectors(case: &Case) -> u64 {
     sectors
 }
 
-/// Returns the number of transactions that a session sends before its first modifying command.
+/// Returns the number of transactions that a session sends before it seals its vault.
 pub fn saving(case: &Case) -> u64 {
     let scanned = match case.request.what {
         What::WpRange { .. } => 0,

@@ -154,7 +154,8 @@ struct Read {
     sent: Vec<u8>,
 }
 
-// The result of the reference implementation for a reading call, with the chip as it read it, and its trace.
+// The result of the reference implementation for a reading call, and the trace of its transactions. A success has the
+// case with the chip that the replies describe.
 #[derive(Drop)]
 struct Known {
     answer: Result<Case, OperationError>,

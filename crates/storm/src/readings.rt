@@ -203,7 +203,8 @@ fn first_difference(case: &Case) -> Option<Refusal> {
     None
 }
 
-/// Compares the result of a successful call on a faulty bus with the chip as the reference implementation read it.
+/// Compares the result of a successful call on a faulty bus with the chip that the replies described to the reference
+/// implementation.
 pub fn check_known(alloc: Global, known: &Case, told: &Told) -> Result<(), Fault> {
     match told {
         Told::Found | Told::Comparison(_) => Ok(()),
@@ -283,7 +284,7 @@ struct Copied {
 }
 
 // Checks a readout into a vault that refuses one of its calls. The error must have the number of bytes that the vault
-// accepted before.
+// has, with those that it kept of the refused piece.
 fn check_refused_copy(alloc: Global, dice: &mut Dice, case: &Case) -> Result<(), Fault> {
     let nth = u64::from(dice.below(case.chip.sectors() / 16)).saturating_add(1);
     let kept = dice.pick(0, &[1, 4095, 65_535]);

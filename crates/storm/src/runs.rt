@@ -33,8 +33,9 @@ pub fn run(alloc: Global, job: Job, seed: u64) -> (Tally, Option<FailedCase>) {
     (tally, None)
 }
 
-// Runs a case: its session and, one time in eight, the reading calls on its chip. The reading calls and the session on
-// a faulty bus draw from random numbers of their own, so that they don't change the rest of the case.
+// Runs a case: its session, one time in four also on a faulty bus, and one time in eight the reading calls on its chip.
+// The session on a faulty bus and the reading calls draw from random numbers of their own, so that they don't change
+// the rest of the case.
 fn run_case(alloc: Global, seed: u64, number: u64, tally: &mut Tally) -> Result<(), Fault> {
     let mut dice = Dice::new(seed, number);
     let case = Case::next(alloc, &mut dice)?;
@@ -121,7 +122,7 @@ fn check_accepted(
 }
 
 // Checks an accepted session, and the same session with stops and restores. Also checks a rehearsal one time in four,
-// and a damaged journal and a restore on another chip one time in three.
+// and a damaged journal and restores on another chip one time in three.
 fn go_on(
     alloc: Global,
     dice: &mut Dice,

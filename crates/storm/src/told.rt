@@ -59,8 +59,8 @@ impl<'a> Caller<'a> {
 }
 
 impl Caller<'_> {
-    /// Runs the session of a case. It takes the chip's configuration and status from the replies, and bytes that it
-    /// doesn't read as FFh.
+    /// Runs the session of a case. It takes the chip's configuration and status from the replies. Bytes that it doesn't
+    /// read count as FFh.
     pub fn session(&mut self, case: &Case) -> Result<(), OperationError> {
         let (config, status1) = self.find(case.request.named)?;
         let chip = self.identify(config, status1)?;

@@ -83,7 +83,7 @@ fn of_protection(scheme: bool, code: u8) -> Option<Refusal> {
     }
 }
 
-// Returns an error if no value of the protection bits protects exactly this range.
+// Returns an error if no defined value of the protection bits protects exactly this range.
 fn of_range(start: u32, len: u32, size: u32) -> Option<Refusal> {
     match guards::least_code(start, len, size) {
         Some(_) => None,

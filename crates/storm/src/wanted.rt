@@ -20,7 +20,7 @@ pub struct Sector {
     pub pages: u32,
 }
 
-/// The target: the contents that the chip must get.
+/// The target: the bytes and non-volatile status bits that the chip must get, and the change of each sector.
 #[derive(Drop)]
 pub struct Wanted {
     pub bytes: Vec<u8>,
