@@ -28,7 +28,8 @@ sent_of batching = batching.sent
 abbrev pub polled_ready_of : {P C : Type 0} {over : Ghosts P C} → BatchingBus P C over → Bool
 polled_ready_of batching = batching.polled_ready
 
--- The cause of the last transaction that failed, except for those that were rejected because an earlier one failed.
+-- The cause of the last transaction or `flush` that failed, except for transactions that were rejected because an
+-- earlier one failed.
 abbrev pub cause_of : {P C : Type 0} {over : Ghosts P C} → BatchingBus P C over → Option (Failure C)
 cause_of batching = batching.cause
 

@@ -22,9 +22,9 @@ use nor_model::{Bus, Sent, Stopped, polled_ready_after};
 ///   programmer does not report the size of that buffer.
 ///
 /// Over any port the modifying commands and the replies to polls are recorded; a modifying command is recorded before
-/// it waits. A transaction that sends more than 260 bytes, or reads more than the programmer can, is rejected, and
-/// changes nothing. After any other transaction that failed, what waited is dropped, and nothing more is sent until
-/// `synchronize` returns `Ok`.
+/// it waits. A transaction that sends more than 260 bytes, or reads more than the programmer can, is rejected: nothing
+/// is sent, and what waits still waits. After any other transaction that failed, what waited is dropped, and nothing
+/// more is sent until `synchronize` returns `Ok`.
 ///
 /// The bus is not honest as `Bus` defines it, even over an honest port: a command that waits has not reached the chip.
 #[derive(Drop)]
