@@ -88,6 +88,7 @@ pub record HasReadChip (named : Option ChipName) (file : Text) (ranges : Option 
   pub identified : HasIdentified named old found (Ok chip)
   pub read : HasReadOut named file ranges found new after outcome
 
+-- the faults of a read before it reads the chip's contents
 abbrev pub FailsToRead : Option ChipName → Text → View → (old new : BusState) → Fault → Type 0
 FailsToRead named file view old new fault =
     FailsToFind named old new fault ⊎ FailsToMake named file view old new fault
@@ -116,7 +117,8 @@ pub record HasChanged (named : Option ChipName) (change : Change) (ranges : Opti
   pub buffer : IsBufferOf named change.wanted bytes old found image
   pub ran : HasRunInFile (request_for change named ranges) image file before after found new outcome
 
--- this program rehearses nothing
+-- The session of a change was run with its journal in a new file (`HasChanged`). Never holds for a rehearsal, since
+-- this program rehearses nothing.
 abbrev pub HasChangedBy : Option ChipName → Change → Option (List Span) → (bytes : List ℕ) → JournalUse
     → (before : View) → (after : FilesState) → (old new : BusState) → Result Answer Refusal → Type 0
 HasChangedBy named change ranges bytes (uses.Journal file) before after old new outcome =

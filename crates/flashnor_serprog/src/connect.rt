@@ -20,7 +20,8 @@ pub type ChipBus<'a> = Shown<
     ReadAhead<ReadTwice<Paced<BatchingBus<DevicePort>, &'a HostRuntime>>>,
 >;
 
-/// Opens and locks the device, identifies the programmer, and selects the chip if `cs=` is given. Sends no transaction.
+/// Opens and locks the device, identifies the programmer, and sets its chip select if `cs=` is given. Sends no
+/// transaction.
 ///
 /// If `image` is given, data that equals it is read once. It must be the image that the job writes or compares: then no
 /// data that was read once gets into a journal.
