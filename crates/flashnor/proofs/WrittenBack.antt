@@ -13,7 +13,7 @@ use Rattle.flashnor.specs.Holding.{AreAmid, AreReady, IsReady, LeavesAmid, Makes
 use Rattle.nor_lines.specs.Stored.{ArePut, AreTwo, Happens, IsNot, IsReportedOf}
 use Rattle.flashnor.proofs.Stays.{known_after, lawful_after, not_after, not_that, settled_after}
 
--- Holds if each file stays whose name is apart from the given one.
+-- Holds if, provided that the files obey their contract, each file stays whose name is apart from the given one.
 abbrev OthersOf : Option (Bor Text) → (old new : FilesState) → Type 0
 OthersOf name old new = is_lawful old.view ≡ true → (any : Name) → IsNot old.view.nature name any → KeepsFile any old new
 

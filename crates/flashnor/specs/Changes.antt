@@ -89,6 +89,7 @@ pub record IsRehearsed (request : Request) (image stops : List ℕ) (chip : Chip
   pub restores : rehearsal.sealed ≡ true
       → AreRestores (sector_count (is_touched chip.bytes (wanted request image chip))) (drop 1 stops) rehearsal.restores
 
+-- Holds if the answer is the result of a rehearsal that `IsRehearsed` describes.
 abbrev pub ReportsRehearsal : Request → (image stops : List ℕ) → Chip → VaultState → Answer → Type 0
 ReportsRehearsal request image stops chip vault (answer.Rehearsed rehearsal) =
     IsRehearsed request image stops chip vault rehearsal
@@ -101,7 +102,7 @@ pub record HasRehearsed (request : Request) (image stops : List ℕ) (old new : 
   pub returned : MatchResult outcome (ReportsRehearsal request image stops old.chip vault')
       (RehearsalErrors request image old.chip vault vault')
 
--- The file has exactly the bytes of the vault. If the vault is sealed, these are durable.
+-- The vault is faithful (`telling`), and the file has exactly its bytes. If the vault is sealed, the bytes are durable.
 pub record IsKeptFile (name : Text) (vault : VaultState) (files : FilesState) : Type 0 where
   pub telling : vault.telling ≡ true
   pub seen : files.view.seen name ≡ Some vault.bytes

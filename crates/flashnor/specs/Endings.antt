@@ -16,7 +16,7 @@ use Rattle.nor_lines.specs.declared.messages.Fault.TheVariants as end
 use Rattle.nor_lines.specs.declared.messages.FileFault.TheVariants as file
 use Rattle.flashnor.specs.declared.printing.Ending.{Ending}
 
--- no file that could not be written
+-- every file was written
 abbrev pub all_written : Unwritten
 all_written = record { image = None; status = None; trace = None }
 

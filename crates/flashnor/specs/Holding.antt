@@ -51,6 +51,7 @@ IsAmid false had bytes left = (left ≡ None)
 abbrev pub LeavesFileAmid : Text → (there : Bool) → (had bytes : List ℕ) → FilesState → Type 0
 LeavesFileAmid name there had bytes files = (left : Found) → files.may_leave name left → IsAmid there had bytes left
 
+-- Holds if no file is named, or if a host crash may leave of the named file only contents that `IsAmid` allows.
 abbrev pub LeavesAmid : Option (Bor Text) → (there : Bool) → (had bytes : List ℕ) → FilesState → Type 0
 LeavesAmid None there had bytes files = ⊤
 LeavesAmid (Some name) there had bytes files = LeavesFileAmid name.now there had bytes files

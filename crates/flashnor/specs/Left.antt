@@ -67,7 +67,7 @@ pub record IsNoFileOf (nature : Nature) (programmer : Programmer) (name : Text) 
   pub status : IsNot nature programmer.status name
   pub trace : IsNot nature programmer.trace name
 
--- Holds if no file is named, or if a named file that existed is left with the same number of bytes by a host crash.
+-- Holds if no file is named, if the named file was missing, or if a host crash leaves it with the same number of bytes.
 abbrev pub LeavesAsLong : Option (Bor Text) → (old new : FilesState) → Type 0
 LeavesAsLong None old new = ⊤
 LeavesAsLong (Some name) old new = (had : List ℕ) → old.view.seen name.now ≡ Some had → (left : Found)

@@ -97,7 +97,7 @@ order_of role.Wanted = 4
 order_of role.Output = 5
 order_of role.Journal = 6
 
--- True if the file in that role is written. A journal counts as written, even in a restore: no other file may have its
+-- True if the file in that role is written. A journal counts as written, even in a restore: its file may have no second
 -- role.
 abbrev pub is_written : ChipJob → Role → Bool
 is_written job role.Image = puts_back job.task

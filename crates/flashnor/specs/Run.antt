@@ -151,7 +151,7 @@ pub record IsCalled (files after : FilesState) (job : ChipJob) (unwritten : Unwr
 
 -- ---- faults from before the call
 
--- Holds for the faults of reading the image of a change.
+-- Holds for the faults of making the buffer of a session: of reading the image to write, or out of memory for an erase.
 abbrev pub FailsToRead : View → Wanted → Fault → Type 0
 FailsToRead view (wanted.Write image) fault = IsReadingFault view image.now 16777217 fault
 FailsToRead view wanted.Erase fault = fault ≡ end.Refused Memory
@@ -263,6 +263,7 @@ HoldsChange programmer named change (uses.Journal file) found old new =
     HoldsTarget programmer named change file.now found old new
 HoldsChange programmer named change (uses.Rehearse stops) found old new = ⊤
 
+-- The result of the task in the files. Nothing is claimed for a task that changes no chip, or for a rehearsal.
 abbrev pub HoldsTask : Programmer → Option ChipName → Task → Answer → (old new : FilesState) → Type 0
 HoldsTask programmer named (task.Change change) found old new =
     HoldsChange programmer named change change.journal_use found old new

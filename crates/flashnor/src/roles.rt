@@ -37,8 +37,8 @@ enum Role {
 /// write. The journal of a restore counts as written. The order of the checks is fixed: first pairs of files, then
 /// files that the program prints to.
 ///
-/// Returns file fault 5 with the name of the later of two roles (image, status, trace, layout, image to write, output,
-/// journal), or with a name that is printed to. Returns file fault 1 if a name can't be looked up.
+/// Returns file fault 5 with the name of the later of two roles (image, status, trace, layout, image to write or
+/// compare, output, journal), or with a name that is printed to. Returns file fault 1 if a name can't be looked up.
 pub fn have_one_role<'a, R: Store>(rt: &R, job: &ChipJob<'a>) -> Result<(), Fault<'a>>
     ensures ok { OnOk result (HaveOneRole (R.state rt.now).view.nature job.now) }
     ensures err { IfErr result (FailsRoles (R.state rt.now).view.nature job.now) }
