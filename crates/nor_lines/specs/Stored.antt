@@ -80,7 +80,7 @@ abbrev pub MakesNothing : Option (Bor Text) → (old new : FilesState) → Type 
 MakesNothing None old new = ⊤
 MakesNothing (Some name) old new = IsKnownFile name.now old.view → LeavesOrEmpty name.now old new
 
--- The file has exactly the bytes of the vault. If the vault is sealed, these are durable.
+-- The vault is faithful (`telling`), and the file has exactly its bytes. If the vault is sealed, the bytes are durable.
 pub record IsKeptFile (name : Text) (vault : VaultState) (files : FilesState) : Type 0 where
   pub telling : vault.telling ≡ true
   pub seen : files.view.seen name ≡ Some vault.bytes
