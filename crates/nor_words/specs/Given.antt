@@ -40,11 +40,11 @@ pub record Texts : Type 0 where
 abbrev pub is_flag_set : Option Text → Bool
 is_flag_set value = option_map_or (λ text. bytes_eq text (codes "true")) value false
 
--- the value of the option with this ID in the matches of a parse (`text_in`), and whether the flag with this ID is set
--- there (`is_set_in`)
+-- the value of the option with this ID in the matches of a parse
 abbrev pub text_in : List Row → Text → Option Text
 text_in rows id = first_of id rows
 
+-- true if the flag with this ID is set in the matches of a parse
 abbrev pub is_set_in : List Row → Text → Bool
 is_set_in rows id = is_flag_set (first_of id rows)
 

@@ -47,8 +47,8 @@ pub struct Given<'a> {
     rehearse: Option<&'a str>,
 }
 
-// The values that are parsed here, all others being names. A field is `None` if its option is missing, or if its value
-// can't be parsed.
+// The values that are parsed here; all other values are names. A field is `None` if its option is missing, or if its
+// value can't be parsed.
 #[derive(Drop)]
 struct Meaning<'a> {
     programmer: Option<Programmer<'a>>,
