@@ -22,6 +22,7 @@ pub record Fails (old new : FilesState) : Type 0 where
   pub left : new.left ≤ old.left
   pub none_left : old.left ≡ 0 → AllStay old new
 
+-- The effect of a call on the number of calls left, after success or failure.
 abbrev pub Counts : {T E : Type 0} → Result T E → (old new : FilesState) → Type 0
 Counts (Ok _) old new = Succeeds old new
 Counts (Err _) old new = Fails old new

@@ -59,6 +59,7 @@ pub record FilesState : Type 1 where
   -- the contents that a host crash now may leave of that file
   pub may_leave : Name → Found → Type 0
 
+-- True if the files obey the contract.
 abbrev pub is_lawful : View → Bool
 is_lawful view = view.nature.lawful
 

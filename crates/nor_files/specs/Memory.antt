@@ -10,6 +10,7 @@ use Rattle.nor_files.specs.declared.stored.Stored.{Stored}
 abbrev pub memory_nature : Nature
 memory_nature = record { lawful = true; fails = λ failure. true; apart = λ one other. not (are_same_names one other) }
 
+-- the state of these files in memory: the number of calls left, and the file whose vault is borrowed
 abbrev pub files_state : List Stored → (left : ℕ) (borrowed : Option Name) → FilesState
 files_state files left borrowed = record {
   view = record {
@@ -22,5 +23,6 @@ files_state files left borrowed = record {
   may_leave = λ name found. MayLeave (file_named files name) found;
 }
 
+-- the state of a `Memory`
 abbrev pub memory_state : Memory → FilesState
 memory_state memory = files_state memory.files.items memory.left (option_map (λ name. name.items) memory.borrowed)

@@ -5,9 +5,11 @@ use Rattle.nor_files.specs.Files.{Name}
 use Rattle.nor_files.specs.Stored.{File, file_in, missing}
 use Rattle.nor_files.specs.declared.stored.Stored.{Stored}
 
+-- true if the names have the same bytes
 abbrev pub are_same_names : (one other : Name) → Bool
 are_same_names = pointwise nat_eq
 
+-- true if the file has this name
 abbrev pub is_named : Name → Stored → Bool
 is_named name stored = are_same_names stored.name.items name
 
@@ -16,6 +18,7 @@ abbrev pub file_named : List Stored → Name → File
 file_named [] name = missing
 file_named (stored ∷ files) name = if is_named name stored then file_in stored else file_named files name
 
+-- true if the list has an entry of that name, even for a missing file
 abbrev pub is_there : List Stored → Name → Bool
 is_there [] name = false
 is_there (stored ∷ files) name = if is_named name stored then true else is_there files name

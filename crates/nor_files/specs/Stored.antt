@@ -13,10 +13,12 @@ use Rattle.nor_files.specs.declared.stored.Content.TheVariants.{Plain, Vaulted}
 use Rattle.nor_files.specs.declared.stored.Step.{Step}
 use Rattle.nor_files.specs.declared.stored.Stored.{Stored}
 
+-- the bytes of a content, which may be those of a vault
 abbrev pub bytes_in : Content → List ℕ
 bytes_in (Plain bytes) = bytes.items
 bytes_in (Vaulted vault) = (held_by vault).bytes
 
+-- the bytes of a file's content, or `None` if the file is missing
 abbrev pub content_found : Option Content → Found
 content_found content = option_map bytes_in content
 
@@ -30,6 +32,7 @@ pub record File : Type 0 where
   -- whether a vault or a log in the file is borrowed
   pub out : Bool
 
+-- a file of a `Memory`, as contracts see it
 abbrev pub file_in : Stored → File
 file_in stored = record {
   seen = content_found stored.content;
@@ -38,6 +41,7 @@ file_in stored = record {
   out = stored.out;
 }
 
+-- a missing file without changes since the last sync
 abbrev pub missing : File
 missing = record { seen = None; steps = []; unplaced = false; out = false }
 
@@ -71,18 +75,21 @@ abbrev pub OrMissing : Bool → Type 0 → (seen left : Found) → Type 0
 OrMissing true May seen left = (left ≡ None) ⊎ May
 OrMissing false May seen left = (is_some left ≡ is_some seen) × May
 
+-- a content that a host crash may leave of the file
 abbrev pub MayLeave : File → Found → Type 0
 MayLeave file left = OrMissing file.unplaced (MayBe file.steps file.seen left) file.seen left
 
--- a host crash may leave what a read returns
+-- the content that a read returns is one that the changes may leave
 pub seen_may_be : (steps : List Step) (seen : Found) → MayBe steps seen seen
 seen_may_be [] seen = refl
 seen_may_be (step ∷ earlier) seen = inl refl
 
+-- it is also one that `OrMissing` allows
 pub seen_or_missing : (unplaced : Bool) (May : Type 0) (seen : Found) → May → OrMissing unplaced May seen seen
 seen_or_missing true May seen may = inr may
 seen_or_missing false May seen may = (refl, may)
 
+-- a host crash may leave what a read returns
 pub seen_may_stay : (file : File) → MayLeave file file.seen
 seen_may_stay file =
     seen_or_missing file.unplaced (MayBe file.steps file.seen file.seen) file.seen (seen_may_be file.steps file.seen)
@@ -104,6 +111,7 @@ pub record IsUnchanged (old new : Stored) : Type 0 where
   pub name : new.name ≡ old.name
   pub file : file_in new ≡ file_in old
 
+-- The effect of a change of the content: after a failure the file is as it was.
 abbrev pub Alters : {T E : Type 0} → Result T E → Content → Change → (old new : Stored) → Type 0
 Alters (Ok _) content change old new = IsChanged content change old new
 Alters (Err _) content change old new = IsUnchanged old new
@@ -143,6 +151,7 @@ pub record IsCreatedNow (old new : Stored) : Type 0 where
   pub missing : (file_in old).seen ≡ None
   pub file : file_in new ≡ record { seen = Some []; steps = []; unplaced = true; out = old.out }
 
+-- The effect of creating the file: after a failure the file is as it was.
 abbrev pub FileCreates : {T E : Type 0} → Result T E → (old new : Stored) → Type 0
 FileCreates (Ok _) old new = IsCreatedNow old new
 FileCreates (Err _) old new = IsUnchanged old new
@@ -159,6 +168,7 @@ pub record IsBorrowed (is_new : Bool) (old new : Stored) : Type 0 where
     out = true;
   }
 
+-- The effect of borrowing a vault or a log in the file: after a failure the file is as it was.
 abbrev pub FileBorrows : {T E : Type 0} → Bool → Result T E → (old new : Stored) → Type 0
 FileBorrows is_new (Ok _) old new = IsBorrowed is_new old new
 FileBorrows is_new (Err _) old new = IsUnchanged old new

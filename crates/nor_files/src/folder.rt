@@ -21,7 +21,7 @@ pub fn sync_folder<R: Files>(files: &R, name: &str) -> io::Result<()> {
     }
 }
 
-/// Returns the directory of this file, `.` if its name has no other.
+/// Returns the directory of this file, or `.` if its name contains no directory.
 pub fn folder_of(name: &str) -> &str {
     match Path::new(name).parent() {
         Some(folder) if !folder.as_str().is_empty() => folder.as_str(),

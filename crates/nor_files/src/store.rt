@@ -214,7 +214,7 @@ pub trait Store: AllocGlobal {
         ensures fails { OnErr result ((state self.old).view.nature.fails (Unwritten name.now) ≡ true) };
 
     /// Creates the named file, which must not exist; the new file is empty. A host crash may remove it again until its
-    /// directory is synced. On lawful files, a failure leaves the file as it was.
+    /// directory is synced. On lawful files, a failure leaves the file as it was, if no vault or log in it is borrowed.
     fn make(&mut self, name: &str) -> io::Result<()>
         ensures nature { (state self.new).view.nature ≡ (state self.old).view.nature }
         ensures alone { is_lawful (state self.old).view ≡ true
@@ -225,7 +225,8 @@ pub trait Store: AllocGlobal {
 
     /// Creates the named file, which must not exist, and lends a vault in it; return the vault with `hand_back`. `Disk`
     /// returns `There` for an existing file, and syncs the directory. On lawful files, after a failure a host crash can
-    /// leave nothing that it couldn't leave before, except an empty file if there was none.
+    /// leave nothing of a file without a borrowed vault or log that it couldn't leave before, except an empty file if
+    /// the named one was missing.
     fn vault_in_new(&mut self, name: &str) -> Result<Self::Filed, CreateFault>
         ensures nature { (state self.new).view.nature ≡ (state self.old).view.nature }
         ensures fresh { IfOk result (λ vault. IsFresh (Self.Filed.state vault)) }
