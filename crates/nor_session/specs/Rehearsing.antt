@@ -41,8 +41,8 @@ pub record CanUndo (saved : ℕ → Bool) (first : Chip) (text : List ℕ) (stat
 -- At every exit of the session. On a modelled bus: if the vault isn't sealed, the latch is set only if it was set
 -- before, and bytes and non-volatile bits are as they were, if the bus is steady or the chip was idle; if the vault is
 -- sealed, its bytes can restore the chip, and the request is accepted; only touched sectors were erased. On every bus:
--- no modifying command was sent before the seal, and a sealed vault holds a journal that saves the sectors that were
--- targeted.
+-- no modifying command was sent before the seal, a sealed vault holds a journal that all that was sent fits
+-- (`SendsSaved`), and the status was written no more often than the request may need.
 pub record LeavesSession (request : Request) (image : List ℕ) (old new : BusState) (vault : VaultState) : Type 0 where
   pub nature : KeepsNature old new
   pub same : IsModelled old → IsSteadyOrIdle old → vault.sealed ≡ false → IsSame old.chip new.chip

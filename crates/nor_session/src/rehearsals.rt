@@ -34,8 +34,8 @@ pub struct Rehearsal {
 /// On a modelled bus that is steady, or whose chip was idle at the start, the chip's contents and non-volatile status
 /// bits are as before at every exit.
 ///
-/// Returns the session's error; if the vault was sealed, it may also be an error of a restore. On a well-behaved bus
-/// errors 12 and 13 do not occur: a stop of the session or of a restore is part of the result.
+/// Returns an error of the session or, if the vault was sealed, of a restore. On a well-behaved bus errors 12 and 13 do
+/// not occur: a stop of the session or of a restore is part of the result.
 pub fn rehearse<B: Meter>(
     bus: &mut B,
     vault: &mut MemVault,

@@ -11,7 +11,8 @@ use nor_journal::Journal;
 use nor_model::Bus;
 use nor_scan::{Refusal, Report};
 
-/// Writes the saved sectors and the protection bits of `journal` back to the chip, and reads the sectors back.
+/// Writes the saved sectors and the protection bits of `journal` back to the chip, and verifies the sectors that it
+/// changed.
 ///
 /// A journal of format 1 is accepted for any chip with its ID and size, one of format 2 only for the device whose
 /// unique ID it contains.
