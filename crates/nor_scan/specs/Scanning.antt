@@ -68,7 +68,9 @@ pub record ScansSector (request : Request) (size sector : ℕ) (part part' bytes
       → (plan.touched ≡ is_touched old.chip.bytes (wanted_at request image size old.chip.bytes) sector)
       × (plan.raised ≡ is_raised old.chip.bytes (wanted_at request image size old.chip.bytes) sector)
 
--- Holds after all sectors were scanned. Other clauses describe the journal.
+-- Holds after each sector with an included address was scanned. The marks are right (`AreRight`), and the image's
+-- touched sectors have the target bytes, on a well-behaved bus with an idle chip of this size. Other clauses describe
+-- the journal.
 pub record Scans (request : Request) (size : ℕ) (image image' : List ℕ) (old new : BusState)
     (scanned : Scanned) : Type 0 where
   pub marks : AreMarks (size / 4096) scanned
