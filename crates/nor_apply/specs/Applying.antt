@@ -21,10 +21,11 @@ use Rattle.nor_apply.specs.Within.{is_writable}
 use Rattle.nor_apply.specs.Change.{IsSized, MayChange}
 use Rattle.nor_apply.specs.Spending.{Spends, may_target}
 
--- the sectors that the changes touch (`touched_in`), and those that they raise (`raised_in`), as Boolean functions
+-- the sectors that the changes touch, as a Boolean function
 abbrev pub touched_in : Changes → ℕ → Bool
 touched_in changes = has changes.touched
 
+-- the sectors that the changes raise, as a Boolean function
 abbrev pub raised_in : Changes → ℕ → Bool
 raised_in changes = has changes.raised
 

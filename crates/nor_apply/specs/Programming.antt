@@ -30,6 +30,9 @@ pub record CanProgramSpans (sector : ℕ) (old wanted : List ℕ) (chip : Chip) 
   pub shown : IsSectorOf chip.bytes sector old
   pub falls : (i : ℕ) → i < 4096 → bit_and (slice_index wanted i) (slice_index old i) ≡ slice_index wanted i
 
+-- Holds at every exit of the page programs of a sector. On every bus at most sixteen programs were sent, all of them in
+-- this sector. On a well-behaved bus, if `CanProgramSpans` held at the start, the chip changes only as `MayChange`
+-- allows, with no sector erased.
 pub record LeavesSpans (sector : ℕ) (bytes wanted : List ℕ) (old new : BusState) : Type 0 where
   pub spends : Spends most_pages old new
   pub sends : SendsWithin (programming (only sector) 16) old new
@@ -65,21 +68,29 @@ pub record LoadsOk (sector : ℕ) (erased : Bool) (bytes bytes' : List ℕ) (rea
   pub returned : erased ≡ false → old.honest ≡ true → old.chip.busy ≡ 0 → 4096 * (sector + 1) ≤ old.chip.config.size
       → IsSectorOf old.chip.bytes sector bytes'
 
+-- Holds for the result of loading a sector. After a stop on a well-behaved bus no transaction was left for the read.
 abbrev pub LoadEnds : ℕ → Bool → (bytes bytes' : List ℕ) → Result ℕ Stopped → (old new : BusState) → Type 0
 LoadEnds sector erased bytes bytes' (Ok reads) old new = LoadsOk sector erased bytes bytes' reads old new
 LoadEnds sector erased bytes bytes' (Err stopped) old new = RanOutIfHonest 1 old new
 
+-- Holds at every exit of loading a sector: at most one transaction was sent, a read, and the result is as `LoadEnds`
+-- says.
 pub record Loads (sector : ℕ) (erased : Bool) (bytes bytes' : List ℕ) (outcome : Result ℕ Stopped)
     (old new : BusState) : Type 0 where
   pub only_reads : OnlyReads 1 old new
   pub ends : LoadEnds sector erased bytes bytes' outcome old new
 
+-- Holds at every exit of programming a sector. On every bus at most sixteen programs were sent, all of them in this
+-- sector. On a well-behaved bus, if `CanProgramSector` held at the start, the chip changes only as `MayChange` allows,
+-- with no sector erased.
 pub record LeavesSector (sector : ℕ) (wanted : List ℕ) (erased : Bool) (old new : BusState) : Type 0 where
   pub spends : Spends most_sector old new
   pub sends : SendsWithin (programming (only sector) 16) old new
   pub reached : old.honest ≡ true → CanProgramSector sector wanted erased old.chip
       → MayChange (only sector) none (byte_of sector wanted) old new
 
+-- Holds after programming a sector succeeded. On a well-behaved bus, if `CanProgramSector` held at the start, the
+-- sector has its target bytes, and one program was sent for each page that differed from them.
 pub record DoesSector (sector : ℕ) (wanted : List ℕ) (erased : Bool) (old new : BusState) (tally : Tally) : Type 0 where
   pub fewer : tally.count ≤ 16
   pub exactly : SendsExactly 0 tally.count 0 old new

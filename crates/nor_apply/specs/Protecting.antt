@@ -10,12 +10,18 @@ use Rattle.nor_driver.specs.Limits.{writing, SendsWithin, SendsExactly}
 use Rattle.nor_driver.specs.Operations.{most_operation}
 use Rattle.nor_apply.specs.Spending.{Spends}
 
+-- Holds at every exit. If no status write is needed, nothing was sent. Otherwise on every bus at most one status write
+-- was sent, with the bits of `status` and these protection bits. On a well-behaved bus, if `CanWriteStatus` held at the
+-- start, the chip changes only as `MayWriteStatus` allows.
 pub record LeavesCode (status : Status) (code : ℕ) (needed : Bool) (old new : BusState) : Type 0 where
   pub spends : Spends (if needed then most_operation else 0) old new
   pub sends : SendsWithin (writing (λ one two. needed && is_status_with_code status code one two) (if needed then 1 else 0)) old new
   pub unsent : needed ≡ false → new ≡ old
   pub reached : needed ≡ true → old.honest ≡ true → CanWriteStatus status old.chip → MayWriteStatus code old new
 
+-- Holds after success. Exactly one status write was sent if it is needed, and otherwise none. If it is needed, on a
+-- well-behaved bus the chip is idle, and if `CanWriteStatus` held at the start, the chip has these protection bits
+-- (`HasWrittenStatus`).
 pub record DoesCode (status : Status) (code : ℕ) (needed : Bool) (old new : BusState) (sent : ℕ) : Type 0 where
   pub few : sent ≤ (if needed then most_operation else 0)
   pub least : (if needed then 3 else 0) ≤ sent
