@@ -39,10 +39,11 @@ takes_erase chip erase =
     is_idle chip && has_block chip.config erase.unit
     && not (is_block_protected chip (4096 * erase.sector) (block_length chip erase))
 
--- the sector `s` is in the erase block (`is_sector_in_block`), or the address `a` is (`is_address_in_block`)
+-- the sector `s` is in the erase block
 abbrev pub is_sector_in_block : Erase → Chip → ℕ → Bool
 is_sector_in_block erase chip s = erases_sector (sectors_of chip) s erase
 
+-- the address `a` is in the erase block
 abbrev pub is_address_in_block : Erase → Chip → ℕ → Bool
 is_address_in_block erase chip a = is_sector_in_block erase chip (a / 4096)
 

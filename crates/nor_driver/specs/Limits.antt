@@ -12,10 +12,11 @@ pub record Limits : Type 0 where
   pub programs : ℕ
   pub status_writes : ℕ
 
--- no sector (`no_sector`), and no bytes of a status write (`no_status`)
+-- no sector
 abbrev pub no_sector : ℕ → Bool
 no_sector s = false
 
+-- no bytes of a status write
 abbrev pub no_status : (one two : ℕ) → Bool
 no_status one two = false
 

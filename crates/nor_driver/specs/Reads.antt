@@ -56,26 +56,31 @@ shown config at len = map (sfdp_byte config) (range_with_len (at % config.size) 
 pub record IsSectorOf (content : ℕ → ℕ) (sector : ℕ) (bytes : List ℕ) : Type 0 where
   pub byte : (i : ℕ) → i < 4096 → slice_index bytes i ≡ content (4096 * sector + i)
 
--- The results of reads of the ID, status 2, the unique ID and SFDP bytes. On an honest bus each read leaves the chip as
--- it was, and returns the chip's bytes if the chip is idle. The read of status 2 returns the chip's byte even if the
--- chip is busy.
+-- A read of the ID. On an honest bus it leaves the chip as it was, and returns the chip's bytes if the chip is idle.
 pub record ReadsId (old new : BusState) (id : List ℕ) : Type 0 where
   pub read : old.honest ≡ true → HasRead old new
   pub returned : old.honest ≡ true → old.chip.busy ≡ 0 → id ≡ id_of old.chip.config
 
+-- A read of status 2. On an honest bus it leaves the chip as it was, and returns the chip's byte even if the chip is
+-- busy.
 pub record ReadsStatus2 (old new : BusState) (status2 : ℕ) : Type 0 where
   pub read : old.honest ≡ true → HasRead old new
   pub returned : old.honest ≡ true → status2 ≡ old.chip.kept.two
 
+-- A read of the unique ID. On an honest bus it leaves the chip as it was, and returns the chip's bytes if the chip is
+-- idle.
 pub record ReadsUnique (old new : BusState) (unique : List ℕ) : Type 0 where
   pub read : old.honest ≡ true → HasRead old new
   pub returned : old.honest ≡ true → old.chip.busy ≡ 0 → unique ≡ unique_of old.chip.config
 
+-- A read of `len` SFDP bytes. On an honest bus it leaves the chip as it was, and returns the chip's bytes if the chip
+-- is idle.
 pub record ReadsSfdp (at len : ℕ) (old new : BusState) (bytes : List ℕ) : Type 0 where
   pub read : old.honest ≡ true → HasRead old new
   pub returned : old.honest ≡ true → old.chip.busy ≡ 0 → bytes ≡ shown old.chip.config at len
 
--- The read of a sector. The bytes that it returns are stated only for a sector that lies on the chip.
+-- A read of a sector. On an honest bus it leaves the chip as it was, and returns the chip's bytes if the chip is idle
+-- and the sector lies on it.
 pub record ReadsSector (sector : ℕ) (old new : BusState) (bytes : List ℕ) : Type 0 where
   pub read : old.honest ≡ true → HasRead old new
   pub returned : old.honest ≡ true → old.chip.busy ≡ 0 → 4096 * (sector + 1) ≤ old.chip.config.size
