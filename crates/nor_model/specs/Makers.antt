@@ -22,9 +22,10 @@ pub record HasParts (with_id : List ℕ) (with_size : ℕ) (with_kinds : Kinds) 
 abbrev pub IsTiny64 : Config → Type 0
 IsTiny64 = HasParts (0xFE ∷ 0x10 ∷ 0x10 ∷ []) 65536 all_kinds false (sfdp_of 0xFF 0xFF 0x07 0x00)
 
--- the configurations of the emulated Winbond chips
+-- the configuration of the emulated W25Q64FV
 abbrev pub IsW25q64fv : Config → Type 0
 IsW25q64fv = HasParts (0xEF ∷ 0x40 ∷ 0x17 ∷ []) 8388608 all_kinds true (sfdp_of 0xFF 0xFF 0xFF 0x03)
 
+-- the configuration of the emulated W25Q128FV
 abbrev pub IsW25q128fv : Config → Type 0
 IsW25q128fv = HasParts (0xEF ∷ 0x40 ∷ 0x18 ∷ []) 16777216 all_kinds true (sfdp_of 0xFF 0xFF 0xFF 0x07)

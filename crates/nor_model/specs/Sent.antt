@@ -5,10 +5,11 @@ use Rattle.nor_model.specs.declared.sent.TargetedSectors.{TargetedSectors}
 use Rattle.nor_model.specs.declared.sent.Sent.{Sent}
 use Rattle.nor_model.specs.Command.{begins_change, begins_quiet, is_change, is_erase_opcode}
 
--- all 4,096 sectors that a 24-bit address can lie in (`all_targeted`), and no sector (`none_targeted`)
+-- all 4,096 sectors that a 24-bit address can lie in
 abbrev pub all_targeted : TargetedSectors
 all_targeted = record { first = 0; count = 4096 }
 
+-- no sector
 abbrev pub none_targeted : TargetedSectors
 none_targeted = record { first = 0; count = 0 }
 
@@ -45,16 +46,17 @@ is_in_targeted target_sectors s = nat_le target_sectors.first s && nat_lt s (tar
 abbrev pub targets : (out : List ℕ) → ℕ → Bool
 targets out s = is_in_targeted (targeted_by out) s
 
--- true if the transaction begins with the opcode of an erase (`begins_erase`), of a page program (`begins_program`) or
--- of a status write (`begins_status_write`)
+-- true if the transaction begins with the opcode of an erase
 abbrev pub begins_erase : (out : List ℕ) → Bool
 begins_erase [] = false
 begins_erase (opcode ∷ rest) = is_erase_opcode opcode
 
+-- true if the transaction begins with the opcode of a page program
 abbrev pub begins_program : (out : List ℕ) → Bool
 begins_program [] = false
 begins_program (opcode ∷ rest) = opcode == 0x02
 
+-- true if the transaction begins with the opcode of a status write
 abbrev pub begins_status_write : (out : List ℕ) → Bool
 begins_status_write [] = false
 begins_status_write (opcode ∷ rest) = opcode == 0x01
@@ -88,14 +90,15 @@ is_targeted sent s = slice_index_or sent.targeted s false
 abbrev pub has_written : Sent → (one two : ℕ) → Bool
 has_written sent one two = nat_lt two 256 && slice_index_or sent.written (256 * one + two) false
 
--- the numbers of erases, page programs and status writes that were sent; a count that reaches the greatest u64 stays
--- there
+-- the number of erases that were sent; it stays at the greatest u64
 abbrev pub erases_of : Sent → ℕ
 erases_of sent = sent.erases
 
+-- the number of page programs that were sent; it stays at the greatest u64
 abbrev pub programs_of : Sent → ℕ
 programs_of sent = sent.programs
 
+-- the number of status writes that were sent; it stays at the greatest u64
 abbrev pub status_writes_of : Sent → ℕ
 status_writes_of sent = sent.status_writes
 
