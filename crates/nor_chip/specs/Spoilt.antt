@@ -8,18 +8,19 @@ use Rattle.nor_model.specs.declared.sent.Sent.{Sent}
 use Rattle.nor_model.specs.PolledReady.{is_poll}
 use Rattle.nor_model.specs.Bus.{BusState, IsHonestFor, Stops, Carries}
 
--- the bus inside (`bus_in`), and the way in which the faulty bus fails (`spoil_of`)
+-- the bus inside
 abbrev pub bus_in : {B : Type 0} → SpoiltBus B → B
 bus_in bus = bus.bus
 
+-- the way in which the faulty bus fails
 abbrev pub spoil_of : {B : Type 0} → SpoiltBus B → Spoil
 spoil_of bus = bus.spoil
 
--- the record of what was sent over the faulty bus (`noted_of`), and the number of transactions that succeeded
--- (`succeeded_of`)
+-- the record of what was sent over the faulty bus
 abbrev pub noted_of : {B : Type 0} → SpoiltBus B → Sent
 noted_of bus = bus.noted
 
+-- the number of transactions that succeeded; it stays at the greatest u64
 abbrev pub succeeded_of : {B : Type 0} → SpoiltBus B → ℕ
 succeeded_of bus = bus.sent
 
@@ -40,6 +41,7 @@ withheld (BusyFrom first) sent = None
 withheld (Drop number) sent = if sent + 1 == number then Some 255 else None
 withheld (Low bit) sent = None
 
+-- the value of each reply byte if the bus drops the next transaction, otherwise `None`
 abbrev pub withheld_of : {B : Type 0} → SpoiltBus B → Option ℕ
 withheld_of bus = withheld (spoil_of bus) (succeeded_of bus)
 

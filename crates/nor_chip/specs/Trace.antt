@@ -5,13 +5,15 @@ use Rattle.hex.specs.Hex.{encode_lower}
 use Rattle.nor_chip.specs.declared.trace.TraceBus.{TraceBus}
 use Rattle.nor_model.specs.declared.bus.Stopped.{Stopped}
 
--- the bus inside (`traced_by`), the log (`log_of`), and whether a line was lost (`has_lost`)
+-- the bus inside
 abbrev pub traced_by : {B L : Type 0} → TraceBus B L → B
 traced_by traced = traced.bus
 
+-- the log
 abbrev pub log_of : {B L : Type 0} → TraceBus B L → L
 log_of traced = traced.log
 
+-- whether a line was lost, or a flush failed
 abbrev pub has_lost : {B L : Type 0} → TraceBus B L → Bool
 has_lost traced = traced.lost
 
