@@ -5,6 +5,7 @@ use Rattle.nor_layout.specs.declared.fault.LineFault.TheVariants.{Line, Address,
 use Rattle.nor_layout.specs.declared.fault.LayoutFault.{LayoutFault}
 use Rattle.nor_layout.specs.declared.fault.LayoutFault.TheVariants.{InLine, TooMany, Memory, NoRegion}
 
+-- the number that messages print for the fault of a line
 abbrev pub number_in_line : LineFault → ℕ
 number_in_line Line = 1
 number_in_line Address = 2

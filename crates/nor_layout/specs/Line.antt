@@ -29,6 +29,7 @@ abbrev pub with_start : List ℕ → Option (List ℕ × List ℕ) → Option Pa
 with_start start None = None
 with_start start (Some parts) = Some (record { start = start; end = parts.0; name = without_spaces parts.1 })
 
+-- the parts of a line, from what is before and after its first `:`, or None if it has no `:`
 abbrev pub parts_after : Option (List ℕ × List ℕ) → Option Parts
 parts_after None = None
 parts_after (Some parts) = with_start parts.0 (cut_at 32 parts.1)
@@ -42,6 +43,7 @@ parts_of line = parts_after (cut_at 58 line)
 abbrev pub is_name_byte : ℕ → Bool
 is_name_byte b = nat_le 33 b && nat_le b 126 && not (b == 44) && not (b == 58)
 
+-- true for a name of 1 to 32 bytes, each of which a name may have
 abbrev pub is_name : List ℕ → Bool
 is_name name = nat_le 1 (length name) && nat_le (length name) 32 && list_all is_name_byte name
 
@@ -54,6 +56,7 @@ region_of (Some start) (Some end) name =
     else if is_name name then Ok (record { start = start; end = end; name = record { items = name } })
     else Err Name
 
+-- The region that the parts of a line define, or the first fault. A line without parts has the fault `Line`.
 abbrev pub parts_say : Option Parts → Result Region LineFault
 parts_say None = Err Line
 parts_say (Some parts) = region_of (digits_address parts.start) (digits_address parts.end) parts.name

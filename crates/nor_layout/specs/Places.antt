@@ -10,6 +10,7 @@ use Rattle.nor_layout.specs.Ranges.{contains}
 abbrev pub is_in_places : Places → ℕ → Bool
 is_in_places places at = nat_le places.start at && nat_lt at places.end
 
+-- true if the position `at` is in one of the ranges
 abbrev pub is_covered : List Places → ℕ → Bool
 is_covered all at = list_any (λ places. is_in_places places at) all
 

@@ -46,6 +46,7 @@ pub record IsNext (done : ℕ) (spans : List Span) (next : Span) : Type 0 where
   pub taken : (address : ℕ) → is_in_span next address ≡ true → contains spans address ≡ true
   pub least : (address : ℕ) → done ≤ address → contains spans address ≡ true → next.first ≤ address
 
+-- A next span is as `IsNext` says. There is none only if each address in the spans is below `done`.
 abbrev pub IsNextOrNone : (done : ℕ) → List Span → Option Span → Type 0
 IsNextOrNone done spans next = MatchOption next (EndBelow done spans) (IsNext done spans)
 
