@@ -161,7 +161,7 @@ module _ (before : List (List ℕ)) (n : ℕ) (line : List ℕ) (regions : List 
     unfolding layout_says
     returned said e = ap (lines_say [] 1) lines_are ∙ onward said e after
 
-    -- a line at which memory can run out adds a region
+    -- a text with a line that adds a region allocates (`AsksMemory`)
     asks_memory : (region : Region) → with_line regions (n + 1) line ≡ Ok (regions ++ region ∷ []) → AsksMemory text
     unfolding lines_say
     asks_memory region e = record {
