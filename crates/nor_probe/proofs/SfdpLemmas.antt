@@ -10,7 +10,7 @@ use Rattle.nor_model.specs.Size.{is_chip_size}
 use Rattle.nor_model.proofs.Sizes.{alike, is_chip_size-from, is_chip_size-in_blocks, is_chip_size-power_of_two}
 use Rattle.nor_probe.specs.Sfdp.{is_chip_size_in_bits}
 
--- two to a power above 27 isn't a supported size
+-- two to a power above 27 is above 2 ^ 27, the greatest size in bits
 pub large_exponent : (k : ℕ) → 27 < k → leb (2 ^ k) (2 ^ 27) ≡ false
 large_exponent k h = let above : 2 ^ 27 < 2 ^ k = pow_below 27 k h in grind (arith, nat_tests)
 
