@@ -42,7 +42,7 @@ wanted_or_other : (named : Option ChipName) (name : ChipName) → IsWanted named
 wanted_or_other None name = inl tt
 wanted_or_other (Some wanted) name = grind arith
 
--- the chip of an accepted request has the requested name
+-- the chip of an accepted request has the requested name, if one is requested
 pub accepted_named : (request : Request) (image : List ℕ) (chip : Chip) → IsAccepted request image chip
     → IsNamed request.named chip.config
 accepted_named request image chip accepted =
