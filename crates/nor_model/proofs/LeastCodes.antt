@@ -11,7 +11,8 @@ pub record AreAlike (start len start' len' : ℕ) : Type 0 where
   pub as_long : len ≡ len'
   pub alike : (len' ≡ 0) ⊎ (start ≡ start')
 
--- a code that protects exactly a first range also protects exactly a second one if and only if the two ranges are alike
+-- a code that protects exactly a first range also protects exactly a second one if (`protects-alike`) and only if
+-- (`alike-protects`) the two ranges are alike
 pub protects-alike : (size code start len start' len' : ℕ) → ProtectsExactly size code start len
     → AreAlike start len start' len' → ProtectsExactly size code start' len'
 protects-alike size code start len start' len' protects alike a =
