@@ -62,8 +62,8 @@ pub record OpensChip (programmer : Programmer) (content : Content) (bus : BusSta
   pub ready : IsReady programmer bus
   pub holds : HasContent content bus.chip
 
--- Holds for a well-behaved bus to the emulated chip, which is idle and has these contents, before transactions are
--- allowed and before a stop can cut the power.
+-- Holds for a well-behaved bus to the emulated chip, which is idle and has these contents; nothing was sent yet. How
+-- many transactions are allowed, and whether a stop cuts the power, is set later.
 pub record HoldsFiles (programmer : Programmer) (content : Content) (bus : BusState) : Type 0 where
   pub config : IsConfigWith programmer.chip programmer.unique bus.chip.config
   pub idle : bus.chip.busy ≡ 0
