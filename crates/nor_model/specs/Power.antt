@@ -47,7 +47,7 @@ pub record PowerLost (old new : Chip) : Type 0 where
 abbrev pub is_interrupted : Chip → ℕ → Bool
 is_interrupted chip a = not (chip.busy == 0) && is_known_running chip.running && is_in_work chip.running a
 
--- the non-volatile status bits: those from before the status write if `running` is one, otherwise the chip's
+-- the non-volatile status bits: those from before the operation if `running` is a status write, otherwise the chip's
 abbrev pub kept_before : Chip → KeptBits
 kept_before chip = elim chip.running [ StatusWrite one two ↦ record { one = one; two = two } | _ ↦ chip.kept ]
 
