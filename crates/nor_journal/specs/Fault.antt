@@ -36,8 +36,8 @@ HeaderFault bytes Size = (unique : Option (List ℕ)) × (take 8 bytes ≡ magic
     × (is_chip_size (number_at (drop (header_length unique - 4) bytes)) ≡ false)
 HeaderFault bytes _ = ⊥
 
--- Holds if the next record has this fault. The chip has `sectors` sectors, and after the records before it the number
--- must be at least `least`.
+-- Holds if the next record has this fault. The chip has `sectors` sectors. Because of the earlier records, the number
+-- of the next one must be at least `least`.
 abbrev pub RecordFault : (sectors least : ℕ) → (rest : List ℕ) → JournalFault → Type 0
 -- the bytes end within the number, or the number is valid and they end within the sector's bytes
 RecordFault sectors least rest Short =
