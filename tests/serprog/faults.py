@@ -144,8 +144,13 @@ def needs_commands(start):
                                  (0x16, ",cs=1", "Leave cs= out.")):
         bench = start(lacks=(opcode,))
         refuse(bench, f"the programmer lacks command {opcode:02X}h, which is needed here. {advice}", keys, number=7)
+        check("commands that it lacks", [it for it in bench.server.commands if it[0] == opcode], [])
+
+
+def has_the_chip_select(start):
+    """If the programmer refuses the number of cs=, that is programmer fault 11."""
     bench = start(selects=2)
-    refuse(bench, "the programmer lacks command 16h, which is needed here. Leave cs= out.", ",cs=2", number=7)
+    refuse(bench, "the programmer refused command 16h. Give cs= the number of another chip select.", ",cs=2", number=11)
 
 
 def needs_spi(start):
@@ -218,5 +223,5 @@ def reads_twice(start):
 
 
 CASES = [needs_a_device, needs_a_character_device, locks_the_device, holds_its_lock, needs_an_answer, needs_its_step,
-         needs_right_replies, needs_a_port, needs_version_1, needs_commands, needs_spi, needs_wide_limits,
-         reports_causes, reports_the_port, reads_twice]
+         needs_right_replies, needs_a_port, needs_version_1, needs_commands, has_the_chip_select, needs_spi,
+         needs_wide_limits, reports_causes, reports_the_port, reads_twice]

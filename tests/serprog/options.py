@@ -37,7 +37,7 @@ def identifies(start):
 def sets_the_clock(start):
     """spispeed= sets the clock by S_SPI_FREQ before the first transaction. Without it the clock isn't set.
 
-    A number with leading zeros is decimal, as in flashrom, which reads it with strtol and base 10.
+    A number with leading zeros is decimal, unlike in flashrom, which takes it for an octal one.
     """
     bench = start()
     for speed in "2000000", "02000000", "00000000000002000000":

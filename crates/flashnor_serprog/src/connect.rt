@@ -5,10 +5,7 @@ use crate::progress::Shown;
 use crate::setting::Setting;
 use crate::trouble::ProgrammerFault;
 use nor_files::LockFile;
-use nor_serprog::{
-    Answer, BatchingBus, Failure, HandshakeFault, Link, Paced, Port, Programmer, ReadAhead,
-    ReadTwice,
-};
+use nor_serprog::{BatchingBus, Link, Paced, Programmer, ReadAhead, ReadTwice};
 use std::fs;
 use std::fs::{File, OpenOptions};
 use std::os::unix::fs::FileTypeExt;
@@ -31,15 +28,14 @@ pub fn connect<'a>(
     image: Option<Vec<u8>>,
 ) -> Result<ChipBus<'a>, ProgrammerFault> {
     let device = open_device(rt, setting.device)?;
-    let Ok(same_device) = device.try_clone() else {
-        return Err(ProgrammerFault::NotOpened);
-    };
     let mut link = Link::new(DevicePort::new(device));
     let programmer = Programmer::identify(&mut link, setting.hertz).map_err(
         ProgrammerFault::Handshake,
     )?;
     if let Some(chip_select) = setting.chip_select {
-        select_chip(&mut DevicePort::new(same_device), chip_select)?;
+        programmer
+            .select_chip(&mut link, chip_select)
+            .map_err(ProgrammerFault::Handshake)?;
     }
     let longest_read = programmer.longest_read();
     let bus = Paced::new(BatchingBus::new(link, programmer), rt);
@@ -65,30 +61,5 @@ fn open_device(rt: &HostRuntime, name: &str) -> Result<File, ProgrammerFault> {
         Ok(true) => Ok(device),
         Ok(false) => Err(ProgrammerFault::InUse),
         Err(_) => Err(ProgrammerFault::NotOpened),
-    }
-}
-
-const S_SPI_CS: u8 = 0x16;
-
-// Sets the programmer's chip select with the command S_SPI_CS (16h; flashrom's Documentation/serprog-protocol.txt). The
-// replies to all earlier commands must have been received.
-fn select_chip(port: &mut DevicePort, chip_select: u8) -> Result<(), ProgrammerFault> {
-    match exchange_select(port, chip_select) {
-        Ok(()) => Ok(()),
-        Err(Failure::Refused(opcode)) => {
-            Err(ProgrammerFault::Handshake(HandshakeFault::Lacks(opcode)))
-        }
-        Err(failure) => Err(ProgrammerFault::Handshake(HandshakeFault::Failure(failure))),
-    }
-}
-
-fn exchange_select<P: Port>(port: &mut P, chip_select: u8) -> Result<(), Failure<P::Cause>> {
-    port.send(&[S_SPI_CS, chip_select]).map_err(Failure::Port)?;
-    let mut first = [0];
-    port.receive(&mut first).map_err(Failure::Port)?;
-    match Answer::of(first[0]) {
-        Answer::Ack => Ok(()),
-        Answer::Nak => Err(Failure::Refused(S_SPI_CS)),
-        Answer::Other(byte) => Err(Failure::Strange(byte)),
     }
 }

@@ -85,7 +85,7 @@ const MODES: &str = "raw -echo clocal -hupcl min 0 time 50";
 /// The reason why the programmer can't be used. It occurs before the first transaction.
 #[derive(Drop)]
 pub enum ProgrammerFault {
-    /// 1: the device is missing, or the system can't open, lock or duplicate it.
+    /// 1: the device is missing, or the system can't open or lock it.
     NotOpened,
     /// 2: the file of this name is no character device.
     NoDevice,
@@ -160,6 +160,9 @@ fn help_for(fault: &HandshakeFault<PortFault>) -> Remedy {
         }
         HandshakeFault::Failure(Failure::Port(PortFault::System(_))) => {
             Remedy::DoAndSetUp("Connect the programmer again, and set up the port:")
+        }
+        HandshakeFault::Failure(Failure::Refused(0x16)) => {
+            Remedy::Do("Give cs= the number of another chip select.")
         }
         HandshakeFault::Failure(Failure::Refused(_)) => Remedy::Do("Install other firmware on it."),
         HandshakeFault::Failure(_) => Remedy::DoAndSetUp(

@@ -2,7 +2,7 @@
 -- table of commands, and its notes on O_SPIOP.)
 use Rattle.std.specs.Prelude.{◌≡◌, ◌<◌, ◌≤◌, ◌+◌, ◌*◌, ◌/◌, ◌%◌, ◌++◌, ◌==◌, ◌||◌, ℕ, List, [], ◌∷◌, Option, None, Some, length, drop, slice_index, if◌then◌else◌, ⊤}
 use Rattle.nor_serprog.specs.declared.command.Command.{Command}
-use Rattle.nor_serprog.specs.declared.command.Command.TheVariants.{Nop, QueryInterface, QueryCommands, QueryName, QuerySerialBuffer, QueryBuses, QueryLongestWrite, SyncNop, QueryLongestRead, SetBuses, Operate, SetFrequency, SetPins}
+use Rattle.nor_serprog.specs.declared.command.Command.TheVariants.{Nop, QueryInterface, QueryCommands, QueryName, QuerySerialBuffer, QueryBuses, QueryLongestWrite, SyncNop, QueryLongestRead, SetBuses, Operate, SetFrequency, SetPins, SelectChip}
 
 -- A 24-bit number as three bytes, the lowest first.
 abbrev pub three_of : ℕ → List ℕ
@@ -35,6 +35,7 @@ frame_of (SetBuses flags) = 0x12 ∷ flags ∷ []
 frame_of (Operate out replies) = operation_frame out.now replies
 frame_of (SetFrequency hertz) = 0x14 ∷ four_of hertz
 frame_of (SetPins enabled) = 0x15 ∷ (if enabled then 1 else 0) ∷ []
+frame_of (SelectChip number) = 0x16 ∷ number ∷ []
 
 -- The command fits into one frame of this crate: O_SPIOP sends at most 260 bytes, and its number of reply bytes fits in
 -- 24 bits.
@@ -42,11 +43,11 @@ abbrev pub FitsFrame : Command → Type 0
 FitsFrame (Operate out replies) = (length out.now ≤ 260) × (replies < 16777216)
 FitsFrame _ = ⊤
 
--- The number of argument bytes after an opcode up to 15h, except O_SPIOP and "write n" (0Dh), whose frames `long_len`
+-- The number of argument bytes after an opcode up to 16h, except O_SPIOP and "write n" (0Dh), whose frames `long_len`
 -- describes. It is 0 for all later opcodes.
 abbrev pub argument_count : (opcode : ℕ) → ℕ
 argument_count opcode =
-    if opcode == 0x12 || opcode == 0x15 then 1
+    if opcode == 0x12 || opcode == 0x15 || opcode == 0x16 then 1
     else if opcode == 0x09 then 3
     else if opcode == 0x0C || opcode == 0x0E || opcode == 0x14 then 4
     else if opcode == 0x0A then 6
@@ -58,7 +59,7 @@ abbrev pub long_len : List ℕ → Option ℕ
 long_len (a ∷ b ∷ c ∷ rest) = Some (7 + number_in a b c)
 long_len _ = None
 
--- The length of the frame that begins with these bytes, as a programmer reads it if it has no commands after 15h:
+-- The length of the frame that begins with these bytes, as a programmer reads it if it has no commands after 16h:
 -- `None` until the bytes determine it.
 abbrev pub frame_len : (begun : List ℕ) → Option ℕ
 frame_len [] = None

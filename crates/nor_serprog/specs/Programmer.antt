@@ -1,5 +1,5 @@
--- The limits of a programmer, as it reported them when it was identified.
-use Rattle.std.specs.Prelude.{ℕ}
+-- The limits of a programmer and what it has, as it reported them when it was identified.
+use Rattle.std.specs.Prelude.{ℕ, Bool}
 use Rattle.nor_serprog.specs.declared.handshake.Programmer.{Programmer}
 
 -- The greatest number of bytes that a transaction may send.
@@ -9,3 +9,7 @@ writes_most programmer = programmer.longest_write
 -- The greatest number of bytes that a transaction may read.
 abbrev pub reads_most : Programmer → ℕ
 reads_most programmer = programmer.longest_read
+
+-- True if the programmer has the command S_SPI_CS.
+abbrev pub has_chip_selects : Programmer → Bool
+has_chip_selects programmer = programmer.selects

@@ -23,7 +23,7 @@ const REPLIES_END: u32 = 1 << 24;
 pub type Frame = ArrayVec<u8, LONGEST_FRAME>;
 
 /// A command of the serprog protocol, version 1 (flashrom's Documentation/serprog-protocol.txt). The commands for
-/// parallel chips are left out, and so are commands after 15h.
+/// parallel chips are left out, and so are commands after 16h.
 #[derive(Clone, Copy, Debug, PartialEq, Eq)]
 pub enum Command<'a> {
     /// 00h, NOP: no effect.
@@ -52,6 +52,8 @@ pub enum Command<'a> {
     SetFrequency(u32),
     /// 15h, S_PIN_STATE: switch the programmer's pin drivers on or off.
     SetPins(bool),
+    /// 16h, S_SPI_CS: use the chip select with this number. Newer descriptions of version 1 have this command.
+    SelectChip(u8),
 }
 
 /// The command does not fit into a frame: it sends more than 260 bytes to the chip, or reads 2^24 bytes or more.
@@ -88,6 +90,7 @@ impl Command<'_> {
                 short(&[0x14, a, b, c, d])
             }
             Command::SetPins(enabled) => short(&[0x15, u8::from(enabled)]),
+            Command::SelectChip(number) => short(&[0x16, number]),
         }
     }
 }
@@ -129,7 +132,7 @@ fn operation(out: &[u8], replies: u32) -> Result<Frame, TooLong>
 /// Returns the length of the frame that begins with these bytes, as a programmer reads it, or `None` until the bytes
 /// determine it. Bytes that follow never change a length that is known, so no frame is a prefix of another.
 ///
-/// The function knows the commands 00h to 15h, including those for parallel chips. It takes any other opcode for a
+/// The function knows the commands 00h to 16h, including those for parallel chips. It takes any other opcode for a
 /// command without arguments.
 pub fn frame_len(begun: &[u8]) -> Option<usize>
     ensures value { result ≡ frame_len_of begun.now }
@@ -146,12 +149,12 @@ pub fn frame_len(begun: &[u8]) -> Option<usize>
     }
 }
 
-// Returns the number of argument bytes after an opcode that has a fixed number of them, and 0 for opcodes after 15h.
+// Returns the number of argument bytes after an opcode that has a fixed number of them, and 0 for opcodes after 16h.
 fn arguments_len(opcode: u8) -> usize
     ensures { result ≡ argument_count opcode }
 {
     match opcode {
-        0x12 | 0x15 => 1,
+        0x12 | 0x15 | 0x16 => 1,
         0x09 => 3,
         0x0C | 0x0E | 0x14 => 4,
         0x0A => 6,

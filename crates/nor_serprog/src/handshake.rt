@@ -1,5 +1,5 @@
 //! The handshake that precedes the first transaction: identifies a programmer, and prepares it for SPI.
-ghost use Rattle.std.specs.Prelude.{◌≡◌, ◌≤◌, true, OnOk};
+ghost use Rattle.std.specs.Prelude.{◌≡◌, ◌≤◌, true, false, OnOk, IsErr};
 ghost use Rattle.nor_serprog.specs.Link.{is_in_step};
 
 use crate::{Command, Failure, LONGEST_OUT, Link, Port};
@@ -21,6 +21,8 @@ const S_BUSTYPE: u8 = 0x12;
 
 const O_SPIOP: u8 = 0x13;
 
+const S_SPI_CS: u8 = 0x16;
+
 /// Why a programmer cannot be used. `C` is the cause of the port.
 #[derive(Debug, Drop, Error)]
 #[error_bound(C: std::fmt::Display)]
@@ -32,7 +34,7 @@ pub enum HandshakeFault<C> {
     #[error("the programmer speaks version {0} of serprog, and only version 1 is known")]
     Version(u16),
     /// The programmer lacks the command with this opcode. For `identify` that is O_SPIOP (13h), or S_SPI_FREQ (14h) if
-    /// a clock was requested.
+    /// a clock was requested; for `select_chip` it is S_SPI_CS (16h).
     #[error("the programmer lacks command {0:02X}h, which is needed here")]
     Lacks(u8),
     /// The programmer doesn't support SPI, or supports other types of bus too and has no command that selects one. The
@@ -59,13 +61,15 @@ pub struct Programmer {
     longest_read: u32,
     serial_buffer: u16,
     frequency: Option<u32>,
+    // The programmer has the command S_SPI_CS.
+    selects: bool,
     // A transaction may send a page program, and read a sector.
     ghost writes: { 260 ≤ longest_write },
     ghost reads: { 4096 ≤ longest_read },
 }
 
 impl Programmer {
-    ghost use Rattle.nor_serprog.specs.Programmer.{reads_most, writes_most};
+    ghost use Rattle.nor_serprog.specs.Programmer.{has_chip_selects, reads_most, writes_most};
 
     /// Identifies the programmer on a new link, and prepares it for SPI transactions. It sends no transaction, so the
     /// chip is not selected.
@@ -111,7 +115,28 @@ impl Programmer {
             longest_read,
             serial_buffer,
             frequency,
+            selects: offers(&commands, S_SPI_CS),
         })
+    }
+
+    /// Makes the programmer use the chip select with this number (S_SPI_CS, 16h) for all transactions from now on.
+    /// `link` must be the one to this programmer.
+    ///
+    /// Returns `Lacks` if the programmer lacks the command. Nothing is sent then: the programmer would take the number
+    /// for a command. Returns a `Failure` (`Refused`) if the programmer has no chip select with this number.
+    pub fn select_chip<P: Port + Drop>(
+        &self,
+        link: &mut Link<P>,
+        number: u8,
+    ) -> Result<(), HandshakeFault<P::Cause>>
+        ensures unsent { has_chip_selects self.now ≡ false → link.new ≡ link.old }
+        ensures lacks { has_chip_selects self.now ≡ false → IsErr result }
+        ensures ok { OnOk result (is_in_step link.new ≡ true) }
+    {
+        if !self.selects {
+            return Err(HandshakeFault::Lacks(S_SPI_CS));
+        }
+        ask(link, Command::SelectChip(number), &mut [])
     }
 
     /// Returns the name of the programmer, 16 bytes padded with zeros. It is all zeros if the programmer has none.

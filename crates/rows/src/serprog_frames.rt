@@ -13,8 +13,9 @@ fn frames_are_those_of_the_protocol(rt: HostRuntime) {
         out: &[0x03, 0x12, 0x34, 0x56],
         replies: 0x01_02_03,
     };
-    let cases: [(Command<'_>, &[u8]); 5] = [
+    let cases: [(Command<'_>, &[u8]); 6] = [
         (Command::SyncNop, &[0x10]),
+        (Command::SelectChip(2), &[0x16, 0x02]),
         (Command::SetBuses(0x08), &[0x12, 0x08]),
         (
             Command::SetFrequency(12_000_000),
