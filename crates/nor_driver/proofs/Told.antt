@@ -1,4 +1,4 @@
--- The replies of an idle chip: its ID, unique ID, SFDP bytes and the bytes of a sector.
+-- The replies of an idle chip: its unique ID, its SFDP bytes, and the bytes of a sector.
 use Rattle.std.proofs.Common.{◌≡◌, ◌<◌, ◌≤◌, ◌+◌, ◌*◌, ◌%◌, ◌∙◌, ℕ, List, [], ◌∷◌, length, slice_index, refl, ap, sym, arith}
 use Rattle.std.specs.Prelude.{map, slice_index_or}
 use Rattle.std.specs.List.{range_with_len}

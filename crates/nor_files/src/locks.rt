@@ -1,4 +1,4 @@
-//! Locks on files, which keep two runs from working on one file.
+//! Locks on files, so that no run changes a file that another run uses. A file system without locks doesn't prevent that.
 
 use std::fs::{File, TryLockError};
 use std::io;

@@ -43,8 +43,8 @@ impl Memory {
         }
     }
 
-    /// Creates or replaces the named file, with these bytes; a host crash can leave nothing else of it. This doesn't
-    /// count as a call. Fails if memory runs out.
+    /// Creates or replaces the named file, durably: it has these bytes even after a host crash. This doesn't count as a
+    /// call. Fails if memory runs out.
     pub fn put(&mut self, name: &str, bytes: &[u8]) -> Result<(), AllocError>
         ensures left { self.new.left ≡ self.old.left }
         ensures puts { OnOk result (IsDurable name.now (Some bytes.now) (memory_state self.new)) }

@@ -3,11 +3,12 @@ pub mod Address
 pub mod Line
 pub mod Text
 pub mod Grammar
--- Addresses that names include, and queries about sets of addresses.
+-- The addresses that names of regions include, and sets of addresses.
 pub mod Included
 pub mod Ranges
 pub mod Sectors
 pub mod Places
+-- The numbers of faults, and the results of private functions.
 pub mod Faults
 pub mod Steps
 -- The name of a region is an `ArrayVec`.

@@ -49,7 +49,8 @@ IsOpeningFault view name len (end.File file.Length of) =
 IsOpeningFault view name len _ = ⊥
 
 -- Holds for the faults of locking and reading a chip's file, which must have `len` bytes. In addition to the faults of
--- reading it, the file may have become missing, be read-only, be locked by another run, or fail to sync.
+-- reading it, the file has become missing, or can't be opened for overwriting, locked or synced, or its directory can't
+-- be synced.
 abbrev pub IsLockingFault : View → Text → ℕ → Fault → Type 0
 IsLockingFault view name len (end.File file.Read of) =
     (of.now ≡ name) × (ReadsFile name (len + 1) None view ⊎ Happens view (Unread name))

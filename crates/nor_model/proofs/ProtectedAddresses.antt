@@ -74,7 +74,8 @@ pub protected_by-past : (size code a : ℕ) → size ≤ a → protected_by size
 unfolding protected_by
 protected_by-past size code a past = rw (le-ltb a size past) refl
 
--- a test that holds in a range at one end of the chip has the same value at all addresses of a page
+-- if a test holds exactly in a range of whole KiB at one end of the chip (`LieAtAnEnd`), it has the same value at any
+-- two addresses of a page of the chip
 alike : (size : ℕ) (test : ℕ → Bool) (a b : ℕ) → LieAtAnEnd size test → a < size → b < size → a / 256 ≡ b / 256
     → test a ≡ test b
 alike size test a b ends below_a below_b page =

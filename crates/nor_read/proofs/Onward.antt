@@ -18,7 +18,7 @@ pub looked_on : {reads more : ℕ} {old mid new : BusState} → HasLooked reads 
 looked_on {reads} {more} {old} {mid} {new} has next =
     grind (arith, nature_then old mid new next.nature has.nature, rested_then old mid new)
 
--- A successful read leaves the chip's bytes as they are.
+-- On an honest bus a successful read (`Rested`) leaves the chip's bytes as they are.
 pub same_bytes : {old new : BusState} → Rested old new → new.chip.bytes ≡ old.chip.bytes
 same_bytes rested = fun_ext rested.unchanged.same.bytes
 

@@ -90,7 +90,7 @@ module _ {named : Option ChipName} {old mid : BusState} {probed : Probed}
   pub sends_on : {new : BusState} → OnlyReads (probed.found.size / 4096) mid new → Sends old new
   sends_on after = search (arith, looks_on, size_of)
 
-  -- If the bus stops after the probe, fewer transactions were left than the whole call takes.
+  -- If an honest bus stops after the probe, fewer transactions were left at the start than the whole call may need.
   pub ran_on : {new : BusState} (n most : ℕ) → most_probe + n ≤ most → RanOutIfHonest n mid new → old.honest ≡ true
       → RanOut most old new
   ran_on n most fits out honest =

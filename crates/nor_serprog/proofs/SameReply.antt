@@ -85,7 +85,7 @@ same_reply (a ∷ rest) old mid new first again reads one two len =
     let three = eqb-true a 3 reads in
     same_reply_03 rest old mid new first again (subst P three one) (subst Q three two) len
 
--- After a transaction an honest bus takes the next one of the same length, too.
+-- If an honest bus takes a transaction, it then takes another one that sends the same bytes and reads equally many.
 pub fits_again : (out : List ℕ) (m n : ℕ) (old new : BusState) → KeepsNature old new → n ≡ m → IsHonestFor out m old
     → IsHonestFor out n new
 fits_again out m n old new nature same fits = record {

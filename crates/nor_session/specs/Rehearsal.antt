@@ -40,14 +40,14 @@ pub record IsRehearsal (stops : ℕ) (vault : VaultState) (rehearsal : Rehearsal
   pub none : rehearsal.sealed ≡ false → rehearsal.restores ≡ 0
   pub whole : stops ≡ 0 → rehearsal.ended ≡ true
 
--- the fewest transactions of a session with this number of erases: four for the identification, one for each scanned
--- sector, and three for each erase and each program
+-- A lower bound on the transactions of a session with this number of erases: four for the identification, one for each
+-- scanned sector, and three for each erase and each program. Status writes, and the reads after the scan, aren't counted.
 abbrev pub least_needed : Request → (image : List ℕ) → Chip → (erases : ℕ) → ℕ
 least_needed request image chip erases =
     4 + scanned_sectors request chip.config.size + 3 * (erases + pages_of chip.bytes (wanted request image chip))
 
--- Holds if a session can end on this chip: its request is accepted, and the allowance is at least the fewest
--- transactions that it needs.
+-- Holds if nothing known here keeps a session from ending on this chip: its request is accepted, and the allowance is
+-- at least the lower bound on its transactions.
 pub record CanEnd (request : Request) (image : List ℕ) (allowance : ℕ) (chip : Chip) : Type 0 where
   pub accepted : IsAccepted request image chip
   pub erases : ℕ

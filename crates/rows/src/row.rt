@@ -352,7 +352,7 @@ fn on_tiny64(old: Bytes, image: Bytes, length: u32, operations: u32) -> Written 
     }
 }
 
-// Returns the session of that row. Its scan sends one transaction, since only one sector contains included addresses.
+// Returns the session of `TheRestOfASectorStays`. Its scan sends one transaction, since only one sector contains included addresses.
 fn the_rest_of_a_sector_stays() -> Written {
     Written {
         part: Some(b"0x800:0x8ff part"),
@@ -390,7 +390,7 @@ fn each_page_is_programmed() -> Written {
     }
 }
 
-// Returns the session of that row. Its scan sends 64 transactions, and its verification 32.
+// Returns the session of `ThirtyTwoSectorsAreErased`. Its scan sends 64 transactions, and its verification 32.
 fn thirty_two_sectors_are_erased() -> Written {
     let old = Bytes {
         from: 0x8000,

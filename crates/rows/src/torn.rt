@@ -204,8 +204,8 @@ fn each_cut_of_a_restore(rt: HostRuntime) {
     }
 }
 
-// The session's stop sends no data byte of a page program, one, or both. The restore's stop sends each number of bytes
-// of `SHORT`.
+// The numbers of stopped restores. The session's stop sends 4, 5 or 6 bytes of a transaction: none, one or both data
+// bytes of a page program. The restore's stop sends each number of bytes in `SHORT`.
 const RESTORES_OF_TWO_PAGES: Stops = Stops {
     kept: 5_152,
     lost: 9_492,
