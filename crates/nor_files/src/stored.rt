@@ -42,8 +42,8 @@ pub struct Step {
 pub enum Loss {
     /// Nothing: only the process was killed.
     Nothing,
-    /// The host crashed: the changes since the last sync are lost, and so is a file whose directory wasn't synced. A file
-    /// that was created for a vault or log, and that a host crash can't remove, keeps its present bytes.
+    /// The host crashed: the changes since the last sync are lost, and so is a file whose directory wasn't synced. A
+    /// file that was created for a vault or log, and that a host crash can't remove, keeps its present bytes.
     Unsynced,
 }
 

@@ -46,8 +46,8 @@ Lifts request touched unlock = unlock ≡ true → (request.unlock ≡ true) × 
 
 -- ---- for each chip with this identification
 
--- Holds if acceptance is right. If a request with an image of this length is accepted, then `IdentityAccepts` holds with
--- the returned protection bits, for each chip that has this identification and the requested name.
+-- Holds if acceptance is right. If a request with an image of this length is accepted, then `IdentityAccepts` holds
+-- with the returned protection bits, for each chip that has this identification and the requested name.
 abbrev pub AcceptsIdentity : Request → ℕ → Identity → Result ℕ Refusal → Type 0
 AcceptsIdentity request len identity judged = (chip : Chip) (image : List ℕ) → IsIdentityOf chip identity
     → IsNamed request.named chip.config → length image ≡ len → IfOk judged (IdentityAccepts request image chip)

@@ -41,7 +41,8 @@ pub record IsRehearsal (stops : ℕ) (vault : VaultState) (rehearsal : Rehearsal
   pub whole : stops ≡ 0 → rehearsal.ended ≡ true
 
 -- A lower bound on the transactions of a session with this number of erases: four for the identification, one for each
--- scanned sector, and three for each erase and each program. Status writes, and the reads after the scan, aren't counted.
+-- scanned sector, and three for each erase and each program. Status writes, and the reads after the scan, aren't
+-- counted.
 abbrev pub least_needed : Request → (image : List ℕ) → Chip → (erases : ℕ) → ℕ
 least_needed request image chip erases =
     4 + scanned_sectors request chip.config.size + 3 * (erases + pages_of chip.bytes (wanted request image chip))

@@ -27,9 +27,9 @@ pub struct OnceBus {
     allowed: u64,
     /// The number of transactions requested, including the one that failed.
     pub asked: u64,
-    /// The first four bytes that transaction number `behind`, counted from 0, sent. If it sent fewer, its first byte and
-    /// three zeros follow. All four are zeros before that transaction. With `Busy` it is recorded even if it is no poll,
-    /// and so doesn't fail.
+    /// The first four bytes that transaction number `behind`, counted from 0, sent. If it sent fewer, its first byte
+    /// and three zeros follow. All four are zeros before that transaction. With `Busy` it is recorded even if it is no
+    /// poll, and so doesn't fail.
     pub met: [u8; 4],
     polled_ready: bool,
 }

@@ -352,7 +352,8 @@ fn on_tiny64(old: Bytes, image: Bytes, length: u32, operations: u32) -> Written 
     }
 }
 
-// Returns the session of `TheRestOfASectorStays`. Its scan sends one transaction, since only one sector contains included addresses.
+// Returns the session of `TheRestOfASectorStays`. Its scan sends one transaction, since only one sector contains
+// included addresses.
 fn the_rest_of_a_sector_stays() -> Written {
     Written {
         part: Some(b"0x800:0x8ff part"),

@@ -143,8 +143,8 @@ impl Model {
         self.reply(&answer);
     }
 
-    // Carries out one O_SPIOP command: a transaction with the chip, and its reply. At the command `fault_at` the reply has
-    // the fault; with `Nak` there is no transaction.
+    // Carries out one O_SPIOP command: a transaction with the chip, and its reply. At the command `fault_at` the reply
+    // has the fault; with `Nak` there is no transaction.
     fn operate(&mut self, out: &[u8], replies: u16) {
         let fault = if self.operations == self.fault_at {
             self.fault
