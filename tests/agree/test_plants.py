@@ -143,8 +143,8 @@ PLANTS = {
     "a suite's goal that isn't there": (
         ROWS, "docs/TESTING.md", r"\| `make storm` \|", "| `make storms` |", "the Makefile has no goal `storms`"),
     "a mutant of the random test that isn't there": (
-        ROWS, "docs/TESTING.md", r"\| `protected_anywhere` \|", "| `protected_nowhere` |",
-        r"docs/TESTING.md:\d+: there is no name `protected_nowhere`"),
+        ROWS, "docs/TESTING.md", r"\| `last_touched_sector_left_out`;", "| `last_touched_sector`;",
+        r"docs/TESTING.md:\d+: there is no name `last_touched_sector`"),
     "a page without its table of tests": (
         ROWS, "docs/TESTING.md", r"\| Behaviour \| Test \|", "| Behaviour | Shown by |",
         "TESTING.md has no table with a column 'Test'"),
