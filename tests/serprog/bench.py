@@ -85,17 +85,17 @@ class Bench:
     def write(self, name, content):
         self.path(name).write_bytes(content)
 
-    def start(self, words, keys="", err=subprocess.PIPE):
+    def start(self, words, keys="", err=subprocess.PIPE, out=subprocess.PIPE):
         """Starts the program with these arguments, after -p, and returns the process."""
         words = [str(self.program), "-p", f"serprog:dev={self.folder / 'dev'}{keys}", *words]
-        return self.start_words(words, err)
+        return self.start_words(words, err, out)
 
-    def start_words(self, words, err=subprocess.PIPE):
+    def start_words(self, words, err=subprocess.PIPE, out=subprocess.PIPE):
         self.command = " ".join(map(str, words[1:]))
         self.before = copy.deepcopy(self.chip)
         names = [name for option, name in zip(words, words[1:]) if option in ("-w", "-v")]
         self.image = self.path(names[0]).read_bytes() if names and self.path(names[0]).exists() else None
-        process = subprocess.Popen(words, cwd=self.folder, stdin=subprocess.DEVNULL, stdout=subprocess.PIPE,
+        process = subprocess.Popen(words, cwd=self.folder, stdin=subprocess.DEVNULL, stdout=out,
                                    stderr=err, env=dict(os.environ, LC_ALL="C"))
         self.server.kill_at(process)
         return process
@@ -132,6 +132,14 @@ class Bench:
             process.communicate(timeout=LONGEST)
         check("exit status", process.returncode, 0)
         return shown.result().decode().splitlines()
+
+    def run_unprinted(self, *words):
+        """Runs the program with standard output at /dev/full, and returns its exit status and the faults' lines."""
+        self.server.begin({})
+        with open("/dev/full", "wb") as full:
+            process = self.start(words, out=full)
+            _, err = process.communicate(timeout=LONGEST)
+        return process.returncode, err.decode(errors="backslashreplace").splitlines()
 
     @staticmethod
     def compare(got, out, err):

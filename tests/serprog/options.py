@@ -331,7 +331,18 @@ def shows_progress(start):
         bench.write("again", old)
 
 
+def needs_its_output(start):
+    """If a line can't be printed, the exit status is 1, and the job is done nevertheless."""
+    old, new = images("needs_its_output")
+    bench = start(data=old)
+    bench.write("new", new)
+    for words in ("-r", "out"), ("-w", "new", "--journal", "j"), ("-h",):
+        check("status and faults", bench.run_unprinted(*words), (1, []))
+    bench.check_file("out", old)
+    bench.check_chip(new)
+
+
 CASES = [identifies, sets_the_clock, selects_a_chip, keeps_to_the_protocol, names_the_chip, reads, reads_regions,
          reads_inside, verifies, verifies_regions, writes, writes_without_verification, writes_regions, writes_at_random,
          writes_large_chips, changes_nothing, erases, erases_regions, prints_the_size, shows_protection, lists_ranges,
-         protects, shows_progress]
+         protects, shows_progress, needs_its_output]
