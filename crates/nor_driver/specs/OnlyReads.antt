@@ -4,7 +4,7 @@ use Rattle.nor_model.specs.Chip.{IsSame}
 use Rattle.nor_model.specs.Power.{is_in_work, KeptCut}
 use Rattle.nor_model.specs.Bus.{BusState, KeepsNature}
 
--- The bus is steady or the chip is idle, so a stop can't interrupt a running operation.
+-- The bus is steady or the chip is idle, so a stop can't interrupt an operation from before the call.
 abbrev pub IsSteadyOrIdle : BusState → Type 0
 IsSteadyOrIdle state = (state.steady ≡ true) ⊎ (state.chip.busy ≡ 0)
 
