@@ -6,6 +6,5 @@ pub mod Targeting
 pub mod ErasingExits
 pub mod ProgrammingSpans
 pub mod ProgrammingWhole
-pub mod CheckingSteps
 pub mod ApplyingSteps
 pub mod ApplyingExits

@@ -3,6 +3,5 @@ pub mod Change
 pub mod Spending
 pub mod Erasing
 pub mod Programming
-pub mod Checking
 pub mod Protecting
 pub mod Applying

@@ -1,3 +1,4 @@
+pub mod CheckingSteps
 pub mod Changed
 pub mod JudgedAgain
 pub mod OneRestoreVerdict

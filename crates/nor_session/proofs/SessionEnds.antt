@@ -23,7 +23,7 @@ use Rattle.nor_scan.specs.SavedScan.{HasSaved}
 use Rattle.nor_model.proofs.Sizes.{sized_bounds}
 use Rattle.nor_scan.proofs.Planned.{touched_past, only_inside, raised_inside}
 use Rattle.nor_scan.specs.Scanning.{wanted_at, Scans}
-use Rattle.nor_apply.specs.Checking.{CanCheck}
+use Rattle.nor_session.specs.Checking.{CanCheck}
 use Rattle.nor_model.specs.declared.config.Config.{Config}
 use Rattle.nor_probe.specs.Known.{IsModelled}
 use Rattle.nor_session.specs.Changing.{HasBytes, LeavesChange, DoesChange}

@@ -13,7 +13,7 @@ use Rattle.nor_apply.specs.declared.changes.Work.{Work}
 use Rattle.nor_geometry.specs.Counts.{sector_count}
 use Rattle.nor_plan.specs.Content.{once_erased, is_programmed}
 use Rattle.nor_apply.specs.Change.{MayChange}
-use Rattle.nor_apply.specs.Checking.{CanCheck, IsFirstMismatch}
+use Rattle.nor_session.specs.Checking.{CanCheck, IsFirstMismatch}
 use Rattle.nor_apply.specs.Spending.{Spends}
 use Rattle.nor_apply.specs.Applying.{touched_in, raised_in, status_writes, most_sent, most_applied, CanApply, HasApplied}
 use Rattle.nor_request.specs.declared.refusal.Refusal.{Refusal}

@@ -1,6 +1,7 @@
 pub mod Bounds
 pub mod Made
 pub mod Headline
+pub mod Checking
 pub mod Changing
 pub mod Session
 pub mod Judged

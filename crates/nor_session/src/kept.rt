@@ -8,7 +8,8 @@ ghost use Rattle.nor_plan.specs.SectorSet.{has, LiesBelow};
 ghost use Rattle.nor_apply.specs.Applying.{most_applied};
 ghost use Rattle.nor_session.specs.Changing.{touched_count, LeavesChange, DoesChange, ChangeErrors, NamesTouchedSector, DoesCheck, CheckRefuses};
 
-use nor_apply::{Changes, Source, Work, apply, check_all};
+use crate::checks::check_all;
+use nor_apply::{Changes, Source, Work, apply};
 use nor_journal::{Journal, Vault};
 use nor_model::Bus;
 use nor_scan::Refusal;

@@ -26,6 +26,7 @@
 //! buses most promises are made. `InTurn.antt` and `WrittenOver.antt` have the definitions of the laws.
 #![tactic(auto)]
 
+mod checks;
 mod judged;
 mod kept;
 mod laws;

@@ -1,6 +1,6 @@
 use Rattle.nor_plan.specs.SectorSet.{has}
-use Rattle.nor_apply.proofs.CheckingSteps.{HasChecked}
-use Rattle.nor_apply.proofs.checks.check_all.Given as goal
+use Rattle.nor_session.proofs.CheckingSteps.{HasChecked}
+use Rattle.nor_session.proofs.checks.check_all.Given as goal
 
 abbrev pub invariant-loop-sector : goal.invariant-loop-sector
 invariant-loop-sector g l =

@@ -1,8 +1,8 @@
 use Rattle.std.proofs.Common.{◌∙◌, arith, sym}
 use Rattle.std.proofs.lemmas.Grind.{common_steps}
-use Rattle.nor_apply.proofs.CheckingSteps.{checked_none, checked_with, checked_without, failed}
-use Rattle.nor_apply.proofs.checks.check_all.Goals.{then-contains+in_ok-check_sector, else-contains}
-use Rattle.nor_apply.proofs.checks.check_all.Goals as goal
+use Rattle.nor_session.proofs.CheckingSteps.{checked_none, checked_with, checked_without, failed}
+use Rattle.nor_session.proofs.checks.check_all.Goals.{then-contains+in_ok-check_sector, else-contains}
+use Rattle.nor_session.proofs.checks.check_all.Goals as goal
 
 pub loop-sector-init : goal.loop-sector-init
 loop-sector-init g c = checked_none (g.B.Bus.state c.args.bus.now)

@@ -2,26 +2,23 @@
 ghost use Rattle.std.specs.Prelude.{◌≡◌, ◌<◌, ℕ, true, length, IfOk, IfErr, OnOk};
 ghost use Rattle.nor_driver.specs.OnlyReads.{OnlyReads};
 ghost use Rattle.nor_plan.specs.SectorSet.{has};
-ghost use Rattle.nor_apply.specs.declared.checks.CheckFault.TheVariants as Faults;
+ghost use Rattle.nor_session.specs.declared.checks.CheckFault.TheVariants as Faults;
 ghost use Rattle.nor_geometry.specs.Counts.{sector_count};
-ghost use Rattle.nor_apply.specs.Checking.{DoesChecks, CheckErrors, NamesDifference, of_check};
+ghost use Rattle.nor_session.specs.Checking.{DoesChecks, CheckErrors, NamesDifference, of_check};
 ghost use Rattle.nor_apply.specs.Change.{only, byte_of};
 
-use crate::Source;
+use nor_apply::Source;
 use nor_driver::read_sector;
 use nor_model::{Bus, MOST_SECTORS, SECTOR_LEN, Stopped};
 use nor_plan::{SectorSet, bounds};
 use nor_request::Refusal;
-use thiserror::Error;
 
 /// The reason why a verification failed.
-#[derive(Clone, Copy, Debug, PartialEq, Eq, Error)]
-pub enum CheckFault {
+#[derive(Clone, Copy, Debug, PartialEq, Eq)]
+pub(crate) enum CheckFault {
     /// The bus stopped.
-    #[error("the bus stopped")]
     Stopped,
     /// A byte that was read back isn't the target byte. The address is that of the first difference.
-    #[error("the bytes differ from the wanted ones, first at address 0x{address:06x}")]
     Mismatch { address: u32 },
 }
 
@@ -50,7 +47,7 @@ impl From<CheckFault> for Refusal {
 /// Returns `Stopped` if the bus stopped, and `Mismatch` if a byte differs. On any bus the address of a mismatch is in a
 /// touched sector. On a well-behaved bus, if the chip is idle and has the touched sectors, it is the first address in
 /// these at which the chip differs.
-pub fn check_all<B: Bus, S: Source>(
+pub(crate) fn check_all<B: Bus, S: Source>(
     bus: &mut B,
     source: &S,
     touched: &SectorSet,

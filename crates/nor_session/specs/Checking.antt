@@ -6,8 +6,8 @@ use Rattle.nor_driver.specs.OnlyReads.{Rested, RanOutIfHonest}
 use Rattle.nor_driver.specs.Ready.{StaysReady}
 use Rattle.nor_request.specs.declared.refusal.Refusal.{Refusal}
 use Rattle.nor_request.specs.declared.refusal.Refusal.TheVariants as Refusals
-use Rattle.nor_apply.specs.declared.checks.CheckFault.{CheckFault}
-use Rattle.nor_apply.specs.declared.checks.CheckFault.TheVariants.{Stopped, Mismatch}
+use Rattle.nor_session.specs.declared.checks.CheckFault.{CheckFault}
+use Rattle.nor_session.specs.declared.checks.CheckFault.TheVariants.{Stopped, Mismatch}
 use Rattle.nor_geometry.specs.Counts.{sector_count}
 
 -- Holds if the chip is idle, and the sectors lie on it.

@@ -1,8 +1,8 @@
 use Rattle.std.proofs.Common.{◌∙◌, arith}
 use Rattle.std.proofs.lemmas.Result.{err_from_is_err_and}
-use Rattle.nor_apply.proofs.CheckingSteps.{agrees, differs, stops}
+use Rattle.nor_session.proofs.CheckingSteps.{agrees, differs, stops}
 use Rattle.nor_apply.proofs.Alone.{only-here}
-use Rattle.nor_apply.proofs.checks.check_sector.Goals as goal
+use Rattle.nor_session.proofs.checks.check_sector.Goals as goal
 
 pub returns-in_err-read_sector-clause-errors : goal.returns-in_err-read_sector-clause-errors
 returns-in_err-read_sector-clause-errors g c =

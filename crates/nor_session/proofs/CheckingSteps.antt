@@ -12,9 +12,9 @@ use Rattle.nor_driver.specs.Reads.{IsSectorOf, ReadsSector}
 use Rattle.nor_driver.proofs.RestsInTurn.{HasLooked, has_looked-none, looks_after, runs_out, rested_then}
 use Rattle.nor_plan.specs.Bytes.{AllAgree, IsFirstDifference}
 use Rattle.nor_apply.specs.Change.{only, byte_of}
-use Rattle.nor_apply.specs.Checking.{CanCheck, DoesChecks, CheckErrors, NamesDifference}
-use Rattle.nor_apply.specs.declared.checks.CheckFault.{CheckFault}
-use Rattle.nor_apply.specs.declared.checks.CheckFault.TheVariants.{Stopped, Mismatch}
+use Rattle.nor_session.specs.Checking.{CanCheck, DoesChecks, CheckErrors, NamesDifference}
+use Rattle.nor_session.specs.declared.checks.CheckFault.{CheckFault}
+use Rattle.nor_session.specs.declared.checks.CheckFault.TheVariants.{Stopped, Mismatch}
 use Rattle.nor_apply.proofs.Alone.{count_below-next, only-here, only-is, sector_count-only, shown_byte, old_byte}
 
 -- ---- a sector
