@@ -5,8 +5,8 @@ use Rattle.bench.specs.declared.words.Request.{Request}
 use Rattle.bench.specs.declared.words.Request.TheVariants.{Usage, Chip, Plan, Journal, Session, Read, Answers, Unknown}
 
 -- the job that one argument selects, `Unknown` if it is none of these six
-abbrev pub named : List ℕ → Request
-named word =
+abbrev pub request_named : List ℕ → Request
+request_named word =
     if bytes_eq word (codes "chip") then Chip
     else if bytes_eq word (codes "plan") then Plan
     else if bytes_eq word (codes "journal") then Journal
@@ -18,5 +18,5 @@ named word =
 -- without an argument the usage is printed; one argument selects a job; more are an error
 abbrev pub request_of : List (List ℕ) → Request
 request_of [] = Usage
-request_of (word ∷ []) = named word
+request_of (word ∷ []) = request_named word
 request_of (word ∷ other ∷ others) = Unknown

@@ -1,6 +1,6 @@
 //! The arguments of the command line.
 ghost use Rattle.std.specs.Prelude.{◌≡◌, map, string_bytes};
-ghost use Rattle.bench.specs.Words.{named, request_of};
+ghost use Rattle.bench.specs.Words.{request_named, request_of};
 
 /// The job of a run.
 #[derive(Clone, Copy, Debug, PartialEq, Eq)]
@@ -30,14 +30,14 @@ pub fn request_of(words: &[String]) -> Request
 {
     match words {
         [] => Request::Usage,
-        [word] => named(word.as_str()),
+        [word] => request_named(word.as_str()),
         _ => Request::Unknown,
     }
 }
 
 // Returns the job with this name; `Request::Unknown` if there is none.
-fn named(word: &str) -> Request
-    ensures { result ≡ named word.now }
+fn request_named(word: &str) -> Request
+    ensures { result ≡ request_named word.now }
 {
     if word == "chip" {
         Request::Chip

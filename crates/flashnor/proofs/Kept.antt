@@ -27,7 +27,7 @@ use Rattle.nor_words.specs.declared.job.Task.TheVariants as task
 use Rattle.flashnor.specs.Changes.{HasMadeChange, IsKeptFile}
 use Rattle.flashnor.specs.Chips.{ArePutBack, IsContentOf, OpensChip}
 use Rattle.flashnor.specs.Endings.{all_written}
-use Rattle.flashnor.specs.Holding.{AreAmid, AreHeld, AreReady, IsReady, MakesDurable, StandsFor, was}
+use Rattle.flashnor.specs.Holding.{AreAmid, AreHeld, AreReady, IsReadyIfNamed, MakesDurable, StandsFor, was}
 use Rattle.flashnor.specs.Left.{IsNoFileOf, IsOpenedFrom, IsRestorableFrom, LeavesAsLong, MayFind, Opened}
 use Rattle.nor_lines.specs.Requests.{AreRangesOf, request_for}
 use Rattle.flashnor.specs.Requests.{IsBufferOf}
@@ -67,7 +67,7 @@ module _ (job : ChipJob) (held : Held) (s0 s1 s2 : FilesState) (bus bus' : BusSt
   ready : (name : Option (Bor Text)) (there : Bool) (had put : List ℕ)
       → AreTwo s0.view.nature name job.programmer.trace → AreTwo s0.view.nature name (made_by job.task)
       → MakesDurable name (was there had) s1 → length had ≡ length put
-      → IsReady name there had put s2
+      → IsReadyIfNamed name there had put s2
   ready None there had put traced other settled many = tt
   ready (Some name) there had put traced other settled many =
       let stays = stay unsent.lawful name.now (not_after job.programmer.trace name.now nature1 traced)

@@ -9,7 +9,7 @@ use Rattle.nor_files.specs.Files.Failure.{Unwritten}
 use Rattle.nor_words.specs.Text.{Text}
 use Rattle.nor_words.specs.declared.programmer.Programmer.{Programmer}
 use Rattle.flashnor.specs.Chips.{ArePutBack}
-use Rattle.flashnor.specs.Holding.{AreAmid, AreReady, IsReady, LeavesAmid, MakesDurable}
+use Rattle.flashnor.specs.Holding.{AreAmid, AreReady, IsReadyIfNamed, LeavesAmid, MakesDurable}
 use Rattle.nor_lines.specs.Stored.{ArePut, AreTwo, Happens, IsNot, IsReportedOf}
 use Rattle.flashnor.proofs.Stays.{known_after, lawful_after, not_after, not_that, settled_after}
 
@@ -24,16 +24,16 @@ PutsBack name there bytes failed old new = record {
   nature : new.view.nature ≡ old.view.nature;
   others : OthersOf name old new;
   fails : IfSome failed (λ of. (name ≡ Some of) × Happens old.view (Unwritten of.now));
-  put : failed ≡ None → (had : List ℕ) → IsReady name there had bytes old → MakesDurable name (Some bytes) new;
-  amid : (had : List ℕ) → IsReady name there had bytes old → LeavesAmid name there had bytes new;
+  put : failed ≡ None → (had : List ℕ) → IsReadyIfNamed name there had bytes old → MakesDurable name (Some bytes) new;
+  amid : (had : List ℕ) → IsReadyIfNamed name there had bytes old → LeavesAmid name there had bytes new;
 }
 
 -- ---- the other file stays
 
 ready_still : (one other : Option (Bor Text)) (there : Bool) (had bytes : List ℕ) (a b : FilesState)
     → AreTwo a.view.nature one other → b.view.nature ≡ a.view.nature → OthersOf one a b
-    → IsReady other there had bytes a
-    → IsReady other there had bytes b
+    → IsReadyIfNamed other there had bytes a
+    → IsReadyIfNamed other there had bytes b
 ready_still one None there had bytes a b two same others ready = tt
 ready_still one (Some name) there had bytes a b two same others ready =
     let stays = others ready.known.lawful name.now (not_that a.view.nature one name two) in
@@ -46,7 +46,7 @@ ready_still one (Some name) there had bytes a b two same others ready =
 -- a write to the other file keeps the contents of this file, and the contents that may be left of it
 unsent : (there : Bool) (had bytes : List ℕ) (a b c : FilesState) (one other : Option (Bor Text))
     → AreTwo a.view.nature one other → b.view.nature ≡ a.view.nature → OthersOf other b c
-    → IsReady one there had bytes a
+    → IsReadyIfNamed one there had bytes a
     → (MakesDurable one (Some bytes) b → MakesDurable one (Some bytes) c)
     × (LeavesAmid one there had bytes b → LeavesAmid one there had bytes c)
 unsent there had bytes a b c None other two same others ready = (λ _. tt, λ _. tt)
@@ -83,7 +83,7 @@ module _ {programmer : Programmer} {image_there status_there : Bool} {had bits :
   second : PutsBack programmer.status status_there (status_of chip) status b c
   second = rw is at second'
 
-  ready_status : IsReady programmer.status status_there bits (status_of chip) b
+  ready_status : IsReadyIfNamed programmer.status status_there bits (status_of chip) b
   ready_status =
       ready_still programmer.image programmer.status status_there bits (status_of chip) a b two first.nature first.others
       ready.status

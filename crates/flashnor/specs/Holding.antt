@@ -63,16 +63,16 @@ pub record IsReadyFile (name : Text) (there : Bool) (had bytes : List ℕ) (file
   pub as_many : length had ≡ length bytes
 
 -- Holds if no file is named, or if the named file is ready to be written (`IsReadyFile`).
-abbrev pub IsReady : Option (Bor Text) → (there : Bool) → (had bytes : List ℕ) → FilesState → Type 0
-IsReady None there had bytes files = ⊤
-IsReady (Some name) there had bytes files = IsReadyFile name.now there had bytes files
+abbrev pub IsReadyIfNamed : Option (Bor Text) → (there : Bool) → (had bytes : List ℕ) → FilesState → Type 0
+IsReadyIfNamed None there had bytes files = ⊤
+IsReadyIfNamed (Some name) there had bytes files = IsReadyFile name.now there had bytes files
 
 -- Holds if both files of the chip durably have the contents that were read from them, and are to get the same number of
 -- bytes: those of the chip `new`.
 pub record AreReady (programmer : Programmer) (image_there status_there : Bool) (bytes bits : List ℕ) (new : Chip)
     (files : FilesState) : Type 0 where
-  pub image : (put : List ℕ) → AreChipBytes new put → IsReady programmer.image image_there bytes put files
-  pub status : IsReady programmer.status status_there bits (status_of new) files
+  pub image : (put : List ℕ) → AreChipBytes new put → IsReadyIfNamed programmer.image image_there bytes put files
+  pub status : IsReadyIfNamed programmer.status status_there bits (status_of new) files
 
 -- Holds if a host crash leaves each byte of a file that existed as it was, or as that of the chip `new`. A file that is
 -- created is missing, has a wrong length, or has the bytes of `new`.

@@ -7,7 +7,7 @@ ghost use Rattle.nor_files.specs.Files.Failure.{Unwritten as FailsWrite};
 ghost use Rattle.flashnor.specs.Chips.{ArePutBack, FailsToHold, IsContentOf};
 ghost use Rattle.nor_lines.specs.Files.{IsLockingFault};
 ghost use Rattle.flashnor.specs.Found.{emulated_part};
-ghost use Rattle.flashnor.specs.Holding.{AreAmid, AreHeld, AreReady, IsHeld, IsReady, IsReadyFile};
+ghost use Rattle.flashnor.specs.Holding.{AreAmid, AreHeld, AreReady, IsHeld, IsReadyIfNamed, IsReadyFile};
 ghost use Rattle.flashnor.specs.Holding.{LeavesAmid, LeavesFileAmid, MakesDurable, StandsFor};
 ghost use Rattle.nor_lines.specs.Stored.{AreTwo, Happens, IsFileFound, IsNot, IsRead, IsReportedOf};
 
@@ -164,9 +164,9 @@ fn put_back<'a, R: Store>(
         → IsNot (R.state rt.old).view.nature name.entry any → KeepsFile any (R.state rt.old) (R.state rt.new) }
     ensures fails { IfSome result (λ failed. (name.entry ≡ Some failed)
         × Happens (R.state rt.old).view (FailsWrite failed.now)) }
-    ensures put { result ≡ None → (had : List ℕ) → IsReady name.entry there had bytes.now (R.state rt.old)
+    ensures put { result ≡ None → (had : List ℕ) → IsReadyIfNamed name.entry there had bytes.now (R.state rt.old)
         → MakesDurable name.entry (Some bytes.now) (R.state rt.new) }
-    ensures amid { (had : List ℕ) → IsReady name.entry there had bytes.now (R.state rt.old)
+    ensures amid { (had : List ℕ) → IsReadyIfNamed name.entry there had bytes.now (R.state rt.old)
         → LeavesAmid name.entry there had bytes.now (R.state rt.new) }
 {
     let name = name?;

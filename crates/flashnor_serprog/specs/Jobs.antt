@@ -109,7 +109,7 @@ FailsToFill named wanted.Erase old new fault = FailsToFind named old new fault
 FailsToFill named _ old new fault = ⊥
 
 -- The session of a change was run with its journal in a new file. Only the job `-E` identifies the chip before.
-pub record HasChanged (named : Option ChipName) (change : Change) (ranges : Option (List Span)) (bytes : List ℕ)
+pub record HasRunChange (named : Option ChipName) (change : Change) (ranges : Option (List Span)) (bytes : List ℕ)
     (file : Text) (before : View) (after : FilesState) (old new : BusState)
     (outcome : Result Answer Refusal) : Type 0 where
   pub found : BusState
@@ -122,7 +122,7 @@ pub record HasChanged (named : Option ChipName) (change : Change) (ranges : Opti
 abbrev pub HasChangedBy : Option ChipName → Change → Option (List Span) → (bytes : List ℕ) → JournalUse
     → (before : View) → (after : FilesState) → (old new : BusState) → Result Answer Refusal → Type 0
 HasChangedBy named change ranges bytes (uses.Journal file) before after old new outcome =
-    HasChanged named change ranges bytes file.now before after old new outcome
+    HasRunChange named change ranges bytes file.now before after old new outcome
 HasChangedBy named change ranges bytes (uses.Rehearse stops) before after old new outcome = ⊥
 
 -- The faults of a change before its session. Nothing was sent, except by the job `-E`, which identifies the chip first.
