@@ -46,7 +46,7 @@ def bound(path, name):
 
 def limits():
     """Returns the name, the value and the words of each number."""
-    chip, files, region = "nor_model/src/config.rt", "nor_lines/src/files.rt", "nor_layout/src/region.rt"
+    chip, files, region = "nor_geometry/src/limits.rt", "nor_lines/src/files.rt", "nor_layout/src/region.rt"
     sector, digest = constant(chip, "SECTOR_LEN"), constant("nor_journal/src/records.rt", "DIGEST")
     image, polls = constant(files, "MOST_IMAGE_BYTES"), constant("nor_driver/src/waits.rt", "MOST_POLLS")
     unique = rust.number_after(item("nor_words/src/numbers.rt", "read_unique"), "[u8;")

@@ -10,7 +10,8 @@ ghost use Rattle.nor_apply.specs.Programming.{LeavesSpans, DoesSpans, LeavesSect
 use crate::Source;
 use crate::tally::Tally;
 use nor_driver::{OperationError, program_page, read_sector};
-use nor_model::{Bus, MOST_SECTORS, SECTOR_LEN, Stopped};
+use nor_geometry::{MOST_SECTORS, SECTOR_LEN};
+use nor_model::{Bus, Stopped};
 use nor_plan::{SectorSet, spans};
 
 /// Programs the touched sectors, in ascending order, with the bytes of `source`, which must have every touched sector.

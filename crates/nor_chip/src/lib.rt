@@ -1,5 +1,5 @@
 //! Buses to test with: a simulated chip in memory, a bus that traces, and a faulty bus. The model of the chip and the
-//! contract of a bus are in nor_model, whose items are exported here too.
+//! contract of a bus are in nor_model, whose items are exported here too, as the length of a sector is.
 //!
 //! ```rust
 //! use nor_chip::{Bus, Config, Delays, Meter, SimBus};
@@ -24,10 +24,11 @@ mod sim;
 mod spoilt;
 mod trace;
 
+pub use nor_geometry::{MOST_SECTORS, SECTOR_LEN};
 pub use nor_model::{
-    ALL_KINDS, Bus, Command, Config, Kinds, MOST_SECTORS, Meter, Offered, Running, SECTOR_LEN,
-    Sent, Status, Status1, Status2, Stopped, TINY64_SFDP, code_for, is_changing, offered,
-    polled_ready_after, protected, protected_range, unit_protected,
+    ALL_KINDS, Bus, Command, Config, Kinds, Meter, Offered, Running, Sent, Status, Status1,
+    Status2, Stopped, TINY64_SFDP, code_for, is_changing, offered, polled_ready_after, protected,
+    protected_range, unit_protected,
 };
 pub use sim::{Delays, SimBus, WrongLength};
 pub use spoilt::{Spoil, SpoiltBus};

@@ -6,9 +6,9 @@ ghost use Rattle.nor_model.specs.Step.{wears};
 
 use bitflags::Flags;
 use flash::Flash;
+use nor_geometry::{MOST_SECTORS, SECTOR_LEN};
 use nor_model::{
-    Bus, Command, Config, MOST_SECTORS, Meter, Running, SECTOR_LEN, Sent, Status, Status1, Stopped,
-    polled_ready_after,
+    Bus, Command, Config, Meter, Running, Sent, Status, Status1, Stopped, polled_ready_after,
 };
 use std::fmt;
 

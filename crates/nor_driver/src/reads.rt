@@ -5,7 +5,8 @@ ghost use Rattle.nor_driver.specs.OnlyReads.{OnlyReads, RanOutIfHonest};
 ghost use Rattle.nor_driver.specs.Reads.{IsReading, Replies, ReadsId, ReadsStatus2, ReadsUnique, ReadsSfdp, ReadsSector};
 
 use crate::operations::address_bytes;
-use nor_model::{Bus, SECTOR_LEN, Stopped};
+use nor_geometry::SECTOR_LEN;
+use nor_model::{Bus, Stopped};
 
 // The opcodes of these commands.
 const READ_DATA: u8 = 0x03;

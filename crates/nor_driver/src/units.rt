@@ -3,7 +3,7 @@
 ghost use Rattle.std.specs.Prelude.{◌≡◌, ◌*◌};
 ghost use Rattle.nor_driver.specs.Units.{opcode_of, is_aligned};
 
-use nor_model::SECTOR_LEN;
+use nor_geometry::SECTOR_LEN;
 
 /// The block that one erase command sets to FFh.
 #[derive(Clone, Copy, Debug, PartialEq, Eq)]

@@ -7,6 +7,7 @@ ghost use Rattle.nor_journal.specs.Reading.{IsHeader, with_header};
 
 use crate::fault::JournalFault;
 use crate::number::{number_bytes, number_of};
+use nor_geometry::is_chip_size;
 
 /// The first eight bytes of a journal of format 2, whose header contains the chip's unique ID.
 pub const MAGIC: [u8; 8] = *b"NORUNDO2";
@@ -27,13 +28,6 @@ pub struct Head {
     pub unique: Option<[u8; 8]>,
     pub status: [u8; 2],
     pub size: u32,
-}
-
-/// Returns true if `size` is a power of two from 64 KiB to 16 MiB.
-fn is_chip_size(size: u32) -> bool
-    ensures { result ≡ is_chip_size size }
-{
-    size.is_power_of_two() && (0x1_0000..=0x100_0000).contains(&size)
 }
 
 /// Encodes a header of format 2. `status` has status 1 and 2, and `size` is in bytes.

@@ -8,13 +8,11 @@ ghost use Rattle.nor_journal.specs.Reading.{sector_at, BeginsRecord, HasRecords,
 use crate::fault::JournalFault;
 use crate::head::Head;
 use crate::number::{number_bytes, number_of};
+use nor_geometry::SECTOR_LEN;
 use sha2::{Digest, Sha256};
 
-/// The length of a sector in bytes.
-pub const SECTOR: usize = 4096;
-
 /// The length of a record in bytes: a sector's number and its bytes.
-pub const RECORD: usize = 4 + SECTOR;
+pub const RECORD: usize = 4 + SECTOR_LEN as usize;
 
 /// The four bytes after the last record.
 pub const END_MARK: [u8; 4] = [0xFF; 4];
@@ -58,7 +56,7 @@ pub fn count_records(head: &Head, bytes: &[u8]) -> Result<usize, JournalFault>
     ensures fault { IfErr result (FaultAfterRecords head.now bytes.now) }
     ensures found { IfOk result (EndsAfter head.now bytes.now) }
 {
-    let sectors = head.size / 4096;
+    let sectors = head.size / SECTOR_LEN;
     let mut count = 0;
     let mut least = 0;
     let mut rest = bytes;
@@ -72,7 +70,7 @@ pub fn count_records(head: &Head, bytes: &[u8]) -> Result<usize, JournalFault>
 }
 
 /// Encodes a record: the sector's number and its bytes.
-pub fn record_bytes(number: u32, bytes: &[u8; 4096]) -> [u8; RECORD]
+pub fn record_bytes(number: u32, bytes: &[u8; SECTOR_LEN as usize]) -> [u8; RECORD]
     ensures { result ≡ record_text (record { number = number; bytes = bytes.now }) }
 {
     let mut record = [0; RECORD];
@@ -87,7 +85,7 @@ pub fn record_at(records: &[u8], i: usize) -> (u32, &[u8])
     ensures { record { number = result.0; bytes = result.1.now } ≡ sector_at records.now i }
 {
     let record = &records[RECORD * i..];
-    (number_of(record), &record[RECORD - SECTOR..RECORD])
+    (number_of(record), &record[4..RECORD])
 }
 
 /// Checks that the correct digest, and no further byte, follows the end mark at index `mark`.

@@ -10,6 +10,7 @@ ghost use Rattle.nor_journal.specs.Writer.{vault_of, vault_seen, HasPut, HasWrit
 use crate::head::head_bytes;
 use crate::records::{END_MARK, record_bytes};
 use crate::vault::{Vault, VaultFault};
+use nor_geometry::SECTOR_LEN;
 use sha2::{Digest, Sha256};
 
 /// A writer of a journal of format 2: first the header, then the sectors in ascending order, then the end.
@@ -67,7 +68,11 @@ impl<'a, V: Vault> Writer<'a, V> {
     /// Writes a sector after the others, as `add` does, and returns the writer.
     ///
     /// If it fails, the writer is consumed. The vault is left as by a failed `add`, but no clause says so.
-    pub fn sector(mut self, number: u32, bytes: &[u8; 4096]) -> Result<Writer<'a, V>, VaultFault>
+    pub fn sector(
+        mut self,
+        number: u32,
+        bytes: &[u8; SECTOR_LEN as usize],
+    ) -> Result<Writer<'a, V>, VaultFault>
         requires { (vault_seen V.state self).sealed ≡ false }
         ensures same_vault { IfOk result
             (λ writer. (vault_of writer).ghost_name ≡ (vault_of self.entry).ghost_name) }
@@ -127,7 +132,7 @@ impl<'a, V: Vault> Writer<'a, V> {
     ///
     /// If it fails after a header and sectors that were written in this way, a faithful (`telling`) vault holds a
     /// prefix of the journal's bytes up to this sector.
-    pub fn add(&mut self, number: u32, bytes: &[u8; 4096]) -> Result<(), VaultFault>
+    pub fn add(&mut self, number: u32, bytes: &[u8; SECTOR_LEN as usize]) -> Result<(), VaultFault>
         requires { (vault_seen V.state self.old).sealed ≡ false }
         ensures same_vault { (vault_of self.new).ghost_name ≡ (vault_of self.old).ghost_name }
         ensures vault { PutsOn (vault_seen V.state self.old) result (vault_seen V.state self.new) }

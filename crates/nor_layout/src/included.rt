@@ -6,6 +6,7 @@ ghost use Rattle.nor_layout.specs.Sectors.{includes, SomeInSector, NoneInSector,
 ghost use Rattle.nor_layout.specs.Sectors.{ReachesPast, FitsInto, merged_byte, AreOfSector};
 
 use crate::ranges::Ranges;
+use nor_geometry::SECTOR_LEN;
 
 /// The value of an erased byte.
 const ERASED: u8 = 0xFF;
@@ -72,5 +73,5 @@ pub fn blank_excluded(included: Option<&Ranges>, sector: u32, bytes: &mut [u8])
         ≡ (if includes (option_copied included.entry) (4096 * sector + i)
         then slice_index bytes.old i else 255) }
 {
-    fill_excluded(included, sector, bytes, &[ERASED; 4096]);
+    fill_excluded(included, sector, bytes, &[ERASED; SECTOR_LEN as usize]);
 }

@@ -5,9 +5,7 @@ ghost use Rattle.std.specs.Iterator.{YieldsFirst, item_count};
 ghost use Rattle.nor_layout.specs.Places.{part_in_sector, parts_in_sector, places_left};
 
 use crate::ranges::Span;
-
-/// The size of a sector, in bytes.
-pub const SECTOR: u32 = 4096;
+use nor_geometry::SECTOR_LEN;
 
 /// Consecutive positions in a sector, in bytes from its beginning: from `start` to `end`, excluding `end`.
 #[derive(Clone, Copy, Debug, PartialEq, Eq)]
@@ -35,19 +33,19 @@ impl<'a> PlacesIn<'a> {
 fn part_of(span: &Span, sector: u32) -> Option<Places>
     ensures { result ≡ part_in_sector sector span.now }
 {
-    let (first, last) = (span.first / SECTOR, span.last / SECTOR);
+    let (first, last) = (span.first / SECTOR_LEN, span.last / SECTOR_LEN);
     if sector < first || last < sector {
         return None;
     }
     let start = if first < sector {
         0
     } else {
-        span.first % SECTOR
+        span.first % SECTOR_LEN
     };
     let end = if sector < last {
-        SECTOR
+        SECTOR_LEN
     } else {
-        span.last % SECTOR + 1
+        span.last % SECTOR_LEN + 1
     };
     Some(Places {
         start: start as usize,

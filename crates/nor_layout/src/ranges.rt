@@ -7,9 +7,10 @@ ghost use Rattle.nor_layout.specs.Places.{AreIncludedIn, places_left};
 ghost use Rattle.nor_layout.specs.Steps.{join, sooner, IsNextOrNone};
 
 use crate::merge::fill_around;
-use crate::places::{PlacesIn, SECTOR};
+use crate::places::PlacesIn;
 use crate::region::REGIONS;
 use arrayvec::ArrayVec;
+use nor_geometry::SECTOR_LEN;
 use std::marker::Model;
 
 /// Consecutive addresses, in bytes from the chip's beginning, both ends included.
@@ -188,7 +189,8 @@ impl Ranges {
         ensures cases { MatchBool result
             (SomeInSector (contains self.now) sector) (NoneInSector (contains self.now) sector) }
     {
-        self.spans.iter().any(|span| span.first / SECTOR <= sector && sector <= span.last / SECTOR)
+        self.spans.iter().any(|span| span.first / SECTOR_LEN <= sector
+            && sector <= span.last / SECTOR_LEN)
     }
 
     /// Returns true if some address in the set is `size` or greater.

@@ -2,7 +2,8 @@
 ghost use Rattle.std.specs.Prelude.{◌≡◌, ◌<◌};
 ghost use Rattle.nor_model.specs.Command.{command_of, bare_command, addressed_command, aligned_erase, address_of, begins_change, begins_quiet, is_change};
 
-use crate::{Config, SECTOR_LEN};
+use crate::Config;
+use nor_geometry::SECTOR_LEN;
 
 /// The command that a transaction asks for. (W25Q64FV datasheet, instruction set table.)
 #[derive(Clone, Copy, Debug, PartialEq, Eq)]

@@ -3,6 +3,8 @@ ghost use Rattle.std.specs.Prelude.{◌≡◌, ◌≤◌, ◌-◌, ◌*◌, ◌+
 ghost use Rattle.nor_model.specs.Size.{is_chip_size};
 ghost use Rattle.nor_model.specs.Sfdp.{sfdp_with};
 
+use nor_geometry::is_chip_size;
+
 /// The SFDP bytes of `TINY64`, from address 0: the header, one parameter header, and double words 1 to 9 of the basic
 /// flash parameter table (JESD216). The other emulated chips have the same bytes, except for the size in double word 2.
 /// These bytes were made for this project; a real Winbond chip has others.
@@ -16,12 +18,6 @@ pub const TINY64_SFDP: [u8; 52] = [
     0x0C, 0x20, 0x0F, 0x52, // 8: erases of 4 KiB and 32 KiB
     0x10, 0xD8, 0x00, 0x00, // 9: erases of 64 KiB
 ];
-
-/// The length of a sector in bytes, the smallest erase block.
-pub const SECTOR_LEN: u32 = 4096;
-
-/// The greatest number of sectors of a chip: three address bytes reach 16 MiB.
-pub const MOST_SECTORS: u32 = 4096;
 
 /// The erase types of a chip in addition to 4 KiB (20h) and the whole chip (C7h), which every chip has.
 #[derive(Clone, Copy, Debug, PartialEq, Eq)]
@@ -131,13 +127,6 @@ impl Config {
         config.unique = unique;
         config
     }
-}
-
-// True if the size is a power of two from 64 KiB to 16 MiB, the most that three address bytes reach.
-fn is_chip_size(size: u32) -> bool
-    ensures { result ≡ is_chip_size size }
-{
-    matches!(size, 0x1_0000..=0x100_0000) && size.is_power_of_two()
 }
 
 // Returns the SFDP bytes of an emulated chip of this size.

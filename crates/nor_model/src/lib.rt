@@ -35,7 +35,7 @@ mod status;
 
 pub use bus::{Bus, Meter, Stopped};
 pub use command::{Command, is_changing};
-pub use config::{ALL_KINDS, Config, Kinds, MOST_SECTORS, SECTOR_LEN, TINY64_SFDP};
+pub use config::{ALL_KINDS, Config, Kinds, TINY64_SFDP};
 pub use guard::walk::Offered;
 pub use guard::{code_for, is_protected, offered, protected, protected_range, unit_protected};
 pub use polled_ready::polled_ready_after;

@@ -3,7 +3,7 @@ ghost use Rattle.std.specs.Prelude.{◌≡◌, ◌<◌, ◌≤◌, ◌+◌, ◌|
 ghost use Rattle.nor_model.specs.Sent.{targeted_by, bare_targeted, addressed_targeted, block_targeted, is_in_targeted, has_written, writes_status, IsNothing, Notes};
 
 use crate::command::{is_change, is_changing, is_quiet};
-use crate::{MOST_SECTORS, SECTOR_LEN};
+use nor_geometry::{MOST_SECTORS, SECTOR_LEN};
 
 /// The record of the transactions that a bus sent, or was asked to send, and that may modify a chip. A bus has one
 /// record, and notes each transaction in it before it sends anything. The record contains:

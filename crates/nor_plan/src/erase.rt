@@ -12,7 +12,8 @@ ghost use Rattle.nor_plan.specs.SectorSet.{has, LiesBelow, member_count};
 
 use crate::set::SectorSet;
 use nor_driver::{Erase, EraseBlock};
-use nor_model::{Kinds, MOST_SECTORS, SECTOR_LEN};
+use nor_geometry::{MOST_SECTORS, SECTOR_LEN};
+use nor_model::Kinds;
 
 mod iter;
 

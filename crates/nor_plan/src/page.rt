@@ -7,13 +7,11 @@ ghost use Rattle.nor_plan.specs.SpanFacts.{AreSpans};
 ghost use Rattle.nor_plan.specs.Spans.{spans_left};
 
 use crate::lanes::bounds;
+use nor_geometry::PAGE_LEN;
 
 mod iter;
 
 pub use iter::Spans;
-
-/// The number of bytes of a page. One program command writes within one page.
-const PAGE: usize = 256;
 
 /// A range of bytes within one page, given by the positions of its first and its last byte in the slice.
 #[derive(Clone, Copy, Debug, PartialEq, Eq)]
@@ -39,7 +37,7 @@ fn next_span(old: &[u8], target: &[u8], page: usize) -> Option<(PageSpan, usize)
     requires { length old.now ≡ length target.now }
     ensures { HeadsSpans old.now target.now page result }
 {
-    for page in page..old.len().div_ceil(PAGE) {
+    for page in page..old.len().div_ceil(PAGE_LEN) {
         if let Some(span) = span_of(old, target, page) {
             return Some((span, page + 1));
         }
@@ -54,8 +52,8 @@ fn span_of(old: &[u8], target: &[u8], page: usize) -> Option<PageSpan>
     requires there { page * 256 < length old.now }
     ensures { result ≡ page_span old.now target.now page }
 {
-    let start = page * PAGE;
-    let count = PAGE.min(old.len() - start);
+    let start = page * PAGE_LEN;
+    let count = PAGE_LEN.min(old.len() - start);
     let old = &old[start..start + count];
     let target = &target[start..start + count];
     let (first, last) = bounds(old, target)?;

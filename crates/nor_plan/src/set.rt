@@ -1,6 +1,6 @@
 //! Sets of sectors in a fixed array of 512 bytes, which is cheap to copy.
 
-use nor_model::MOST_SECTORS;
+use nor_geometry::MOST_SECTORS;
 
 /// A set of sector numbers below 4,096.
 #[derive(Clone, Copy, Debug, PartialEq, Eq)]

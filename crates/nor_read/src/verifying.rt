@@ -9,8 +9,9 @@ ghost use Rattle.nor_read.specs.Verifying.{ComparesPart, ComparesAll, FindsFirst
 
 use crate::finding::{find, report};
 use nor_driver::read_sector;
+use nor_geometry::SECTOR_LEN;
 use nor_layout::{Ranges, fill_excluded, includes_in_sector, reaches_past};
-use nor_model::{Bus, SECTOR_LEN, Stopped};
+use nor_model::{Bus, Stopped};
 use nor_plan::bounds;
 use nor_probe::ChipName;
 use nor_request::{Refusal, Report};

@@ -11,8 +11,9 @@ ghost use Rattle.nor_scan.specs.Judging.{AcceptsIdentity, RefusesIdentity, Finds
 
 use crate::identity::Identity;
 use crate::{Refusal, Request, What};
+use nor_geometry::SECTOR_LEN;
 use nor_layout::reaches_past;
-use nor_model::{SECTOR_LEN, code_for, unit_protected};
+use nor_model::{code_for, unit_protected};
 use nor_plan::SectorSet;
 
 /// Checks a request against the identification. `image` is the image's length in bytes. Returns the target protection

@@ -13,9 +13,10 @@ ghost use Rattle.nor_request.specs.declared.refusal.Refusal.TheVariants as Refus
 
 use crate::{Refusal, Request, What};
 use nor_driver::read_sector;
+use nor_geometry::SECTOR_LEN;
 use nor_journal::{Vault, Writer};
 use nor_layout::{fill_excluded, includes_in_sector};
-use nor_model::{Bus, SECTOR_LEN, Stopped};
+use nor_model::{Bus, Stopped};
 use nor_plan::{Plan, SectorPlan, SectorSet};
 
 /// The result of a scan: the touched sectors, in which some byte differs from the target; the raised sectors, which

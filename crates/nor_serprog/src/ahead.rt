@@ -5,13 +5,12 @@ ghost use Rattle.nor_model.specs.Bus.{IsHonestFor, Sends, Stops, Carries, Record
 ghost use Rattle.nor_serprog.specs.ReadsAs.{reads_data, address_in, part, KeepsRecord};
 ghost use Rattle.nor_serprog.specs.Twice.{view_of};
 
+use nor_geometry::SECTOR_LEN;
 use nor_model::{Bus, Stopped};
 
 // The greatest length of a block. The size of a chip is a power of two from 64 KiB, and so a multiple of this length.
 // Therefore a block that lies between two multiples of this length does not reach past the end of a chip.
 const LONGEST_BLOCK: u32 = 1 << 16;
-
-const SECTOR_LEN: u32 = 4096;
 
 const READ_DATA: u8 = 0x03;
 

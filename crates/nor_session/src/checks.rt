@@ -9,7 +9,8 @@ ghost use Rattle.nor_apply.specs.Change.{only, byte_of};
 
 use nor_apply::Source;
 use nor_driver::read_sector;
-use nor_model::{Bus, MOST_SECTORS, SECTOR_LEN, Stopped};
+use nor_geometry::{MOST_SECTORS, SECTOR_LEN};
+use nor_model::{Bus, Stopped};
 use nor_plan::{SectorSet, bounds};
 use nor_request::Refusal;
 

@@ -13,8 +13,9 @@ ghost use Rattle.nor_session.specs.Prepare.{AreChanges, MakesChanges, RefusesShu
 
 use nor_apply::Changes;
 use nor_driver::read_sector;
+use nor_geometry::SECTOR_LEN;
 use nor_journal::Journal;
-use nor_model::{Bus, SECTOR_LEN, Status, Stopped};
+use nor_model::{Bus, Status, Stopped};
 use nor_plan::{Plan, SectorPlan};
 use nor_probe::{Found, probe_counted};
 use nor_scan::{Identity, Refusal, Scanned, first_protected, read_on};

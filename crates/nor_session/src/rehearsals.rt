@@ -13,8 +13,9 @@ ghost use Rattle.nor_session.specs.Rehearsal.{RehearsalAlways, RehearsalModelled
 use crate::restores::restore;
 use crate::sessions::session;
 use crate::{Refusal, Request};
+use nor_geometry::MOST_SECTORS;
 use nor_journal::{Journal, MemVault, Vault};
-use nor_model::{Bus, MOST_SECTORS, Meter};
+use nor_model::{Bus, Meter};
 
 /// The result of a rehearsal: whether the session ended, whether its vault was sealed, and how many restores were run
 /// until one ended (this counts the stopped ones too).

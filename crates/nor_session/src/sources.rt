@@ -4,8 +4,8 @@ ghost use Rattle.std.proofs.lemmas.Bool.Decides.{nat_tests};
 ghost use Rattle.nor_journal.specs.Saved.{is_saved, saved_byte};
 
 use nor_apply::Source;
+use nor_geometry::SECTOR_LEN;
 use nor_journal::Journal;
-use nor_model::SECTOR_LEN;
 
 /// An image of the whole chip.
 #[derive(Drop)]

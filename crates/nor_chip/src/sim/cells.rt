@@ -2,8 +2,7 @@
 ghost use Rattle.std.specs.Prelude.{◌≡◌, ℕ, ◌+◌, ◌*◌, ◌/◌, ◌%◌, ◌<◌, ◌≤◌, length, slice_index, slice_index_or, bit_and};
 ghost use Rattle.nor_chip.specs.Cells.{HasPageProgrammed, IsFilled};
 
-// The length of a page in bytes. A program wraps around at the end of its page.
-pub(crate) const PAGE_LEN: usize = 256;
+use nor_geometry::PAGE_LEN;
 
 // ANDs the sent bytes into `bytes`, from index `from`.
 fn clear_bits(bytes: &mut [u8], from: usize, sent: &[u8])

@@ -3,6 +3,7 @@ ghost use Rattle.std.specs.Prelude.{◌≡◌, ◌%◌, ◌<◌, ◌+◌, ◌/�
 ghost use Rattle.nor_model.specs.Power.{RunsInside};
 
 use super::cells;
+use nor_geometry::PAGE_LEN;
 use nor_model::{Command, Config, Running, Status, is_protected};
 
 // A simulated chip. `kept` has the non-volatile status bits, `latch` is WEL, and `busy` is the number of further polls
@@ -152,7 +153,7 @@ impl Flash {
         ensures paces { Paces (Command.Program at) self.old self.new }
     {
         cells::program(&mut self.bytes, at as usize, sent);
-        self.begin(Running::Program(at / cells::PAGE_LEN as u32));
+        self.begin(Running::Program(at / PAGE_LEN as u32));
     }
 
     fn erase(&mut self, start: u32, len: u32)
@@ -203,8 +204,8 @@ impl Flash {
     {
         match self.running {
             Running::Program(page) => {
-                let start = page as usize * cells::PAGE_LEN;
-                cells::fill(&mut self.bytes, start, cells::PAGE_LEN, fill);
+                let start = page as usize * PAGE_LEN;
+                cells::fill(&mut self.bytes, start, PAGE_LEN, fill);
             }
             Running::Erase(start, len) => {
                 cells::fill(&mut self.bytes, start as usize, len as usize, fill);

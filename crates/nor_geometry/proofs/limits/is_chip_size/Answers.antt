@@ -1,6 +1,6 @@
 use Rattle.std.proofs.Common.{◌∙◌, ◌≤◌, rules}
-use Rattle.nor_model.proofs.Sizes.{is_power_of_two-size}
-use Rattle.nor_model.proofs.config.is_chip_size.Goals as goal
+use Rattle.nor_geometry.proofs.Sizes.{is_power_of_two-size}
+use Rattle.nor_geometry.proofs.limits.is_chip_size.Goals as goal
 
 pub returns-then-matches : goal.returns-then-matches
 returns-then-matches c =

@@ -1,0 +1,19 @@
+//! The lengths of sectors and pages, and the sizes of chips.
+ghost use Rattle.std.specs.Prelude.{◌≡◌};
+ghost use Rattle.nor_geometry.specs.Size.{is_chip_size};
+
+/// The length of a sector in bytes, the smallest erase block.
+pub const SECTOR_LEN: u32 = 4096;
+
+/// The greatest number of sectors of a chip: three address bytes reach 16 MiB.
+pub const MOST_SECTORS: u32 = 4096;
+
+/// The length of a page in bytes. One program command writes within one page.
+pub const PAGE_LEN: usize = 256;
+
+/// Returns true if the size is a power of two from 64 KiB to 16 MiB, the most that three address bytes reach.
+pub fn is_chip_size(size: u32) -> bool
+    ensures { result ≡ is_chip_size size }
+{
+    matches!(size, 0x1_0000..=0x100_0000) && size.is_power_of_two()
+}
