@@ -1,51 +1,13 @@
 -- The members of a set, in ascending order.
-use Rattle.std.proofs.Common.{ℕ, zero, suc, ◌≡◌, ◌<◌, ◌≤◌, ◌+◌, ◌-◌, Bool, true, false, filter, [], ◌∷◌, length, refl, sym, ap, ◌∙◌, inl, inr, arith}
+use Rattle.std.proofs.Common.{ℕ, zero, suc, ◌≡◌, ◌<◌, ◌≤◌, ◌+◌, ◌-◌, Bool, true, length, refl, sym, ap, ◌∙◌, arith}
 use Rattle.std.specs.List.{range_with_len}
-use Rattle.std.proofs.lemmas.Bool.{cases_eq, both_ways, false_from_ne_true}
-use Rattle.std.proofs.lemmas.List.FromFn.{length-range_with_len}
-use Rattle.std.proofs.lemmas.List.Sums.{length-filter, count_by-le-length}
+use Rattle.std.proofs.lemmas.Bool.{both_ways, false_from_ne_true}
+use Rattle.std.proofs.lemmas.List.Sums.{length-filter}
 use Rattle.nor_plan.specs.declared.set.SectorSet.{SectorSet}
-use Rattle.nor_plan.specs.SectorSet.{has, members_from, member_count, LiesBelow, NoneFrom, IsLeastFrom}
+use Rattle.nor_plan.specs.SectorSet.{has, members_from, member_count, LiesBelow}
 use Rattle.nor_geometry.specs.Counts.{IsCount}
 use Rattle.nor_geometry.proofs.CountedRanges.{count_by-range}
 use Rattle.nor_plan.proofs.Words.{none_past}
-
--- numbers that all fail a test can be left out of the filtered range
-passed_over : (test : ℕ → Bool) (from count at left : ℕ) → from + count ≡ at + left → from ≤ at
-    → ((k : ℕ) → from ≤ k → k < at → test k ≡ false)
-    → filter test (range_with_len from count) ≡ filter test (range_with_len at left)
-passed_over test from zero at left end low none = let nothing : left ≡ zero = omega arith in rw nothing
-passed_over test from (suc count) at left end low none =
-    elim (cases_eq from at) [
-      | inl here ↦ let same : suc count ≡ left = omega arith in rw (← here, ← same)
-      | inr later ↦ rw (none from (omega arith) (omega arith))
-          (passed_over test (from + 1) count at left (omega arith) (omega arith)
-          (λ k above below. none k (omega arith) below))
-    ]
-
-pub members_from-end : (set : SectorSet) (from : ℕ) → NoneFrom set from → members_from set from ≡ []
-unfolding members_from
-members_from-end set from none =
-    passed_over (has set) from (4096 - from) (from + (4096 - from)) 0 (omega arith) (omega arith)
-    (λ k low high. none k low)
-
-pub members_from-least : (set : SectorSet) (from sector : ℕ) → IsLeastFrom set from sector
-    → members_from set from ≡ sector ∷ members_from set (sector + 1)
-unfolding members_from
-members_from-least set from sector is =
-    let after = is.after in
-    let below = is.below in
-    passed_over (has set) from (4096 - from) sector (suc (4096 - (sector + 1))) (omega arith) after is.before
-    ∙ rw is.member
-
-pub ruleset member_steps = (members_from-end, members_from-least)
-
-pub length-members : (set : SectorSet) (from : ℕ) → length (members_from set from) ≤ 4096
-unfolding members_from
-length-members set from =
-    let left = 4096 - from in
-    let places = range_with_len from left in
-    omega (arith, length-filter (has set) places, count_by-le-length (has set) places, length-range_with_len from left)
 
 -- each sector of a set is below 4,096, because the set has 64 words
 pub has-small : (set : SectorSet) → length set.words ≡ 64 → LiesBelow set 4096

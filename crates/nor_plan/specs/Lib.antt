@@ -6,7 +6,6 @@ pub mod Mask
 pub mod Plan
 pub mod Planned
 pub mod SectorSet
-pub mod Sectors
 pub mod Span
 pub mod SpanFacts
 pub mod Spans

@@ -1,5 +1,5 @@
 -- A set of sectors, as a test of sector numbers.
-use Rattle.std.specs.Prelude.{ℕ, ◌≡◌, ◌==◌, ◌<◌, ◌≤◌, ◌-◌, ◌/◌, ◌%◌, Bool, true, false, List, length, slice_index, filter, ◌||◌}
+use Rattle.std.specs.Prelude.{ℕ, ◌≡◌, ◌==◌, ◌<◌, ◌-◌, ◌/◌, ◌%◌, Bool, true, false, List, length, slice_index, filter, ◌||◌}
 use Rattle.std.specs.Int.{bit_at}
 use Rattle.std.specs.List.{range_with_len}
 use Rattle.nor_plan.specs.declared.set.SectorSet.{SectorSet}
@@ -35,17 +35,6 @@ members set = members_from set 0
 -- the number of sectors in the set
 abbrev pub member_count : SectorSet → ℕ
 member_count set = length (members set)
-
--- no sector of the set is `from` or above
-abbrev pub NoneFrom : SectorSet → ℕ → Type 0
-NoneFrom set from = (s : ℕ) → from ≤ s → has set s ≡ false
-
--- the least sector of the set that is `from` or above
-pub record IsLeastFrom (set : SectorSet) (from sector : ℕ) : Type 0 where
-  pub after : from ≤ sector
-  pub below : sector < 4096
-  pub member : has set sector ≡ true
-  pub before : (s : ℕ) → from ≤ s → s < sector → has set s ≡ false
 
 -- the empty set as a test: no sector passes
 abbrev pub none : ℕ → Bool

@@ -25,14 +25,14 @@
 //! erases. `specs/Content.antt` defines touched and raised sectors.
 #![tactic(auto)]
 
-pub mod erase;
-pub mod lanes;
-pub mod page;
-pub mod plan;
-pub mod set;
+mod erase;
+mod lanes;
+mod page;
+mod plan;
+mod set;
 
 pub use erase::{Erases, erases, fewest_is_least};
 pub use lanes::{bounds, differs, raises};
 pub use page::{PageSpan, Spans, spans};
 pub use plan::{Plan, SectorPlan};
-pub use set::{SectorSet, Sectors};
+pub use set::SectorSet;
