@@ -84,7 +84,8 @@ IsThere view _ fault = ⊥
 
 -- the journal could not be locked or read, or is invalid, which is error 15
 abbrev pub FailsJournal : View → Text → Fault → Type 0
-FailsJournal view name (end.Refused (BadJournal why)) = (bytes : List ℕ) × IsRead view name 16793662 bytes × HasFault bytes why
+FailsJournal view name (end.Refused (BadJournal why)) =
+    (bytes : List ℕ) × IsRead view name 16793662 bytes × HasFault bytes why
 FailsJournal view name fault = IsSharingFault view name 16793662 fault
 
 -- the faults of reading the files that a task needs

@@ -62,12 +62,14 @@ RefusesIdentity request len identity judged = (chip : Chip) (image : List ℕ) �
 -- each chip with this identification.
 abbrev pub FindsProtected : (ℕ → Bool) → Identity → Option ℕ → Type 0
 FindsProtected touched identity found =
-    (chip : Chip) → IsIdentityOf chip identity → MatchOption found (NoneProtected touched chip) (IsLeastProtected touched chip)
+    (chip : Chip) → IsIdentityOf chip identity
+    → MatchOption found (NoneProtected touched chip) (IsLeastProtected touched chip)
 
 -- Holds if `needed` says correctly whether each chip with this identification needs a status write, provided that
 -- `is_touched_protected` says correctly whether one of its touched sectors is protected.
 abbrev pub FindsNeed : Request → Identity → Bool → ℕ → Bool → Type 0
-FindsNeed request identity is_touched_protected code needed = (chip : Chip) (touched : ℕ → Bool) → IsIdentityOf chip identity
+FindsNeed request identity is_touched_protected code needed = (chip : Chip) (touched : ℕ → Bool)
+    → IsIdentityOf chip identity
     → MatchBool is_touched_protected (SomeProtected touched chip) (NoneProtected touched chip)
     → MatchBool needed (NeedsStatus request.what request.unlock code touched chip)
     (¬ NeedsStatus request.what request.unlock code touched chip)

@@ -45,7 +45,8 @@ pub fn save<B: Bus, V: Vault>(
     requires sized { IsTrue (is_chip_size identity.now.found.size) }
     requires whole { is_data request.now.what ≡ true → length image.old ≡ identity.now.found.size }
     requires fresh { IsFresh (V.state vault.old) }
-    ensures leaves { OnlyReads (scanned_sectors request.now identity.now.found.size) (B.state bus.old) (B.state bus.new) }
+    ensures leaves { OnlyReads (scanned_sectors request.now identity.now.found.size)
+        (B.state bus.old) (B.state bus.new) }
     ensures puts { SavePuts result (V.state vault.old) (V.state vault.new) }
     ensures holds { HoldsJournal (V.state vault.new) }
     ensures saves { IfOk result (λ saved. (V.state vault.new).telling ≡ true
@@ -53,7 +54,8 @@ pub fn save<B: Bus, V: Vault>(
     ensures keeps { IfOk result
         (HasSaved request.now identity.now code image.old image.new
         (B.state bus.old) (B.state bus.new) (V.state vault.new)) }
-    ensures begins { IfErr result (SaveBegins request.now identity.now image.old (B.state bus.old) (V.state vault.new)) }
+    ensures begins { IfErr result
+        (SaveBegins request.now identity.now image.old (B.state bus.old) (V.state vault.new)) }
     ensures cut { OnErr result (SaveCuts request.now identity.now image.old (B.state bus.old) (V.state vault.new)) }
     ensures errors { IfErr result
         (SaveErrors request.now identity.now code image.old (B.state bus.old) (B.state bus.new)) }

@@ -81,7 +81,8 @@ IsDeviceRefusal _ = ⊥
 
 -- Holds if the journal fits each chip with this identification.
 abbrev pub FitsIdentity : Content → Identity → Type 0
-FitsIdentity journal identity = (chip : Chip) → chip.kept.two < 128 → IsIdentityOf chip identity → FitsJournal journal chip
+FitsIdentity journal identity =
+    (chip : Chip) → chip.kept.two < 128 → IsIdentityOf chip identity → FitsJournal journal chip
 
 -- Holds if `shown` says correctly, for each chip with this identification, whether the status bits that a restore can't
 -- write are the journal's.
@@ -161,7 +162,8 @@ pub record AreChanges (journal : Content) (identity : Identity) (scanned : Scann
 -- Holds if a status write is needed when these sectors are touched: the protection bits differ from the journal's, or a
 -- touched sector is protected.
 abbrev pub NeedsStatusWith : Content → (touched : ℕ → Bool) → Chip → Type 0
-NeedsStatusWith journal touched chip = (code_of chip.kept ≢ code_of (kept_in journal.status)) ⊎ SomeProtected touched chip
+NeedsStatusWith journal touched chip =
+    (code_of chip.kept ≢ code_of (kept_in journal.status)) ⊎ SomeProtected touched chip
 
 -- Holds if protection is lifted if and only if a touched sector is protected, and a locked status isn't written.
 pub record MayChangeStatus (journal : Content) (touched : ℕ → Bool) (chip : Chip) (changes : Changes) : Type 0 where
