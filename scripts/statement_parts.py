@@ -251,7 +251,7 @@ NOTES = {
 SUBJECTS = {
     "The chip": "nor_geometry: specs/Size nor_model: src/config specs/Makers src/running specs/Sfdp specs/Chip",
     "Protected addresses": "nor_model: specs/Guard specs/Offer",
-    "Commands": "nor_model: src/command specs/Command specs/TargetedSectors",
+    "Commands": "nor_model: src/command specs/Command specs/Addresses",
     "The step of a chip": "nor_model: specs/Step",
     "A loss of power": "nor_model: specs/Power",
     "The bus, and its stops": "nor_model: specs/Bus src/bus specs/Sent src/sent specs/PolledReady",

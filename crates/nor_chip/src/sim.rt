@@ -1,7 +1,7 @@
 //! A simulated bus: the modelled chip in memory.
 ghost use Rattle.std.specs.Prelude.{◌≡◌, ◌≢◌, ◌<◌, ◌||◌, ◌&&◌, ◌↔◌, ℕ, true, false, length, slice_index_or, vec_len};
 ghost use Rattle.std.specs.Prelude.{IsErr, IfOk, OnOk, OnErr};
-ghost use Rattle.nor_model.specs.TargetedSectors.{HasValidAddress};
+ghost use Rattle.nor_model.specs.Addresses.{HasValidAddress};
 ghost use Rattle.nor_model.specs.Step.{wears};
 
 use bitflags::Flags;

@@ -8,7 +8,7 @@ pub mod Step
 pub mod Sent
 pub mod PolledReady
 pub mod Bus
-pub mod TargetedSectors
+pub mod Addresses
 pub mod Makers
 pub mod Units
 pub mod Status

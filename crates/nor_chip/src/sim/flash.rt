@@ -31,7 +31,7 @@ impl Flash {
     ghost use Rattle.nor_model.specs.Power.{PowerLostWith};
     ghost use Rattle.nor_model.specs.Chip.{status_of};
     ghost use Rattle.nor_model.specs.Status.{bytes_of};
-    ghost use Rattle.nor_model.specs.TargetedSectors.{HasValidAddress, IsSectorRange};
+    ghost use Rattle.nor_model.specs.Addresses.{HasValidAddress, IsSectorRange};
     ghost use Rattle.nor_model.specs.Chip.{is_locked};
     ghost use Rattle.nor_model.specs.Guard.{code_of, is_protected, is_block_protected};
     ghost use Rattle.nor_model.specs.Step.{is_carried_out, done_of, reply_byte, Does, Step};
