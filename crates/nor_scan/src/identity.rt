@@ -7,7 +7,7 @@ ghost use Rattle.nor_probe.specs.Found.{most_probe};
 ghost use Rattle.nor_scan.specs.Identity.{ReadsIdentity, status_read, ReadsRest, most_identity};
 ghost use Rattle.nor_request.specs.Errors.{IdentificationErrors};
 
-use crate::Refusal;
+use nor_request::Refusal;
 use nor_driver::{read_status2, read_unique};
 use nor_model::{Bus, Status, Stopped};
 use nor_probe::{ChipName, Found, Probed, probe_counted};

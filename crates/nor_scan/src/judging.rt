@@ -10,11 +10,11 @@ ghost use Rattle.nor_scan.specs.Judging.{IsFoundCode, IsIdentityRefusal, IsScanR
 ghost use Rattle.nor_scan.specs.Judging.{AcceptsIdentity, RefusesIdentity, FindsProtected, FindsNeed, AcceptsScan, RefusesScan};
 
 use crate::identity::Identity;
-use crate::{Refusal, Request, What};
 use nor_geometry::SECTOR_LEN;
 use nor_layout::reaches_past;
 use nor_model::{code_for, unit_protected};
 use nor_plan::SectorSet;
+use nor_request::{Refusal, Request, What};
 
 /// Checks a request against the identification. `image` is the image's length in bytes. Returns the target protection
 /// bits as a number below 64; for a write or an erase these are the chip's own.

@@ -9,7 +9,8 @@
 //! ```rust
 //! use nor_chip::{Config, Delays, Meter, SimBus};
 //! use nor_journal::MemVault;
-//! use nor_scan::{Request, judge_identity, open, save};
+//! use nor_request::Request;
+//! use nor_scan::{judge_identity, open, save};
 //!
 //! let idle = Delays { now: 0, each: 0 };
 //! let erased = vec![in rt.alloc(); 0xFF; 65536]?;
@@ -38,6 +39,5 @@ mod scanning;
 
 pub use identity::{Identity, open, read_on};
 pub use judging::{first_protected, judge_identity};
-pub use nor_request::{Refusal, Report, Request, What};
 pub use saving::{SavedScan, save};
 pub use scanning::Scanned;

@@ -11,9 +11,9 @@ ghost use Rattle.nor_scan.specs.SavedScan.{HasSaved, SaveErrors, SavePuts, Holds
 use crate::identity::Identity;
 use crate::judging::judge_scan;
 use crate::scanning::{Scanned, scan_all};
-use crate::{Refusal, Request};
 use nor_journal::{Vault, Writer};
 use nor_model::Bus;
+use nor_request::{Refusal, Request};
 
 /// The result of a scan whose journal is sealed.
 #[derive(Clone, Copy)]

@@ -11,13 +11,13 @@ ghost use Rattle.nor_scan.specs.Scanning.{HasMarked, IsBlank, ScansSector, Scans
 ghost use Rattle.nor_scan.specs.Scanning.{HasBegun, HasBegunWith, UnlessVault, HoldsCut, HasKeptBelow, wanted_at};
 ghost use Rattle.nor_request.specs.declared.refusal.Refusal.TheVariants as Refusals;
 
-use crate::{Refusal, Request, What};
 use nor_driver::read_sector;
 use nor_geometry::SECTOR_LEN;
 use nor_journal::{Vault, Writer};
 use nor_layout::{fill_excluded, includes_in_sector};
 use nor_model::{Bus, Stopped};
 use nor_plan::{Plan, SectorPlan, SectorSet};
+use nor_request::{Refusal, Request, What};
 
 /// The result of a scan: the touched sectors, in which some byte differs from the target; the raised sectors, which
 /// must be erased; how many sectors are touched; and how many were read.

@@ -9,7 +9,8 @@ use crate::sources::Image;
 use nor_apply::Changes;
 use nor_journal::Vault;
 use nor_model::Bus;
-use nor_scan::{Identity, Refusal, Report, Request, save};
+use nor_request::{Refusal, Report, Request};
+use nor_scan::{Identity, save};
 
 /// The state in which the request is checked against the identification, and nothing is saved yet. It holds all that a
 /// session uses until it returns.

@@ -12,7 +12,7 @@ use crate::checks::check_all;
 use nor_apply::{Changes, Source, Work, apply};
 use nor_journal::{Journal, Vault};
 use nor_model::Bus;
-use nor_scan::Refusal;
+use nor_request::Refusal;
 
 /// Evidence that the journal is in a sealed vault, or was read.
 pub(crate) struct Restorer(());

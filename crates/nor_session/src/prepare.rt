@@ -18,7 +18,8 @@ use nor_journal::Journal;
 use nor_model::{Bus, Status, Stopped};
 use nor_plan::{Plan, SectorPlan};
 use nor_probe::{Found, probe_counted};
-use nor_scan::{Identity, Refusal, Scanned, first_protected, read_on};
+use nor_request::Refusal;
+use nor_scan::{Identity, Scanned, first_protected, read_on};
 
 /// The result of a restore's preparation: the chip that was found, what must be changed, how many sectors are touched,
 /// and how many transactions were sent.

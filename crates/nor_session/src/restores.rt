@@ -9,7 +9,7 @@ use crate::prepare::prepare;
 use crate::sources::Saved;
 use nor_journal::Journal;
 use nor_model::Bus;
-use nor_scan::{Refusal, Report};
+use nor_request::{Refusal, Report};
 
 /// Writes the saved sectors and the protection bits of `journal` back to the chip, and verifies the sectors that it
 /// changed.

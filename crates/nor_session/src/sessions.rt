@@ -12,7 +12,8 @@ ghost use Rattle.nor_session.specs.Session.{SessionAlways, SessionHonest, Sessio
 use crate::judged::Judged;
 use nor_journal::Vault;
 use nor_model::Bus;
-use nor_scan::{Refusal, Report, Request, judge_identity, open};
+use nor_request::{Refusal, Report, Request};
+use nor_scan::{judge_identity, open};
 
 /// Saves each sector that it will touch to `vault`, and then makes the chip what `request` asks for.
 ///
