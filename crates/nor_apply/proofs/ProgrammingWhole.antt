@@ -72,7 +72,7 @@ module _ {sector : ℕ} {erased : Bool} {bytes bytes' : List ℕ} {reads : ℕ} 
           let inside = can.can.inside sector (only-here refl) in
           let read = loads.ends.read is honest in
           let unchanged = read.rested.unchanged in
-          let of = loads.ends.returned is honest can.can.idle (omega arith) in
+          let of = loads.ends.replied is honest can.can.idle (omega arith) in
           let worn = λ (s : ℕ). unchanged.worn s ∙ sym (or-false (first.worn s)) in
           let idle : mid.chip.busy ≡ 0 = read.busy ∙ can.can.idle in
           (assumption, record { byte = λ i small. of.byte i small ∙ sym (unchanged.same.bytes (4096 * sector + i)) })

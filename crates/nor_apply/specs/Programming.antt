@@ -65,7 +65,7 @@ pub record LoadsOk (sector : ℕ) (erased : Bool) (bytes bytes' : List ℕ) (rea
   pub polled_ready : new.polled_ready ≡ old.polled_ready
   pub kept : erased ≡ true → (bytes' ≡ bytes) × (new ≡ old)
   pub read : erased ≡ false → old.honest ≡ true → HasRead old new
-  pub returned : erased ≡ false → old.honest ≡ true → old.chip.busy ≡ 0 → 4096 * (sector + 1) ≤ old.chip.config.size
+  pub replied : erased ≡ false → old.honest ≡ true → old.chip.busy ≡ 0 → 4096 * (sector + 1) ≤ old.chip.config.size
       → IsSectorOf old.chip.bytes sector bytes'
 
 -- Holds for the result of loading a sector. After a stop on a well-behaved bus no transaction was left for the read.

@@ -25,8 +25,8 @@ pub reads_sfdp : (old new : BusState) (x y z at len : ℕ) (answer : List ℕ) �
     → length answer ≡ len → Replies (0x5A ∷ x ∷ y ∷ z ∷ 0 ∷ []) old new answer → ReadsSfdp at len old new answer
 reads_sfdp old new x y z at len answer names long replies = record {
   read = replies.read;
-  returned = λ honest idle. reply_shown old.chip.config at len answer long
-      (λ i below. replies.returned honest i below ∙ rw (idle, names) refl);
+  replied = λ honest idle. reply_shown old.chip.config at len answer long
+      (λ i below. replies.replied honest i below ∙ rw (idle, names) refl);
 }
 
 -- the address that the chip reads for byte `i` of a sector that lies on the chip
@@ -40,8 +40,8 @@ pub reads_sector : (old new : BusState) (x y z sector : ℕ) (answer : List ℕ)
     → length answer ≡ 4096 → Replies (0x03 ∷ x ∷ y ∷ z ∷ []) old new answer → ReadsSector sector old new answer
 reads_sector old new x y z sector answer names long replies = record {
   read = replies.read;
-  returned = λ honest idle inside. record {
-    byte = λ i small. replies.returned honest i (omega arith) ∙ rw idle
+  replied = λ honest idle inside. record {
+    byte = λ i small. replies.replied honest i (omega arith) ∙ rw idle
         (ap old.chip.bytes (place_in old.chip.config.size (65536 * x + 256 * y + z) sector i names inside small));
   };
 }
@@ -50,8 +50,8 @@ pub reads_unique : (old new : BusState) (x y z last : ℕ) (answer : List ℕ) �
     → Replies (0x4B ∷ x ∷ y ∷ z ∷ last ∷ []) old new answer → ReadsUnique old new answer
 reads_unique old new x y z last answer long replies = record {
   read = replies.read;
-  returned = λ honest idle. ext_get_or 0 answer (unique_of old.chip.config) long
-      (λ i below. replies.returned honest i below ∙ rw idle (sym
+  replied = λ honest idle. ext_get_or 0 answer (unique_of old.chip.config) long
+      (λ i below. replies.replied honest i below ∙ rw idle (sym
       (get_or-map-range_with_len (λ i. slice_index_or old.chip.config.unique i 255) 0 8 i i 0
       (omega arith) (omega arith))));
 }

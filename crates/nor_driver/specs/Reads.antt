@@ -37,7 +37,7 @@ pub record HasRead (old new : BusState) : Type 0 where
 -- A transaction that reads succeeded. On an honest bus the reply is the chip's.
 pub record Replies (out : List ℕ) (old new : BusState) (reply : List ℕ) : Type 0 where
   pub read : old.honest ≡ true → HasRead old new
-  pub returned : old.honest ≡ true → (i : ℕ) → i < length reply
+  pub replied : old.honest ≡ true → (i : ℕ) → i < length reply
       → slice_index reply i ≡ reply_byte old.chip (done_of old.chip out (length reply)) i
 
 -- the ID: the first three bytes that 9Fh reads (W25Q64FV datasheet, Read JEDEC ID)
@@ -59,29 +59,29 @@ pub record IsSectorOf (content : ℕ → ℕ) (sector : ℕ) (bytes : List ℕ) 
 -- A read of the ID. On an honest bus it leaves the chip as it was, and returns the chip's bytes if the chip is idle.
 pub record ReadsId (old new : BusState) (id : List ℕ) : Type 0 where
   pub read : old.honest ≡ true → HasRead old new
-  pub returned : old.honest ≡ true → old.chip.busy ≡ 0 → id ≡ id_of old.chip.config
+  pub replied : old.honest ≡ true → old.chip.busy ≡ 0 → id ≡ id_of old.chip.config
 
 -- A read of status 2. On an honest bus it leaves the chip as it was, and returns the chip's byte even if the chip is
 -- busy.
 pub record ReadsStatus2 (old new : BusState) (status2 : ℕ) : Type 0 where
   pub read : old.honest ≡ true → HasRead old new
-  pub returned : old.honest ≡ true → status2 ≡ old.chip.kept.two
+  pub replied : old.honest ≡ true → status2 ≡ old.chip.kept.two
 
 -- A read of the unique ID. On an honest bus it leaves the chip as it was, and returns the chip's bytes if the chip is
 -- idle.
 pub record ReadsUnique (old new : BusState) (unique : List ℕ) : Type 0 where
   pub read : old.honest ≡ true → HasRead old new
-  pub returned : old.honest ≡ true → old.chip.busy ≡ 0 → unique ≡ unique_of old.chip.config
+  pub replied : old.honest ≡ true → old.chip.busy ≡ 0 → unique ≡ unique_of old.chip.config
 
 -- A read of `len` SFDP bytes. On an honest bus it leaves the chip as it was, and returns the chip's bytes if the chip
 -- is idle.
 pub record ReadsSfdp (at len : ℕ) (old new : BusState) (bytes : List ℕ) : Type 0 where
   pub read : old.honest ≡ true → HasRead old new
-  pub returned : old.honest ≡ true → old.chip.busy ≡ 0 → bytes ≡ shown old.chip.config at len
+  pub replied : old.honest ≡ true → old.chip.busy ≡ 0 → bytes ≡ shown old.chip.config at len
 
 -- A read of a sector. On an honest bus it leaves the chip as it was, and returns the chip's bytes if the chip is idle
 -- and the sector lies on it.
 pub record ReadsSector (sector : ℕ) (old new : BusState) (bytes : List ℕ) : Type 0 where
   pub read : old.honest ≡ true → HasRead old new
-  pub returned : old.honest ≡ true → old.chip.busy ≡ 0 → 4096 * (sector + 1) ≤ old.chip.config.size
+  pub replied : old.honest ≡ true → old.chip.busy ≡ 0 → 4096 * (sector + 1) ≤ old.chip.config.size
       → IsSectorOf old.chip.bytes sector bytes

@@ -100,7 +100,7 @@ module _ (named : Option ChipName) where
             let one = kept1_read old.chip mid.chip probed.found.status1 (found.status1 known.honest) was
             (found.idle known.honest) in
             let two : status2 ≡ old.chip.kept.two =
-            reads.returned (only_reads.nature.honest ∙ known.honest) ∙ ap (λ (bits : KeptBits). bits.two) was.kept in
+            reads.replied (only_reads.nature.honest ∙ known.honest) ∙ ap (λ (bits : KeptBits). bits.two) was.kept in
             let protects : old.chip.config.scheme ≡ true = sym (found.is.config known).scheme ∙ scheme in
             let code : code_of (kept_in bytes) ≡ code_of old.chip.kept = rw (are, one, two) (omega arith) in
             let guarded = range_read old.chip range protects (rw (code, size_of found only_reads known) at places) in

@@ -115,7 +115,7 @@ pub scans_sector : (request : Request) (size sector : ℕ) (included : Option (L
     → ((content target_sectors : ℕ → ℕ) → AreBytesOf content bytes → AreBytesOf target_sectors part' → IsPlan content target_sectors (length bytes) plan)
     → ScansSector request size sector part part' bytes old new plan
 scans_sector request size sector included part filled part' bytes old new plan about_bytes fits is_included long long' targets fills reads polled_ready needed plans =
-    let shown = λ (is_open : IsOpen size old). reads.returned is_open.honest is_open.idle (let s = is_open.same in omega arith) in
+    let shown = λ (is_open : IsOpen size old). reads.replied is_open.honest is_open.idle (let s = is_open.same in omega arith) in
     let merged : IsOpen size old → (image : List ℕ) → ((i : ℕ) → i < 4096 → slice_index part i ≡ slice_index image (4096 * sector + i))
     → (i : ℕ) → i < 4096 → slice_index part' i ≡ wanted_at request image size old.chip.bytes (4096 * sector + i) =
     λ is_open image same i below.

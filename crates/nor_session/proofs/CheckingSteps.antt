@@ -26,12 +26,12 @@ stops {sector} wanted below out = λ honest. rw (sector_count-only sector below)
 module _ {sector : ℕ} {bytes : List ℕ} {old new : BusState} (long : length bytes ≡ 4096)
     (reads : ReadsSector sector old new bytes) where
   -- on a well-behaved bus the bytes that were read are the chip's, if the sector can be checked (`CanCheck`)
-  returned : old.honest ≡ true → CanCheck (only sector) old.chip → IsSectorOf old.chip.bytes sector bytes
-  returned honest can = let inside = can.inside sector (only-here refl) in reads.returned honest can.idle (omega arith)
+  replied : old.honest ≡ true → CanCheck (only sector) old.chip → IsSectorOf old.chip.bytes sector bytes
+  replied honest can = let inside = can.inside sector (only-here refl) in reads.replied honest can.idle (omega arith)
 
   read_at : old.honest ≡ true → CanCheck (only sector) old.chip → (a : ℕ) → only sector (a / 4096) ≡ true
       → old.chip.bytes a ≡ slice_index bytes (a - 4096 * sector)
-  read_at honest can a is = old_byte sector bytes old.chip.bytes a (only-is is) (returned honest can)
+  read_at honest can a is = old_byte sector bytes old.chip.bytes a (only-is is) (replied honest can)
 
   pub agrees : (wanted : List ℕ) → sector < 4096 → StaysReady old new → AllAgree bytes wanted
       → DoesChecks (only sector) (byte_of sector wanted) old new 1

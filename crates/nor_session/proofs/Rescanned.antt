@@ -83,7 +83,7 @@ planned_from journal s saved bytes old mid new plan i is place whole is_open hon
     let long = plans.whole in
     let later = opened_later journal.size i old mid is_open honest_reads in
     let same = (honest_reads.rested is_open.honest).unchanged.same.bytes in
-    let shown = plans.read.returned later.honest later.idle (let size = later.same in omega arith) in
+    let shown = plans.read.replied later.honest later.idle (let size = later.same in omega arith) in
     let content = old.chip.bytes in
     let target_sectors = restored journal content in
     planned content target_sectors s plan

@@ -206,7 +206,7 @@ module _ (journal : Content) (prepared : Prepared) (old mid new : BusState) (wor
             worn = λ s. cc (rested.unchanged.worn s, applied.worn s);
             shown = for.shown;
             status1 = for.status1;
-            returned = for.returned;
+            replied = for.replied;
             sectors = are.is.count ∙ ap sector_count touched;
             erases = fewest_at old.chip.config _ work.erases
                 (λ s is. let inside = are.is.inside s (are.is.raised s (for.raised s ∙ is)) in let size = for.size in omega arith)

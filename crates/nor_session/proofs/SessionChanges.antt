@@ -44,7 +44,7 @@ pub record ReadyChip (request : Request) (image image' : List ℕ) (identity : I
   pub honest : old.honest ≡ true
   pub is : IsIdentityOf old.chip identity
   pub shown : shown_as old.chip.config ≡ Ok (part_in identity.found)
-  pub returned : old.chip.busy ≡ 0 → identity.found.status1 ≡ status1_of old.chip
+  pub replied : old.chip.busy ≡ 0 → identity.found.status1 ≡ status1_of old.chip
   pub accepts : IdentityAccepts request image old.chip code
   pub idle : mid.chip.busy ≡ 0
   pub rested : Rested old mid

@@ -96,7 +96,7 @@ module _ (request : Request) (image image' : List ℕ) (identity : Identity) (st
           worn = λ s. cc (of.rested.unchanged.worn s, applied.worn s);
           shown = of.shown;
           status1 = of.is.one;
-          returned = of.returned;
+          replied = of.replied;
           sectors = is.marks.count ∙ ap sector_count touched;
           -- a raised sector lies inside the chip
           erases = fewest_at old.chip.config _ work.erases

@@ -38,7 +38,7 @@ pub record IsReported (wanted : ℕ → ℕ) (old new : BusState) (report : Repo
   pub worn : (s : ℕ) → new.worn s ≡ (old.worn s || is_raised old.chip.bytes wanted s)
   pub shown : shown_as old.chip.config ≡ Ok (part_in report.found)
   pub status1 : report.found.status1 / 4 ≡ old.chip.kept.one
-  pub returned : old.chip.busy ≡ 0 → report.found.status1 ≡ status1_of old.chip
+  pub replied : old.chip.busy ≡ 0 → report.found.status1 ≡ status1_of old.chip
   pub sectors : report.touched ≡ sector_count (is_touched old.chip.bytes wanted)
   pub erases : AreFewestErases old.chip.config old.chip.bytes wanted report.erases
   pub programs : report.programs ≡ pages_of old.chip.bytes wanted

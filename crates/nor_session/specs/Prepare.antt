@@ -195,7 +195,7 @@ pub record IsPreparedFor (journal : Content) (old new : Chip) (prepared : Prepar
   pub accepted : RestoreAccepts journal old
   pub shown : shown_as old.config ≡ Ok (part_in prepared.found)
   pub status1 : prepared.found.status1 / 4 ≡ old.kept.one
-  pub returned : old.busy ≡ 0 → prepared.found.status1 ≡ status1_of old
+  pub replied : old.busy ≡ 0 → prepared.found.status1 ≡ status1_of old
   pub kinds : prepared.changes.kinds ≡ old.config.kinds
   pub size : prepared.changes.size ≡ old.config.size
   pub code : prepared.changes.code ≡ code_of (kept_in journal.status)

@@ -114,9 +114,9 @@ fn has_fixed(journal: &Journal<'_>, identity: &Identity) -> bool
     ensures shows { ShowsFixed journal.now identity.now result }
     ensures fixed { result ≡ true → HasFixedRead journal.now identity.now }
 {
-    let returned = Status::of(journal.status());
+    let saved = Status::of(journal.status());
     let read = identity.status();
-    returned.kept() == read.kept() || identity.found.scheme && returned.fixed() == read.fixed()
+    saved.kept() == read.kept() || identity.found.scheme && saved.fixed() == read.fixed()
 }
 
 // Reads each saved sector, in ascending order, and compares it with the journal's bytes.
