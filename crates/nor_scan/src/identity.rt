@@ -7,10 +7,10 @@ ghost use Rattle.nor_probe.specs.Found.{most_probe};
 ghost use Rattle.nor_scan.specs.Identity.{ReadsIdentity, status_read, ReadsRest, most_identity};
 ghost use Rattle.nor_request.specs.Errors.{IdentificationErrors};
 
-use nor_request::Refusal;
 use nor_driver::{read_status2, read_unique};
 use nor_model::{Bus, Status, Stopped};
 use nor_probe::{ChipName, Found, Probed, probe_counted};
+use nor_request::Refusal;
 
 /// The result of the identification.
 #[derive(Clone, Copy)]
@@ -36,9 +36,9 @@ impl Identity {
 ///
 /// Returns error 1 (no chip), 2 (unknown chip), 3 (other name), 12 (the bus stopped) or 13 with address 0 (the chip
 /// stayed busy; not on a well-behaved bus).
-pub fn open<B: Bus>(bus: &mut B, named: Option<ChipName>) -> Result<Identity, Refusal>
+pub fn identify<B: Bus>(bus: &mut B, named: Option<ChipName>) -> Result<Identity, Refusal>
     ensures leaves { OnlyReads most_identity (B.state bus.old) (B.state bus.new) }
-    ensures opens { IfOk result (ReadsIdentity named (B.state bus.old) (B.state bus.new)) }
+    ensures identifies { IfOk result (ReadsIdentity named (B.state bus.old) (B.state bus.new)) }
     ensures errors { IfErr result (IdentificationErrors most_identity named (B.state bus.old) (B.state bus.new)) }
 {
     let probed = probe_counted(bus, named)?;

@@ -10,7 +10,7 @@
 //! use nor_chip::{Config, Delays, Meter, SimBus};
 //! use nor_journal::MemVault;
 //! use nor_request::Request;
-//! use nor_scan::{judge_identity, open, save};
+//! use nor_scan::{identify, judge_identity, save};
 //!
 //! let idle = Delays { now: 0, each: 0 };
 //! let erased = vec![in rt.alloc(); 0xFF; 65536]?;
@@ -21,9 +21,9 @@
 //! image[0] = 0x5A;
 //! let request = Request::write();
 //! let mut vault = MemVault::new(rt.alloc());
-//! let opening = open(&mut bus, request.named)?;
-//! let code = judge_identity(&request, &opening, image.len())?;
-//! let saved = save(&mut bus, &mut vault, &mut image, &request, &opening, code)?;
+//! let identity = identify(&mut bus, request.named)?;
+//! let code = judge_identity(&request, &identity, image.len())?;
+//! let saved = save(&mut bus, &mut vault, &mut image, &request, &identity, code)?;
 //! assert!(rt; saved.scanned.touched.contains(0) && !saved.scanned.raised.contains(0));
 //! assert!(rt; vault.is_sealed());
 //! ```
@@ -37,7 +37,7 @@ mod judging;
 mod saving;
 mod scanning;
 
-pub use identity::{Identity, open, read_on};
+pub use identity::{Identity, identify, read_on};
 pub use judging::{first_protected, judge_identity};
 pub use saving::{SavedScan, save};
 pub use scanning::Scanned;

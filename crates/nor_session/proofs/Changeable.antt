@@ -29,7 +29,7 @@ use Rattle.nor_plan.specs.Content.{is_touched, is_raised}
 use Rattle.nor_probe.specs.Known.{IsModelled}
 use Rattle.nor_session.specs.Changing.{touched_count}
 use Rattle.nor_session.specs.Restore.{restored, NeedsStatusFrom}
-use Rattle.nor_session.specs.Prepare.{NeedsStatusWith, FitsJournal, IsOfTypeFound, FitsIdentity, HasFixedRead, PrepareErrors, ScansSaved, AreChanges, MayChangeStatus, IsShut, IsPreparedFor, IsPrepared}
+use Rattle.nor_session.specs.PrepareRestore.{NeedsStatusWith, FitsJournal, IsOfTypeFound, FitsIdentity, HasFixedRead, PrepareErrors, ScansSaved, AreChanges, MayChangeStatus, IsShut, IsPreparedFor, IsPreparedRestore}
 use Rattle.nor_scan.proofs.Held.{code_same}
 use Rattle.nor_session.proofs.Changed.{writes_other}
 use Rattle.nor_session.proofs.JudgedStatus.{held_scheme, free_place, writable_for}
@@ -172,7 +172,7 @@ module _ {journal : Content} {identity : Identity} {scanned : Scanned} {changes 
       } in
       ap (λ (set : ℕ → Bool). set s) (ap has are.touched) ∙ rw bytes at (read.scans.touched is_open s)
 
-  pub prepared_all : (sent : ℕ) → sent ≡ identity.transactions + length journal.saved → IsPrepared journal old new
+  pub prepared_all : (sent : ℕ) → sent ≡ identity.transactions + length journal.saved → IsPreparedRestore journal old new
       record { found = identity.found; changes = changes; touched = scanned.count; transactions = sent }
   prepared_all sent sum =
       let part = read.opens.part.at_most in

@@ -11,7 +11,7 @@ use Rattle.nor_scan.specs.Saving.{IsLeastProtected, NoneProtected, SomeProtected
 use Rattle.nor_apply.specs.Within.{is_writable}
 use Rattle.nor_driver.specs.StatusWrites.{fixed_of}
 use Rattle.nor_apply.proofs.Kept.{writable_same}
-use Rattle.nor_session.specs.Prepare.{NeedsStatusWith}
+use Rattle.nor_session.specs.PrepareRestore.{NeedsStatusWith}
 
 pub some_held : (found : Option ℕ) (touched : ℕ → Bool) (chip : Chip) → MatchOption found (NoneProtected touched chip) (IsLeastProtected touched chip) → is_some found ≡ true → SomeProtected touched chip
 some_held (Some s) touched chip held is = record { sector = s; held = held.is }

@@ -15,7 +15,7 @@ use Rattle.nor_scan.specs.SavedScan.{IsJournalOf, SaveErrors}
 use Rattle.nor_scan.specs.Judging.{IsIdentityRefusal}
 use Rattle.nor_session.specs.Changing.{NamesTouchedSector}
 use Rattle.nor_session.specs.Session.{SavesSector, NamesSector, NamesAddress}
-use Rattle.nor_session.specs.Prepare.{PrepareErrors}
+use Rattle.nor_session.specs.PrepareRestore.{PrepareErrors}
 
 -- a scan waits for no operation and verifies nothing, so it returns neither a timeout nor a mismatch
 pub save_names : (request : Request) (identity : Identity) (code : ℕ) (image : List ℕ) (old new : BusState) (refusal : Refusal)

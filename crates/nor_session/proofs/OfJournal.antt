@@ -20,9 +20,9 @@ use Rattle.nor_scan.specs.Saving.{header_found, kept_read}
 use Rattle.nor_scan.specs.Judging.{IsFoundCode}
 use Rattle.nor_scan.specs.SavedScan.{IsJournal, IsJournalOf}
 use Rattle.nor_session.specs.Changing.{LeavesChange, DoesChange}
-use Rattle.nor_session.specs.Prepare.{IsPrepared}
+use Rattle.nor_session.specs.PrepareRestore.{IsPreparedRestore}
 use Rattle.nor_session.specs.Session.{IsSavedCode, IsWrittenCode, SendsSaved, SendsCounted}
-use Rattle.nor_session.specs.declared.prepare.Prepared.{Prepared}
+use Rattle.nor_session.specs.declared.prepare_restore.PreparedRestore.{PreparedRestore}
 use Rattle.nor_session.proofs.Targeting.{AreOfJournal, change_sends}
 use Rattle.nor_session.proofs.Ready.{Ready, changes_of, lifts_none}
 
@@ -87,8 +87,8 @@ module _ {request : Request} {identity : Identity} {status : Status} {code : ℕ
 
 -- ---- a restore
 
-pub restore_of_journal : {journal : Content} {old mid : BusState} {prepared : Prepared}
-    → IsPrepared journal old mid prepared → AreOfJournal (IsSavedCode journal) journal prepared.changes
+pub restore_of_journal : {journal : Content} {old mid : BusState} {prepared : PreparedRestore}
+    → IsPreparedRestore journal old mid prepared → AreOfJournal (IsSavedCode journal) journal prepared.changes
 restore_of_journal is = record {
   sized = sym is.sized;
   saved = is.saved;

@@ -12,7 +12,7 @@ use Rattle.nor_request.specs.Refusal.{refusal_number}
 use Rattle.nor_scan.specs.Verdict.{IsNamed}
 use Rattle.nor_session.specs.Headline.{IsOfType}
 use Rattle.nor_session.specs.Restore.{IsOfOtherDevice, FitsStatus, NeedsStatusFrom, RestoreHolds, checked_in_order, index_in, IsRestoreVerdict, IsRestorable}
-use Rattle.nor_session.specs.Prepare.{RestoreJudges, RestoreAccepts}
+use Rattle.nor_session.specs.PrepareRestore.{RestoreJudges, RestoreAccepts}
 
 -- Holds if none of the errors before this position applies.
 record IsClear (journal : Content) (chip : Chip) (n : ℕ) : Type 0 where

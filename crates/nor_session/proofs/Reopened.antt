@@ -19,7 +19,7 @@ use Rattle.nor_scan.specs.Identity.{most_identity}
 use Rattle.nor_scan.specs.Verdict.{IsNamed}
 use Rattle.nor_session.specs.Headline.{IsOfType}
 use Rattle.nor_session.specs.Restore.{IsOfOtherDevice}
-use Rattle.nor_session.specs.Prepare.{RestoreJudges, IsOfTypeFound, IsDeviceRefusal, PrepareErrors}
+use Rattle.nor_session.specs.PrepareRestore.{RestoreJudges, IsOfTypeFound, IsDeviceRefusal, PrepareErrors}
 
 -- ---- the chip is named
 

@@ -20,7 +20,7 @@ use Rattle.nor_scan.proofs.Planned.{planned, untouched, unraised}
 use Rattle.nor_driver.proofs.RestsInTurn.{HasLooked, has_looked-none, has_looked-more}
 use Rattle.nor_scan.proofs.Scans.{marks_more, opened_later}
 use Rattle.nor_session.specs.Restore.{restored}
-use Rattle.nor_session.specs.Prepare.{PlansSaved, ScansSaved}
+use Rattle.nor_session.specs.PrepareRestore.{PlansSaved, ScansSaved}
 use Rattle.nor_session.proofs.SavedBytes.{sector_at, byte_at, is_saved-some}
 
 -- true if one of the first `i` records has the sector

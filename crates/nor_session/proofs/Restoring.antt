@@ -22,7 +22,7 @@ use Rattle.nor_apply.proofs.Changing.{narrower}
 use Rattle.nor_request.specs.declared.report.Report.{Report}
 use Rattle.nor_request.specs.declared.refusal.Refusal.{Refusal}
 use Rattle.nor_request.specs.declared.refusal.Refusal.TheVariants.{Stopped, Timeout, Mismatch}
-use Rattle.nor_session.specs.declared.prepare.Prepared.{Prepared}
+use Rattle.nor_session.specs.declared.prepare_restore.PreparedRestore.{PreparedRestore}
 use Rattle.nor_probe.specs.Known.{IsModelled}
 use Rattle.nor_scan.specs.Identity.{most_identity}
 use Rattle.nor_session.specs.Bounds.{most_of}
@@ -30,7 +30,7 @@ use Rattle.nor_session.specs.Session.{HonestErrors, IsWithinBound}
 use Rattle.nor_session.specs.Changing.{HasBytes, LeavesChange, DoesChange, ChangeErrors}
 use Rattle.nor_session.specs.Headline.{CanRestore}
 use Rattle.nor_session.specs.Restore.{restored, NeedsStatusFrom, IsCheckedFirst, IsRestoreRefusal, RestoreErrors, LeavesRestore, IsRestored}
-use Rattle.nor_session.specs.Prepare.{PrepareErrors, IsPrepared}
+use Rattle.nor_session.specs.PrepareRestore.{PrepareErrors, IsPreparedRestore}
 use Rattle.nor_session.proofs.OneRestoreVerdict.{judged_verdict, accepted_restorable}
 use Rattle.nor_session.proofs.Changed.{two_writes, no_write, fewest_at}
 use Rattle.nor_session.proofs.Rescanned.{restored_saved}
@@ -74,20 +74,20 @@ looks_back journal first most old new honest only_reads can =
 -- ---- the changes after the preparation
 
 -- The results of a restore's preparation, and the state that its changes left.
-pub record AreChanged (journal : Content) (prepared : Prepared) (old mid new : BusState) : Type 0 where
+pub record AreChanged (journal : Content) (prepared : PreparedRestore) (old mid new : BusState) : Type 0 where
   pub room : length journal.saved ≤ 4096
   pub only_reads : OnlyReads (most_identity + length journal.saved) old mid
-  pub is : IsPrepared journal old mid prepared
+  pub is : IsPreparedRestore journal old mid prepared
   pub leaves : LeavesChange prepared.changes (saved_byte journal) mid new
 
-pub changed_back : (journal : Content) (first : Chip) (prepared : Prepared) (old mid new : BusState) → AreChanged journal prepared old mid new → IsModelled old → CanRestore journal first old → CanRestore journal first new
+pub changed_back : (journal : Content) (first : Chip) (prepared : PreparedRestore) (old mid new : BusState) → AreChanged journal prepared old mid new → IsModelled old → CanRestore journal first old → CanRestore journal first new
 changed_back journal first prepared old mid new are modelled can =
     let for = are.is.modelled modelled in
     let may = are.leaves.reached (are.only_reads.nature.honest ∙ modelled.honest) for.can in
     let before = looks_back journal first (most_identity + length journal.saved) old mid modelled.honest are.only_reads can in
     assumption (change_within journal first _ _ (saved_byte journal) old mid new can before.within for.touched may)
 
-module _ (journal : Content) (prepared : Prepared) (old mid new : BusState) where
+module _ (journal : Content) (prepared : PreparedRestore) (old mid new : BusState) where
   pub changed_spends : AreChanged journal prepared old mid new → Spends (most_of (length journal.saved)) old new
   changed_spends are = search (arith, nature_then)
 
@@ -131,7 +131,7 @@ change_not_judged changes wanted old new _ errors judged = errors
 -- ---- the changes were finished
 
 -- the report of the restore
-abbrev pub report_of : Prepared → Work → ℕ → Report
+abbrev pub report_of : PreparedRestore → Work → ℕ → Report
 report_of prepared work sent = record {
   found = prepared.found;
   touched = prepared.touched;
@@ -140,7 +140,7 @@ report_of prepared work sent = record {
   transactions = sent;
 }
 
-module _ (journal : Content) (prepared : Prepared) (old mid new : BusState) (work : Work) where
+module _ (journal : Content) (prepared : PreparedRestore) (old mid new : BusState) (work : Work) where
   pub sum_fits : AreChanged journal prepared old mid new
       → DoesChange prepared.changes (saved_byte journal) true mid new work
       → prepared.transactions + work.transactions < 2 ^ 64

@@ -7,7 +7,7 @@ pub mod Session
 pub mod Judged
 pub mod Restore
 pub mod WrittenOver
-pub mod Prepare
+pub mod PrepareRestore
 pub mod InTurn
 pub mod Rehearsal
 pub mod Rehearsing

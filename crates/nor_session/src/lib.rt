@@ -30,7 +30,7 @@ mod checks;
 mod judged;
 mod kept;
 mod laws;
-mod prepare;
+mod prepare_restore;
 mod rehearsals;
 mod restores;
 mod sessions;

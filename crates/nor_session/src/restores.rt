@@ -5,7 +5,7 @@ ghost use Rattle.nor_session.specs.Headline.{RestoresOriginal};
 ghost use Rattle.nor_session.specs.Restore.{RestoreAlways, RestoreHonest, RestoreModelled};
 
 use crate::kept::{Kept, Restorer};
-use crate::prepare::prepare;
+use crate::prepare_restore::prepare_restore;
 use crate::sources::Saved;
 use nor_journal::Journal;
 use nor_model::Bus;
@@ -32,7 +32,7 @@ pub fn restore<B: Bus>(bus: &mut B, journal: &Journal<'_>) -> Result<Report, Ref
     ensures modelled { IsModelled (B.state bus.old)
         → RestoreModelled journal.now (B.state bus.old) (B.state bus.new) result }
 {
-    let prepared = prepare(bus, journal)?;
+    let prepared = prepare_restore(bus, journal)?;
     let kept = Kept {
         bus,
         source: &Saved { journal },

@@ -13,7 +13,7 @@ use crate::judged::Judged;
 use nor_journal::Vault;
 use nor_model::Bus;
 use nor_request::{Refusal, Report, Request};
-use nor_scan::{judge_identity, open};
+use nor_scan::{identify, judge_identity};
 
 /// Saves each sector that it will touch to `vault`, and then makes the chip what `request` asks for.
 ///
@@ -44,7 +44,7 @@ pub fn session<B: Bus, V: Vault>(
     ensures modelled { IsModelled (B.state bus.old) → SessionModelled request.now image.old
         (B.state bus.old) (B.state bus.new) (V.state vault.old) (V.state vault.new) result }
 {
-    let identity = open(bus, request.named)?;
+    let identity = identify(bus, request.named)?;
     let code = judge_identity(request, &identity, image.len())?;
     let judged = Judged {
         bus,

@@ -15,10 +15,10 @@ use Rattle.nor_session.proofs.restores.restore.Goals as goal
 pub returns-in_err-prepared : goal.returns-in_err-prepared
 returns-in_err-prepared g c =
     let journal = c.args.journal.now in let most = most_identity + length journal.saved in
-    let old = g.B.Bus.state c.args.bus.now in let new = g.B.Bus.state c.prepare.new.bus in
+    let old = g.B.Bus.state c.args.bus.now in let new = g.B.Bus.state c.prepare_restore.new.bus in
     let refusal = c.in_err-prepared.field-0.0 in let errors = c.in_err-prepared.ensures.errors in
     let p = err_from_is_err_and c.from_residual.result c.from_residual.ensures.1 in
-    let room = c.prepare.ensures.room in let only_reads = c.prepare.ensures.leaves in
+    let room = c.prepare_restore.ensures.room in let only_reads = c.prepare_restore.ensures.leaves in
     let returned = prepare_tells journal most old new refusal (omega arith) in
     rw (p.1, p.2) (record {
       restores_original = λ modelled.
@@ -39,7 +39,7 @@ returns-in_err-prepared g c =
 pub returns-in_err-work : goal.returns-in_err-work
 returns-in_err-work g c =
     let journal = c.args.journal.now in let prepared = c.in_ok-prepared.prepared in
-    let old = g.B.Bus.state c.args.bus.now in let mid = g.B.Bus.state c.prepare.new.bus in let new = g.B.Bus.state c.finish.new.self.0 in
+    let old = g.B.Bus.state c.args.bus.now in let mid = g.B.Bus.state c.prepare_restore.new.bus in let new = g.B.Bus.state c.finish.new.self.0 in
     let are : AreChanged journal prepared old mid new = search rules in
     let refusal = c.in_err-work.field-0.0 in let errors = c.in_err-work.ensures.errors in
     let p = err_from_is_err_and c.from_residual-in_err-work.result c.from_residual-in_err-work.ensures.1 in
@@ -70,14 +70,14 @@ returns-in_err-work g c =
 pub overflow_add-result : goal.overflow_add-result
 overflow_add-result g c =
     let are : AreChanged c.args.journal.now c.in_ok-prepared.prepared (g.B.Bus.state c.args.bus.now)
-    (g.B.Bus.state c.prepare.new.bus) (g.B.Bus.state c.finish.new.self.0) = search rules in
+    (g.B.Bus.state c.prepare_restore.new.bus) (g.B.Bus.state c.finish.new.self.0) = search rules in
     let fits = sum_fits _ c.in_ok-prepared.prepared _ _ _ c.in_ok-work.work are c.in_ok-work.ensures.does in
     omega (arith, fits)
 
 pub returns : goal.returns
 returns g c =
     let journal = c.args.journal.now in let prepared = c.in_ok-prepared.prepared in
-    let old = g.B.Bus.state c.args.bus.now in let mid = g.B.Bus.state c.prepare.new.bus in let new = g.B.Bus.state c.finish.new.self.0 in
+    let old = g.B.Bus.state c.args.bus.now in let mid = g.B.Bus.state c.prepare_restore.new.bus in let new = g.B.Bus.state c.finish.new.self.0 in
     let are : AreChanged journal prepared old mid new = search rules in
     let work = c.in_ok-work.work in let sent = prepared.transactions + work.transactions in
     let does = c.in_ok-work.ensures.does in

@@ -22,15 +22,15 @@ pub returns-in_err-identity-clause-modelled : goal.returns-in_err-identity-claus
 returns-in_err-identity-clause-modelled g c = λ modelled.
     let vault = g.V.Vault.state c.args.vault.now in
     let errors = open_tells c.args.request.now c.args.image.now (g.B.Bus.state c.args.bus.now)
-    (g.B.Bus.state c.open.new.bus) vault vault c.in_err-identity.field-0.0 modelled c.in_err-identity.ensures.errors in
+    (g.B.Bus.state c.identify.new.bus) vault vault c.in_err-identity.field-0.0 modelled c.in_err-identity.ensures.errors in
     let p = err_from_is_err_and c.from_residual.result c.from_residual.ensures.1 in
     rw (p.1, p.2) (search (rules, none_written))
 
 pub returns-in_err-code-clause-modelled : goal.returns-in_err-code-clause-modelled
 returns-in_err-code-clause-modelled g c = λ modelled.
-    let old = g.B.Bus.state c.args.bus.now in let new = g.B.Bus.state c.open.new.bus in
+    let old = g.B.Bus.state c.args.bus.now in let new = g.B.Bus.state c.identify.new.bus in
     let vault = g.V.Vault.state c.args.vault.now in
-    let request = c.args.request.now in let opens = c.in_ok-identity.ensures.opens in
+    let request = c.args.request.now in let opens = c.in_ok-identity.ensures.identifies in
     let errors = judge_tells request c.args.image.now old new vault vault c.in_err-code.field-0.0
     (c.in_err-code.ensures.errors old.chip c.args.image.now (opening_of modelled opens)
     (named request c.in_ok-identity.identity old new modelled opens) refl) in

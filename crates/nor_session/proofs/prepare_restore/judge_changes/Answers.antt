@@ -3,8 +3,8 @@ use Rattle.std.specs.Option.{is_some}
 use Rattle.nor_plan.specs.SectorSet.{has}
 use Rattle.nor_scan.proofs.Held.{code_same, lock_same}
 use Rattle.nor_session.proofs.JudgedStatus.{some_held, some_or_none, none_needed}
-use Rattle.nor_session.proofs.prepare.judge_changes.Goals as goal
-use Rattle.nor_session.proofs.prepare.judge_changes.Goals.{then-unlock, else-unlock, else-writes-via-then-writes+else-is_locked, else-writes-via-else-writes}
+use Rattle.nor_session.proofs.prepare_restore.judge_changes.Goals as goal
+use Rattle.nor_session.proofs.prepare_restore.judge_changes.Goals.{then-unlock, else-unlock, else-writes-via-then-writes+else-is_locked, else-writes-via-else-writes}
 
 pub returns-clause-accepts : goal.returns-clause-accepts
 returns-clause-accepts c = λ chip is.

@@ -1,7 +1,7 @@
 use Rattle.std.proofs.Common.{rules}
 use Rattle.nor_session.proofs.Reopened.{named_known, other_unit, no_unit, same_unit}
-use Rattle.nor_session.proofs.prepare.judge_device.Goals as goal
-use Rattle.nor_session.proofs.prepare.judge_device.Goals.{in_default-via-in-None-1, in_default-via-in-Some+else-ne}
+use Rattle.nor_session.proofs.prepare_restore.judge_device.Goals as goal
+use Rattle.nor_session.proofs.prepare_restore.judge_device.Goals.{in_default-via-in-None-1, in_default-via-in-Some+else-ne}
 
 pub returns-clause-errors : goal.returns-clause-errors
 returns-clause-errors c = λ chip small is kind. (

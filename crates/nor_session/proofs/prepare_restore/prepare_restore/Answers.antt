@@ -3,14 +3,14 @@ use Rattle.std.proofs.lemmas.Grind.{common_steps}
 use Rattle.nor_scan.specs.Identity.{most_identity}
 use Rattle.nor_driver.proofs.ReadsInTurn.{looks_then, looks_more}
 use Rattle.nor_session.proofs.Changeable.{AreRead, shut_tells, prepared_all}
-use Rattle.nor_session.proofs.prepare.prepare.Goals as goal
+use Rattle.nor_session.proofs.prepare_restore.prepare_restore.Goals as goal
 
 pub returns-in_err-changes-clause-errors : goal.returns-in_err-changes-clause-errors
 returns-in_err-changes-clause-errors g c =
     let small = λ (honest : (g.B.Bus.state c.args.bus.now).honest ≡ true).
     (g.met.B.Bus.reaches c.args.bus.now honest).kept2 in
     let read : AreRead c.args.journal.now c.in_ok-identity.identity c.in_ok-scanned.scanned (g.B.Bus.state c.args.bus.now)
-    (g.B.Bus.state c.open_saved.new.bus) (g.B.Bus.state c.scan_saved.new.bus) = search rules in
+    (g.B.Bus.state c.identify_saved.new.bus) (g.B.Bus.state c.scan_saved.new.bus) = search rules in
     let returned = shut_tells read (most_identity + length c.args.journal.now.saved) c.in_err-changes.ensures.errors in
     let locked = c.in_err-changes.ensures.locked in
     grind (arith, common_steps, returned, locked)
@@ -20,7 +20,7 @@ returns-clause-prepares g c =
     let small = λ (honest : (g.B.Bus.state c.args.bus.now).honest ≡ true).
     (g.met.B.Bus.reaches c.args.bus.now honest).kept2 in
     let read : AreRead c.args.journal.now c.in_ok-identity.identity c.in_ok-scanned.scanned (g.B.Bus.state c.args.bus.now)
-    (g.B.Bus.state c.open_saved.new.bus) (g.B.Bus.state c.scan_saved.new.bus) = search rules in
+    (g.B.Bus.state c.identify_saved.new.bus) (g.B.Bus.state c.scan_saved.new.bus) = search rules in
     prepared_all read c.in_ok-changes.ensures.changes c.in_ok-changes.ensures.accepts _
     (let count = c.count-sectors.ensures.value in search rules)
 

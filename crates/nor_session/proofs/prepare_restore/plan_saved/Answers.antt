@@ -1,6 +1,6 @@
 use Rattle.std.proofs.Common.{◌≡◌, ◌∙◌, ℕ, length, subst, arith}
 use Rattle.nor_plan.specs.Plan.{IsPlan}
-use Rattle.nor_session.proofs.prepare.plan_saved.Goals as goal
+use Rattle.nor_session.proofs.prepare_restore.plan_saved.Goals as goal
 
 pub returns-clause-plans : goal.returns-clause-plans
 returns-clause-plans g c =

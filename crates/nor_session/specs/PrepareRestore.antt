@@ -27,7 +27,7 @@ use Rattle.nor_request.specs.declared.refusal.Refusal.{Refusal}
 use Rattle.nor_request.specs.declared.refusal.Refusal.TheVariants.{NoChip, UnknownChip, StatusLocked, Stopped, Timeout, OtherChip, OtherUnit, StatusDiffers}
 use Rattle.nor_scan.specs.Scanning.{AreMarks}
 use Rattle.nor_scan.specs.Saving.{IsIdentityOf, NoneProtected, SomeProtected}
-use Rattle.nor_session.specs.declared.prepare.Prepared.{Prepared}
+use Rattle.nor_session.specs.declared.prepare_restore.PreparedRestore.{PreparedRestore}
 use Rattle.nor_session.specs.Bounds.{most_reads}
 use Rattle.nor_session.specs.Changing.{touched_count}
 use Rattle.nor_session.specs.Headline.{IsOfType}
@@ -191,7 +191,7 @@ RefusesShut journal identity touched judged =
 
 -- The result of the preparation on a modelled bus. The chip may be restored, was identified as what its ID or SFDP
 -- says, and the changes that the journal asks for can be made to it. They write the status only if that is needed.
-pub record IsPreparedFor (journal : Content) (old new : Chip) (prepared : Prepared) : Type 0 where
+pub record IsPreparedFor (journal : Content) (old new : Chip) (prepared : PreparedRestore) : Type 0 where
   pub accepted : RestoreAccepts journal old
   pub shown : shown_as old.config ≡ Ok (part_in prepared.found)
   pub status1 : prepared.found.status1 / 4 ≡ old.kept.one
@@ -206,7 +206,7 @@ pub record IsPreparedFor (journal : Content) (old new : Chip) (prepared : Prepar
       → NeedsStatusFrom journal old
 
 -- All that a restore must know before it changes anything.
-pub record IsPrepared (journal : Content) (old new : BusState) (prepared : Prepared) : Type 0 where
+pub record IsPreparedRestore (journal : Content) (old new : BusState) (prepared : PreparedRestore) : Type 0 where
   pub inside : LiesBelow prepared.changes.touched (prepared.changes.size / 4096)
   pub raised : (s : ℕ) → has prepared.changes.raised s ≡ true → has prepared.changes.touched s ≡ true
   pub small : prepared.changes.size ≤ 16777216

@@ -7,9 +7,9 @@ ghost use Rattle.nor_plan.specs.SectorSet.{has, LiesBelow};
 ghost use Rattle.nor_scan.specs.Identity.{ReadsIdentity, most_identity};
 ghost use Rattle.nor_request.specs.declared.refusal.Refusal.TheVariants as Refusals;
 ghost use Rattle.nor_session.specs.Bounds.{most_reads};
-ghost use Rattle.nor_session.specs.Prepare.{IsOfTypeFound, IsDeviceRefusal, FitsIdentity, HasFixedRead, ShowsFixed};
-ghost use Rattle.nor_session.specs.Prepare.{AcceptsDevice, RefusesDevice, PlansSaved, ScansSaved};
-ghost use Rattle.nor_session.specs.Prepare.{AreChanges, MakesChanges, RefusesShut, IsPrepared, PrepareErrors};
+ghost use Rattle.nor_session.specs.PrepareRestore.{IsOfTypeFound, IsDeviceRefusal, FitsIdentity, HasFixedRead, ShowsFixed};
+ghost use Rattle.nor_session.specs.PrepareRestore.{AcceptsDevice, RefusesDevice, PlansSaved, ScansSaved};
+ghost use Rattle.nor_session.specs.PrepareRestore.{AreChanges, MakesChanges, RefusesShut, IsPreparedRestore, PrepareErrors};
 
 use nor_apply::Changes;
 use nor_driver::read_sector;
@@ -24,7 +24,7 @@ use nor_scan::{Identity, Scanned, first_protected, read_on};
 /// The result of a restore's preparation: the chip that was found, what must be changed, how many sectors are touched,
 /// and how many transactions were sent.
 #[derive(Clone, Copy)]
-pub(crate) struct Prepared {
+pub(crate) struct PreparedRestore {
     pub found: Found,
     pub changes: Changes,
     pub touched: u32,
@@ -34,18 +34,21 @@ pub(crate) struct Prepared {
 /// Identifies the chip, reads the sectors that the journal saved, and makes all checks of a restore. Returns error 1,
 /// 2, 16, 20, 17 or 9 (checked in this order), 12 or 13.
 #[tactic(auto, using(crate::proofs::SavedBytes::saved_room))]
-pub(crate) fn prepare<B: Bus>(bus: &mut B, journal: &Journal<'_>) -> Result<Prepared, Refusal>
+pub(crate) fn prepare_restore<B: Bus>(
+    bus: &mut B,
+    journal: &Journal<'_>,
+) -> Result<PreparedRestore, Refusal>
     ensures room { length journal.now.saved ≤ 4096 }
     ensures leaves { OnlyReads (most_reads (length journal.now.saved)) (B.state bus.old) (B.state bus.new) }
-    ensures prepares { IfOk result (IsPrepared journal.now (B.state bus.old) (B.state bus.new)) }
+    ensures prepares { IfOk result (IsPreparedRestore journal.now (B.state bus.old) (B.state bus.new)) }
     ensures errors { IfErr result
         (PrepareErrors journal.now (most_reads (length journal.now.saved)) (B.state bus.old) (B.state bus.new)) }
 {
     let sectors = journal.count();
-    let identity = open_saved(bus, journal)?;
+    let identity = identify_saved(bus, journal)?;
     let scanned = scan_saved(bus, journal)?;
     let changes = judge_changes(journal, &identity, &scanned)?;
-    Ok(Prepared {
+    Ok(PreparedRestore {
         found: identity.found,
         changes,
         touched: scanned.count,
@@ -54,9 +57,9 @@ pub(crate) fn prepare<B: Bus>(bus: &mut B, journal: &Journal<'_>) -> Result<Prep
 }
 
 // Identifies the chip, and checks that the journal fits it.
-fn open_saved<B: Bus>(bus: &mut B, journal: &Journal<'_>) -> Result<Identity, Refusal>
+fn identify_saved<B: Bus>(bus: &mut B, journal: &Journal<'_>) -> Result<Identity, Refusal>
     ensures leaves { OnlyReads most_identity (B.state bus.old) (B.state bus.new) }
-    ensures opens { IfOk result (ReadsIdentity None (B.state bus.old) (B.state bus.new)) }
+    ensures identifies { IfOk result (ReadsIdentity None (B.state bus.old) (B.state bus.new)) }
     ensures kind { IfOk result (λ identity. IsOfTypeFound journal.now identity.found) }
     ensures fits { IfOk result (FitsIdentity journal.now) }
     ensures fixed { IfOk result (HasFixedRead journal.now) }
@@ -70,7 +73,7 @@ fn open_saved<B: Bus>(bus: &mut B, journal: &Journal<'_>) -> Result<Identity, Re
 // Identifies the chip, and checks that it has the journal's ID and size.
 fn identify_type<B: Bus>(bus: &mut B, journal: &Journal<'_>) -> Result<Identity, Refusal>
     ensures leaves { OnlyReads most_identity (B.state bus.old) (B.state bus.new) }
-    ensures opens { IfOk result (ReadsIdentity None (B.state bus.old) (B.state bus.new)) }
+    ensures identifies { IfOk result (ReadsIdentity None (B.state bus.old) (B.state bus.new)) }
     ensures kind { IfOk result (λ identity. IsOfTypeFound journal.now identity.found) }
     ensures errors { IfErr result (PrepareErrors journal.now most_identity (B.state bus.old) (B.state bus.new)) }
 {

@@ -2,7 +2,7 @@ use Rattle.std.proofs.Common.{rules, arith}
 use Rattle.nor_model.proofs.Sizes.{is_chip_size-in_blocks}
 use Rattle.nor_journal.proofs.Saved.{saved_few}
 use Rattle.nor_session.proofs.Rescanned.{nothing_rescanned, rescanned_more, all_rescanned}
-use Rattle.nor_session.proofs.prepare.scan_saved.Goals as goal
+use Rattle.nor_session.proofs.prepare_restore.scan_saved.Goals as goal
 
 pub loop-i-init : goal.loop-i-init
 loop-i-init g c = nothing_rescanned c.none-scanned.ensures

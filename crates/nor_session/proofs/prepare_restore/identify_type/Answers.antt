@@ -2,7 +2,7 @@ use Rattle.std.proofs.Common.{rules, arith}
 use Rattle.std.proofs.lemmas.Grind.{common_steps}
 use Rattle.nor_driver.proofs.ReadsInTurn.{looks_then, looks_more}
 use Rattle.nor_session.proofs.Reopened.{probe_tells}
-use Rattle.nor_session.proofs.prepare.identify_type.Goals as goal
+use Rattle.nor_session.proofs.prepare_restore.identify_type.Goals as goal
 
 pub returns-in_err-probed-clause-errors : goal.returns-in_err-probed-clause-errors
 returns-in_err-probed-clause-errors g c =
