@@ -1,5 +1,6 @@
 #!/usr/bin/env bash
-# scripts/agree.sh [PROGRAM]: whether the pages say what the sources say and what the program prints.
+# scripts/agree.sh [PROGRAM]: whether the pages say what the sources say and what the program prints; whether crates.txt
+# has the dependencies, and each definition a name of its own.
 #
 # Each part prints what it compared, and a line `DIFFERS: ..` for each difference; then the status is 1. A text that is
 # found nowhere is a difference too. The help and the list of chips are taken from the program. Without a program they
@@ -22,4 +23,6 @@ part scripts/statement.py --check                  # the pages of the statement:
 part scripts/promises.py                           # names of calls, clauses and tests in tables
 part scripts/paths.py                              # names of files
 part scripts/counts.py                             # how many cases and runs there are
+part scripts/crates.py                             # the dependencies of each crate
+part scripts/twice.py                              # definitions with one name
 exit $status

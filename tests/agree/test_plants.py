@@ -19,6 +19,8 @@ ROWS = ["python3", "scripts/promises.py"]
 PATHS = ["python3", "scripts/paths.py"]
 COUNTS = ["python3", "scripts/counts.py"]
 STATEMENT = ["python3", "scripts/statement.py", "--check"]
+CRATES = ["python3", "scripts/crates.py"]
+TWICE = ["python3", "scripts/twice.py"]
 
 # Each plant has the part that must reject it, the file, a pattern whose first match is replaced, the new text, and the
 # expected message. One plant of each kind must be rejected by agree as a whole, the others by its part.
@@ -218,6 +220,24 @@ PLANTS = {
         STATEMENT, "crates/nor_session/specs/Headline.antt", r"(?m)^  pub unsent : ",
         "".join(f"  pub unsent{at} : vault.sealed ≡ vault.sealed\n" for at in range(40)) + "  pub unsent : ",
         r"docs/STATEMENT.md has 4\d\d lines, at most 400"),
+    "a library that a crate doesn't use": (
+        AGREE, "crates.txt", r"(?m)^nor_read: ", "nor_read: nor_apply ",
+        "crates.txt is to have 'nor_read: nor_request "),
+    "a library that only a definition names": (
+        CRATES, "crates/nor_plan/specs/Bytes.antt", r"\A", "use Rattle.nor_journal.specs.Vault.{IsFresh}\n",
+        "crates.txt is to have 'nor_plan: nor_journal "),
+    "a library of the kit that only a source names": (
+        CRATES, "crates/nor_layout/src/places.rt", r"use crate::ranges::Span;", "use crate::ranges::Span;\nuse hex::encode;",
+        "crates.txt is to have 'nor_layout: nor_geometry arrayvec hex'"),
+    "a crate below one that it uses": (
+        CRATES, "crates.txt", r"nor_geometry:\nnor_model: nor_geometry bitflags\n",
+        "nor_model: nor_geometry bitflags\nnor_geometry:\n", "crates.txt is to have nor_geometry above nor_model"),
+    "a definition with another one's name": (
+        AGREE, "crates/bench/specs/Words.antt", r"abbrev pub request_of :", "abbrev pub sector_count :",
+        r"sector_count is defined at crates/bench/specs/Words.antt:\d+ and crates/nor_geometry/specs/Counts.antt:\d+"),
+    "a name that needn't be allowed": (
+        TWICE, "scripts/twice.py", r'"cause_of ', '"cause_of CanRestore ',
+        "ALLOWED of scripts/twice.py has CanRestore"),
     "a name that the headline's page doesn't use": (
         STATEMENT, "scripts/statement_parts.py", r'"held_by": "`held_by', '"OnlyReads": "`OnlyReads',
         "NAMES of scripts/statement_parts.py has what STATEMENT.md doesn't use: OnlyReads"),
