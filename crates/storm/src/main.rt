@@ -117,7 +117,7 @@ fn run(rt: &HostRuntime, job: Job, seed: u64) -> Result<(u64, u64), Fault> {
         tell(rt, seed, failed)?;
         return Ok((agreed, 1));
     }
-    if !tally.is_telling(job.count) {
+    if !tally.is_sufficient(job.count) {
         println!(rt;
             "Seed {seed}: a kind of case came less than {} times.",
             tally::least(job.count)

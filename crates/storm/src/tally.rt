@@ -78,7 +78,7 @@ impl Cuts {
     }
 
     // True if each of the three counts is at least `least`.
-    fn are_telling(self, least: u64) -> bool {
+    fn are_sufficient(self, least: u64) -> bool {
         self.sessions >= least && self.restores >= least && self.losses >= least
     }
 }
@@ -99,13 +99,13 @@ impl Tally {
     /// True if the counts are sufficient for this number of cases. Accepted sessions, accepted restores, reading calls,
     /// the three kinds of stops inside a transaction, and sessions with each of errors 1 to 10 must each reach
     /// `least(cases)`. No session may have another error.
-    pub fn is_telling(&self, cases: u64) -> bool {
+    pub fn is_sufficient(&self, cases: u64) -> bool {
         let least = least(cases);
         let mut refused = self.refused.iter().enumerate();
         self.accepted >= least
             && self.restored >= least
             && self.read >= least
-            && self.cuts.are_telling(least)
+            && self.cuts.are_sufficient(least)
             && refused.all(|(number, count)| if 1 <= number && number <= 10 {
                 *count >= least
             } else {
