@@ -1,7 +1,7 @@
--- The exits of `apply`: the effect of the changes so far, their transactions, and the result.
-use Rattle.std.proofs.Common.{ℕ, zero, suc, ◌≡◌, ◌<◌, ◌≤◌, ◌+◌, ◌*◌, ◌/◌, ◌∙◌, Bool, true, false, refl, sym, ap, arith, true≢false, inl, inr}
+-- The exits of `apply`, part by part: the unlock, the erases, the programs and the last status write.
+use Rattle.std.proofs.Common.{ℕ, ◌≡◌, ◌<◌, ◌≤◌, ◌+◌, ◌*◌, ◌/◌, ◌∙◌, Bool, true, false, refl, sym, ap, arith, true≢false}
 use Rattle.std.specs.Prelude.{◌&&◌, ◌||◌, if◌then◌else◌}
-use Rattle.std.proofs.lemmas.Bool.{cases_Bool, or_left, or_right}
+use Rattle.std.proofs.lemmas.Bool.{or_left, or_right}
 use Rattle.nor_geometry.specs.Below.{count_below}
 use Rattle.nor_geometry.specs.Counts.{sector_count}
 use Rattle.nor_geometry.proofs.Counting.{count_below-most}
@@ -9,7 +9,7 @@ use Rattle.nor_model.specs.Bus.{BusState}
 use Rattle.nor_driver.specs.declared.waits.OperationError.{OperationError}
 use Rattle.nor_driver.specs.Waits.{OperationFails}
 use Rattle.nor_driver.specs.StatusWrites.{is_status_with_code}
-use Rattle.nor_driver.specs.Limits.{Limits, erasing, programming, writing, SendsWithin, SendsExactly}
+use Rattle.nor_driver.specs.Limits.{erasing, programming}
 use Rattle.nor_driver.specs.Operations.{most_operation}
 use Rattle.nor_driver.proofs.Limits.{AreParts, IsSum, sends_more, sends_exactly}
 use Rattle.nor_plan.specs.Content.{once_erased, is_programmed}
@@ -18,160 +18,16 @@ use Rattle.nor_apply.specs.declared.changes.Changes.{Changes}
 use Rattle.nor_apply.specs.declared.changes.Work.{Work}
 use Rattle.nor_apply.specs.declared.tally.Tally.{Tally}
 use Rattle.nor_apply.specs.Within.{is_writable}
-use Rattle.nor_apply.specs.Change.{MayChange}
-use Rattle.nor_apply.specs.Spending.{Spends, Tallies, may_target, NamesTimeoutIn}
+use Rattle.nor_apply.specs.Spending.{may_target, NamesTimeoutIn}
 use Rattle.nor_apply.specs.Protecting.{LeavesCode, DoesCode, FailsWriting}
 use Rattle.nor_apply.specs.Erasing.{LeavesErases, DoesErases}
 use Rattle.nor_apply.specs.Programming.{LeavesPrograms, DoesPrograms, most_sector}
-use Rattle.nor_apply.specs.Applying.{touched_in, raised_in, writes_code, status_writes, is_status_asked, sending, most_sent, most_applied, CanApply, LeavesApply, DoesApply, NamesChange}
-use Rattle.nor_apply.proofs.InTurn.{Ran, ran_none, ran_after, sends_after, spends_ended, spends_after, halts_after}
+use Rattle.nor_apply.specs.Applying.{touched_in, raised_in, writes_code, status_writes, is_status_asked, most_sent, most_applied, CanApply, LeavesApply, DoesApply, NamesChange}
+use Rattle.nor_apply.proofs.InTurn.{ran_none, spends_ended}
 use Rattle.nor_apply.proofs.Targeting.{aim_here, aim_wider}
-use Rattle.nor_apply.proofs.Changing.{change_as, change_then, same_change}
-use Rattle.nor_apply.proofs.ApplyingSteps.{code_read, code_once, Stands, stands_first, stands_changed, code_change, stands_code, can_erase_all, can_program_all, applied}
-
--- ---- counts
-
-one_fewer : (b c : Bool) → (b ≡ true → c ≡ true) → (if b then 1 else 0) ≤ (if c then 1 else 0)
-one_fewer b c wider = grind arith
-
-pub count_below-fewer : (n : ℕ) (p q : ℕ → Bool) → ((k : ℕ) → p k ≡ true → q k ≡ true) → count_below n p ≤ count_below n q
-unfolding count_below
-count_below-fewer zero p q wider = omega arith
-count_below-fewer (suc n) p q wider =
-    omega (arith, count_below-fewer n p q wider, one_fewer (p n) (q n) (wider n))
-
-pub raised_few : (changes : Changes) → ((s : ℕ) → raised_in changes s ≡ true → touched_in changes s ≡ true)
-    → sector_count (raised_in changes) ≤ sector_count (touched_in changes)
-raised_few changes inside = count_below-fewer 4096 (raised_in changes) (touched_in changes) inside
-
-pub write_most : (b : Bool) → (if b then most_operation else 0) ≤ most_operation
-write_most b = grind arith
-
--- ---- limits
-
--- the limits of a status write that is sent only if it is needed
-abbrev pub code_limits : Changes → (needed : Bool) → (code : ℕ) → Limits
-code_limits changes needed code =
-    writing (λ one two. needed && is_status_with_code changes.status code one two) (if needed then 1 else 0)
-
--- ---- some of the changes, after others
-
--- The numbers of erases, page programs and status writes that were sent.
-pub record Numbers : Type 0 where
-  pub erases : ℕ
-  pub programs : ℕ
-  pub status_writes : ℕ
-
-abbrev pub sending_these : Changes → Numbers → Limits
-sending_these changes n = sending changes n.erases n.programs n.status_writes
-
--- Holds if the changes so far led to these bytes, erased sectors and protection bits, with these numbers of operations
--- and reads, and at most `spent` transactions.
-pub record SoFar (changes : Changes) (wanted bytes : ℕ → ℕ) (worn : ℕ → Bool) (code : ℕ) (numbers : Numbers)
-    (readings spent : ℕ) (old now : BusState) (tally : Tally) : Type 0 where
-  pub ran : Ran (sending_these changes numbers) readings old now tally
-  pub few : tally.transactions ≤ spent
-  pub may : old.honest ≡ true → CanApply changes wanted old.chip
-      → MayChange (touched_in changes) (raised_in changes) wanted old now
-  pub stands : old.honest ≡ true → CanApply changes wanted old.chip → Stands bytes worn code old now
-
--- Holds at every exit of one part of the changes, which led from `mid` to `new`. All changes began at `old`.
-pub record Leaves (changes : Changes) (wanted : ℕ → ℕ) (most : ℕ) (limits : Limits) (old mid new : BusState) : Type 0
-  where
-    pub spends : Spends most mid new
-    pub sends : SendsWithin limits mid new
-    pub may : old.honest ≡ true → CanApply changes wanted old.chip
-        → MayChange (touched_in changes) (raised_in changes) wanted mid new
-
--- Holds if all changes end with this error because one part returned it.
-abbrev pub Halted : (changes : Changes) (wanted : ℕ → ℕ) (old new : BusState) → OperationError → Type 0
-Halted changes wanted old new halt =
-    LeavesApply changes wanted old new × OperationFails (most_applied (sector_count (touched_in changes))) old new halt
-    × NamesChange changes halt
-
-module _ {changes : Changes} {wanted bytes : ℕ → ℕ} {worn : ℕ → Bool} {code : ℕ} {numbers : Numbers}
-    {readings spent : ℕ} {old mid : BusState} {done : Tally}
-    (so : SoFar changes wanted bytes worn code numbers readings spent old mid done) where
-  now_honest : old.honest ≡ true → mid.honest ≡ true
-  now_honest honest = so.ran.nature.honest ∙ honest
-
-  module _ {most : ℕ} {limits : Limits} {new : BusState} (leaves : Leaves changes wanted most limits old mid new) where
-    may_on : old.honest ≡ true → CanApply changes wanted old.chip
-        → MayChange (touched_in changes) (raised_in changes) wanted old new
-    may_on honest can = change_then so.ran.nature.steady (so.may honest can) (leaves.may honest can)
-
-    halted : {halt : OperationError} → AreParts (sending_these changes numbers) limits (most_sent changes)
-        → spent + most ≤ most_applied (sector_count (touched_in changes)) → OperationFails most mid new halt
-        → NamesChange changes halt → Halted changes wanted old new halt
-    halted parts fits fails names = (
-      record {
-        spends = spends_after so.ran leaves.spends (omega (arith, so.few));
-        sends = sends_after so.ran parts leaves.sends;
-        reached = may_on;
-      },
-      halts_after so.ran fails (omega (arith, so.few)),
-      names,
-    )
-
-    goes_on : {bytes' : ℕ → ℕ} {worn' : ℕ → Bool} {code' k r most' : ℕ} {numbers' : Numbers} {more all : Tally}
-        → Tallies k mid new more
-        → IsSum (sending_these changes numbers) limits (sending_these changes numbers')
-        → SendsExactly limits.erases limits.programs limits.status_writes mid new → readings + k ≤ r → all.count ≡ done.count + more.count
-        → all.transactions ≡ done.transactions + more.transactions → all.transactions ≤ most'
-        → (old.honest ≡ true → CanApply changes wanted old.chip → Stands bytes' worn' code' old new)
-        → SoFar changes wanted bytes' worn' code' numbers' r most' old new all
-    goes_on {k = k} {more = more} tallies sum exactly reads count transactions few stands =
-        let part : Ran limits k mid new more =
-        record { nature = leaves.spends.nature; sends = leaves.sends; exactly = exactly; tallies = tallies } in
-        record {
-          ran = ran_after so.ran sum part reads count transactions;
-          few = few;
-          may = may_on;
-          stands = stands;
-        }
-
-  -- the part is a status write
-  module _ {needed : Bool} {code' : ℕ} {new : BusState}
-      (writable : needed ≡ true → CanApply changes wanted old.chip → is_writable old.chip ≡ true)
-      (leaves : LeavesCode changes.status code' needed mid new) where
-    code_leaves : Leaves changes wanted most_operation (code_limits changes needed code') old mid new
-    code_leaves = record {
-      spends = record {
-        nature = leaves.spends.nature;
-        falls = λ honest. let falls = leaves.spends.falls honest in omega (arith, write_most needed);
-      };
-      sends = leaves.sends;
-      may = λ honest can.
-          code_change can (λ writes. writable writes can) (so.stands honest can) (now_honest honest) leaves;
-    }
-
-    code_written : {sent most : ℕ} {numbers' : Numbers} {all : Tally}
-        → DoesCode changes.status code' needed mid new sent
-        → IsSum (sending_these changes numbers) (code_limits changes needed code') (sending_these changes numbers')
-        → all.count ≡ done.count + (if needed then 1 else 0)
-        → all.transactions ≡ done.transactions + sent → spent + most_operation ≤ most
-        → SoFar changes wanted bytes worn (if needed then code' else code) numbers' readings most old new all
-    code_written {sent} does sum count transactions fits =
-        let idle : mid.honest ≡ true → mid.chip.busy ≡ 0 → new.chip.busy ≡ 0 = λ honest idle. elim (cases_Bool needed) [
-          | inl writes ↦ does.idle writes honest
-          | inr spared ↦ rw (leaves.unsent spared) idle
-        ] in
-        let tallies : Tallies 0 mid new (record { count = if needed then 1 else 0; transactions = sent }) =
-        grind (arith, does.polled_ready, does.count, idle) in
-        goes_on code_leaves tallies sum does.exactly (omega arith) count transactions
-        (omega (arith, so.few, does.few, write_most needed))
-        (λ honest can.
-        stands_code can (λ writes. writable writes can) (so.stands honest can) (now_honest honest) leaves does)
-
--- a timeout names 0 for a status write, or an address in a touched sector
-names_writing : (changes : Changes) (needed : Bool) (halt : OperationError) → (needed ≡ true → 1 ≤ status_writes changes)
-    → FailsWriting needed halt → NamesChange changes halt
-names_writing changes needed halt counts returned = grind arith
-
-names_sectors : (changes : Changes) (sectors : ℕ → Bool) (halt : OperationError)
-    → ((s : ℕ) → sectors s ≡ true → touched_in changes s ≡ true) → NamesTimeoutIn sectors halt
-    → NamesChange changes halt
-names_sectors changes sectors halt inside returned = grind (arith, inside)
+use Rattle.nor_apply.proofs.Changing.{change_as, same_change}
+use Rattle.nor_apply.proofs.ApplyingSteps.{code_read, code_once, stands_first, stands_changed, can_erase_all, can_program_all, applied}
+use Rattle.nor_apply.proofs.ApplyingInTurn.{raised_few, code_limits, Numbers, sending_these, SoFar, Leaves, Halted, now_honest, halted, goes_on, code_leaves, code_written, names_writing, names_sectors}
 
 -- ---- the four parts
 

@@ -7,4 +7,5 @@ pub mod ErasingExits
 pub mod ProgrammingSpans
 pub mod ProgrammingWhole
 pub mod ApplyingSteps
+pub mod ApplyingInTurn
 pub mod ApplyingExits

@@ -16,7 +16,7 @@ use Rattle.nor_apply.specs.declared.changes.Changes.{Changes}
 use Rattle.nor_apply.specs.declared.changes.Work.{Work}
 use Rattle.nor_session.specs.Checking.{CanCheck}
 use Rattle.nor_apply.specs.Applying.{touched_in, raised_in, status_writes, writes_code, most_applied, HasApplied, LeavesApply, DoesApply}
-use Rattle.nor_apply.proofs.ApplyingExits.{raised_few}
+use Rattle.nor_apply.proofs.ApplyingInTurn.{raised_few}
 use Rattle.nor_session.specs.Changing.{touched_count, HasBytes, DoesCheck, DoesChange}
 
 -- ---- the number of transactions and erases

@@ -18,7 +18,7 @@ use Rattle.nor_journal.specs.Saved.{is_saved}
 use Rattle.nor_apply.specs.declared.changes.Changes.{Changes}
 use Rattle.nor_apply.specs.Applying.{touched_in, raised_in, status_writes, is_status_asked}
 use Rattle.nor_apply.proofs.Targeting.{aim_split}
-use Rattle.nor_apply.proofs.ApplyingExits.{count_below-fewer}
+use Rattle.nor_apply.proofs.ApplyingInTurn.{count_below-fewer}
 use Rattle.nor_session.specs.Changing.{LeavesChange}
 use Rattle.nor_session.specs.Session.{SendsSaved, SendsFew, WritesOnly, WritesStatusAtMost}
 

@@ -1,6 +1,7 @@
 use Rattle.std.proofs.Common.{refl, arith}
 use Rattle.std.proofs.lemmas.Grind.{common_steps}
-use Rattle.nor_apply.proofs.ApplyingExits.{Parts, names_lifting, lifted, erased, erases_halted, programs_halted, last_halted, does_applied, few_sent, write_most}
+use Rattle.nor_apply.proofs.ApplyingExits.{Parts, names_lifting, lifted, erased, erases_halted, programs_halted, last_halted, does_applied, few_sent}
+use Rattle.nor_apply.proofs.ApplyingInTurn.{write_most}
 use Rattle.nor_apply.proofs.changes.apply.Goals.{In_ok-programmed}
 use Rattle.nor_apply.proofs.changes.apply.Goals as goal
 
