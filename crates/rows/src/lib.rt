@@ -3,6 +3,7 @@
 //!
 //! Shared by the tests:
 //!
+//! - `contents.rt`: contents of chips
 //! - `row.rt`: the sessions that are tested (the rows), each with its chip, its image and its request
 //! - `runs.rt`: runs a row's session and its restores, each stopped after a given number of transactions
 //! - `spoilt.rt`: runs a row's session, or a restore, on a faulty bus
@@ -57,6 +58,8 @@
 mod allowances;
 #[cfg(test)]
 mod bounds;
+#[cfg(test)]
+mod contents;
 #[cfg(test)]
 mod cuts;
 #[cfg(test)]

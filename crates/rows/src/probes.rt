@@ -1,7 +1,8 @@
 //! Tests of probes: the meaning of SFDP bytes (JESD216), the chips that are found, the transactions sent, and the
 //! longest wait.
+use crate::contents::put_run;
 use crate::held::assert_held;
-use crate::row::{Start, erased, put_run};
+use crate::row::{Start, erased};
 use nor_chip::{ALL_KINDS, Config, Delays, Meter, SimBus, Spoil, SpoiltBus, TINY64_SFDP, TraceBus};
 use nor_probe::{ChipName, Found, Kinds, ProbeFault, Probed, SfdpFault, probe_counted};
 use std::alloc::Global;

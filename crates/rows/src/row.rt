@@ -1,46 +1,10 @@
 //! The sessions that are tested (the rows), each with its chip, its image and its request.
-use nor_chip::{Config, Delays, SECTOR_LEN, SimBus, TINY64_SFDP};
+use crate::contents::{Bytes, ERASED, first, run};
+use nor_chip::{Config, Delays, SimBus, TINY64_SFDP};
 use nor_layout::{Layout, Ranges};
 use nor_session::{Request, What};
 use std::alloc::Global;
 use std::process::Abort;
-
-// The contents of a whole chip: FFh, except `count` bytes `byte` from address `from` on. The bytes `run` replace both
-// from address `at` on.
-#[derive(Clone, Copy)]
-struct Bytes {
-    from: usize,
-    count: usize,
-    byte: u8,
-    at: usize,
-    run: &'static [u8],
-}
-
-impl Bytes {
-    fn whole(self, rt: &impl Abort, alloc: Global, sectors: u32) -> Vec<u8> {
-        let size = sectors as usize * SECTOR_LEN as usize;
-        let mut whole = vec![in alloc; 0xFF; size].expect(rt, "memory");
-        for place in whole.iter_mut().skip(self.from).take(self.count) {
-            *place = self.byte;
-        }
-        put_run(&mut whole, self.at, self.run);
-        whole
-    }
-}
-
-/// Writes the bytes `run` into `bytes` from position `at` on. Skips positions that `bytes` doesn't have.
-pub fn put_run(bytes: &mut [u8], at: usize, run: &[u8]) {
-    for (n, byte) in run.iter().enumerate() {
-        put(bytes, at.saturating_add(n), *byte);
-    }
-}
-
-/// Sets the byte at position `place`, if there is one.
-pub fn put(bytes: &mut [u8], place: usize, byte: u8) {
-    if let Some(found) = bytes.get_mut(place) {
-        *found = byte;
-    }
-}
 
 /// The state of the chip at the start of a session, and the effects of a stop on the bus and the chip.
 #[derive(Clone, Copy)]
@@ -314,27 +278,6 @@ pub fn erased(
 pub fn included(rt: &impl Abort, alloc: Global, layout: Option<&[u8]>) -> Option<Ranges> {
     let layout = Layout::read(alloc, layout?).expect(rt, "a layout");
     Some(layout.include("part").expect(rt, "a region"))
-}
-
-const ERASED: Bytes = Bytes {
-    from: 0,
-    count: 0,
-    byte: 0xFF,
-    at: 0,
-    run: &[],
-};
-
-// Returns contents that have `count` bytes of one value from address 0 on, and FFh elsewhere.
-const fn first(count: usize, byte: u8) -> Bytes {
-    Bytes {
-        count,
-        byte,
-        ..ERASED
-    }
-}
-
-const fn run(at: usize, run: &'static [u8]) -> Bytes {
-    Bytes { at, run, ..ERASED }
 }
 
 // Returns a write to a TINY64. The identification sends seven transactions, the scan sixteen.

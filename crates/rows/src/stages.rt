@@ -1,9 +1,10 @@
 //! Calls on a bus on which one transaction fails: each transaction of the call in turn.
 ghost use Rattle.nor_journal.specs.Vault.{IsFresh};
 
+use crate::contents::{put, put_run};
 use crate::failing::{Fault, OnceBus};
 use crate::held::assert_held;
-use crate::row::{included, put, put_run};
+use crate::row::included;
 use crate::spoilt::most;
 use nor_chip::{Config, Delays, SECTOR_LEN, SimBus, TINY64_SFDP};
 use nor_journal::{Journal, MemVault, Vault};

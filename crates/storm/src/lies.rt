@@ -4,11 +4,12 @@
 use crate::cases::Case;
 use crate::chips::Chip;
 use crate::dice::Dice;
+use crate::errors::OperationError;
 use crate::fault::{Fault, agree};
 use crate::high::{High, HighBus};
 use crate::model::Stop;
 use crate::readings::{self, Reading};
-use crate::told::{Caller, OperationError, Put};
+use crate::told::{Caller, Put};
 use crate::verdicts::Saved;
 use crate::{journals, lines, traces};
 use nor_chip::{SimBus, Spoil, SpoiltBus, TraceBus};

@@ -29,6 +29,7 @@
 //! - `readings.rt`: compares the calls that only read
 //! - `lies.rt`: compares calls on faulty buses
 //! - `high.rt`: a faulty bus that sets a bit in the replies to one opcode
+//! - `errors.rt`: why a call over a faulty bus does not succeed
 //! - `told.rt`: the reference implementation over a faulty bus, which acts on the replies of that bus
 //! - `tally.rt`: counts the cases of each kind
 //! - `wrongs.rt`: checks that the comparisons detect errors
@@ -41,6 +42,7 @@ mod chips;
 mod contents;
 mod damages;
 mod dice;
+mod errors;
 mod fault;
 mod guards;
 mod high;

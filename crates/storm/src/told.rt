@@ -4,6 +4,7 @@
 use crate::cases::Case;
 use crate::chips::Chip;
 use crate::contents::sector_at;
+use crate::errors::{OperationError, refuse};
 use crate::fault::Fault;
 use crate::guards::Status;
 use crate::high::HighBus;
@@ -16,20 +17,13 @@ use crate::{journals, restores, transactions};
 use nor_chip::{Bus, Config, Delays, SECTOR_LEN, SimBus, SpoiltBus, Stopped, TraceBus};
 use nor_probe::ChipName;
 use nor_session::{Refusal, Request, What};
-use std::alloc::{AllocError, AllocFailed, Global};
+use std::alloc::Global;
 
 /// A faulty bus to a simulated chip, with a trace of its transactions.
 pub type Liar<'a> = TraceBus<HighBus<SpoiltBus<SimBus>>, &'a mut Vec<u8>>;
 
 /// The greatest number of polls in a wait.
 const MOST_POLLS: u32 = 65_536;
-
-/// The reason why a call did not succeed: the error that it must return, or a fault of the test.
-#[derive(Drop)]
-pub enum OperationError {
-    Refused(Refusal),
-    Failed(Fault),
-}
 
 /// The bytes that a session must have put into its vault, without the end mark and the digest, and whether it must have
 /// sealed the vault.
@@ -369,13 +363,6 @@ fn asked_of(alloc: Global, case: &Case, chip: Chip) -> Result<Case, Fault> {
     })
 }
 
-fn refuse(refusal: Option<Refusal>) -> Result<(), OperationError> {
-    match refusal {
-        Some(refusal) => Err(OperationError::Refused(refusal)),
-        None => Ok(()),
-    }
-}
-
 // Returns the bytes sent by a line that has no reply.
 fn bytes_of(alloc: Global, line: &str) -> Result<Vec<u8>, Fault> {
     let mut bytes = Vec::new(alloc);
@@ -395,23 +382,5 @@ fn address_of(command: &[u8]) -> u32 {
             u32::from_be_bytes([0, *high, *middle, *low])
         }
         _ => 0,
-    }
-}
-
-impl From<Fault> for OperationError {
-    fn from(fault: Fault) -> OperationError {
-        OperationError::Failed(fault)
-    }
-}
-
-impl From<AllocError> for OperationError {
-    fn from(_: AllocError) -> OperationError {
-        OperationError::Failed(Fault::Memory)
-    }
-}
-
-impl<T: Drop> From<AllocFailed<T>> for OperationError {
-    fn from(_: AllocFailed<T>) -> OperationError {
-        OperationError::Failed(Fault::Memory)
     }
 }
