@@ -89,20 +89,14 @@ fn most_needed() -> u64
 fn first_allowed(stops: &[u64]) -> u64
     ensures { result ≡ first_allowance stops.now }
 {
-    match stops {
-        [] => most_needed(),
-        [first, ..] => *first,
-    }
+    stops.first().copied().unwrap_or_else(most_needed)
 }
 
 // Returns the stops after the first.
 fn later(stops: &[u64]) -> &[u64]
     ensures { result.now ≡ drop 1 stops.now }
 {
-    match stops {
-        [] => &[],
-        [_, later @ ..] => later,
-    }
+    stops.get(1..).unwrap_or(&[])
 }
 
 // Runs the session with the first stop, if there is one. Returns whether it ended.
