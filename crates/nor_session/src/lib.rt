@@ -37,8 +37,9 @@ mod sessions;
 mod sources;
 
 pub use laws::{
-    power_lost_restores_original, read_restores_original, restore_written_over, restored_stays,
-    same_written_over, session_written_over, undone_in_turn, undone_is_restorable,
+    begun_restores_original, power_lost_restores_original, read_restores_original,
+    restore_written_over, restored_stays, same_written_over, session_written_over, undone_in_turn,
+    undone_is_restorable,
 };
 pub use nor_request::{Refusal, Report, Request, What};
 pub use rehearsals::{Rehearsal, rehearse};
