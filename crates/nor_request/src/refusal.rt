@@ -150,10 +150,10 @@ impl From<ProbeFault> for Refusal {
 }
 
 impl From<OperationError> for Refusal {
-    ghost from_gives = { λ halt refusal. refusal ≡ of_operation halt };
+    ghost from_gives = { λ error refusal. refusal ≡ of_operation error };
 
-    fn from(halt: OperationError) -> Refusal {
-        match halt {
+    fn from(error: OperationError) -> Refusal {
+        match error {
             OperationError::Stopped => Refusal::Stopped,
             OperationError::Timeout { address } => Refusal::Timeout { address },
         }

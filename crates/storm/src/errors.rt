@@ -6,33 +6,33 @@ use std::alloc::{AllocError, AllocFailed};
 
 /// The reason why a call did not succeed: the error that it must return, or a fault of the test.
 #[derive(Drop)]
-pub enum OperationError {
+pub enum CallError {
     Refused(Refusal),
     Failed(Fault),
 }
 
-impl From<Fault> for OperationError {
-    fn from(fault: Fault) -> OperationError {
-        OperationError::Failed(fault)
+impl From<Fault> for CallError {
+    fn from(fault: Fault) -> CallError {
+        CallError::Failed(fault)
     }
 }
 
-impl From<AllocError> for OperationError {
-    fn from(_: AllocError) -> OperationError {
-        OperationError::Failed(Fault::Memory)
+impl From<AllocError> for CallError {
+    fn from(_: AllocError) -> CallError {
+        CallError::Failed(Fault::Memory)
     }
 }
 
-impl<T: Drop> From<AllocFailed<T>> for OperationError {
-    fn from(_: AllocFailed<T>) -> OperationError {
-        OperationError::Failed(Fault::Memory)
+impl<T: Drop> From<AllocFailed<T>> for CallError {
+    fn from(_: AllocFailed<T>) -> CallError {
+        CallError::Failed(Fault::Memory)
     }
 }
 
 /// Returns the error, if there is one.
-pub fn refuse(refusal: Option<Refusal>) -> Result<(), OperationError> {
+pub fn refuse(refusal: Option<Refusal>) -> Result<(), CallError> {
     match refusal {
-        Some(refusal) => Err(OperationError::Refused(refusal)),
+        Some(refusal) => Err(CallError::Refused(refusal)),
         None => Ok(()),
     }
 }

@@ -4,7 +4,7 @@
 use crate::cases::Case;
 use crate::chips::Chip;
 use crate::dice::Dice;
-use crate::errors::OperationError;
+use crate::errors::CallError;
 use crate::fault::{Fault, agree};
 use crate::high::{High, HighBus};
 use crate::model::Stop;
@@ -27,7 +27,7 @@ struct Ran {
 // The result of the reference implementation, and its trace.
 #[derive(Drop)]
 struct Told {
-    answer: Result<(), OperationError>,
+    answer: Result<(), CallError>,
     sent: Vec<u8>,
 }
 
@@ -132,12 +132,12 @@ fn check_sent(sent: &[u8], told: &[u8], call: &'static str) -> Result<u64, Fault
 
 fn check_answer(
     answer: Result<Report, Refusal>,
-    told: Result<(), OperationError>,
+    told: Result<(), CallError>,
     count: u64,
 ) -> Result<(), Fault> {
     match (answer, told) {
-        (_, Err(OperationError::Failed(fault))) => Err(fault),
-        (Err(refusal), Err(OperationError::Refused(wanted))) => {
+        (_, Err(CallError::Failed(fault))) => Err(fault),
+        (Err(refusal), Err(CallError::Refused(wanted))) => {
             agree(refusal == wanted, "the refusal on a bus that lies")
         }
         (Ok(report), Ok(())) => agree(
@@ -159,7 +159,7 @@ struct Read {
 // case with the chip that the replies describe.
 #[derive(Drop)]
 struct Known {
-    answer: Result<Case, OperationError>,
+    answer: Result<Case, CallError>,
     sent: Vec<u8>,
 }
 
@@ -215,11 +215,11 @@ fn check_read(alloc: Global, read: &Read, known: Known) -> Result<(), Fault> {
 fn check_known(
     alloc: Global,
     read: &Result<readings::Told, Refusal>,
-    known: Result<Case, OperationError>,
+    known: Result<Case, CallError>,
 ) -> Result<(), Fault> {
     match (read, known) {
-        (_, Err(OperationError::Failed(fault))) => Err(fault),
-        (Err(refusal), Err(OperationError::Refused(wanted))) => agree(
+        (_, Err(CallError::Failed(fault))) => Err(fault),
+        (Err(refusal), Err(CallError::Refused(wanted))) => agree(
             *refusal == wanted,
             "the refusal of a reading on a bus that lies",
         ),

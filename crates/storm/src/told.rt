@@ -4,7 +4,7 @@
 use crate::cases::Case;
 use crate::chips::Chip;
 use crate::contents::sector_at;
-use crate::errors::{OperationError, refuse};
+use crate::errors::{CallError, refuse};
 use crate::fault::Fault;
 use crate::guards::Status;
 use crate::high::HighBus;
@@ -55,7 +55,7 @@ impl<'a> Caller<'a> {
 impl Caller<'_> {
     /// Runs the session of a case. It takes the chip's configuration and status from the replies. Bytes that it doesn't
     /// read count as FFh.
-    pub fn session(&mut self, case: &Case) -> Result<(), OperationError> {
+    pub fn session(&mut self, case: &Case) -> Result<(), CallError> {
         let (config, status1) = self.find(case.request.named)?;
         let chip = self.identify(config, status1)?;
         let mut told = asked_of(self.alloc, case, chip)?;
@@ -63,7 +63,7 @@ impl Caller<'_> {
     }
 
     // Checks the request for errors 1 to 8, scans, checks for errors 9 and 10, and makes the changes.
-    fn judge(&mut self, case: &Case, told: &mut Case) -> Result<(), OperationError> {
+    fn judge(&mut self, case: &Case, told: &mut Case) -> Result<(), CallError> {
         refuse(verdicts::of_opening(told))?;
         if !matches!(told.request.what, What::WpRange { .. }) {
             self.scan(case, &mut told.chip)?;
@@ -76,7 +76,7 @@ impl Caller<'_> {
     }
 
     // Makes the changes, and then verifies them if the request asks for it.
-    fn make(&mut self, told: &mut Case, wanted: &Wanted) -> Result<(), OperationError> {
+    fn make(&mut self, told: &mut Case, wanted: &Wanted) -> Result<(), CallError> {
         self.change(&mut told.chip, wanted)?;
         if told.request.verify {
             self.compare(wanted)?;
@@ -85,7 +85,7 @@ impl Caller<'_> {
     }
 
     /// Runs a reading call. Returns the case with the chip that the replies describe.
-    pub fn reading(&mut self, reading: Reading, case: &Case) -> Result<Case, OperationError> {
+    pub fn reading(&mut self, reading: Reading, case: &Case) -> Result<Case, CallError> {
         let (config, status1) = self.find(case.request.named)?;
         let chip = unread(self.alloc, config, [status1, 0])?;
         let mut told = asked_of(self.alloc, case, chip)?;
@@ -93,12 +93,7 @@ impl Caller<'_> {
         Ok(told)
     }
 
-    fn read(
-        &mut self,
-        reading: Reading,
-        case: &Case,
-        told: &mut Case,
-    ) -> Result<(), OperationError> {
+    fn read(&mut self, reading: Reading, case: &Case, told: &mut Case) -> Result<(), CallError> {
         refuse(reading.early_refusal(told))?;
         match reading {
             Reading::Probe => {}
@@ -109,7 +104,7 @@ impl Caller<'_> {
     }
 
     /// Runs a restore from a journal with the contents `saved`.
-    pub fn restore(&mut self, saved: Saved<'_>) -> Result<(), OperationError> {
+    pub fn restore(&mut self, saved: Saved<'_>) -> Result<(), CallError> {
         let (config, status1) = self.find(None)?;
         refuse(verdicts::of_journal(&config, saved))?;
         let mut chip = self.identify(config, status1)?;
@@ -118,7 +113,7 @@ impl Caller<'_> {
     }
 
     // Checks that the journal is for this device and status, and reads the saved sectors in ascending order.
-    fn take_saved(&mut self, saved: Saved<'_>, chip: &mut Chip) -> Result<(), OperationError> {
+    fn take_saved(&mut self, saved: Saved<'_>, chip: &mut Chip) -> Result<(), CallError> {
         refuse(verdicts::of_unit(chip, saved))?;
         for number in 0..chip.sectors() {
             if touches(saved.sectors, number) {
@@ -129,7 +124,7 @@ impl Caller<'_> {
     }
 
     // Makes the changes that restore the chip, and verifies them.
-    fn give_back(&mut self, saved: Saved<'_>, chip: &mut Chip) -> Result<(), OperationError> {
+    fn give_back(&mut self, saved: Saved<'_>, chip: &mut Chip) -> Result<(), CallError> {
         let wanted = restores::restored_of(self.alloc, chip, saved)?;
         refuse(verdicts::of_lock(chip, saved, &wanted))?;
         self.change(chip, &wanted)?;
@@ -137,16 +132,16 @@ impl Caller<'_> {
     }
 
     // Sends one transaction.
-    fn send(&mut self, out: &[u8], reply: &mut [u8]) -> Result<(), OperationError> {
+    fn send(&mut self, out: &[u8], reply: &mut [u8]) -> Result<(), CallError> {
         match self.bus.transfer(out, reply) {
             Ok(()) => Ok(()),
-            Err(Stopped) => Err(OperationError::Refused(Refusal::Stopped)),
+            Err(Stopped) => Err(CallError::Refused(Refusal::Stopped)),
         }
     }
 
     // Polls until a reply shows BUSY clear, and returns this reply, status 1. After `MOST_POLLS` polls returns
     // `Timeout` with `address`.
-    fn wait(&mut self, address: u32) -> Result<u8, OperationError> {
+    fn wait(&mut self, address: u32) -> Result<u8, CallError> {
         for _ in 0..MOST_POLLS {
             let mut status1 = [0];
             self.send(&[0x05], &mut status1)?;
@@ -154,18 +149,18 @@ impl Caller<'_> {
                 return Ok(status1[0]);
             }
         }
-        Err(OperationError::Refused(Refusal::Timeout { address }))
+        Err(CallError::Refused(Refusal::Timeout { address }))
     }
 
     // Finds the chip: waits, reads the ID, and reads SFDP if the ID isn't in the table. Returns the chip's
     // configuration and its status 1, or the error of the probe.
-    fn find(&mut self, named: Option<ChipName>) -> Result<(Config, u8), OperationError> {
+    fn find(&mut self, named: Option<ChipName>) -> Result<(Config, u8), CallError> {
         let status1 = self.wait(0)?;
         let mut id = [0; 3];
         self.send(&[0x9F], &mut id)?;
         let config = match id {
             [0x00, 0x00, 0x00] | [0xFF, 0xFF, 0xFF] => {
-                return Err(OperationError::Refused(Refusal::NoChip));
+                return Err(CallError::Refused(Refusal::NoChip));
             }
             [0xEF, 0x40, 0x17] => Config::w25q64fv(),
             [0xEF, 0x40, 0x18] => Config::w25q128fv(),
@@ -177,7 +172,7 @@ impl Caller<'_> {
 
     // Reads the SFDP bytes, and returns the configuration that they describe. In this configuration the table follows
     // the headers, wherever the chip has it.
-    fn find_parameters(&mut self, id: [u8; 3]) -> Result<Config, OperationError> {
+    fn find_parameters(&mut self, id: [u8; 3]) -> Result<Config, CallError> {
         let mut signature = [0; 8];
         self.send(&[0x5A, 0x00, 0x00, 0x00, 0x00], &mut signature)?;
         let mut first = [0; 8];
@@ -193,14 +188,14 @@ impl Caller<'_> {
         match parameters::read(&shown, 65_536) {
             Ok(told) => match Config::new(id, told.size, told.k32, told.k64, false, &shown) {
                 Some(config) => Ok(config),
-                None => Err(OperationError::Failed(Fault::Case)),
+                None => Err(CallError::Failed(Fault::Case)),
             },
-            Err(fault) => Err(OperationError::Refused(Refusal::UnknownChip(fault))),
+            Err(fault) => Err(CallError::Refused(Refusal::UnknownChip(fault))),
         }
     }
 
     // Reads status 2 and the unique ID.
-    fn identify(&mut self, config: Config, status1: u8) -> Result<Chip, OperationError> {
+    fn identify(&mut self, config: Config, status1: u8) -> Result<Chip, CallError> {
         let status2 = self.read_status2()?;
         let mut unique = [0; 8];
         self.send(&[0x4B, 0x00, 0x00, 0x00, 0x00], &mut unique)?;
@@ -208,14 +203,14 @@ impl Caller<'_> {
         Ok(unread(self.alloc, config, [status1, status2])?)
     }
 
-    fn read_status2(&mut self) -> Result<u8, OperationError> {
+    fn read_status2(&mut self) -> Result<u8, CallError> {
         let mut status2 = [0];
         self.send(&[0x35], &mut status2)?;
         Ok(status2[0])
     }
 
     // Reads each sector that contains an included address, in ascending order.
-    fn scan(&mut self, case: &Case, chip: &mut Chip) -> Result<(), OperationError> {
+    fn scan(&mut self, case: &Case, chip: &mut Chip) -> Result<(), CallError> {
         for number in 0..chip.sectors() {
             if case.includes_in(number) {
                 self.take_sector(number, chip)?;
@@ -225,7 +220,7 @@ impl Caller<'_> {
     }
 
     // Reads a sector into the known bytes of `chip`.
-    fn take_sector(&mut self, number: u32, chip: &mut Chip) -> Result<(), OperationError> {
+    fn take_sector(&mut self, number: u32, chip: &mut Chip) -> Result<(), CallError> {
         let sector = chip
             .bytes
             .chunks_mut(SECTOR_LEN as usize)
@@ -233,14 +228,14 @@ impl Caller<'_> {
         self.read_sector(number, sector.unwrap_or(&mut []))
     }
 
-    fn read_sector(&mut self, number: u32, sector: &mut [u8]) -> Result<(), OperationError> {
+    fn read_sector(&mut self, number: u32, sector: &mut [u8]) -> Result<(), CallError> {
         let [_, high, middle, low] = number.saturating_mul(SECTOR_LEN).to_be_bytes();
         self.send(&[0x03, high, middle, low], sector)
     }
 
     // Makes the changes in the order of `transactions.rt`: clears the protection bits, erases, programs sectors, and
     // sets the protection bits.
-    fn change(&mut self, chip: &mut Chip, wanted: &Wanted) -> Result<(), OperationError> {
+    fn change(&mut self, chip: &mut Chip, wanted: &Wanted) -> Result<(), CallError> {
         self.prepare(chip, wanted)?;
         for number in 0..chip.sectors() {
             if wanted.touches(number) {
@@ -250,13 +245,13 @@ impl Caller<'_> {
         self.protect(chip, wanted)
     }
 
-    fn prepare(&mut self, chip: &Chip, wanted: &Wanted) -> Result<(), OperationError> {
+    fn prepare(&mut self, chip: &Chip, wanted: &Wanted) -> Result<(), CallError> {
         let mut lines = Lines::new(self.alloc, chip);
         transactions::prepare(&mut lines, chip, wanted);
         self.play(lines)
     }
 
-    fn protect(&mut self, chip: &Chip, wanted: &Wanted) -> Result<(), OperationError> {
+    fn protect(&mut self, chip: &Chip, wanted: &Wanted) -> Result<(), CallError> {
         let mut lines = Lines::new(self.alloc, chip);
         transactions::protect(&mut lines, chip, wanted);
         self.play(lines)
@@ -264,12 +259,7 @@ impl Caller<'_> {
 
     // Programs a sector. If it wasn't erased, it is read again first, and its pages are compared with what that read
     // returns.
-    fn program(
-        &mut self,
-        chip: &mut Chip,
-        wanted: &Wanted,
-        number: u32,
-    ) -> Result<(), OperationError> {
+    fn program(&mut self, chip: &mut Chip, wanted: &Wanted, number: u32) -> Result<(), CallError> {
         if !wanted.raises_all(number, 1) {
             self.take_sector(number, chip)?;
         }
@@ -280,12 +270,12 @@ impl Caller<'_> {
 
     // Sends the write enables and commands of the lines, and waits after each command except a write enable. Skips
     // lines with a reply: this function makes the waits itself, and its caller has made the reads.
-    fn play(&mut self, lines: Lines) -> Result<(), OperationError> {
+    fn play(&mut self, lines: Lines) -> Result<(), CallError> {
         let lines = lines.whole()?;
         self.play_lines(lines.text())
     }
 
-    fn play_lines(&mut self, lines: &str) -> Result<(), OperationError> {
+    fn play_lines(&mut self, lines: &str) -> Result<(), CallError> {
         for line in lines.lines() {
             if !line.contains(" > ") {
                 self.play_line(line)?;
@@ -294,12 +284,12 @@ impl Caller<'_> {
         Ok(())
     }
 
-    fn play_line(&mut self, line: &str) -> Result<(), OperationError> {
+    fn play_line(&mut self, line: &str) -> Result<(), CallError> {
         let command = bytes_of(self.alloc, line)?;
         self.play_command(command.as_slice())
     }
 
-    fn play_command(&mut self, command: &[u8]) -> Result<(), OperationError> {
+    fn play_command(&mut self, command: &[u8]) -> Result<(), CallError> {
         self.send(command, &mut [])?;
         if command != [0x06].as_slice() {
             self.wait(address_of(command))?;
@@ -308,7 +298,7 @@ impl Caller<'_> {
     }
 
     // Compares each touched sector with the target, in ascending order.
-    fn compare(&mut self, wanted: &Wanted) -> Result<(), OperationError> {
+    fn compare(&mut self, wanted: &Wanted) -> Result<(), CallError> {
         for number in 0..wanted.count() {
             if wanted.touches(number) {
                 self.compare_sector(number, sector_at(wanted.bytes.as_slice(), number))?;
@@ -317,7 +307,7 @@ impl Caller<'_> {
         Ok(())
     }
 
-    fn compare_sector(&mut self, number: u32, wanted: &[u8]) -> Result<(), OperationError> {
+    fn compare_sector(&mut self, number: u32, wanted: &[u8]) -> Result<(), CallError> {
         let mut shown = [0; SECTOR_LEN as usize];
         self.read_sector(number, &mut shown)?;
         refuse(difference(number.saturating_mul(SECTOR_LEN), &shown, wanted))
