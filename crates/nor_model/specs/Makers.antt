@@ -1,8 +1,8 @@
 -- The configurations that the functions of `Config` return.
-use Rattle.std.specs.Prelude.{◌≡◌, ◌-◌, ◌++◌, ℕ, Bool, true, false, List, [], ◌∷◌, length, replicate}
+use Rattle.std.specs.Prelude.{◌≡◌, ◌-◌, ◌*◌, ◌++◌, ℕ, Bool, true, false, List, [], ◌∷◌, length, replicate}
 use Rattle.nor_model.specs.declared.config.Config.{Config}
 use Rattle.nor_model.specs.declared.config.Kinds.{Kinds}
-use Rattle.nor_model.specs.Sfdp.{sfdp_of}
+use Rattle.nor_model.specs.Sfdp.{sfdp_of, sfdp_with}
 
 -- every erase type
 abbrev pub all_kinds : Kinds
@@ -17,6 +17,11 @@ pub record HasParts (with_id : List ℕ) (with_size : ℕ) (with_kinds : Kinds) 
   pub scheme : config.scheme ≡ with_scheme
   pub unique : config.unique ≡ replicate 8 0
   pub sfdp : config.sfdp ≡ with_sfdp ++ replicate (256 - length with_sfdp) 255
+
+-- An emulated chip with these properties. Its SFDP bytes describe this size and all erase types.
+abbrev pub IsEmulatedWith : (with_id : List ℕ) → (with_size : ℕ) → Kinds → (with_scheme : Bool) → Config → Type 0
+IsEmulatedWith with_id with_size with_kinds with_scheme =
+    HasParts with_id with_size with_kinds with_scheme (sfdp_with (8 * with_size - 1))
 
 -- the configuration of the emulated chip TINY64
 abbrev pub IsTiny64 : Config → Type 0

@@ -49,7 +49,7 @@ pub struct Config {
 }
 
 impl Config {
-    ghost use Rattle.nor_model.specs.Makers.{HasParts, all_kinds, IsTiny64, IsW25q64fv, IsW25q128fv};
+    ghost use Rattle.nor_model.specs.Makers.{HasParts, IsEmulatedWith, IsTiny64, IsW25q64fv, IsW25q128fv};
 
     /// Returns a configuration with these properties and a unique ID of zeros; `sfdp` has the SFDP bytes from address
     /// 0. It allocates no memory.
@@ -85,7 +85,7 @@ impl Config {
     pub fn tiny64() -> Config
         ensures { IsTiny64 result }
     {
-        Self::emulated([0xFE, 0x10, 0x10], 65_536, false)
+        Self::emulated([0xFE, 0x10, 0x10], 65_536, ALL_KINDS, false)
     }
 
     /// Returns the emulated chip `W25Q64FV`: 8 MiB, ID `EF 40 17`, all erase types, with block protection. (Winbond
@@ -93,7 +93,7 @@ impl Config {
     pub fn w25q64fv() -> Config
         ensures { IsW25q64fv result }
     {
-        Self::emulated([0xEF, 0x40, 0x17], 8_388_608, true)
+        Self::emulated([0xEF, 0x40, 0x17], 8_388_608, ALL_KINDS, true)
     }
 
     /// Returns the emulated chip `W25Q128FV`: 16 MiB, ID `EF 40 18`, all erase types, with block protection. (Winbond
@@ -101,18 +101,19 @@ impl Config {
     pub fn w25q128fv() -> Config
         ensures { IsW25q128fv result }
     {
-        Self::emulated([0xEF, 0x40, 0x18], 16_777_216, true)
+        Self::emulated([0xEF, 0x40, 0x18], 16_777_216, ALL_KINDS, true)
     }
 
-    // Returns an emulated chip with this size, all erase types, and a unique ID of zeros.
-    fn emulated(id: [u8; 3], size: u32, scheme: bool) -> Config
+    /// Returns the emulated chip with these properties. Its unique ID is zero, and its SFDP bytes describe this size and
+    /// all erase types. The size must be a power of two from 65,536 to 16,777,216.
+    pub fn emulated(id: [u8; 3], size: u32, kinds: Kinds, scheme: bool) -> Config
         requires { IsTrue (is_chip_size size) }
-        ensures { HasParts id size all_kinds scheme (sfdp_with (8 * size - 1)) result }
+        ensures { IsEmulatedWith id size kinds scheme result }
     {
         Config {
             id,
             size,
-            kinds: ALL_KINDS,
+            kinds,
             scheme,
             unique: [0; 8],
             sfdp: padded(&sfdp_of(size)),
