@@ -18,7 +18,7 @@ use Rattle.nor_probe.specs.Known.{IsGenuine, IsKnown}
 use Rattle.nor_probe.specs.Found.{part_in, IsConfigOf}
 
 -- if all rows have the property `holds`, the row that `find` returns passes the test and has that property
-found_has : (test holds : Part → Bool) (parts : List Part) (part : Part) → list_all holds parts ≡ true
+pub found_has : (test holds : Part → Bool) (parts : List Part) (part : Part) → list_all holds parts ≡ true
     → find test parts ≡ Some part → (test part ≡ true) × (holds part ≡ true)
 found_has test holds [] part all is = absurd (cc)
 found_has test holds (first ∷ parts) part all is =

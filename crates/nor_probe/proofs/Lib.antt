@@ -1,5 +1,6 @@
 pub mod SfdpLemmas
 pub mod Shown
+pub mod Rows
 pub mod Emulated
 pub mod Sizes
 pub mod Configs

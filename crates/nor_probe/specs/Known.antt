@@ -1,7 +1,6 @@
 -- The properties that a chip shows (ID, SFDP), and the definitions of genuine and known chips.
-use Rattle.std.specs.Prelude.{◌≡◌, ◌+◌, ◌*◌, ◌||◌, ◌⊎◌, ℕ, Bool, true, false, Option, None, Some, Result, Ok, Err, List, [], ◌∷◌, bytes_eq, slice_index, IsOk, if◌then◌else◌}
+use Rattle.std.specs.Prelude.{◌≡◌, ◌+◌, ◌*◌, ◌||◌, ℕ, Bool, true, false, Option, None, Some, Result, Ok, Err, List, [], ◌∷◌, bytes_eq, slice_index, IsOk, if◌then◌else◌}
 use Rattle.nor_model.specs.declared.config.Config.{Config}
-use Rattle.nor_model.specs.Makers.{IsTiny64, IsW25q64fv, IsW25q128fv}
 use Rattle.nor_model.specs.Bus.{BusState}
 pub use Rattle.nor_driver.specs.Reads.{id_of, shown}
 use Rattle.nor_probe.specs.declared.sfdp.Geometry.{Geometry}
@@ -11,7 +10,7 @@ use Rattle.nor_probe.specs.declared.table.Part.{Part}
 use Rattle.nor_probe.specs.declared.probes.ProbeFault.{ProbeFault}
 use Rattle.nor_probe.specs.declared.probes.ProbeFault.TheVariants.{NoChip, UnknownChip}
 use Rattle.nor_probe.specs.Sfdp.{sfdp_says}
-use Rattle.nor_probe.specs.Table.{part_with_id}
+use Rattle.nor_probe.specs.Table.{part_with_id, IsEmulatedPart, IsMadeOf}
 
 -- the ID is `FF FF FF` or `00 00 00`, as it reads if nothing drives the bus: the lines then rest high, or low
 abbrev pub is_no_chip : (of_id : List ℕ) → Bool
@@ -68,9 +67,9 @@ pub record IsKnown (config : Config) : Type 0 where
   pub genuine : IsGenuine config
   pub shown : IsOk (shown_as config)
 
--- the configuration is that of one of the three emulated chips, whose unique ID is zero
+-- the configuration is that of an emulated chip, whose unique ID is zero
 abbrev pub IsEmulated : Config → Type 0
-IsEmulated config = IsTiny64 config ⊎ IsW25q64fv config ⊎ IsW25q128fv config
+IsEmulated config = (part : Part) × IsEmulatedPart part × IsMadeOf part config
 
 -- A modelled bus: it is well-behaved (`honest`), and its chip is genuine. Promises about the chip's bytes are made for
 -- these buses.

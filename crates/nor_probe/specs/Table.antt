@@ -1,17 +1,10 @@
--- The table of the chips that are known by their ID, and the names of chips.
-use Rattle.std.specs.Prelude.{ℕ, true, Option, List, [], ◌∷◌, find, bytes_eq, codes, if◌then◌else◌}
-use Rattle.nor_model.specs.Makers.{all_kinds}
+-- The table of the chips that are known by their ID, the emulated chips, and the names of chips.
+use Rattle.std.specs.Prelude.{◌≡◌, ℕ, true, false, Option, None, Some, List, [], ◌∷◌, find, bytes_eq, codes, if◌then◌else◌}
+use Rattle.nor_model.specs.Makers.{all_kinds, IsEmulatedWith}
+use Rattle.nor_model.specs.declared.config.Config.{Config}
 use Rattle.nor_probe.specs.declared.table.ChipName.{ChipName}
 use Rattle.nor_probe.specs.declared.table.ChipName.TheVariants.{W25Q64FV, W25Q128FV, Sfdp, Other}
 use Rattle.nor_probe.specs.declared.table.Part.{Part}
-
--- the name that a text spells
-abbrev pub name_of : List ℕ → ChipName
-name_of text =
-    if bytes_eq text (codes "W25Q64FV") then W25Q64FV
-    else if bytes_eq text (codes "W25Q128FV") then W25Q128FV
-    else if bytes_eq text (codes "SFDP") then Sfdp
-    else Other
 
 -- the text of a name; the text for `Other` isn't the name of a chip
 abbrev pub name_text : ChipName → List ℕ
@@ -26,18 +19,46 @@ abbrev pub winbond : ChipName → (with_id : List ℕ) → (with_size : ℕ) →
 winbond called with_id with_size =
     record { name = called; id = with_id; size = with_size; kinds = all_kinds; scheme = true }
 
--- the row of W25Q64FV, 64 Mbit
-abbrev pub w25q64fv : Part
-w25q64fv = winbond W25Q64FV (0xEF ∷ 0x40 ∷ 0x17 ∷ []) 8388608
-
--- the row of W25Q128FV, 128 Mbit
-abbrev pub w25q128fv : Part
-w25q128fv = winbond W25Q128FV (0xEF ∷ 0x40 ∷ 0x18 ∷ []) 16777216
-
 -- the table of the chips that are known by their ID
 abbrev pub chips : List Part
-chips = w25q64fv ∷ w25q128fv ∷ []
+chips =
+    winbond W25Q64FV (0xEF ∷ 0x40 ∷ 0x17 ∷ []) 8388608
+    ∷ winbond W25Q128FV (0xEF ∷ 0x40 ∷ 0x18 ∷ []) 16777216
+    ∷ []
 
 -- the row of the table with this ID
 abbrev pub part_with_id : (of_id : List ℕ) → Option Part
 part_with_id of_id = find (λ part. bytes_eq part.id of_id) chips
+
+-- the row of the table with this name
+abbrev pub part_with_name : (text : List ℕ) → Option Part
+part_with_name text = find (λ part. bytes_eq (name_text part.name) text) chips
+
+-- the name of a row or, without a row, the name of a chip that isn't in the table
+abbrev pub name_or : (unlisted : ChipName) → Option Part → ChipName
+name_or unlisted (Some part) = part.name
+name_or unlisted None = unlisted
+
+-- the name that a text spells
+abbrev pub name_of : List ℕ → ChipName
+name_of text = name_or (if bytes_eq text (codes "SFDP") then Sfdp else Other) (part_with_name text)
+
+-- the emulated chip TINY64, as its SFDP describes it: its ID isn't in the table
+abbrev pub tiny64 : Part
+tiny64 = record { name = Sfdp; id = 0xFE ∷ 0x10 ∷ 0x10 ∷ []; size = 65536; kinds = all_kinds; scheme = false }
+
+-- the emulated chip with this value of `emulate=`: TINY64, or a chip of the table
+abbrev pub emulated_named : (text : List ℕ) → Option Part
+emulated_named text = if bytes_eq text (codes "TINY64") then Some tiny64 else part_with_name text
+
+-- the emulated chip with this ID
+abbrev pub emulated_with_id : (of_id : List ℕ) → Option Part
+emulated_with_id of_id = if bytes_eq of_id tiny64.id then Some tiny64 else part_with_id of_id
+
+-- Holds for the type of an emulated chip.
+abbrev pub IsEmulatedPart : Part → Type 0
+IsEmulatedPart part = emulated_with_id part.id ≡ Some part
+
+-- Holds for the configuration of an emulated chip of this type, whose unique ID is zero.
+abbrev pub IsMadeOf : Part → Config → Type 0
+IsMadeOf part config = IsEmulatedWith part.id part.size part.kinds part.scheme config

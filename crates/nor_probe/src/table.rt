@@ -1,7 +1,8 @@
-//! The table of the chips that are known by their ID, and the names of chips.
+//! The table of the chips that are known by their ID, the emulated chips, and the names of chips.
 
-ghost use Rattle.std.specs.Prelude.{◌≡◌};
-ghost use Rattle.nor_probe.specs.Table.{name_of, name_text, chips, part_with_id};
+ghost use Rattle.std.specs.Prelude.{◌≡◌, IfSome};
+ghost use Rattle.nor_probe.specs.Table.{name_of, name_text, chips, part_with_id, part_with_name};
+ghost use Rattle.nor_probe.specs.Table.{emulated_named, IsEmulatedPart};
 
 use nor_model::{ALL_KINDS, Kinds};
 
@@ -19,16 +20,15 @@ pub enum ChipName {
 }
 
 impl ChipName {
-    /// Returns the name that `text` spells: `W25Q64FV`, `W25Q128FV` or `SFDP`, in upper case. Returns `Other` for any
-    /// other text.
+    /// Returns the name that `text` spells: that of a chip of the table, or `SFDP`, in upper case. Returns `Other` for
+    /// any other text.
     pub fn of(text: &str) -> ChipName
         ensures { result ≡ name_of text.now }
     {
-        match text {
-            "W25Q64FV" => ChipName::W25Q64FV,
-            "W25Q128FV" => ChipName::W25Q128FV,
-            "SFDP" => ChipName::Sfdp,
-            _ => ChipName::Other,
+        match part_named(text) {
+            Some(part) => part.name,
+            None if text == "SFDP" => ChipName::Sfdp,
+            None => ChipName::Other,
         }
     }
 
@@ -78,6 +78,15 @@ const CHIPS: [Part; 2] = [
     },
 ];
 
+// The emulated chip TINY64, as its SFDP describes it. Its ID isn't in the table.
+const TINY64: Part = Part {
+    name: ChipName::Sfdp,
+    id: [0xFE, 0x10, 0x10],
+    size: 65_536,
+    kinds: ALL_KINDS,
+    scheme: false,
+};
+
 /// Returns the table of the chips that are known by their ID.
 pub fn chips() -> &'static [Part]
     ensures { result.now ≡ chips }
@@ -90,4 +99,27 @@ pub fn part_of(id: [u8; 3]) -> Option<Part>
     ensures { result ≡ part_with_id id }
 {
     CHIPS.iter().find(|part| part.id == id).copied()
+}
+
+// Returns the row of the table with this name, or `None` if no row has it.
+fn part_named(name: &str) -> Option<Part>
+    ensures { result ≡ part_with_name name.now }
+{
+    CHIPS
+        .iter()
+        .find(|part| part.name.as_str() == name)
+        .copied()
+}
+
+/// Returns the type of the emulated chip with this name: `TINY64`, which only its SFDP describes, or the name of a chip
+/// of the table. Returns `None` for any other name.
+pub fn emulated_part(name: &str) -> Option<Part>
+    ensures named { result ≡ emulated_named name.now }
+    ensures emulated { IfSome result IsEmulatedPart }
+{
+    if name == "TINY64" {
+        Some(TINY64)
+    } else {
+        part_named(name)
+    }
 }

@@ -1,5 +1,8 @@
-use Rattle.nor_probe.proofs.Emulated.{emulated_known, renumbered_known}
+use Rattle.nor_probe.proofs.Emulated.{emulated_known, makers_emulated, renumbered_known}
 use Rattle.nor_probe.proofs.laws.emulated_are_known.Goals as goal
+
+pub returns-clause-made : goal.returns-clause-made
+returns-clause-made c = makers_emulated
 
 pub returns-clause-known : goal.returns-clause-known
 returns-clause-known c = emulated_known
