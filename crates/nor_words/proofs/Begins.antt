@@ -7,7 +7,8 @@ use Rattle.std.specs.List.{starts_with}
 use Rattle.std.specs.Option.{MatchOption}
 use Rattle.std.specs.Str.Pattern.{FindsTextPrefix, StripsPrefix}
 use Rattle.std.proofs.lemmas.Str.Pattern.{starts_text}
-use Rattle.nor_words.specs.Programmer.{are_settings, chip_named, is_programmer_text, said, settings_of}
+use Rattle.nor_probe.specs.Table.{emulated_named}
+use Rattle.nor_words.specs.Programmer.{are_settings, is_programmer_text, said, settings_of}
 use Rattle.nor_words.specs.Text.{Text}
 
 pub stripped : (p s rest : List ℕ) → StripsPrefix (FindsTextPrefix p) s rest
@@ -20,7 +21,7 @@ stripped p s rest h =
 pub is_programmer-unsound : (text : Text) → are_settings (settings_of text) ≡ false → is_programmer_text text ≡ false
 is_programmer-unsound text unsound = grind arith
 
-pub is_programmer-unnamed : (text : Text) → option_and_then chip_named (said text (codes "emulate")) ≡ None
+pub is_programmer-unnamed : (text : Text) → option_and_then emulated_named (said text (codes "emulate")) ≡ None
     → is_programmer_text text ≡ false
 is_programmer-unnamed text unnamed = grind arith
 

@@ -1,33 +1,17 @@
 -- The value of `-p`.
-use Rattle.std.specs.Prelude.{◌≡◌, ◌&&◌, ℕ, Bool, true, List, [], ◌∷◌, Option, Some, None, length, drop, find, codes, is_some, nat_eq, nat_lt, nat_le, option_map, option_and_then, if◌then◌else◌}
+use Rattle.std.specs.Prelude.{◌≡◌, ◌&&◌, Bool, true, List, [], ◌∷◌, Option, Some, length, drop, find, codes, is_some, nat_eq, nat_lt, nat_le, option_map, option_and_then}
 use Rattle.std.specs.List.{count_by, list_all, list_any, starts_with}
 use Rattle.std.specs.Str.{bytes_eq}
-use Rattle.nor_model.specs.Makers.{IsTiny64, IsW25q64fv, IsW25q128fv}
 use Rattle.nor_model.specs.declared.config.Config.{Config}
+use Rattle.nor_probe.specs.Table.{emulated_named, IsMadeOf}
 use Rattle.nor_words.specs.declared.programmer.Emulated.{Emulated}
-use Rattle.nor_words.specs.declared.programmer.Emulated.TheVariants.{Tiny64, W25q64fv, W25q128fv}
 use Rattle.nor_words.specs.declared.programmer.Programmer.{Programmer}
 use Rattle.nor_words.specs.Numbers.{byte_number, decimal_number, polls_of, unique_number}
 use Rattle.nor_words.specs.Text.{Text, pieces_of, key_of, value_of, reads}
 
--- the emulated chip with this value of `emulate=`
-abbrev pub chip_named : Text → Option Emulated
-chip_named name = if bytes_eq name (codes "TINY64") then Some Tiny64
-    else if bytes_eq name (codes "W25Q64FV") then Some W25q64fv
-    else if bytes_eq name (codes "W25Q128FV") then Some W25q128fv
-    else None
-
--- the size of an emulated chip in bytes
-abbrev pub emulated_size : Emulated → ℕ
-emulated_size Tiny64 = 65536
-emulated_size W25q64fv = 8388608
-emulated_size W25q128fv = 16777216
-
 -- Holds for the configuration of this emulated chip.
 abbrev pub IsConfigOfEmulated : Emulated → Config → Type 0
-IsConfigOfEmulated Tiny64 config = IsTiny64 config
-IsConfigOfEmulated W25q64fv config = IsW25q64fv config
-IsConfigOfEmulated W25q128fv config = IsW25q128fv config
+IsConfigOfEmulated chip = IsMadeOf chip.part
 
 -- true if the name of a file isn't empty
 abbrev pub is_file : Text → Bool
@@ -36,7 +20,7 @@ is_file name = nat_lt 0 (length name)
 -- the known keys, each with the test that its values pass
 abbrev pub keys : List (Text × (Text → Bool))
 keys =
-    (codes "emulate", reads chip_named)
+    (codes "emulate", reads emulated_named)
     ∷ (codes "image", is_file)
     ∷ (codes "status", is_file)
     ∷ (codes "trace", is_file)
@@ -81,7 +65,7 @@ said text = value_in (settings_of text)
 -- true if the text describes a programmer: `dummy:` and then settings, one of which names the chip
 abbrev pub is_programmer_text : Text → Bool
 is_programmer_text text = starts_with nat_eq text (codes "dummy:")
-    && (are_settings (settings_of text) && is_some (option_and_then chip_named (said text (codes "emulate"))))
+    && (are_settings (settings_of text) && is_some (option_and_then emulated_named (said text (codes "emulate"))))
 
 -- true if the text describes a programmer with a `stop=`
 abbrev pub has_stop : Text → Bool
@@ -91,7 +75,7 @@ has_stop text = is_programmer_text text && is_some (option_and_then decimal_numb
 -- key.
 pub record IsProgrammer (text : Text) (programmer : Programmer) : Type 0 where
   pub sound : is_programmer_text text ≡ true
-  pub chip : option_and_then chip_named (said text (codes "emulate")) ≡ Some programmer.chip
+  pub chip : option_and_then emulated_named (said text (codes "emulate")) ≡ Some programmer.chip.part
   pub image : said text (codes "image") ≡ option_map (λ name. name.now) programmer.image
   pub status : said text (codes "status") ≡ option_map (λ name. name.now) programmer.status
   pub trace : said text (codes "trace") ≡ option_map (λ name. name.now) programmer.trace

@@ -1,8 +1,9 @@
 -- The settings of `-p`, as they are parsed and stored one after another.
 use Rattle.std.specs.Prelude.{◌≡◌, Bool, true, false, Option, None, Some, codes, is_some, option_map}
+use Rattle.nor_probe.specs.Table.{emulated_named}
 use Rattle.nor_words.specs.declared.settings.Settings.{Settings}
 use Rattle.nor_words.specs.Numbers.{byte_number, decimal_number, polls_of, unique_number}
-use Rattle.nor_words.specs.Programmer.{chip_named, is_file, has_key}
+use Rattle.nor_words.specs.Programmer.{is_file, has_key}
 use Rattle.nor_words.specs.Text.{Text, reads, value_of}
 
 -- a statement about a key: the test of its values, the parser of its values, and the field of `Settings` that has its
@@ -13,7 +14,7 @@ OfKey = (T : Type 0) → (key : Text) → (is_value : Text → Bool) → (read :
 
 -- Holds if the statement is true for each key.
 pub record EachKey (P : OfKey) : Type 0 where
-  pub chip : P _ (codes "emulate") (reads chip_named) chip_named (λ said. said.chip)
+  pub chip : P _ (codes "emulate") (reads emulated_named) emulated_named (λ said. option_map (λ chip. chip.part) said.chip)
   pub image : P _ (codes "image") is_file Some (λ said. option_map (λ name. name.now) said.image)
   pub status : P _ (codes "status") is_file Some (λ said. option_map (λ name. name.now) said.status)
   pub trace : P _ (codes "trace") is_file Some (λ said. option_map (λ name. name.now) said.trace)

@@ -1,59 +1,55 @@
 //! The value of the option `-p`, and the chips that it can name.
-ghost use Rattle.std.specs.Prelude.{◌≡◌, false};
+ghost use Rattle.std.specs.Prelude.{◌≡◌, false, option_map};
 ghost use Rattle.std.specs.Option.{MatchOption};
+ghost use Rattle.nor_probe.specs.Table.{IsEmulatedPart};
 
 use crate::settings::Settings;
 use nor_model::Config;
+use nor_probe::{Part, emulated_part};
 
-/// A chip that the program emulates.
+/// A chip that the program emulates: `TINY64`, or a chip of the table.
 #[derive(Clone, Copy)]
-pub enum Emulated {
-    /// 64 KiB. The table of chips lacks its ID, so only its SFDP describes it.
-    Tiny64,
-    /// 8 MiB.
-    W25q64fv,
-    /// 16 MiB.
-    W25q128fv,
+pub struct Emulated {
+    /// The chip type as which the chip is found.
+    pub part: Part,
+    pub ghost emulated: { IsEmulatedPart part },
 }
 
 impl Emulated {
     ghost use Rattle.nor_model.specs.declared.config.Config.{Config};
-    ghost use Rattle.nor_words.specs.Programmer.{chip_named, emulated_size, IsConfigOfEmulated};
+    ghost use Rattle.nor_probe.specs.Table.{emulated_named};
+    ghost use Rattle.nor_words.specs.Programmer.{IsConfigOfEmulated};
 
-    /// Returns the chip with this value of `emulate=`: `TINY64`, `W25Q64FV` or `W25Q128FV`. Returns `None` for any
-    /// other name.
+    /// Returns the chip with this value of `emulate=`: `TINY64`, or the name of a chip of the table. Returns `None` for
+    /// any other name.
     pub fn named(name: &str) -> Option<Emulated>
-        ensures { result ≡ chip_named name.now }
+        ensures { option_map (λ chip. chip.part) result ≡ emulated_named name.now }
     {
-        match name {
-            "TINY64" => Some(Emulated::Tiny64),
-            "W25Q64FV" => Some(Emulated::W25q64fv),
-            "W25Q128FV" => Some(Emulated::W25q128fv),
-            _ => None,
-        }
+        let part = emulated_part(name)?;
+        Some(Emulated { part })
     }
 
     /// Returns the configuration of the chip, which never changes.
+    #[tactic(auto, using(nor_probe::proofs::Emulated::emulated_sized))]
     pub fn config(self) -> Config
         ensures { IsConfigOfEmulated self result }
     {
-        match self {
-            Emulated::Tiny64 => Config::tiny64(),
-            Emulated::W25q64fv => Config::w25q64fv(),
-            Emulated::W25q128fv => Config::w25q128fv(),
-        }
+        let Part {
+            id,
+            size,
+            kinds,
+            scheme,
+            ..
+        } = self.part;
+        Config::emulated(id, size, kinds, scheme)
     }
 
     /// Returns the size of the chip in bytes.
     pub fn size(self) -> u32
-        ensures size { result ≡ emulated_size self }
+        ensures size { result ≡ self.part.size }
         ensures configured { (config : Config) → IsConfigOfEmulated self config → config.size ≡ result }
     {
-        match self {
-            Emulated::Tiny64 => 65_536,
-            Emulated::W25q64fv => 8_388_608,
-            Emulated::W25q128fv => 16_777_216,
-        }
+        self.part.size
     }
 }
 

@@ -1,4 +1,4 @@
-use Rattle.std.proofs.Common.{◌≡◌, ◌∙◌, true, codes}
+use Rattle.std.proofs.Common.{◌≡◌, ◌∙◌, ap, true, codes, option_map}
 use Rattle.std.proofs.lemmas.Iterator.Consumers.{YieldsList-turn, YieldsList-end}
 use Rattle.std.proofs.lemmas.List.{length_push}
 use Rattle.nor_words.specs.Programmer.{is_programmer_text, settings_of}
@@ -38,7 +38,7 @@ returns-in_err-settings c =
     let end = YieldsList-end pieces _ _ c.loop-setting.yielded_by _ _ c.in-None.is c.next.ensures.steps in
     let last = gathered-last (settings_of c.args.text.now) _ c.loop-setting.settings c.loop-setting.invariant.2 end.1 in
     rw c.from_residual-in_err-settings.ensures
-    (is_programmer-unnamed c.args.text.now (last.1.chip ∙ c.in_err-settings.was))
+    (is_programmer-unnamed c.args.text.now (last.1.chip ∙ ap (option_map (λ chip. chip.part)) c.in_err-settings.was))
 
 pub returns : goal.returns
 returns c =
@@ -48,7 +48,7 @@ returns c =
     split.has_more split.pattern in
     let end = YieldsList-end pieces _ _ c.loop-setting.yielded_by _ _ c.in-None.is c.next.ensures.steps in
     let last = gathered-last (settings_of c.args.text.now) _ c.loop-setting.settings c.loop-setting.invariant.2 end.1 in
-    let chip = last.1.chip ∙ c.in_ok-settings.was in
+    let chip = last.1.chip ∙ ap (option_map (λ chip. chip.part)) c.in_ok-settings.was in
     let sound : is_programmer_text c.args.text.now ≡ true = rw (begins.0, last.0, chip) in
     let values = last.1 in
     search (rw and_then-some at values.image, rw and_then-some at values.status, rw and_then-some at values.trace)
