@@ -156,12 +156,8 @@ fn what_for(dice: &mut Dice, chip: &Chip) -> What {
 // Draws the name in the request: none, the chip's name, or another one.
 fn name_for(dice: &mut Dice, chip: &Chip) -> Option<ChipName> {
     let right = verdicts::name_of(&chip.config);
-    let names = [
-        ChipName::Other,
-        ChipName::W25Q128FV,
-        ChipName::Sfdp,
-        ChipName::W25Q64FV,
-    ];
+    let listed = chips::row(dice).map_or(right, |part| part.name);
+    let names = [ChipName::Other, ChipName::Sfdp, listed, listed];
     match dice.below(24) {
         0..4 => Some(right),
         4 => Some(dice.pick(right, &names)),

@@ -7,6 +7,7 @@ use crate::guards::Status;
 use crate::model::Stop;
 use crate::parameters::{self, Told};
 use nor_chip::{Config, Delays, Meter, SECTOR_LEN, SimBus};
+use nor_probe::{Part, part_of};
 use std::alloc::Global;
 
 /// A chip: its configuration and its present state.
@@ -88,14 +89,26 @@ fn id_for(dice: &mut Dice) -> [u8; 3] {
     }
 }
 
-/// Draws a chip with block protection: a W25Q64FV, or one time in ten a W25Q128FV.
+/// Draws a row of the table of chips. Returns `None` if the table has no rows.
+pub fn row(dice: &mut Dice) -> Option<Part> {
+    let (first, others) = nor_probe::chips().split_first()?;
+    Some(dice.pick(*first, others))
+}
+
+/// Returns the configuration of the emulated chip with this ID, or `None` if the table has no row with it.
+pub fn listed(id: [u8; 3]) -> Option<Config> {
+    let part = part_of(id)?;
+    Some(Config::emulated(part.id, part.size, part.kinds, part.scheme))
+}
+
+/// Draws a chip of the table: four times in five a W25Q64FV, otherwise any chip.
 pub fn large(alloc: Global, dice: &mut Dice) -> Result<Chip, Fault> {
     let status = protection(dice);
-    let config = if dice.hits(1, 10) {
-        Config::w25q128fv()
-    } else {
-        Config::w25q64fv()
-    };
+    if dice.hits(4, 5) {
+        return chip_of(alloc, dice, Config::w25q64fv(), status);
+    }
+    let part = row(dice).ok_or(Fault::Case)?;
+    let config = listed(part.id).ok_or(Fault::Case)?;
     chip_of(alloc, dice, config, status)
 }
 

@@ -2,7 +2,7 @@
 //! chip only by the replies of that bus.
 
 use crate::cases::Case;
-use crate::chips::Chip;
+use crate::chips::{self, Chip};
 use crate::contents::sector_at;
 use crate::errors::{CallError, refuse};
 use crate::fault::Fault;
@@ -162,9 +162,10 @@ impl Caller<'_> {
             [0x00, 0x00, 0x00] | [0xFF, 0xFF, 0xFF] => {
                 return Err(CallError::Refused(Refusal::NoChip));
             }
-            [0xEF, 0x40, 0x17] => Config::w25q64fv(),
-            [0xEF, 0x40, 0x18] => Config::w25q128fv(),
-            _ => self.find_parameters(id)?,
+            _ => match chips::listed(id) {
+                Some(config) => config,
+                None => self.find_parameters(id)?,
+            },
         };
         refuse(verdicts::of_probe(&config, named))?;
         Ok((config, status1))

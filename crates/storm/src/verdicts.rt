@@ -5,7 +5,7 @@ use crate::chips::Chip;
 use crate::wanted::{Sector, Wanted};
 use crate::{guards, parameters};
 use nor_chip::{Config, SECTOR_LEN};
-use nor_probe::ChipName;
+use nor_probe::{ChipName, part_of};
 use nor_session::{Refusal, What};
 
 /// True if the table of chips contains the ID.
@@ -15,11 +15,7 @@ pub fn is_in_table(config: &Config) -> bool {
 
 /// Returns the name that a probe must find for the chip.
 pub fn name_of(config: &Config) -> ChipName {
-    match config.id {
-        [0xEF, 0x40, 0x17] => ChipName::W25Q64FV,
-        [0xEF, 0x40, 0x18] => ChipName::W25Q128FV,
-        _ => ChipName::Sfdp,
-    }
+    part_of(config.id).map_or(ChipName::Sfdp, |part| part.name)
 }
 
 /// True if the ID is what a bus without a chip replies.
