@@ -22,13 +22,11 @@ use Rattle.nor_files.specs.Files.{AreAtRest, FilesState, Found, Name, is_lawful}
 use Rattle.nor_journal.specs.Text.{Content as Journal, IsContent, text}
 use Rattle.nor_journal.proofs.OneForm.{one_text}
 use Rattle.nor_session.specs.Headline.{CanRestore}
-use Rattle.nor_words.specs.Programmer.{IsConfigOfEmulated}
 use Rattle.nor_words.specs.Text.{Text}
 use Rattle.nor_words.specs.declared.job.ChipJob.{ChipJob}
 use Rattle.nor_words.specs.declared.job.Task.{Task}
 use Rattle.nor_words.specs.declared.job.Task.TheVariants as task
 use Rattle.nor_words.specs.declared.programmer.Emulated.{Emulated}
-use Rattle.nor_words.specs.declared.programmer.Emulated.TheVariants.{Tiny64, W25q64fv, W25q128fv}
 use Rattle.nor_words.specs.declared.programmer.Programmer.{Programmer}
 use Rattle.flashnor.specs.Chips.{ArePutBack, IsConfigWith}
 use Rattle.flashnor.specs.Endings.{all_written}
@@ -61,18 +59,12 @@ same_parts {one = one} {other = other} a b =
           one.sized other.sized i;
     }
 
-same_emulated : (chip : Emulated) (one other : Config) → IsConfigOfEmulated chip one → IsConfigOfEmulated chip other
-    → one ≡ other
-same_emulated Tiny64 one other a b = same_parts a b
-same_emulated W25q64fv one other a b = same_parts a b
-same_emulated W25q128fv one other a b = same_parts a b
-
 same_with : (chip : Emulated) (number : Option (List ℕ)) (one other : Config) → IsConfigWith chip number one
     → IsConfigWith chip number other → one ≡ other
-same_with chip None one other a b = same_emulated chip one other a b
+same_with chip None one other a b = same_parts a b
 same_with chip (Some number) one other a b =
     let zeros = replicate 8 0 in
-    let bare = same_emulated chip (record one { unique = zeros }) (record other { unique = zeros }) a.0 b.0 in
+    let bare = same_parts {one = record one { unique = zeros }} {other = record other { unique = zeros }} a.0 b.0 in
     λ i. record (bare i) { unique = (a.1 ∙ sym b.1) i }
 
 -- ---- names
