@@ -4,6 +4,9 @@
 # To test it without a keyboard, set COMP_LINE, COMP_POINT, COMP_WORDS and COMP_CWORD as bash does, with ':' and '=' as
 # words of their own, call _flashnor, and read COMPREPLY.
 
+# The chips of the table, as -L lists them.
+_flashnor_chips=(W25Q64FV W25Q128FV)
+
 # Stores the words of the line up to the cursor in the array `words`, the one that is being typed last. Words are
 # separated only by spaces, as the shell separates them. Bash also splits the words that it passes at ':' and '='.
 _flashnor_words() {
@@ -60,7 +63,12 @@ _flashnor_programmer() {
     last=${last##*,}
     local front=${word%"$last"}
     case $last in
-        emulate=*) _flashnor_answer "$word" "$front"emulate={TINY64,W25Q64FV,W25Q128FV} ;;
+        emulate=*)
+            for key in TINY64 "${_flashnor_chips[@]}"; do
+                keys+=("${front}emulate=$key")
+            done
+            _flashnor_answer "$word" "${keys[@]}"
+            ;;
         image=* | status=*) _flashnor_files "$word" "$front${last%%=*}=" -f ;;
         trace=*) _flashnor_files "$word" "$front${last%%=*}=" -d ;;
         *=*) ;;
@@ -119,7 +127,7 @@ _flashnor() {
     ((${#words[@]} > 1)) && before=${words[${#words[@]} - 2]}
     case $before in
         -p) _flashnor_programmer "$word" ;;
-        -c) _flashnor_answer "$word" W25Q64FV W25Q128FV SFDP ;;
+        -c) _flashnor_answer "$word" "${_flashnor_chips[@]}" SFDP ;;
         -w | -v | -l | --restore) _flashnor_files "$word" "" -f ;;
         -r | --journal) _flashnor_files "$word" "" -d ;;
         -i) _flashnor_regions "$word" ;;

@@ -30,6 +30,11 @@ def in_bytes(text):
     return int(number) * {"KiB": 1 << 10, "MiB": 1 << 20}[unit]
 
 
+def sizes_in(text):
+    """Returns the names in a text that their sizes follow in brackets, with the sizes in bytes."""
+    return {(chip, str(in_bytes(size))) for chip, size in re.findall(r"(\w+) \((\d+ [KM]iB)", text)}
+
+
 def take_options(told, page):
     """Compares options, with the names of their values."""
     listed = re.search(r"(?ms)^Options:\n(.*?)\n\n", told)[1]
@@ -73,16 +78,15 @@ def take_chips(told, page, program):
     listed = printed_by(program, "-L") if program else cases
     table = [f"{name} {number.replace(' ', '').lower()} {in_bytes(size)}"
              for name, number, size, *_ in rows_of("docs/SPECIFICATION.md", "Name")]
-    known = same("known chips", printed=re.findall(chip, listed), SPECIFICATION=table,
-                 row=re.findall(r"\w+ [0-9a-f]{6} \d+", read("docs/SPECIFICATION.md")))
+    known = same("known chips", printed=re.findall(chip, listed), SPECIFICATION=table)
+    names = {line.split()[0] for line in known}
     made = set(re.findall(r"emulate=(\w+)(?: -c \w+)?\nFound \w+ \(\w+\), (\d+) bytes", cases))
-    shown = {name: {(chip, str(in_bytes(size))) for chip, size in re.findall(r"(\w+) \((\d+ [KM]iB)", text)}
-             for name, text in (("help", told), ("manual", running(page)), ("README", read("README.md")))}
-    same("emulated chips", printed=made, **shown)
+    same("emulated chips", printed=made, README=sizes_in(read("README.md")))
+    same("emulated chips without a row", printed={(name, size) for name, size in made if name not in names},
+         help=sizes_in(told), manual=sizes_in(running(page)))
     same("names of emulated chips", printed={name for name, _ in made},
          completion={word.partition("=")[2] for word in completed("-p dummy:emulate=")})
-    same("names for -c", printed={"SFDP", *(line.split()[0] for line in known)}, completion=completed("-c "),
-         manual=re.findall(r"\b[A-Z][A-Z0-9]{3,}\b", tags(page, "OPTIONS").get("-c NAME", "")))
+    same("names for -c", printed={"SFDP", *names}, completion=completed("-c "))
 
 
 def take_versions(told):

@@ -121,7 +121,7 @@ PLANTS = {
     "a key that the parser hasn't": (
         WORDS, "crates/nor_words/src/settings.rt", r'"busy" =>', '"delay" =>', "keys: parser has 'delay', help hasn't"),
     "a name that the completion offers for -c": (
-        WORDS, "completion/flashnor.bash", r"W25Q128FV SFDP ;;", "W25Q128JV SFDP ;;",
+        WORDS, "completion/flashnor.bash", r"W25Q128FV\)", "W25Q128JV)",
         "names for -c: completion has 'W25Q128JV', printed hasn't"),
     "an ID of a known chip": (
         WORDS, "docs/SPECIFICATION.md", r"EF 40 18", "EF 40 19",

@@ -13,8 +13,8 @@ const ABOUT: &str = "flashnor 1.0: programs SPI NOR flash, and can restore what 
 // The end of the help, below the options. Its lines have at most 80 columns.
 const NOTES: &str = "\
 TEXT of -p is dummy: and then KEY=VALUE, between commas, each key at most once:
-  emulate=NAME  W25Q64FV (8 MiB), W25Q128FV (16 MiB) or TINY64 (64 KiB, known by
-                its SFDP alone: its name for -c is SFDP)
+  emulate=NAME  A chip that -L lists by ID, or TINY64 (64 KiB, known by its SFDP
+                alone: its name for -c is SFDP)
   image=FILE    The file of its bytes; without one the chip is erased
   status=FILE   The file of its two status bytes; without one both are 00
   stop=N        Stop after N transactions; not with --rehearse
