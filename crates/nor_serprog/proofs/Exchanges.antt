@@ -8,7 +8,7 @@ use Rattle.nor_model.specs.Step.{Step}
 use Rattle.nor_serprog.specs.Frame.{IsFrame, ReadsAs, out_in, replies_in}
 use Rattle.nor_serprog.specs.declared.command.Command.{Command}
 use Rattle.nor_serprog.specs.declared.command.Command.TheVariants.{Operate}
-use Rattle.nor_serprog.specs.Device.{Device, PortState, IsIdle, IfOperates, StepsOnce, IsCut, OperatesFrame, AnswerBegins, IsSent, IsCutOff, TakesAnswer, MissesAnswer, Exchanged, Interrupted}
+use Rattle.nor_serprog.specs.Device.{Device, PortState, IsIdle, IfOperates, StepsOnce, IsCut, OperatesFrame, IsWithinLimits, CompletesOperation, AnswerBegins, IsSent, IsCutOff, TakesAnswer, MissesAnswer, Exchanged, Interrupted}
 
 -- A whole frame of O_SPIOP that reaches an idle programmer is carried out.
 pub operated : (frame : List ℕ) (old sent : PortState) → IsIdle old.device → IsFrame frame
@@ -64,31 +64,44 @@ begins_with_ack frame old sent idle o =
     record { some = subst P (sym e) (omega arith); ack = subst Q (sym e) refl }
 
 -- The port failed while the frame was sent, so the transaction was interrupted.
-pub cut_off : (frame out : List ℕ) (old new : PortState) → IsIdle old.device → IsFrame frame
-    → slice_index frame 0 ≡ 0x13 → out_in frame ≡ out → IsCutOff frame old new → Interrupted out old new
-cut_off frame out old new idle whole opcode goes c =
+pub cut_off : (frame out : List ℕ) (replies wanted : ℕ) (old new : PortState) → IsIdle old.device → IsFrame frame
+    → slice_index frame 0 ≡ 0x13 → out_in frame ≡ out → replies_in frame ≡ replies → IsCutOff frame old new
+    → Interrupted out replies wanted old new
+cut_off frame out replies wanted old new idle whole opcode goes comes c =
     let e : frame ≡ old.device.begun ++ frame = sym (ap (λ (b : List ℕ). b ++ frame) idle.begun) in
     let P : List ℕ → Type 0 = λ b. IsFrame b in
     let Q : List ℕ → Type 0 = λ b. slice_index b 0 ≡ 0x13 in
     let R : List ℕ → Type 0 = λ b. IsCut (out_in b) old.device new.device in
     let S : List ℕ → Type 0 = λ b. IsCut b old.device new.device in
+    let T : List ℕ → Type 0 = λ b. IsWithinLimits b old.device in
+    let completes : CompletesOperation frame old.device = record { whole = subst P e whole; opcode = subst Q e opcode } in
     record {
-      few_left = omega (arith, c.none_left);
+      few_left = λ short few no_more.
+          let limits : IsWithinLimits frame old.device = record {
+            none_pending = idle.pending;
+            sends = subst (λ (b : List ℕ). length b ≤ 260) (sym goes) short;
+            reads = subst (λ n. n ≤ 4096) (sym comes) few;
+          } in
+          let none = c.none_left completes (subst T e limits) in omega (arith, none);
       few = omega (arith, c.left);
-      cut = subst S goes
-          (subst R (sym e) (c.cut (record { whole = subst P e whole; opcode = subst Q e opcode })));
+      cut = subst S goes (subst R (sym e) (c.cut completes));
     }
 
 -- The port failed while the reply was received, so the transaction was interrupted: all of it was carried out, and the
 -- reply is lost.
-pub missed : (frame out : List ℕ) (old sent new : PortState) → IsIdle old.device → IsFrame frame
-    → slice_index frame 0 ≡ 0x13 → out_in frame ≡ out → IsSent frame old sent → MissesAnswer sent new
-    → Interrupted out old new
-missed frame out old sent new idle whole opcode goes s m =
+pub missed : (frame out : List ℕ) (replies wanted : ℕ) (old sent new : PortState) → IsIdle old.device → IsFrame frame
+    → slice_index frame 0 ≡ 0x13 → out_in frame ≡ out → replies_in frame ≡ replies → IsSent frame old sent
+    → MissesAnswer wanted sent new → Interrupted out replies wanted old new
+missed frame out replies wanted old sent new idle whole opcode goes comes s m =
     let o = operated frame old sent idle whole opcode s in
     let P : List ℕ → Type 0 = λ b. StepsOnce b o.answer old.device sent.device in
+    let pending : sent.device.pending ≡ 0x06 ∷ o.answer =
+    o.pending ∙ ap (λ (p : List ℕ). p ++ 0x06 ∷ o.answer) idle.pending in
     record {
-      few_left = omega (arith, s.left, m.few_left);
+      few_left = λ short few no_more.
+          let all : wanted < length sent.device.pending =
+          omega (arith, ap length pending, o.len, comes, no_more) in
+          omega (arith, s.left, m.few_left all);
       few = m.few;
       cut = record {
         count = length out;
@@ -108,19 +121,21 @@ exchanged_by (Operate out replies) frame reply len old sent new idle whole reads
     λ same. exchanged frame out.now replies reply old sent new idle whole reads.0 reads.1 reads.2 s t (has ∙ same)
 exchanged_by _ frame reply len old sent new idle whole reads s t has = tt
 
-pub cut_off_by : (command : Command) (frame : List ℕ) (old new : PortState) → IsIdle old.device → IsFrame frame
-    → ReadsAs frame command → IsCutOff frame old new → IfOperates command (λ out replies. Interrupted out old new)
-cut_off_by (Operate out replies) frame old new idle whole reads c =
-    cut_off frame out.now old new idle whole reads.0 reads.1 c
-cut_off_by _ frame old new idle whole reads c = tt
+pub cut_off_by : (command : Command) (frame : List ℕ) (wanted : ℕ) (old new : PortState) → IsIdle old.device
+    → IsFrame frame → ReadsAs frame command → IsCutOff frame old new
+    → IfOperates command (λ out replies. Interrupted out replies wanted old new)
+cut_off_by (Operate out replies) frame wanted old new idle whole reads c =
+    cut_off frame out.now replies wanted old new idle whole reads.0 reads.1 reads.2 c
+cut_off_by _ frame wanted old new idle whole reads c = tt
 
-pub missed_by : (command : Command) (frame : List ℕ) (old sent new : PortState) → IsIdle old.device → IsFrame frame
-    → ReadsAs frame command → IsSent frame old sent → (AnswerBegins sent → MissesAnswer sent new)
-    → IfOperates command (λ out replies. Interrupted out old new)
-missed_by (Operate out replies) frame old sent new idle whole reads s m =
-    missed frame out.now old sent new idle whole reads.0 reads.1 s
+pub missed_by : (command : Command) (frame : List ℕ) (wanted : ℕ) (old sent new : PortState) → IsIdle old.device
+    → IsFrame frame → ReadsAs frame command → IsSent frame old sent
+    → (AnswerBegins sent → MissesAnswer wanted sent new)
+    → IfOperates command (λ out replies. Interrupted out replies wanted old new)
+missed_by (Operate out replies) frame wanted old sent new idle whole reads s m =
+    missed frame out.now replies wanted old sent new idle whole reads.0 reads.1 reads.2 s
     (m (begins_with_ack frame old sent idle (operated frame old sent idle whole reads.0 s)))
-missed_by _ frame old sent new idle whole reads s m = tt
+missed_by _ frame wanted old sent new idle whole reads s m = tt
 
 -- a fact that always holds also holds after an error
 pub on_err : {T E : Type 0} (result : Result T E) (P : Type 0) → P → OnErr result P

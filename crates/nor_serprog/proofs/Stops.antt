@@ -11,11 +11,12 @@ use Rattle.nor_serprog.specs.Device.{PortState, Interrupted}
 use Rattle.nor_serprog.specs.Link.{is_in_step, IsSettled}
 
 -- an interrupted transaction is a stop of the bus
-stops_cut : (out : List ℕ) (old new : PortState) (sent sent' : Sent) (polled_ready : Bool) → Interrupted out old new
+stops_cut : (out : List ℕ) (replies : ℕ) (old new : PortState) (sent sent' : Sent) (polled_ready : Bool)
+    → old.left < 3 → Interrupted out replies replies old new
     → Stops out (over_port old sent polled_ready) (over_port new sent' polled_ready)
-stops_cut out old new sent sent' polled_ready is = record {
-  none_left = omega (arith, is.few_left);
-  left = omega (arith, is.few_left, is.few);
+stops_cut out replies old new sent sent' polled_ready few is = record {
+  none_left = omega (arith, few);
+  left = omega (arith, few, is.few);
   at_stop = record {
     count = is.cut.count;
     read = is.cut.read;
@@ -49,7 +50,8 @@ stops_silent out port sent sent' polled_ready few = record {
 -- a transaction that failed is a stop of the bus, whether the link was in step or not
 pub stops_over : {P C : Type 0} (port : P → PortState) (out : List ℕ) (replies : ℕ) (link link' : Link P C)
     (sent sent' : Sent) (polled_ready : Bool) → IsSettled port link → (is_in_step link ≡ false → link' ≡ link)
-    → ((port link.port).honest ≡ true → (link' ≡ link) ⊎ Interrupted out (port link.port) (port link'.port))
+    → ((port link.port).honest ≡ true → (link' ≡ link)
+    ⊎ Interrupted out replies replies (port link.port) (port link'.port))
     → (length out ≤ 260 → replies ≤ 4096 → is_in_step link' ≡ false)
     → IsHonestFor out replies (over_port (port link.port) sent polled_ready)
     → Stops out (over_port (port link.port) sent polled_ready) (over_port (port link'.port) sent' polled_ready)
@@ -60,11 +62,13 @@ stops_over {P} {C} port out replies link link' sent sent' polled_ready settled s
       | inr lost ↦
           subst Ends (sym (silent lost))
           (stops_silent out (port link.port) sent sent' polled_ready (settled.spent honest.honest lost))
-      | inl in_step ↦ elim (interrupted honest.honest) [
-        | inr cut ↦ stops_cut out (port link.port) (port link'.port) sent sent' polled_ready cut
-        | inl same ↦ elim honest.fits [
-          | inl unlimited ↦ absurd (false≢true unlimited)
-          | inr short ↦
+      | inl in_step ↦ elim honest.fits [
+        | inl unlimited ↦ absurd (false≢true unlimited)
+        | inr short ↦ elim (interrupted honest.honest) [
+          | inr cut ↦
+              stops_cut out replies (port link.port) (port link'.port) sent sent' polled_ready
+              (cut.few_left short.0 short.1 (omega arith)) cut
+          | inl same ↦
               absurd (false≢true (sym (fits short.0 short.1) ∙ ap (λ (l : Link P C). is_in_step l) same ∙ in_step))
         ]
       ]

@@ -1,6 +1,6 @@
 -- A programmer and its chip, and an honest port to the programmer. (serprog protocol version 1, flashrom's
 -- Documentation/serprog-protocol.txt: "Command And Answer Sequence", and the note on O_SPIOP.)
-use Rattle.std.specs.Prelude.{◌≡◌, ◌<◌, ◌+◌, ◌++◌, ◌⊎◌, ◌||◌, ℕ, Bool, false, List, [], ◌∷◌, length, take, slice_index, ⊤}
+use Rattle.std.specs.Prelude.{◌≡◌, ◌<◌, ◌≤◌, ◌+◌, ◌++◌, ◌⊎◌, ◌||◌, ℕ, Bool, false, List, [], ◌∷◌, length, take, slice_index, ⊤}
 use Rattle.nor_model.specs.Chip.{Chip}
 use Rattle.nor_model.specs.Bus.{unknown_chip}
 use Rattle.nor_model.specs.Power.{PowerLost}
@@ -27,7 +27,7 @@ pub record IsIdle (device : Device) : Type 0 where
 -- The state of a port, as contracts see it.
 pub record PortState : Type 0 where
   pub device : Device
-  -- the number of further calls that will succeed, which no program can read
+  -- the greatest number of further calls that will succeed, which no program can read
   pub left : ℕ
   -- the port keeps the contract of an honest port
   pub honest : Bool
@@ -71,10 +71,19 @@ pub record IsSent (bytes : List ℕ) (old new : PortState) : Type 0 where
   pub left : old.left ≡ new.left + 1
   pub done : CompletesOperation bytes old.device → OperatesFrame (old.device.begun ++ bytes) old.device new.device
 
--- The port failed while these bytes were sent, after any number of them. If they would complete a frame of O_SPIOP, its
+-- Every honest programmer carries out this frame of O_SPIOP: no reply is pending, and the frame sends at most 260 bytes
+-- (a page program) and requests at most 4,096 (a sector).
+pub record IsWithinLimits (frame : List ℕ) (device : Device) : Type 0 where
+  pub none_pending : device.pending ≡ []
+  pub sends : length (out_in frame) ≤ 260
+  pub reads : replies_in frame ≤ 4096
+
+-- The port failed while these bytes were sent, after any number of them, and no further call succeeds. If they would
+-- complete a frame of O_SPIOP within the limits, no call was left. If they would complete any frame of O_SPIOP, its
 -- transaction was cut (`IsCut`): a programmer may begin it before the frame is complete.
 pub record IsCutOff (bytes : List ℕ) (old new : PortState) : Type 0 where
-  pub none_left : old.left ≡ 0
+  pub none_left : CompletesOperation bytes old.device → IsWithinLimits (old.device.begun ++ bytes) old.device
+      → old.left ≡ 0
   pub left : new.left ≡ 0
   pub cut : CompletesOperation bytes old.device → IsCut (out_in (old.device.begun ++ bytes)) old.device new.device
 
@@ -86,9 +95,10 @@ pub record IsReceived (bytes : List ℕ) (old new : PortState) : Type 0 where
   pub chip : new.device.chip ≡ old.device.chip
   pub worn : new.device.worn ≡ old.device.worn
 
--- The port failed while bytes were received.
-pub record IsSilent (old new : PortState) : Type 0 where
-  pub none_left : old.left ≡ 0
+-- The port failed while this number of bytes was received, and no further call succeeds. If at least this number was
+-- pending, no call was left.
+pub record IsSilent (count : ℕ) (old new : PortState) : Type 0 where
+  pub none_left : count ≤ length old.device.pending → old.left ≡ 0
   pub left : new.left ≡ 0
   pub power : MayLoseDevicePower old.device new.device
 
@@ -105,9 +115,9 @@ pub record AnswerBegins (port : PortState) : Type 0 where
   pub some : 0 < length port.device.pending
   pub ack : slice_index port.device.pending 0 ≡ 0x06
 
--- The reply was not received, because fewer than two calls were left.
-pub record MissesAnswer (old new : PortState) : Type 0 where
-  pub few_left : old.left < 2
+-- ACK and this number of reply bytes were not received. If all of these were pending, fewer than two calls were left.
+pub record MissesAnswer (count : ℕ) (old new : PortState) : Type 0 where
+  pub few_left : count < length old.device.pending → old.left < 2
   pub few : new.left < 3
   pub power : MayLoseDevicePower old.device new.device
 
@@ -117,9 +127,11 @@ pub record Exchanged (out answer : List ℕ) (old new : PortState) : Type 0 wher
   pub idle : IsIdle new.device
   pub steps : StepsOnce out answer old.device new.device
 
--- A transaction was cut, because fewer than three calls were left.
-pub record Interrupted (out : List ℕ) (old new : PortState) : Type 0 where
-  pub few_left : old.left < 3
+-- A transaction that requests this number of reply bytes was cut, and too few calls are left for another one. If it is
+-- within the limits of every honest programmer, and no more bytes were `wanted` than it requests, fewer than three calls
+-- were left before it.
+pub record Interrupted (out : List ℕ) (replies wanted : ℕ) (old new : PortState) : Type 0 where
+  pub few_left : length out ≤ 260 → replies ≤ 4096 → wanted ≤ replies → old.left < 3
   pub few : new.left < 3
   pub cut : IsCut out old.device new.device
 

@@ -148,8 +148,9 @@ fn carry<P: Port + Drop>(
     ensures fits { length out.now ≤ 260 → length reply.old ≤ 4096 → OnErr result (is_in_step link.new ≡ false) }
     ensures exchanged { (P.state (port_of link.old)).honest ≡ true
         → OnOk result (Exchanged out.now reply.new (P.state (port_of link.old)) (P.state (port_of link.new))) }
-    ensures interrupted { (P.state (port_of link.old)).honest ≡ true → OnErr result ((link.new ≡ link.old)
-        ⊎ Interrupted out.now (P.state (port_of link.old)) (P.state (port_of link.new))) }
+    ensures interrupted { (P.state (port_of link.old)).honest ≡ true
+        → OnErr result ((link.new ≡ link.old) ⊎ Interrupted out.now (length reply.old) (length reply.old)
+        (P.state (port_of link.old)) (P.state (port_of link.new))) }
     ensures unread { (P.state (port_of link.old)).honest ≡ true → OnErr result (reply.new ≡ reply.old) }
 {
     if reply.len() > longest_read as usize {

@@ -121,7 +121,7 @@ impl<P: Port + Drop> Link<P> {
             → Exchanged out reply.new (P.state (port_of self.old)) (P.state (port_of self.new)))) }
         ensures interrupted { (P.state (port_of self.old)).honest ≡ true → IsIdle (P.state (port_of self.old)).device
             → OnErr result ((self.new ≡ self.old) ⊎ IfOperates command.entry (λ out replies.
-            Interrupted out (P.state (port_of self.old)) (P.state (port_of self.new)))) }
+            Interrupted out replies (length reply.old) (P.state (port_of self.old)) (P.state (port_of self.new)))) }
         ensures unread { (P.state (port_of self.old)).honest ≡ true → OnErr result (reply.new ≡ reply.old) }
     {
         match self.sync {
@@ -155,7 +155,7 @@ impl<P: Port + Drop> Link<P> {
             → Exchanged out reply.new (P.state (port_of self.old)) (P.state (port_of self.new)))) }
         ensures interrupted { (P.state (port_of self.old)).honest ≡ true → IsIdle (P.state (port_of self.old)).device
             → OnErr result ((self.new ≡ self.old) ⊎ IfOperates command.entry (λ out replies.
-            Interrupted out (P.state (port_of self.old)) (P.state (port_of self.new)))) }
+            Interrupted out replies (length reply.old) (P.state (port_of self.old)) (P.state (port_of self.new)))) }
         ensures unread { (P.state (port_of self.old)).honest ≡ true → OnErr result (reply.new ≡ reply.old) }
     {
         let frame = encode(command)?;
@@ -270,7 +270,7 @@ fn receive_answer<P: Port>(
     ensures answered { (P.state port.old).honest ≡ true
         → OnOk result (TakesAnswer reply.new (P.state port.old) (P.state port.new)) }
     ensures missed { (P.state port.old).honest ≡ true → AnswerBegins (P.state port.old)
-        → OnErr result (MissesAnswer (P.state port.old) (P.state port.new)) }
+        → OnErr result (MissesAnswer (length reply.old) (P.state port.old) (P.state port.new)) }
     ensures unread { (P.state port.old).honest ≡ true → OnErr result (reply.new ≡ reply.old) }
 {
     let mut first = [0];

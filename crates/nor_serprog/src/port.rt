@@ -1,14 +1,19 @@
 //! The port to a programmer.
-ghost use Rattle.std.specs.Prelude.{◌≡◌, true, OnOk, OnErr};
+ghost use Rattle.std.specs.Prelude.{◌≡◌, true, length, OnOk, OnErr};
 ghost use Rattle.nor_model.specs.Chip.{IsChip};
 ghost use Rattle.nor_serprog.specs.Device.{PortState, IsSent, IsCutOff, IsReceived, IsSilent};
 
 /// A port to a serial programmer: a terminal device, a socket, or a model in tests.
 ///
-/// Contracts see a port as a `PortState`. An *honest* port fails if and only if no call is left. It passes what is sent
-/// to a programmer that carries out O_SPIOP as the protocol says, and returns the programmer's replies in order. If it
-/// fails, any number of bytes may have been sent, the programmer may have carried out any part of the transaction, and
-/// the chip may then have lost its power. Nothing is assumed about any other port, except that its honesty never
+/// Contracts see a port as a `PortState`. An *honest* port passes what is sent to a programmer that carries out O_SPIOP
+/// as the protocol says, and returns the programmer's replies in order. As long as calls are left, these succeed:
+///
+/// - a call that sends an O_SPIOP of at most 260 bytes and 4,096 reply bytes, while no reply is pending
+/// - a call that requests no more bytes than are pending
+///
+/// Any other call may fail, for example by a timeout or because a buffer is full. After a failure no further call
+/// succeeds. Any number of bytes may have been sent, the programmer may have carried out any part of the transaction,
+/// and the chip may then have lost its power. Nothing is assumed about any other port, except that its honesty never
 /// changes. A port of an operating system is never honest (`unknown_port`).
 ///
 /// Each call must return, so an implementation that can block forever needs a timeout.
@@ -31,7 +36,8 @@ pub trait Port {
         ensures nature { (state self.new).honest ≡ (state self.old).honest }
         ensures received { (state self.old).honest ≡ true
             → OnOk result (IsReceived bytes.new (state self.old) (state self.new)) }
-        ensures silent { (state self.old).honest ≡ true → OnErr result (IsSilent (state self.old) (state self.new)) }
+        ensures silent { (state self.old).honest ≡ true
+            → OnErr result (IsSilent (length bytes.old) (state self.old) (state self.new)) }
         ensures unread { (state self.old).honest ≡ true → OnErr result (bytes.new ≡ bytes.old) };
 
     /// Proves that an honest port reaches a chip whose status bits, bytes and polls are in range (`IsChip`).

@@ -13,14 +13,14 @@ returns-clause-exchanged g c honest idle =
 pub returns-in_err-send-clause-interrupted : goal.returns-in_err-send-clause-interrupted
 returns-in_err-send-clause-interrupted g c honest idle =
     on_err _ _
-    (inr (cut_off_by c.args.command c.in_ok-frame.frame.items (g.P.Port.state c.args.self.now.port)
+    (inr (cut_off_by c.args.command c.in_ok-frame.frame.items (length c.args.reply.now) (g.P.Port.state c.args.self.now.port)
     (g.P.Port.state c.send.new.port) idle c.in_ok-frame.ensures.whole c.in_ok-frame.ensures.reads
     (c.in_err-send.ensures.cut_off honest)))
 
 pub returns-in_err-receive_answer-clause-interrupted : goal.returns-in_err-receive_answer-clause-interrupted
 returns-in_err-receive_answer-clause-interrupted g c honest idle =
     on_err _ _
-    (inr (missed_by c.args.command c.in_ok-frame.frame.items (g.P.Port.state c.args.self.now.port)
+    (inr (missed_by c.args.command c.in_ok-frame.frame.items (length c.args.reply.now) (g.P.Port.state c.args.self.now.port)
     (g.P.Port.state c.send.new.port) (g.P.Port.state c.receive_answer.new.port) idle
     c.in_ok-frame.ensures.whole c.in_ok-frame.ensures.reads (c.in_ok-send.ensures.sent honest)
     (c.in_err-receive_answer.ensures.missed (c.send.ensures.nature ∙ honest))))

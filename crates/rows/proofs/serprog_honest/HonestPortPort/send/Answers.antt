@@ -8,7 +8,7 @@ on_ok {P = P} is p = subst (λ r. OnOk r P) is p
 
 pub returns-then-operates-clause-cut_off : goal.returns-then-operates-clause-cut_off
 returns-then-operates-clause-cut_off g c = λ honest. record {
-  none_left = grind (arith, c.if-self-eq0.true);
+  none_left = λ whole limits. grind (arith, c.if-self-eq0.true);
   left = grind (arith, c.if-self-eq0.true);
   cut = λ whole. on_ok c.expect.ensures c.cut_off.ensures c.args.self.now.pending.items;
 }
