@@ -40,8 +40,7 @@
 //! - `serprog_frames.rt`: the bytes of each command
 //! - `serprog_handshakes.rt`: how a link is synchronized, and how a programmer is identified
 //! - `serprog_buses.rt`: sessions over the bus, and failures of the port
-//! - `serprog_honest.rt`: an honest port in memory
-//! - `serprog_stops.rt`: sessions and restores over that port, which fails at each of its calls
+//! - `serprog_stops.rt`: sessions and restores over an honest port (nor_wire), which fails at each of its calls
 //! - `serprog_wrappers.rt`: paced polls, and readings that are made twice
 //!
 //! Single calls:
@@ -98,8 +97,6 @@ mod serprog_buses;
 mod serprog_frames;
 #[cfg(test)]
 mod serprog_handshakes;
-#[cfg(test)]
-mod serprog_honest;
 #[cfg(test)]
 mod serprog_model;
 #[cfg(test)]

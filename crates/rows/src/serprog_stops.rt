@@ -1,15 +1,16 @@
 //! Sessions and restores over an honest serprog port that fails at each of its calls in turn. A transaction takes three
 //! calls: one sends its frame, one receives ACK, and one receives the rest of the reply. If one of the last two fails,
 //! the chip has carried out the transaction, and the reply is lost.
+ghost use Rattle.nor_journal.specs.Vault.{IsFresh};
 
 use crate::held::assert_held;
 use crate::row::{Row, Start};
-use crate::runs::{Cut, Runs, keep};
-use crate::serprog_honest::HonestPort;
-use nor_chip::{Meter, SimBus};
-use nor_journal::{Journal, MemVault};
-use nor_serprog::{Link, Programmer, SerprogBus};
-use nor_session::{Refusal, restore};
+use crate::runs::{Cut, Runs};
+use nor_chip::SimBus;
+use nor_journal::{Journal, MemVault, Vault};
+use nor_serprog::{Link, Port, Programmer, SerprogBus};
+use nor_session::{Refusal, Report};
+use nor_wire::{SimFailure, SimPort, restore_over, session_over};
 use std::alloc::Global;
 use std::process::Abort;
 
@@ -22,7 +23,7 @@ const AMPLE: u64 = 100_000;
 const CUTS: [u32; 4] = [0, 4, 5, u32::MAX];
 
 // Returns a bus over this port, after the handshake.
-fn open<'a, R: Abort>(rt: &'a R, port: HonestPort<'a, R>) -> SerprogBus<HonestPort<'a, R>> {
+fn open(rt: &impl Abort, port: SimPort) -> SerprogBus<SimPort> {
     let mut link = Link::new(port);
     let programmer = Programmer::identify(&mut link, None);
     let programmer = programmer.map_err(|_| "").expect(rt, "a programmer");
@@ -32,22 +33,37 @@ fn open<'a, R: Abort>(rt: &'a R, port: HonestPort<'a, R>) -> SerprogBus<HonestPo
 
 // Returns a bus to this chip. After the handshake, `calls` calls of the port succeed; a transaction that it then cuts
 // is sent up to its first `cut` bytes.
-fn bus_to<'a, R: Abort>(
-    rt: &'a R,
+fn bus_to(
+    rt: &impl Abort,
     alloc: Global,
     mut chip: SimBus,
     calls: u64,
     cut: u32,
-) -> SerprogBus<HonestPort<'a, R>> {
-    chip.allow(u64::MAX);
+) -> SerprogBus<SimPort> {
+    chip.tear(Some(cut));
     let calls = calls.saturating_add(handshake(rt, alloc));
-    open(rt, HonestPort::new(rt, alloc, chip, calls, cut as usize))
+    open(rt, SimPort::new(chip, calls))
+}
+
+// Runs a row's session on a bus to its chip.
+fn change<V: Vault>(
+    rt: &impl Abort,
+    alloc: Global,
+    row: Row,
+    bus: &mut SerprogBus<SimPort>,
+    vault: &mut V,
+) -> Result<Report, Refusal>
+    requires { IsFresh (V.state vault.old) }
+{
+    let mut image = row.wanted(rt, alloc);
+    let request = row.request(rt, alloc);
+    session_over(bus, vault, &mut image, &request)
 }
 
 // Returns the number of calls of the handshake.
 fn handshake(rt: &impl Abort, alloc: Global) -> u64 {
     let chip = Row::AByteIsProgrammed.bus(rt, alloc, Start::IDLE);
-    let bus = open(rt, HonestPort::new(rt, alloc, chip, AMPLE, 0));
+    let bus = open(rt, SimPort::new(chip, AMPLE));
     AMPLE.saturating_sub(bus.port().left())
 }
 
@@ -81,7 +97,7 @@ fn stop_session(
     let left = Runs::new(rt, alloc, row, start).cut(rt, calls / CALLS);
     let mut bus = bus_to(rt, alloc, row.bus(rt, alloc, start), calls, cut);
     let mut vault = MemVault::new(alloc);
-    let refusal = keep(rt, alloc, row, &mut bus, &mut vault).err();
+    let refusal = change(rt, alloc, row, &mut bus, &mut vault).err();
     assert_held(rt, refusal == Some(Refusal::Stopped), calls);
     assert_same(rt, bus.port().chip(), &left.bus, calls);
     assert_held(rt, vault.is_sealed() == left.vault.is_sealed(), calls);
@@ -102,7 +118,7 @@ fn stop_restore(
     let mut same = same;
     let journal = Journal::read(vault.bytes()).expect(rt, "a journal");
     let mut bus = bus_to(rt, alloc, bus, calls, cut);
-    let refusal = restore(&mut bus, &journal).err();
+    let refusal = restore_over(&mut bus, &journal).err();
     assert_held(rt, refusal == Some(Refusal::Stopped), calls);
     same.bus.tear(Some(torn(calls, cut)));
     assert_held(rt, same.restore(rt, calls / CALLS).is_none(), calls);
@@ -116,7 +132,7 @@ fn assert_restored(rt: &impl Abort, alloc: Global, row: Row, left: Cut) {
     let mut bus = bus_to(rt, alloc, bus, AMPLE, 0);
     if vault.is_sealed() {
         let journal = Journal::read(vault.bytes()).expect(rt, "a journal");
-        assert!(rt; restore(&mut bus, &journal).is_ok());
+        assert!(rt; restore_over(&mut bus, &journal).is_ok());
     }
     Runs::new(rt, alloc, row, Start::IDLE).assert_as_before(rt, bus.port().chip());
 }
@@ -166,9 +182,38 @@ fn a_session_ends_with_its_last_call(rt: HostRuntime) {
         let chip = row.bus(&rt, rt.alloc(), start);
         let mut bus = bus_to(&rt, rt.alloc(), chip, CALLS * length, 0);
         let mut vault = MemVault::new(rt.alloc());
-        let report = keep(&rt, rt.alloc(), row, &mut bus, &mut vault).expect(&rt, "an end");
+        let report = change(&rt, rt.alloc(), row, &mut bus, &mut vault).expect(&rt, "an end");
         assert!(rt; report.transactions == length && vault.is_sealed());
         assert!(rt; bus.port().left() == 0);
         assert!(rt; bus.port().chip().bytes() == row.wanted(&rt, rt.alloc()).as_slice());
     }
+}
+
+// The chip loses its power when the port cuts a transaction, after its opcode and address or after all of it. What is
+// left of a running page program or erase is 00h or FFh.
+#[test]
+fn each_cut_of_the_port_may_cost_the_power(rt: HostRuntime) {
+    for (row, start, length) in SESSIONS {
+        for calls in (0..CALLS * length).step_by(CALLS as usize) {
+            for (cut, fill) in [(4, 0x00), (u32::MAX, 0x00), (u32::MAX, 0xFF)] {
+                let start = Start {
+                    fill: Some(fill),
+                    ..start
+                };
+                let left = stop_session(&rt, rt.alloc(), (row, start), calls, cut);
+                assert_restored(&rt, rt.alloc(), row, left);
+            }
+        }
+    }
+}
+
+// Without a reply there is nothing to receive. After a failure no call succeeds, though calls were left.
+#[test]
+fn more_is_requested_than_is_pending(rt: HostRuntime) {
+    let chip = Row::AByteIsProgrammed.bus(&rt, rt.alloc(), Start::IDLE);
+    let mut port = SimPort::new(chip, AMPLE);
+    let mut byte = [0x5A];
+    assert!(rt; port.receive(&mut byte) == Err(SimFailure::Silent));
+    assert!(rt; port.send(&[0x10]) == Err(SimFailure::Cut));
+    assert_eq!(rt; (byte, port.left()), ([0x5A], 0));
 }

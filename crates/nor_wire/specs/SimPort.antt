@@ -1,7 +1,17 @@
--- The honest port of the tests, as contracts see it.
+-- The simulated port, as contracts see it.
 use Rattle.std.specs.Prelude.{ℕ, true, List, []}
 use Rattle.nor_model.specs.Bus.{BusState}
+use Rattle.nor_chip.specs.declared.sim.SimBus.{SimBus}
 use Rattle.nor_serprog.specs.Device.{Device, PortState}
+use Rattle.nor_wire.specs.declared.sim_port.SimPort.{SimPort}
+
+-- The chip of a simulated port, as a simulated bus.
+abbrev pub chip_of : SimPort → SimBus
+chip_of port = port.chip
+
+-- The number of calls that the port still carries out.
+abbrev pub left_of : SimPort → ℕ
+left_of port = port.left
 
 -- A programmer in front of the chip of this bus. Each call of the port sends whole frames, so none is ever begun.
 abbrev pub device_over : BusState → (pending : List ℕ) → Device

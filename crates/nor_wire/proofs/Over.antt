@@ -1,0 +1,149 @@
+-- The promises of nor_session over a bus to a programmer, as promises for the programmer's chip.
+use Rattle.std.proofs.Common.{◌≡◌, ◌∙◌, ◌/◌, ℕ, Bool, false, List, [], length, refl, sym, ap, subst, arith, inl, inr}
+use Rattle.std.specs.Prelude.{Result, Ok, Err}
+use Rattle.std.proofs.lemmas.List.{append-nil}
+use Rattle.nor_model.specs.Chip.{Chip}
+use Rattle.nor_model.specs.Power.{PowerLost}
+use Rattle.nor_model.specs.Bus.{BusState}
+use Rattle.nor_model.specs.declared.sent.Sent.{Sent}
+use Rattle.nor_driver.specs.OnlyReads.{RanOut}
+use Rattle.nor_driver.specs.StatusWrites.{fixed_of}
+use Rattle.nor_journal.specs.Text.{Content, IsContent, text}
+use Rattle.nor_journal.proofs.OneForm.{one_text}
+use Rattle.nor_journal.specs.Vault.{VaultState}
+use Rattle.nor_probe.specs.Known.{IsModelled}
+use Rattle.nor_apply.specs.Within.{WorksIn}
+use Rattle.nor_request.specs.declared.request.Request.{Request}
+use Rattle.nor_request.specs.declared.report.Report.{Report}
+use Rattle.nor_request.specs.declared.refusal.Refusal.{Refusal}
+use Rattle.nor_request.specs.declared.refusal.Refusal.TheVariants.{Vault, Stopped}
+use Rattle.nor_session.specs.Bounds.{most_of}
+use Rattle.nor_session.specs.Headline.{CanRestore, KeepsOriginal, RestoresOriginal, open_addresses}
+use Rattle.nor_session.specs.Session.{SessionErrors, SessionModelled, SessionAlways}
+use Rattle.nor_session.specs.Restore.{RestoreErrors, RestoreModelled}
+use Rattle.nor_session.proofs.InTurn.{lost_back}
+use Rattle.nor_serprog.specs.Device.{PortState}
+use Rattle.nor_serprog.specs.Bus.{over_port}
+use Rattle.nor_wire.specs.Headline.{ReachesGenuine, CanRestoreChip, CanRestoreChipFrom, HadFewCalls, SessionFails, KeepsOriginalChip, SessionResults, RestoresOriginalChip}
+
+-- A bus over an honest port to a genuine chip is modelled.
+pub modelled : (port : PortState) (sent : Sent) (polled_ready : Bool) → ReachesGenuine port
+    → IsModelled (over_port port sent polled_ready)
+modelled port sent polled_ready reaches = record { honest = reaches.honest; genuine = reaches.genuine }
+
+-- A journal that can restore a chip on a bus that isn't steady can restore it on every bus to that chip.
+pub on_every_bus : (journal : Content) (first : Chip) (state : BusState) → state.steady ≡ false
+    → CanRestore journal first state → CanRestoreChip journal first state.chip
+on_every_bus journal first state unsteady can = λ other same. record {
+  known = can.known;
+  saves = can.saves;
+  within = record {
+    config = ap (λ (c : Chip). c.config) same ∙ can.within.config;
+    bytes = λ a outside. ap (λ (c : Chip). c.bytes a) same ∙ can.within.bytes a outside;
+    fixed = ap (λ (c : Chip). fixed_of c.kept) same ∙ can.within.fixed;
+    kept = λ locked. ap (λ (c : Chip). c.kept) same ∙ can.within.kept locked;
+    runs = λ any busy.
+        let P : Chip → Type 0 = λ c. WorksIn (open_addresses journal first) first c.running in
+        subst P (sym same)
+        (can.within.runs unsteady (λ idle. busy (ap (λ (c : Chip). c.busy) same ∙ idle)));
+  };
+}
+
+-- The journal that is read from the bytes is the one that they encode.
+pub read_from : (bytes : List ℕ) (first chip : Chip) (journal : Content) → CanRestoreChipFrom bytes first chip
+    → IsContent journal → bytes ≡ text journal → CanRestoreChip journal first chip
+read_from bytes first chip journal from is read =
+    let same : from.journal.content ≡ journal =
+    (one_text from.journal.content journal [] [] from.journal.is is
+    (append-nil (text from.journal.content) ∙ sym from.journal.same ∙ read ∙ sym (append-nil (text journal)))).0 in
+    let P : Content → Type 0 = λ j. CanRestoreChip j first chip in
+    subst P same from.back
+
+-- The loss of power is one on a bus that isn't steady.
+pub lost_from_chip : (journal : Content) (first old new : Chip) → CanRestoreChip journal first old
+    → PowerLost old new → CanRestoreChip journal first new
+lost_from_chip journal first old new can lost = λ state same.
+    let before : BusState = record state { chip = old; steady = false } in
+    let P : Chip → Type 0 = λ c. PowerLost old c in
+    lost_back journal first before state (can before refl)
+    (record { known = inl refl; lost = subst P (sym same) lost })
+
+-- A bus that ran out of transactions had a port with few calls left.
+few_calls : (transactions : ℕ) (old new : PortState) (sent sent' : Sent) (polled polled' : Bool)
+    → RanOut transactions (over_port old sent polled) (over_port new sent' polled') → HadFewCalls transactions old
+few_calls transactions old new sent sent' polled polled' ran = let below = ran.below in omega arith
+
+-- ---- a session
+
+pub keeps : (old new : PortState) (sent sent' : Sent) (polled polled' : Bool) (vault : VaultState)
+    → KeepsOriginal (over_port old sent polled) (over_port new sent' polled') vault
+    → KeepsOriginalChip old new sent sent' vault
+keeps old new sent sent' polled polled' vault keep = record {
+  unsent = keep.unsent;
+  same = λ unsealed honest idle. keep.same unsealed honest (inr idle);
+  restorable = λ sealed telling reaches.
+      let from = keep.restorable sealed telling (modelled old sent polled reaches) in
+      record {
+        journal = from.journal;
+        back = on_every_bus from.journal.content old.device.chip (over_port new sent' polled') refl from.back;
+      };
+}
+
+fails : (request : Request) (image : List ℕ) (old new : PortState) (sent sent' : Sent) (polled polled' : Bool)
+    (vault vault' : VaultState) (refusal : Refusal)
+    → SessionErrors request image (over_port old sent polled) (over_port new sent' polled') vault vault' refusal
+    → SessionFails request image old vault vault' refusal
+fails request image old new sent sent' polled polled' vault vault' Vault is = is
+fails request image old new sent sent' polled polled' vault vault' Stopped is =
+    few_calls (most_of (old.device.chip.config.size / 4096)) old new sent sent' polled polled' is
+fails request image old new sent sent' polled polled' vault vault' _ is = is
+
+pub results : (request : Request) (image : List ℕ) (old new : PortState) (sent sent' : Sent) (polled polled' : Bool)
+    (vault vault' : VaultState) (result : Result Report Refusal)
+    → SessionAlways request (over_port old sent polled) (over_port new sent' polled') vault vault' result
+    → SessionModelled request image (over_port old sent polled) (over_port new sent' polled') vault vault' result
+    → SessionResults request image old new vault vault' result
+results request image old new sent sent' polled polled' vault vault' (Ok report) always made = record {
+  done = record {
+    made = made.done.made;
+    code = made.done.code;
+    is_wanted = made.done.is_wanted;
+    kept = made.done.kept;
+  };
+  sealed = always.ends.sealed;
+  errors = tt;
+}
+results request image old new sent sent' polled polled' vault vault' (Err refusal) always made = record {
+  done = tt;
+  sealed = tt;
+  errors = fails request image old new sent sent' polled polled' vault vault' refusal made.errors;
+}
+
+-- ---- a restore
+
+pub restores : (journal : Content) (old new : PortState) (sent sent' : Sent) (polled polled' : Bool)
+    (result : Result Report Refusal)
+    → RestoresOriginal journal (over_port old sent polled) (over_port new sent' polled') result
+    → RestoreModelled journal (over_port old sent polled) (over_port new sent' polled') result
+    → RestoresOriginalChip journal old new result
+restores journal old new sent sent' polled polled' (Ok report) back made = record {
+  within = λ first can.
+      on_every_bus journal first (over_port new sent' polled') refl
+      (back.within first (can (over_port old sent polled) refl));
+  back = λ first can. back.back first (can (over_port old sent polled) refl);
+  idle = made.done.made.idle;
+  only_stops = λ first can. tt;
+}
+restores journal old new sent sent' polled polled' (Err refusal) back made = record {
+  within = λ first can.
+      on_every_bus journal first (over_port new sent' polled') refl
+      (back.within first (can (over_port old sent polled) refl));
+  back = λ first can. tt;
+  idle = tt;
+  only_stops = λ first can.
+      let stopped = back.only_stops first (can (over_port old sent polled) refl) in
+      let P : Refusal → Type 0 =
+      λ r. RestoreErrors journal (over_port old sent polled) (over_port new sent' polled') r in
+      let ran = subst P stopped made.errors in
+      (stopped, few_calls (most_of (length journal.saved)) old new sent sent' polled polled' ran);
+}

@@ -1,0 +1,98 @@
+-- The main promise over serprog: wherever the port fails, the original chip at the programmer can be restored.
+use Rattle.std.specs.Prelude.{◌≡◌, ◌<◌, ◌*◌, ◌/◌, ℕ, true, false, List, length, Result, IfErr, OnOk}
+use Rattle.nor_model.specs.Chip.{Chip, IsSame}
+use Rattle.nor_model.specs.declared.sent.Sent.{Sent}
+use Rattle.nor_model.specs.Bus.{BusState}
+use Rattle.nor_driver.specs.StatusWrites.{with_code}
+use Rattle.nor_journal.specs.Text.{Content}
+use Rattle.nor_journal.specs.Vault.{VaultState, CountsRefusal}
+use Rattle.nor_probe.specs.Known.{IsGenuine}
+use Rattle.nor_request.specs.declared.request.Request.{Request}
+use Rattle.nor_request.specs.declared.report.Report.{Report}
+use Rattle.nor_request.specs.declared.refusal.Refusal.{Refusal}
+use Rattle.nor_request.specs.declared.refusal.Refusal.TheVariants.{Vault, Stopped}
+use Rattle.nor_request.specs.Request.{wanted, IsWantedCode}
+use Rattle.nor_scan.specs.SavedScan.{IsJournal}
+use Rattle.nor_scan.specs.Verdict.{IsVerdict}
+use Rattle.nor_session.specs.Bounds.{most_of}
+use Rattle.nor_session.specs.Made.{IsTargetChip}
+use Rattle.nor_session.specs.Headline.{CanRestore}
+use Rattle.nor_serprog.specs.Device.{PortState}
+
+-- Holds for an honest port to a programmer whose chip is what its ID or SFDP says.
+pub record ReachesGenuine (port : PortState) : Type 0 where
+  pub honest : port.honest ≡ true
+  pub genuine : IsGenuine port.device.chip.config
+
+-- Holds if the journal can restore the original chip (`first`) from this chip, on every bus that reaches this chip.
+abbrev pub CanRestoreChip : Content → (first chip : Chip) → Type 0
+CanRestoreChip journal first chip = (state : BusState) → state.chip ≡ chip → CanRestore journal first state
+
+-- Holds if these bytes are the encoding of a journal that can restore the original chip (`first`) from this chip.
+pub record CanRestoreChipFrom (bytes : List ℕ) (first chip : Chip) : Type 0 where
+  pub journal : IsJournal bytes
+  pub back : CanRestoreChip journal.content first chip
+
+-- Holds if fewer calls of the port were left than a call to the engine with this bound of transactions may need: a
+-- transaction takes three calls.
+abbrev pub HadFewCalls : (transactions : ℕ) → PortState → Type 0
+HadFewCalls transactions port = port.left < 3 * transactions
+
+-- ---- a session
+
+-- Holds after a session succeeded. The chip is idle, and has the target bytes and the target protection bits. Its other
+-- non-volatile status bits are as they were.
+pub record IsTargetOf (request : Request) (image : List ℕ) (old new : Chip) : Type 0 where
+  pub made : IsTargetChip (wanted request image old) old new
+  pub code : ℕ
+  pub is_wanted : IsWantedCode request.what old code
+  pub kept : new.kept ≡ with_code code old.kept
+
+-- Holds for an error of a session: it is the verdict on the request; or the vault failed; or the port failed, and had
+-- few calls left.
+abbrev pub SessionFails : Request → (image : List ℕ) → PortState → (vault vault' : VaultState) → Refusal → Type 0
+SessionFails request image port vault vault' Vault = CountsRefusal vault vault'
+SessionFails request image port vault vault' Stopped = HadFewCalls (most_of (port.device.chip.config.size / 4096)) port
+SessionFails request image port vault vault' refusal = IsVerdict request image port.device.chip refusal
+
+-- The promise of a session at every exit, wherever the port failed. `sent` and `sent'` are the records of modifying
+-- commands at its start and at its exit.
+pub record KeepsOriginalChip (old new : PortState) (sent sent' : Sent) (vault : VaultState) : Type 0 where
+  -- on every port: if the vault isn't sealed, no modifying command was sent
+  pub unsent : vault.sealed ≡ false → sent' ≡ sent
+  -- on an honest port whose chip was idle: if the vault isn't sealed, bytes and non-volatile status bits of the chip
+  -- are as they were (a failure of the port may interrupt an operation that was in progress at the start)
+  pub same : vault.sealed ≡ false → old.honest ≡ true → old.device.chip.busy ≡ 0
+      → IsSame old.device.chip new.device.chip
+  -- on an honest port to a genuine chip, idle or busy: if a faithful vault is sealed, its bytes are a journal that can
+  -- restore the original chip
+  pub restorable : vault.sealed ≡ true → vault.telling ≡ true → ReachesGenuine old
+      → CanRestoreChipFrom vault.bytes old.device.chip new.device.chip
+
+-- The result of a session on an honest port to a genuine chip.
+pub record SessionResults (request : Request) (image : List ℕ) (old new : PortState) (vault vault' : VaultState)
+    (result : Result Report Refusal) : Type 0 where
+  -- after success the programmer's chip is the target
+  pub done : OnOk result (IsTargetOf request image old.device.chip new.device.chip)
+  -- after success the vault is sealed
+  pub sealed : OnOk result (vault'.sealed ≡ true)
+  -- an error has one of three causes
+  pub errors : IfErr result (SessionFails request image old vault vault')
+
+-- ---- a restore
+
+-- The promise of a restore on an honest port to a genuine chip, for each chip `first` that the journal can restore at
+-- the start.
+pub record RestoresOriginalChip (journal : Content) (old new : PortState)
+    (result : Result Report Refusal) : Type 0 where
+  -- at every exit, wherever the port failed, the journal can still restore that chip
+  pub within : (first : Chip) → CanRestoreChip journal first old.device.chip
+      → CanRestoreChip journal first new.device.chip
+  -- a restore that succeeds has restored that chip
+  pub back : (first : Chip) → CanRestoreChip journal first old.device.chip
+      → OnOk result (IsSame first new.device.chip)
+  -- after success the programmer's chip is idle
+  pub idle : OnOk result (new.device.chip.busy ≡ 0)
+  -- the only possible error is a stop, because the port failed and had few calls left
+  pub only_stops : (first : Chip) → CanRestoreChip journal first old.device.chip
+      → IfErr result (λ refusal. (refusal ≡ Stopped) × HadFewCalls (most_of (length journal.saved)) old)

@@ -1,0 +1,54 @@
+//! A session and a restore of the chip at a programmer.
+ghost use Rattle.std.specs.Prelude.{◌≡◌, true};
+ghost use Rattle.nor_journal.specs.Vault.{IsFresh};
+ghost use Rattle.nor_session.specs.Session.{SendsSaved, IsSavedCode};
+ghost use Rattle.nor_serprog.specs.Bus.{port_in, sent_of, serprog_state};
+ghost use Rattle.nor_wire.specs.Headline.{ReachesGenuine, KeepsOriginalChip, SessionResults, RestoresOriginalChip};
+
+use nor_journal::{Journal, Vault};
+use nor_serprog::{Port, SerprogBus};
+use nor_session::{Refusal, Report, Request, restore, session};
+
+/// Runs `session` of nor_session on the chip at a programmer: saves each sector that it will touch to `vault`, and then
+/// makes the chip what `request` asks for. `vault` must be empty and unsealed; `image` is as for `session`.
+///
+/// The port may fail at any call, and inside any exchange. On every port no modifying command is sent before the vault
+/// is sealed. On an honest port whose chip was idle, an exit before the seal leaves the chip's contents and
+/// non-volatile status bits as they were. On an honest port to a genuine chip, the journal of a sealed `telling` vault
+/// can restore the original chip at every exit, and success leaves the target, with the chip idle.
+///
+/// On an honest port to a genuine chip an error is the verdict on the request, 11 (the vault failed), or 12 (the port
+/// failed).
+pub fn session_over<P: Port + Drop, V: Vault>(
+    bus: &mut SerprogBus<P>,
+    vault: &mut V,
+    image: &mut [u8],
+    request: &Request,
+) -> Result<Report, Refusal>
+    requires { IsFresh (V.state vault.old) }
+    ensures keeps { KeepsOriginalChip (P.state (port_in bus.old)) (P.state (port_in bus.new))
+        (sent_of bus.old) (sent_of bus.new) (V.state vault.new) }
+    ensures results { ReachesGenuine (P.state (port_in bus.old)) → SessionResults request.now image.old
+        (P.state (port_in bus.old)) (P.state (port_in bus.new)) (V.state vault.old) (V.state vault.new) result }
+{
+    session(bus, vault, image, request)
+}
+
+/// Runs `restore` of nor_session on the chip at a programmer: writes the saved sectors and the protection bits of
+/// `journal` back to the chip, and verifies them.
+///
+/// The port may fail at any call, and inside any exchange. Then connect again, and run the restore again. On an honest
+/// port to a genuine chip, a journal that can restore a chip at the start can restore it at every exit. Success leaves
+/// that chip, idle, and the only possible error is 12 (the port failed). On every port, only what the journal allows is
+/// sent.
+pub fn restore_over<P: Port + Drop>(
+    bus: &mut SerprogBus<P>,
+    journal: &Journal<'_>,
+) -> Result<Report, Refusal>
+    ensures restores_original { ReachesGenuine (P.state (port_in bus.old)) → RestoresOriginalChip journal.now
+        (P.state (port_in bus.old)) (P.state (port_in bus.new)) result }
+    ensures sends { SendsSaved (IsSavedCode journal.now) 1 journal.now
+        (serprog_state bus.old) (serprog_state bus.new) }
+{
+    restore(bus, journal)
+}

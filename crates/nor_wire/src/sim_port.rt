@@ -1,0 +1,239 @@
+//! A simulated port: a programmer in memory, in front of a simulated chip.
+ghost use Rattle.std.specs.Prelude.{◌≡◌, ◌≤◌, ◌∷◌, true, false, [], ℕ, List, length, slice_index, OnOk, OnErr};
+ghost use Rattle.nor_serprog.specs.Device.{IsIdle, IsSent, IsCutOff, IsCut, StepsOnce};
+ghost use Rattle.nor_serprog.specs.Frame.{IsFrame, out_in, replies_in};
+ghost use Rattle.nor_wire.specs.SimPort.{chip_of, left_of, device_over, port_over};
+
+use arrayvec::ArrayVec;
+use nor_chip::{Bus, Meter, SimBus};
+use nor_serprog::{Port, frame_len};
+use thiserror::Error;
+
+const ACK: u8 = 0x06;
+
+const NAK: u8 = 0x15;
+
+const O_SPIOP: u8 = 0x13;
+
+// The most bytes that a transaction reads, a sector, and its reply: ACK and these bytes.
+const MOST_READ: usize = 4096;
+
+const MOST_PENDING: usize = 1 + MOST_READ;
+
+// The reply to Q_CMDMAP: ACK and the map of the commands 00h, 01h, 02h, 10h, 12h and 13h.
+const COMMANDS: [u8; 33] = [
+    ACK, 0x07, 0, 0x0D, 0, 0, 0, 0, 0, 0, 0, 0, 0, 0, 0, 0, 0, 0, 0, 0, 0, 0, 0, 0, 0, 0, 0, 0, 0,
+    0, 0, 0, 0,
+];
+
+/// The call of a `SimPort` that failed.
+#[derive(Clone, Copy, Debug, PartialEq, Eq, Error)]
+pub enum SimFailure {
+    #[error("the simulated port was cut")]
+    Cut,
+    #[error("the simulated programmer is silent")]
+    Silent,
+}
+
+/// A port to a serprog programmer that is simulated in memory, with a simulated chip. It is honest: it carries out the
+/// given number of calls, and then fails.
+///
+/// The programmer carries out each O_SPIOP that is sent by one call, and replies to the queries of a handshake
+/// (`Programmer::identify`). If the port fails while it sends an O_SPIOP, the chip stops as `SimBus::tear` and
+/// `SimBus::lose` set: the programmer sends the first bytes of the transaction, and the chip may lose its power. If the
+/// port fails later in an exchange, the chip has carried out the transaction, and the reply is lost.
+///
+/// A call also fails if it sends an O_SPIOP before all replies were received, or one with more than 4,096 reply bytes,
+/// or if it requests more bytes than are pending. After any failure no call succeeds.
+#[derive(Drop)]
+pub struct SimPort {
+    chip: SimBus,
+    pending: ArrayVec<u8, MOST_PENDING>,
+    left: u64,
+}
+
+impl SimPort {
+    /// Returns a port to a programmer with this chip. `left` is the number of calls that succeed.
+    pub fn new(chip: SimBus, left: u64) -> SimPort
+        ensures chip { chip_of result ≡ chip }
+        ensures state { ⟦<SimPort as Port>⟧.state result ≡ port_over (⟦<SimBus as Bus>⟧.state chip) [] left }
+    {
+        SimPort {
+            chip,
+            pending: ArrayVec::new(),
+            left,
+        }
+    }
+
+    /// Returns the chip.
+    pub fn chip(&self) -> &SimBus
+        ensures { result.now ≡ chip_of self.now }
+    {
+        &self.chip
+    }
+
+    /// Returns the number of calls that still succeed.
+    pub fn left(&self) -> u64
+        ensures { result ≡ left_of self.now }
+    {
+        self.left
+    }
+
+    /// Returns true if each reply was received.
+    pub fn is_idle(&self) -> bool
+        ensures { result ≡ true → IsIdle (⟦<SimPort as Port>⟧.state self.now).device }
+    {
+        self.pending.is_empty()
+    }
+
+    // Carries out a frame of O_SPIOP: one transaction of the chip. The reply is ACK and the bytes that the chip
+    // returned.
+    fn operate(&mut self, frame: &[u8]) -> Result<(), SimFailure>
+        ensures sent { OnOk result (IsSent frame.now (⟦<SimPort as Port>⟧.state self.old)
+            (⟦<SimPort as Port>⟧.state self.new)) }
+        ensures cut_off { OnErr result (IsCutOff frame.now (⟦<SimPort as Port>⟧.state self.old)
+            (⟦<SimPort as Port>⟧.state self.new)) }
+    {
+        let mut reply = [0; MOST_READ];
+        let reply = match reply.get_mut(..reply_len(frame)) {
+            Some(reply) if self.left > 0 && self.pending.is_empty() => reply,
+            _ => {
+                self.left = 0;
+                cut(&mut self.chip, sent_by(frame));
+                return Err(SimFailure::Cut);
+            }
+        };
+        self.left -= 1;
+        transact(&mut self.chip, sent_by(frame), reply);
+        self.pending = acknowledged(reply);
+        Ok(())
+    }
+}
+
+impl Port for SimPort {
+    type Cause = SimFailure;
+
+    ghost state = { λ port. port_over (⟦<SimBus as Bus>⟧.state port.chip) port.pending.items port.left };
+
+    ghost reaches = { λ port honest. record {
+      busy = port.chip.flash.busy_in;
+      kept1 = port.chip.flash.kept1_in;
+      kept2 = port.chip.flash.kept2_in;
+      bytes = port.chip.flash.bytes_in;
+    } };
+
+    fn send(&mut self, bytes: &[u8]) -> Result<(), SimFailure> {
+        if is_operation(bytes) {
+            return self.operate(bytes);
+        }
+        if self.left == 0 || !reply_to_each(&mut self.pending, bytes) {
+            self.left = 0;
+            return Err(SimFailure::Cut);
+        }
+        self.left -= 1;
+        Ok(())
+    }
+
+    fn receive(&mut self, bytes: &mut [u8]) -> Result<(), SimFailure> {
+        let len = bytes.len();
+        if self.left == 0 || self.pending.len() < len {
+            self.left = 0;
+            return Err(SimFailure::Silent);
+        }
+        self.left -= 1;
+        let (taken, later) = self.pending.as_slice().split_at(len);
+        bytes.copy_from_slice(taken);
+        let mut rest = ArrayVec::new();
+        let _ = rest.try_extend_from_slice(later);
+        self.pending = rest;
+        Ok(())
+    }
+}
+
+// True if these bytes are one whole frame of O_SPIOP.
+fn is_operation(bytes: &[u8]) -> bool
+    ensures { result ≡ false → ¬ (IsFrame bytes.now × (slice_index bytes.now 0 ≡ 0x13)) }
+{
+    bytes.first() == Some(&O_SPIOP) && frame_len(bytes) == Some(bytes.len())
+}
+
+// Returns the bytes that a frame of O_SPIOP sends to the chip.
+fn sent_by(frame: &[u8]) -> &[u8]
+    ensures { result.now ≡ out_in frame.now }
+{
+    frame.get(7..).unwrap_or(&[])
+}
+
+// Returns the number of bytes that a frame of O_SPIOP reads from the chip.
+fn reply_len(frame: &[u8]) -> usize
+    ensures { result ≡ replies_in frame.now }
+{
+    let header = [byte_at(frame, 4), byte_at(frame, 5), byte_at(frame, 6), 0];
+    u32::from_le_bytes(header) as usize
+}
+
+// Returns the byte at this index, or 0 if there is none.
+fn byte_at(bytes: &[u8], index: usize) -> u8
+    ensures { result ≡ slice_index bytes.now index }
+{
+    bytes.get(index).copied().unwrap_or(0)
+}
+
+// Returns ACK and these bytes.
+fn acknowledged(bytes: &[u8]) -> ArrayVec<u8, MOST_PENDING>
+    requires { length bytes.now ≤ 4096 }
+    ensures { result.items ≡ 0x06 ∷ bytes.now }
+{
+    let mut reply = ArrayVec::new();
+    let _ = reply.try_push(ACK);
+    let _ = reply.try_extend_from_slice(bytes);
+    reply
+}
+
+// Makes one transaction of the chip.
+fn transact(chip: &mut SimBus, out: &[u8], reply: &mut [u8])
+    ensures { (pending pending' : List ℕ) → StepsOnce out.now reply.new
+        (device_over (⟦<SimBus as Bus>⟧.state chip.old) pending)
+        (device_over (⟦<SimBus as Bus>⟧.state chip.new) pending') }
+{
+    chip.allow(1);
+    let _ = chip.transfer(out, reply);
+}
+
+// Stops the chip inside a transaction.
+fn cut(chip: &mut SimBus, out: &[u8])
+    ensures { (pending : List ℕ) → IsCut out.now (device_over (⟦<SimBus as Bus>⟧.state chip.old) pending)
+        (device_over (⟦<SimBus as Bus>⟧.state chip.new) pending) }
+{
+    chip.allow(0);
+    let _ = chip.transfer(out, &mut []);
+}
+
+// Replies to frames of which at most the last is an O_SPIOP, which is refused. Bytes after the last whole frame are
+// ignored. Returns false if the replies are too long.
+fn reply_to_each(pending: &mut ArrayVec<u8, MOST_PENDING>, frames: &[u8]) -> bool {
+    let mut rest = frames;
+    for _ in 0..frames.len() {
+        let len = frame_len(rest).unwrap_or(usize::MAX);
+        let Some((frame, later)) = rest.split_at_checked(len) else {
+            return true;
+        };
+        if pending.try_extend_from_slice(reply_to(frame)).is_err() {
+            return false;
+        }
+        rest = later;
+    }
+    true
+}
+
+// Returns the reply to one frame (serprog protocol, flashrom's Documentation/serprog-protocol.txt). An O_SPIOP that is
+// sent together with other frames is refused.
+fn reply_to(frame: &[u8]) -> &'static [u8] {
+    match frame {
+        [0x00 | 0x12, ..] => &[ACK],
+        [0x01] => &[ACK, 1, 0],
+        [0x02] => &COMMANDS,
+        [0x10] => &[NAK, ACK],
+        _ => &[NAK],
+    }
+}
