@@ -198,9 +198,10 @@ class Server:
             self.is_mute = True
         if event == "kill":
             self.has_victim.wait(10)
+            # Set before the kill, since the test may read it as soon as the process has ended.
+            self.killed = True
             self.victim.kill()
             self.victim.wait()
-            self.killed = True
 
     def take(self, length):
         """Returns the next bytes that the client sent."""
