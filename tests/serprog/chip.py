@@ -62,9 +62,9 @@ def protected_range(status, size):
 class Chip:
     """A chip with its data and its two status bytes.
 
-    `scale` multiplies the durations of the datasheet, so with 0 the chip is never busy. `wp_low` says whether the pin
-    WP# is low, so that SRP0 locks the status. Transactions that changed nothing although they should have are counted
-    in `ignored`.
+    `scale` multiplies the durations of the datasheet, so with 0 the chip is never busy. `slow` has other durations, by
+    the number of the operation. `wp_low` says whether the pin WP# is low, so that SRP0 locks the status. Transactions
+    that changed nothing although they should have are counted in `ignored`.
     """
 
     def __init__(self, part, data=None, status=b"\0\0", unique=bytes(8), scale=0.0, wp_low=True):
@@ -75,9 +75,14 @@ class Chip:
             raise ValueError(f"the image has {len(self.data)} bytes, and the chip {self.size}")
         self.status = bytearray(status)
         self.unique, self.scale, self.wp_low = unique, scale, wp_low
-        self.wel, self.until, self.ignored = False, 0.0, 0
+        self.wel, self.until, self.ignored, self.slow = False, 0.0, 0, {}
+        self.count_anew()
         # The bytes that the last transaction changes, if it was a program or an erase.
         self.in_progress = None
+
+    def count_anew(self):
+        """Counts operations (programs, erases and status writes) from 1 again, and the polls after each of them."""
+        self.operations = self.polls = 0
 
     def is_busy(self):
         if self.until and time.monotonic() >= self.until:
@@ -102,6 +107,7 @@ class Chip:
         opcode = out[0] if out else None
         busy = self.is_busy()
         if opcode == 0x05:
+            self.polls += 1
             return bytes([self.status[0] & 0xFC | WEL * self.wel | BUSY * busy]) * replies
         if opcode == 0x35:
             return bytes([self.status[1]]) * replies
@@ -183,7 +189,8 @@ class Chip:
 
     def begin(self, opcode):
         """Sets BUSY for the duration of an operation. WEL is clear when it ends."""
-        seconds = SECONDS.get(opcode, self.part.chip_erase) * self.scale
+        self.operations, self.polls = self.operations + 1, 0
+        seconds = self.slow.get(self.operations, SECONDS.get(opcode, self.part.chip_erase) * self.scale)
         if seconds:
             self.until = time.monotonic() + seconds
         else:

@@ -3,7 +3,8 @@
 
 The programmer is server.py, and its chip is a model from the datasheets (chip.py). The cases are in options.py,
 refusals.py and faults.py. losses.py kills the program, and loses replies, at each transaction of a session and of its
-restores. What the program must send and print is computed by reference.py, without the program.
+restores; busy.py does so while the chip is busy. What the program must send and print is computed by reference.py,
+without the program.
 
 A case that failed is printed, with what was wanted and what was got. The last line is `N passed, M failed`, and the
 exit status is 1 if one failed. `run.py PROGRAM NAME..` runs only the cases with these names, or `losses`.
@@ -16,13 +17,14 @@ from concurrent.futures import ProcessPoolExecutor
 from functools import partial
 from pathlib import Path
 
+import busy
 import faults
 import losses
 import options
 import refusals
 from bench import Bench, Differs
 
-CASES = {case.__name__: case for module in (options, refusals, faults) for case in module.CASES}
+CASES = {case.__name__: case for module in (options, refusals, faults, busy) for case in module.CASES}
 
 
 def try_case(program, name):
@@ -68,6 +70,7 @@ def main(words):
     tries = [partial(try_case, program, name) for name in names if name != "losses"]
     if "losses" in names:
         tries += [partial(losses.try_loss, program, it) for it in losses.losses()]
+        tries += [partial(busy.try_loss, program, it) for it in busy.losses()]
     with ProcessPoolExecutor(os.cpu_count()) as pool:
         passed, failed = run_all(tries, pool)
     times = os.times()

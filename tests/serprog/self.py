@@ -34,6 +34,8 @@ MISTAKES = {
     "reads past the end": "reads_inside",
     "overfills the buffer": "fills_no_buffer",
     "sends one by one": "fills_no_buffer",
+    "begins while busy": "restores_a_busy_chip",
+    "polls once": "restores_a_busy_chip",
 }
 RIGHT = sorted(set(MISTAKES.values()))
 

@@ -43,7 +43,9 @@ class Traits:
     is neither ACK nor NAK), `mute` (it is carried out, and nothing is ever sent again), `unplug` (it isn't carried
     out, and the programmer is gone), `lose` (it is carried out, and the programmer is gone before its reply), `power`
     (the same, and the chip loses its power in the operation), `cut N` (the programmer gets the first N bytes of the
-    frame, and is gone), `kill` (it is carried out, the process `victim` is killed, and then the reply is sent).
+    frame, and is gone), `kill` (it is carried out, the process `victim` is killed, and then the reply is sent). `lose`,
+    `power` and `kill` may also have a pair of numbers: they happen at this operation of the chip, and at this poll
+    after it; poll 0 is the command itself.
     """
 
     version: int = 1
@@ -95,6 +97,7 @@ class Server:
         self.ways, self.sent, self.is_mute = [], 0, self.traits.is_silent
         self.has_victim = threading.Event()
         self.killed = False
+        self.chip.count_anew()
 
     def kill_at(self, process):
         """Sets the process that the event `kill` kills."""
@@ -182,6 +185,7 @@ class Server:
             self.put(NAK)
             return
         reply = self.chip.transfer(out, replies)
+        event = event or traits.events.pop((self.chip.operations, self.chip.polls), "")
         if number in traits.flips and out[:1] == bytes([READ_DATA]):
             reply = bytes([reply[0] ^ 0x10]) + reply[1:]
         self.log.append((out, reply))

@@ -283,14 +283,15 @@ class Link:
         reply = b""
         for out, length in plan:
             reply = self.transfer(out, length)
-            while out == b"\x05" and reply[0] & 1:
+            while out == b"\x05" and reply[0] & 1 and MISTAKE != "polls once":
                 reply = self.transfer(out, length)
         return reply
 
 
 def probe(link, name=None):
     """Returns the part that is there. Afterwards `link.status` has the bits of status 1 that are non-volatile."""
-    link.status = link.run([(b"\x05", 1)])[0] & 0xFC
+    poll = (b"\x05", 1)
+    link.status = (link.transfer(*poll) if MISTAKE == "begins while busy" else link.run([poll]))[0] & 0xFC
     found = link.transfer(b"\x9f", 3)
     if found in (b"\xff" * 3, b"\0" * 3):
         raise Fault("Error 1: no chip.")
