@@ -105,6 +105,7 @@ compare: $(BUILT) ## compares the programs with flashrom and with a chip of QEMU
 	@scripts/compare.sh '$(PROGRAM)'
 	@scripts/compare/rows.sh '$(PROGRAM)'
 	@scripts/compare/qemu.py '$(PROGRAM)'
+	@[ ! -x '$(HARDWARE)' ] || tests/serprog/emulated.py '$(HARDWARE)'
 	@[ ! -x '$(HARDWARE)' ] || tests/serprog/compare.py '$(HARDWARE)'
 
 install: $(BUILT) ## installs program, manual pages and completion below PREFIX and DESTDIR

@@ -187,6 +187,7 @@ def stop(bench, words, event, at, seconds):
     """Runs the program, stops it at an operation that lasts for these seconds, and plugs the programmer in again."""
     bench.chip.slow = {at[0]: seconds}
     got = bench.run(*words, events={at: event})
+    check("transactions that the busy chip ignored", bench.chip.ignored, 0)
     if bench.server.traits.events:
         raise TooFast(f"the run ended before operation {at[0]} and its poll {at[1]}: {got}")
     bench.chip.slow = {}
