@@ -1,4 +1,4 @@
--- `verify`: its promises at each exit, from those of the probe and of the comparison.
+-- The promises of `verify` at each exit follow from those of the probe and of the comparison.
 use Rattle.std.proofs.Common.{◌≡◌, ◌≢◌, ◌∙◌, ℕ, true, List, length, Option, Some, None, Result, Ok, Err}
 use Rattle.std.proofs.Common.{arith}
 use Rattle.std.specs.Prelude.{◌/◌}
@@ -35,7 +35,7 @@ module _ (named : Option ChipName) (included : Option (List Span)) (image : List
       → Verified named included image old new (Err refusal)
   refused refusal sends is errors own = search sends.own
 
-  -- An error of the probe is one that `verify` may return, and means what `verify` promises.
+  -- An error of the probe is one that `verify` may return. On a modelled bus it means what `verify` promises.
   unfound_tells : (old new : BusState) (refusal : Refusal) → IdentificationErrors most_probe named old new refusal
       → IsVerifyRefusal refusal × (IsModelled old → VerifyErrors named included image old new refusal)
   unfound_tells old new Stopped errors = (tt, λ known. let ran = errors known.honest in omega arith)
@@ -71,7 +71,8 @@ module _ (named : Option ChipName) (included : Option (List Span)) (image : List
       -- the exits after all sectors were compared
       module _ (whole : length image ≡ probed.found.size) (fits : FitsInto included probed.found.size)
           {compared : Compared} (all : ComparesAll included image probed.found.size mid new compared) where
-        -- The first difference that was found is that from the chip as it was before the probe.
+        -- On a modelled bus the first difference that was found is the first one between the image and the chip as it
+        -- was before the probe.
         first_before : (first : Option ℕ) → compared.first ≡ first → IsModelled old
             → FindsFirst included image old.chip.bytes 0 old.chip.config.size first
         first_before first is known =

@@ -1,4 +1,4 @@
--- The copy of a chip, piece by piece, until it is whole or the vault refuses a piece.
+-- Lemmas about the copy of a chip, which is made piece by piece until it is whole or the vault refuses a piece.
 use Rattle.std.proofs.Common.{◌≡◌, ◌≤◌, ◌<◌, ◌+◌, ◌-◌, ◌*◌, ◌++◌, ◌∙◌, ℕ, true, List, [], length, slice_index, take}
 use Rattle.std.proofs.Common.{Option, refl, ap, sym, arith, inl, inr, append_assoc, append-nil, length-append}
 use Rattle.std.specs.Prelude.{◌/◌}
@@ -49,7 +49,8 @@ copied_none included size state vault = record {
   };
 }
 
--- `CopiesIf` still holds after the vault accepted the next bytes of the copy.
+-- `CopiesIf` holds for `k` more bytes after the vault accepted them. If `known` holds, they are the next bytes of the
+-- copy.
 module _ {known : Type 0} {included : Option (List Span)} {content : ℕ → ℕ} {m : ℕ} {vault mid new : VaultState} where
   copies_more : (k count : ℕ) (part : List ℕ) → m + k ≡ count → CopiesIf known included content m vault mid
       → length part ≡ k → new.bytes ≡ mid.bytes ++ part

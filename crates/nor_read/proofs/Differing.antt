@@ -1,4 +1,4 @@
--- The first difference, found sector by sector.
+-- Lemmas about the first difference between a chip and an image, which is found sector by sector.
 use Rattle.std.proofs.Common.{◌≡◌, ◌≤◌, ◌<◌, ◌+◌, ◌-◌, ◌*◌, ◌∙◌, ℕ, Bool, true, false, List, length, slice_index}
 use Rattle.std.proofs.Common.{Option, Some, None, subst, sym, arith}
 use Rattle.std.specs.Prelude.{◌/◌, MatchBool, if◌then◌else◌}

@@ -1,4 +1,4 @@
--- `wp_status`: the meaning of the two status bytes that it reads, and its promises at each exit.
+-- Lemmas about the two status bytes that `wp_status` reads, and its promises at each exit.
 use Rattle.std.proofs.Common.{◌≡◌, ◌∙◌, ℕ, ◌/◌, Bool, true, false, List, [], ◌∷◌, Option, Some, None, Result, Ok}
 use Rattle.std.proofs.Common.{Err, ap, sym, arith}
 use Rattle.std.specs.Prelude.{MatchOption}
@@ -70,7 +70,7 @@ module _ (named : Option ChipName) where
     looks_all : OnlyReads most_status old new
     looks_all = looks_on found only_reads 1 most_status (omega arith) after
 
-    -- the exit at which the bus stopped before status 2 was read
+    -- the exit after the bus stopped at the read of status 2
     pub stopped : RanOutIfHonest 1 mid new → HasReported named old new (Err Stopped)
     stopped out =
         refused Stopped looks_all tt (ran_on found only_reads 1 most_status (omega arith) out) (λ known. tt)

@@ -1,4 +1,4 @@
--- Successive steps that only read. A step may send nothing.
+-- Lemmas about successive steps that only read. A step may send nothing.
 use Rattle.std.proofs.Common.{◌≡◌, ◌+◌, ℕ, true, arith}
 use mathlib.Core.Path.{fun_ext}
 use Rattle.nor_model.specs.Bus.{BusState}
@@ -12,7 +12,7 @@ pub has_looked : {most more : ℕ} {old new : BusState} → OnlyReads most old n
     → (old.honest ≡ true → old.left ≡ new.left + more) → StaysReady old new → HasLooked more old new
 has_looked only_reads rested fell polled_ready = assumption
 
--- Two steps that succeeded, one after the other, are one with the sum of their reads.
+-- `HasLooked` holds for two successive steps together, with the sum of their reads.
 pub looked_on : {reads more : ℕ} {old mid new : BusState} → HasLooked reads old mid → HasLooked more mid new
     → HasLooked (reads + more) old new
 looked_on {reads} {more} {old} {mid} {new} has next =
@@ -22,6 +22,6 @@ looked_on {reads} {more} {old} {mid} {new} has next =
 pub same_bytes : {old new : BusState} → Rested old new → new.chip.bytes ≡ old.chip.bytes
 same_bytes rested = fun_ext rested.unchanged.same.bytes
 
--- After reads, an idle chip is still idle, and has the same size.
+-- On a well-behaved bus, an idle chip is still idle after reads that succeeded, and has the same size.
 pub open_on : {size reads : ℕ} {old mid : BusState} → IsOpen size old → HasLooked reads old mid → IsOpen size mid
 open_on is_open honest_reads = let was = (honest_reads.rested is_open.honest).unchanged in search arith

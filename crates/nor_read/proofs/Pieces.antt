@@ -1,4 +1,4 @@
--- A piece of the copy, sector by sector.
+-- Lemmas about a piece of the copy, which is made sector by sector.
 use Rattle.std.proofs.Common.{◌≡◌, ◌≤◌, ◌<◌, ◌+◌, ◌-◌, ◌*◌, ◌∙◌, ℕ, true, List, length, slice_index, Option, refl}
 use Rattle.std.proofs.Common.{arith, inl, inr}
 use Rattle.std.proofs.lemmas.Bool.{cases_lt}

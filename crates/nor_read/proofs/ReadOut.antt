@@ -1,4 +1,4 @@
--- `read_out`: its promises at each exit, from those of the probe and of the copy.
+-- The promises of `read_out` at each exit follow from those of the probe and of the copy.
 use Rattle.std.proofs.Common.{◌≡◌, ℕ, true, List, Option, Result, Ok, Err, arith}
 use Rattle.std.specs.Prelude.{◌/◌}
 use Rattle.nor_model.specs.Bus.{BusState}
@@ -35,7 +35,7 @@ module _ (named : Option ChipName) (included : Option (List Span)) (vault : Vaul
       → HasReadOut named included old new vault vault' (Err refusal)
   refused refusal sends is errors own = search sends.own
 
-  -- An error of the probe is one that `read_out` may return, and means what `read_out` promises.
+  -- An error of the probe is one that `read_out` may return. On a modelled bus it means what `read_out` promises.
   unfound_tells : (old new : BusState) (refusal : Refusal) → IdentificationErrors most_probe named old new refusal
       → IsReadRefusal vault vault refusal × (IsModelled old → ReadOutErrors named included old new vault vault refusal)
   unfound_tells old new Stopped errors = ((tt, assumption), λ known. let ran = errors known.honest in omega arith)

@@ -1,4 +1,4 @@
--- The probe and the reads after it, for all three calls of this crate.
+-- Lemmas about the probe and the reads after it, for all three calls of this crate.
 use Rattle.std.proofs.Common.{◌≡◌, ◌≤◌, ◌+◌, ◌∙◌, ℕ, true, List, Option, Result, Ok, Err, ap, sym, arith}
 use Rattle.std.specs.Prelude.{◌/◌, IsErrAnd}
 use Rattle.nor_model.specs.Chip.{status1_of}
@@ -70,7 +70,7 @@ pub record Reports (named : Option ChipName) (included : Option (List Span)) (ol
   pub reads : old.honest ≡ true → ReportsReads (sectors_included included report.found.size) old new report
   pub config : IsModelled old → IsConfigOf old.chip.config report.found
 
--- Reads leave status 1 of an idle chip as it is, in each bit.
+-- Reads that succeeded on a well-behaved bus (`Rested`) leave status 1 of an idle chip as it is, in each bit.
 status1_stays : (old new : BusState) → old.chip.busy ≡ 0 → Rested old new → status1_of new.chip ≡ status1_of old.chip
 status1_stays old new idle rested =
     let latch = rested.idle_latch idle in
@@ -99,7 +99,8 @@ module _ {named : Option ChipName} {old mid : BusState} {probed : Probed}
   pub fails : {new : BusState} → RanOutIfHonest (probed.found.size / 4096) mid new → OperationFails old new
   fails out = let most = found.is.part.at_most in search (arith, ran_on, size_of)
 
-  -- The probe and the reads after it leave contents and non-volatile status bits as they were.
+  -- On a well-behaved bus, a probe and reads that all succeeded leave contents and non-volatile status bits as they
+  -- were.
   pub rested_on : {new : BusState} → (mid.honest ≡ true → Rested mid new) → old.honest ≡ true → Rested old new
   rested_on {new} rested honest =
       rested_then old mid new (found.rested honest) (rested (only_reads.nature.honest ∙ honest))

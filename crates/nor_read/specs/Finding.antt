@@ -1,4 +1,5 @@
--- How each call that only reads begins and ends: it finds the chip, and returns a report or an error.
+-- What the calls share that only read: the chip that was found, the checks of it, the bounds on the transactions, the
+-- report of `read_out` and `verify`, and the errors.
 use Rattle.std.specs.Prelude.{◌≡◌, ◌≤◌, ◌+◌, ◌/◌, ℕ, true, Option, Ok, List, ⊤}
 use Rattle.nor_model.specs.declared.config.Config.{Config}
 use Rattle.nor_model.specs.Chip.{status1_of}
@@ -30,9 +31,9 @@ pub record IsFound (named : Option ChipName) (old : BusState) (found : Found) : 
   pub shown : old.honest ≡ true → shown_as old.chip.config ≡ Ok (part_in found)
   pub config : IsModelled old → IsConfigOf old.chip.config found
 
--- Holds after the probe found a chip, and its last poll showed ready. On a well-behaved bus contents and non-volatile
--- status bits are as before (`Rested`), the chip is idle, status 1 is the chip's own, and the transactions sent were
--- counted exactly.
+-- Holds after the probe found a chip: its last poll showed ready, and it counted at most 65,540 transactions. On a
+-- well-behaved bus contents and non-volatile status bits are as before (`Rested`), the chip is idle, status 1 is the
+-- chip's own, and the transactions sent were counted exactly.
 pub record HasFound (named : Option ChipName) (old new : BusState) (probed : Probed) : Type 0 where
   pub is : IsFound named old probed.found
   pub most : probed.transactions ≤ most_probe
@@ -57,7 +58,7 @@ pub record IsTaken (named : Option ChipName) (included : Option (List Span)) (co
 
 -- ---- how much is sent
 
--- the greatest number of transactions for a chip of this size: those of a probe, and one for each sector
+-- the bound on the transactions of a call for a chip of this size: those of a probe, and one for each sector
 abbrev pub most_read : ℕ → ℕ
 most_read size = most_probe + size / 4096
 
@@ -73,7 +74,7 @@ pub record ReportsPart (named : Option ChipName) (report : Report) : Type 0 wher
   pub touched : report.touched ≡ 0
   pub erases : report.erases ≡ 0
   pub programs : report.programs ≡ 0
-  -- The report counts at most the transactions of the bound for a chip of this size.
+  -- The number of transactions is within the bound for a chip of this size.
   pub most : report.transactions ≤ most_read report.found.size
 
 -- Describes, on a well-behaved bus, the report of a call that read `reads` sectors: it has what the chip's replies
@@ -89,7 +90,7 @@ pub record ReportsReads (reads : ℕ) (old new : BusState) (report : Report) : T
   pub status1 : report.found.status1 ≡ status1_of new.chip
   -- The transactions are those of the probe and of the reads.
   pub count : report.transactions ≡ needed old.chip + reads
-  -- Exactly this number of transactions was sent.
+  -- Exactly the reported number of transactions was sent.
   pub fell : old.left ≡ new.left + report.transactions
 
 -- ---- errors

@@ -60,7 +60,7 @@ pub record ProtectionHonest (named : Option ChipName) (old new : BusState)
   pub errors : IfErr result (ReadingErrors most_status named old new)
 
 -- The meaning of error 6 on a modelled bus: the chip has the requested name, and no block protection. `ReadingErrors`
--- has the meaning of the probe's errors.
+-- has the meaning of the other errors.
 abbrev pub ProtectionErrors : Option ChipName → Chip → Refusal → Type 0
 ProtectionErrors named chip NoProtection = IsNamed named chip.config × (chip.config.scheme ≡ false)
 ProtectionErrors named chip _ = ⊤

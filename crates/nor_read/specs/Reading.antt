@@ -1,4 +1,4 @@
--- The result of `read_out`: what it appends to a vault, and the meaning of its errors.
+-- The result of `read_out` and of its steps: what they append to a vault, and the meaning of their errors.
 use Rattle.std.specs.Prelude.{◌≡◌, ◌≤◌, ◌<◌, ◌+◌, ◌*◌, ◌/◌, ◌++◌, ℕ, true, if◌then◌else◌, ⊤}
 use Rattle.std.specs.Prelude.{Option, Result, IfOk, IfErr, OnOk, List, length, slice_index}
 use Rattle.nor_model.specs.Bus.{BusState}
@@ -60,8 +60,8 @@ IsReadRefusal vault vault' refusal = IsFindRefusal refusal × Accepted vault vau
 -- The promises of `read_out` on every bus and with every vault.
 pub record ReadOutAlways (named : Option ChipName) (included : Option (List Span)) (old new : BusState)
     (vault vault' : VaultState) (result : Result Report Refusal) : Type 0 where
-  -- No modifying command was sent, and on a well-behaved bus no more transactions than the call takes for the largest
-  -- chip, of 16 MiB.
+  -- No modifying command was sent, and on a well-behaved bus no more transactions than the bound for the largest chip,
+  -- of 16 MiB.
   pub only_reads : OnlyReads (most_read 16777216) old new
   -- The report has a chip with the requested name, and counts no change.
   pub reports : IfOk result (ReportsPart named)
@@ -78,15 +78,16 @@ pub record ReadOutAlways (named : Option ChipName) (included : Option (List Span
 -- The promises of `read_out` on a well-behaved bus.
 pub record ReadOutHonest (named : Option ChipName) (included : Option (List Span)) (old new : BusState)
     (result : Result Report Refusal) : Type 0 where
-  -- Each sector with an included address was read once, contents and non-volatile status bits are as before, and the
-  -- chip is idle.
+  -- One read was sent for each sector with an included address, contents and non-volatile status bits are as before,
+  -- and the chip is idle.
   pub reports : IfOk result (λ report. ReportsReads (sectors_included included report.found.size) old new report)
   -- An error means what `ReadingErrors` says. After any error except a stop, contents and non-volatile status bits are
   -- as before.
   pub errors : IfErr result (ReadingErrors (most_read 16777216) named old new)
 
--- Holds if the vault refused a piece, though the chip has the requested name and all included addresses. A `telling`
--- vault then has the first `written` bytes of the copy, at most the size of the chip.
+-- The meaning of error 19 (the vault refused a piece) on a modelled bus. The chip has the requested name and all
+-- included addresses, and `written` is at most its size. A `telling` vault has the first `written` bytes of the copy,
+-- after the bytes from before the call.
 pub record BreaksOff (named : Option ChipName) (included : Option (List Span)) (written : ℕ) (old : BusState)
     (vault vault' : VaultState) : Type 0 where
   pub taken : IsTaken named included old.chip.config
@@ -104,11 +105,11 @@ ReadOutErrors named included old new vault vault' _ = ⊤
 -- The promises of `read_out` on a modelled bus.
 pub record ReadOutModelled (named : Option ChipName) (included : Option (List Span)) (old new : BusState)
     (vault vault' : VaultState) (result : Result Report Refusal) : Type 0 where
-  -- No more transactions were sent than the call takes for a chip of this size.
+  -- No modifying command was sent, and no more transactions than the bound for a chip of this size.
   pub only_reads : OnlyReads (most_read old.chip.config.size) old new
   -- The report has the chip's configuration.
   pub config : IfOk result (λ report. IsConfigOf old.chip.config report.found)
-  -- A `telling` vault has the chip's included bytes, and FFh for all others.
+  -- A `telling` vault has, after its earlier bytes, the chip's included bytes, and FFh for all others.
   pub copy : IfOk result (λ report. vault.telling ≡ true
       → Copies included old.chip.bytes old.chip.config.size vault vault')
   -- Error 5 means that an included address isn't on the chip, error 12 that too few transactions were left. Error 19
@@ -118,7 +119,7 @@ pub record ReadOutModelled (named : Option ChipName) (included : Option (List Sp
 -- ---- piece by piece, and each of these sector by sector
 
 -- Holds after one sector of the copy was made, with one transaction if it has an included address and with none
--- otherwise.
+-- otherwise. Its bytes are known to be right on a well-behaved bus with an idle chip that has this sector.
 pub record ReadsPart (included : Option (List Span)) (sector : ℕ) (bytes : List ℕ) (old new : BusState)
     (reads : ℕ) : Type 0 where
   pub counted : reads ≡ (if has_in_sector (includes included) sector then 1 else 0)
@@ -129,7 +130,7 @@ pub record ReadsPart (included : Option (List Span)) (sector : ℕ) (bytes : Lis
       → AreOfSector (copied included old.chip.bytes) sector bytes
 
 -- Holds after a piece of the copy, of sixteen sectors, was made with one transaction for each sector that has an
--- included address.
+-- included address. The piece is known to be right on a well-behaved bus with an idle chip that has these sectors.
 pub record ReadsPiece (included : Option (List Span)) (piece : ℕ) (bytes : List ℕ) (old new : BusState)
     (reads : ℕ) : Type 0 where
   pub counted : count_below (16 * piece + 16) (has_in_sector (includes included))
@@ -141,7 +142,8 @@ pub record ReadsPiece (included : Option (List Span)) (piece : ℕ) (bytes : Lis
   pub right : old.honest ≡ true → old.chip.busy ≡ 0 → 65536 * (piece + 1) ≤ old.chip.config.size
       → (i : ℕ) → i < 65536 → slice_index bytes i ≡ copied included old.chip.bytes (65536 * piece + i)
 
--- Holds after all sectors were copied.
+-- Holds after all pieces of the copy were made and appended. The copy is known to be right on a well-behaved bus with
+-- an idle chip of this size.
 pub record ReadsAll (included : Option (List Span)) (size : ℕ) (old new : BusState) (vault vault' : VaultState)
     (reads : ℕ) : Type 0 where
   pub counted : reads ≡ sectors_included included size
@@ -151,8 +153,8 @@ pub record ReadsAll (included : Option (List Span)) (size : ℕ) (old new : BusS
   pub took : TakesWhole size vault vault'
   pub copy : IsOpen size old → vault.telling ≡ true → Copies included old.chip.bytes size vault vault'
 
--- Holds after the vault refused a piece of the copy. In all it accepted `written` bytes of the copy, if it is
--- `telling`.
+-- Holds after the vault refused a piece of the copy. A `telling` vault accepted `written` bytes in all. On a
+-- well-behaved bus with an idle chip of this size, these are the first bytes of the copy.
 pub record BreaksCopy (included : Option (List Span)) (size written : ℕ) (old new : BusState)
     (vault vault' : VaultState) : Type 0 where
   pub rested : old.honest ≡ true → Rested old new

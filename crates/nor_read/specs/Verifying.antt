@@ -31,7 +31,8 @@ pub record IsFirstOther (included : Option (List Span)) (image : List ℕ) (cont
   pub differs : slice_index image address ≢ content address
   pub before : AgreeIn included image content from address
 
--- Holds if the chip has the requested name, and another size than the image. The error has both sizes.
+-- Holds if the chip has the requested name, and its size differs from the length of the image. The error has both
+-- numbers.
 pub record IsOtherSize (named : Option ChipName) (image : List ℕ) (config : Config)
     (chip_size image_size : ℕ) : Type 0 where
   pub is : IsNamed named config
@@ -59,8 +60,8 @@ IsVerifyRefusal refusal = IsFindRefusal refusal
 -- The promises of `verify` on every bus.
 pub record VerifyAlways (named : Option ChipName) (included : Option (List Span)) (image : List ℕ) (old new : BusState)
     (result : Result Report Refusal) : Type 0 where
-  -- No modifying command was sent, and on a well-behaved bus no more transactions than the call takes for the largest
-  -- chip, of 16 MiB.
+  -- No modifying command was sent, and on a well-behaved bus no more transactions than the bound for the largest chip,
+  -- of 16 MiB.
   pub only_reads : OnlyReads (most_read 16777216) old new
   -- The report has a chip with the requested name, and counts no change.
   pub reports : IfOk result (ReportsPart named)
@@ -76,8 +77,8 @@ pub record VerifyAlways (named : Option ChipName) (included : Option (List Span)
 -- The promises of `verify` on a well-behaved bus.
 pub record VerifyHonest (named : Option ChipName) (included : Option (List Span)) (old new : BusState)
     (result : Result Report Refusal) : Type 0 where
-  -- Each sector with an included address was read once, contents and non-volatile status bits are as before, and the
-  -- chip is idle.
+  -- One read was sent for each sector with an included address, contents and non-volatile status bits are as before,
+  -- and the chip is idle.
   pub reports : IfOk result (λ report. ReportsReads (sectors_included included report.found.size) old new report)
   -- An error means what `ReadingErrors` says. After any error except a stop, contents and non-volatile status bits are
   -- as before.
@@ -95,7 +96,7 @@ VerifyErrors named included image old new _ = ⊤
 -- The promises of `verify` on a modelled bus.
 pub record VerifyModelled (named : Option ChipName) (included : Option (List Span)) (image : List ℕ)
     (old new : BusState) (result : Result Report Refusal) : Type 0 where
-  -- No more transactions were sent than the call takes for a chip of this size.
+  -- No modifying command was sent, and no more transactions than the bound for a chip of this size.
   pub only_reads : OnlyReads (most_read old.chip.config.size) old new
   -- The report has the chip's configuration.
   pub config : IfOk result (λ report. IsConfigOf old.chip.config report.found)
@@ -112,7 +113,8 @@ abbrev pub FindsFirst : Option (List Span) → List ℕ → (ℕ → ℕ) → (f
 FindsFirst included image content from to first =
     MatchOption first (AgreeIn included image content from to) (IsFirstOther included image content from to)
 
--- Holds after a sector was compared, with one transaction if it has an included address and with none otherwise.
+-- Holds after a sector was compared, with one transaction if it has an included address and with none otherwise. The
+-- result is known to be right on a well-behaved bus with an idle chip that has this sector.
 pub record ComparesPart (included : Option (List Span)) (image : List ℕ) (sector : ℕ) (old new : BusState)
     (compared : Compared) : Type 0 where
   pub counted : compared.reads ≡ (if has_in_sector (includes included) sector then 1 else 0)
@@ -122,7 +124,8 @@ pub record ComparesPart (included : Option (List Span)) (image : List ℕ) (sect
   pub errors : old.honest ≡ true → old.chip.busy ≡ 0 → 4096 * (sector + 1) ≤ old.chip.config.size
       → FindsFirst included image old.chip.bytes (4096 * sector) (4096 * (sector + 1)) compared.first
 
--- Holds after all sectors were compared.
+-- Holds after all sectors were compared. The first difference is known to be right on a well-behaved bus with an idle
+-- chip of this size.
 pub record ComparesAll (included : Option (List Span)) (image : List ℕ) (size : ℕ) (old new : BusState)
     (compared : Compared) : Type 0 where
   pub counted : compared.reads ≡ sectors_included included size

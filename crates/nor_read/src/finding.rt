@@ -1,4 +1,4 @@
-//! How each call begins and ends: it finds the chip, and makes its report.
+//! Finds the chip for each call, and makes the report of `read_out` and `verify`.
 ghost use Rattle.std.specs.Prelude.{◌≡◌, ◌≤◌, ◌+◌, IfOk, IfErr};
 ghost use Rattle.nor_driver.specs.OnlyReads.{OnlyReads};
 ghost use Rattle.nor_probe.specs.Found.{most_probe};

@@ -1,10 +1,10 @@
 //! Calls that only read a flash chip: they copy its bytes, compare them with an image, and report its block protection.
-//! They never send a modifying command, and allocate no memory.
+//! They never send a modifying command. They allocate no memory, except what the vault of `read_out` allocates.
 //!
 //! - `finding.rt`: finds the chip, and makes the report
 //! - `reading.rt`: `read_out`, a copy of the chip in a vault
 //! - `verifying.rt`: `verify`, a comparison with an image
-//! - `protection.rt`: `wp_status`, the protected range
+//! - `protection.rt`: `wp_status`, the protected range and the lock of the status
 //!
 //! ```rust
 //! use nor_chip::{Config, Delays, Meter, SimBus};
@@ -23,7 +23,8 @@
 //! ```
 //!
 //! `specs/Reading.antt`, `specs/Verifying.antt` and `specs/Protecting.antt` define what each call promises and what its
-//! errors mean. `Report` and `Refusal` are those of nor_request, which sessions use, too.
+//! own errors mean, and `specs/Finding.antt` what the errors mean that all calls share. `Report` and `Refusal` are
+//! those of nor_request, which sessions use, too.
 #![tactic(auto)]
 
 mod finding;

@@ -1,4 +1,4 @@
-//! Reports which addresses of a chip are protected.
+//! Reports which addresses of a chip are protected, and whether its status is locked.
 ghost use Rattle.std.specs.Prelude.{◌≡◌, true};
 ghost use Rattle.nor_read.specs.Finding.{IsModelled};
 ghost use Rattle.nor_read.specs.Protecting.{ProtectionAlways, ProtectionHonest, ProtectionModelled};

@@ -28,7 +28,7 @@ const PIECE_LEN: usize = 65_536;
 ///
 /// Returns error 1 (no chip), 2 (unknown chip), 3 (other name), 5 (an included address isn't on the chip), 12 (the bus
 /// stopped) or 19 (the vault failed). Returns 13 (the chip stayed busy) only if the bus isn't well-behaved. Error 19
-/// has the number of bytes that a `telling` vault accepted.
+/// has the number of bytes that a `telling` vault accepted during this call.
 pub fn read_out<B: Bus, V: Vault>(
     bus: &mut B,
     included: Option<&Ranges>,

@@ -61,8 +61,8 @@ pub fn verify<B: Bus>(
     }
 }
 
-// Compares the included bytes of a chip of this size, sector by sector. Returns the first address that differs, and how
-// many sectors were read.
+// Compares the included bytes of a chip of this size, sector by sector. Returns the first included address that
+// differs, if any, and how many sectors were read.
 fn compare_all<B: Bus>(
     bus: &mut B,
     image: &[u8],
@@ -113,8 +113,8 @@ fn compare_part<B: Bus>(
     Ok(Compared { first, reads: 1 })
 }
 
-// Returns the first included address of a sector at which the byte read differs from the image. Bytes that aren't
-// included are overwritten with the image's.
+// Returns the first included address of a sector at which the byte read differs from the image, or `None`. Bytes that
+// aren't included are overwritten with the image's.
 fn first_other(
     image: &[u8],
     included: Option<&Ranges>,
