@@ -1,4 +1,5 @@
--- The contents of a vault for a chip's journal: the header and records, and after an error a prefix of the journal.
+-- What a writer was given for a chip's journal (the header and records), and the prefix of the journal that a `telling`
+-- vault has after an error.
 use Rattle.std.proofs.Common.{◌≡◌, ◌∙◌, ℕ, true, ◌*◌, ◌/◌, ◌%◌, ◌<◌, List, [], refl, ap, sym, arith, ◌≤◌, ◌+◌}
 use Rattle.std.proofs.Common.{◌&&◌, Bool, length, subst}
 use mathlib.Core.Path.{fun_ext}
@@ -105,7 +106,7 @@ abbrev pub head_read : Identity → (status : List ℕ) → Content
 head_read identity status = empty_content identity.found.id (Some identity.unique) status identity.found.size
 
 module _ {chip : Chip} {identity : Identity} {old : BusState} (is : IsIdentityOf chip identity) (shows : HasIdleChip chip old) where
-  -- The chip on the bus has the same bytes.
+  -- The chip on the bus has the same bytes as `chip`.
   pub same_bytes : old.chip.bytes ≡ chip.bytes
   same_bytes = fun_ext shows.same.bytes
 
@@ -165,7 +166,7 @@ pub from_head : {V : Type 0} {state : V → VaultState} {writer : Writer V} {ide
     → promise (header_of chip)
 from_head puts returned chip is shows = returned (is_open is shows) (header_of chip) (sym is.config.size) (puts chip is shows)
 
--- An error of the check after the scan is the verdict for the chip on the bus.
+-- An error of the check after the scan is the verdict for the chip on the bus, under the premises of `JudgesChip`.
 pub judged_tells : {request : Request} {identity : Identity} {image image' : List ℕ} {old new : BusState}
     {scanned : Scanned} (code : ℕ) (refusal : Refusal) → Scans request identity.found.size image image' old new scanned
     → IsScanRefusal refusal
@@ -179,7 +180,7 @@ judged_tells code _ scans is judges = absurd is
 
 -- ---- a truncated journal
 
--- A failure within the header leaves a prefix of the journal in a `telling` vault.
+-- A failure within the header leaves a prefix of the journal in a `telling` vault, as `SaveCuts` says.
 pub cut_in_head : (request : Request) (image : List ℕ) (seen vault : VaultState) {identity : Identity} {status : List ℕ}
     {old : BusState} → (old.honest ≡ true → IsChip old.chip) → status ≡ kept_read identity
     → IsContent (head_read identity status) → HoldsPrefix seen (front (head_read identity status)) → seen ≡ vault
@@ -196,7 +197,7 @@ cut_in_head request image seen vault reaches read content holds same =
 
 module _ {V : Type 0} {state : V → VaultState} {first : Writer V} {identity : Identity} {old : BusState}
     (request : Request) (image : List ℕ) (vault : VaultState) (puts : PutsHead state first identity old) where
-  -- A failure within the scan leaves a prefix of the journal in a `telling` vault.
+  -- A failure within the scan leaves a prefix of the journal in a `telling` vault, as `SaveCuts` says.
   pub cut_in_scan : (seen : VaultState) → FromHead state first identity.found.size old (λ head.
       HoldsCut seen head old.chip.bytes (is_touched old.chip.bytes (wanted_at request image identity.found.size
       old.chip.bytes)) (identity.found.size / 4096)) → seen ≡ vault → SaveCuts request identity image old vault
@@ -204,7 +205,8 @@ module _ {V : Type 0} {state : V → VaultState} {first : Writer V} {identity : 
       begins_touched request image seen.bytes chip
       (rw (same_bytes is shows, is.config.size) at (from_head puts returned chip is shows errors)))
 
-  -- An error of the scan other than 11 leaves the header and complete records in a `telling` vault.
+  -- An error of the scan other than 11 leaves the header and complete records in a `telling` vault, as `SaveBegins`
+  -- says.
   pub begins_scan : {last : Writer V} {refusal : Refusal} → FromHead state first identity.found.size old (λ head.
       refusal ≢ Vault → HasKeptBelow state last head old.chip.bytes (is_touched old.chip.bytes (wanted_at request image
       identity.found.size old.chip.bytes)) (identity.found.size / 4096)) → vault_seen state last ≡ vault
@@ -221,13 +223,14 @@ module _ {V : Type 0} {state : V → VaultState} {first : Writer V} {identity : 
         is = kept.written.put.returned errors;
       })
 
--- the vault after a scan of the whole chip, before it is sealed
+-- the writer after a scan that succeeded, before the vault is sealed
 module _ {V : Type 0} {state : V → VaultState} {first last : Writer V} {request : Request} {identity : Identity}
     {image image' : List ℕ} {old new : BusState} {scanned : Scanned} (puts : PutsHead state first identity old)
     (scans : Scans request identity.found.size image image' old new scanned)
     (keeps : FromHead state first identity.found.size old (λ head. HasPutSectors state last head old.chip.bytes
     (has scanned.touched) (identity.found.size / 4096))) where
-  -- The writer was given the chip's header, and the records of exactly the touched sectors.
+  -- If a well-behaved bus shows an idle chip with this identification, the writer was given the chip's header and the
+  -- records of exactly the touched sectors.
   pub all_put : (chip : Chip) → IsIdentityOf chip identity → HasIdleChip chip old → HasPutSectors state last (header_of chip)
       chip.bytes (is_touched chip.bytes (wanted request image chip)) (identity.found.size / 4096)
   all_put chip is shows = rw (same_bytes is shows, fun_ext (touched_right is shows scans)) at

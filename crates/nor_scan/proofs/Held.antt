@@ -1,4 +1,4 @@
--- The protection bits that the identification read are the chip's.
+-- The protection bits that an identification read are those of each chip with this identification.
 use Rattle.std.proofs.Common.{◌≡◌, ◌∷◌, [], ℕ, ◌/◌, arith}
 use Rattle.std.proofs.lemmas.Bool.Decides.{nat_tests}
 use Rattle.nor_model.specs.Chip.{Chip, KeptBits, is_locked, kept_in}

@@ -110,7 +110,7 @@ needs_unlock : (what : What) (unlock : Bool) (code : ℕ) (touched : ℕ → Boo
 needs_unlock (WpRange start len) unlock code touched chip about_bytes off needs = absurd cc
 needs_unlock _ unlock code touched chip about_bytes off needs = let on = needs.0 in absurd cc
 
--- If the request doesn't set `unlock`, protection isn't lifted.
+-- If protection is lifted only for a request that sets `unlock`, it isn't lifted for another request.
 never_lifted : (unlock lifted : Bool) → (lifted ≡ true → unlock ≡ true) → unlock ≡ false → lifted ≡ false
 never_lifted unlock lifted asked off = grind arith
 
@@ -190,7 +190,7 @@ module _ (request : Request) (image : List ℕ) (chip : Chip) where
   abbrev touches : (s : ℕ) → Bool
   touches = is_touched chip.bytes (wanted request image chip)
 
-  -- If the request needs a status write, it needs one to set the protection bits that the identification accepted.
+  -- If the request needs a status write, it needs one for the protection bits with which the identification accepts it.
   needs_code : {code : ℕ} → IdentityAccepts request image chip code → NeedsStatusWrite request image chip
       → NeedsStatus request.what request.unlock code touches chip
   needs_code accepts needs = needs_same request.what _ needs.0 _ _ chip needs.1 accepts.is_wanted needs.2

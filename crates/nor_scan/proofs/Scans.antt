@@ -183,13 +183,14 @@ module _ {request : Request} {size n : ℕ} {image image' : List ℕ} {old mid :
         → slice_index (take width (drop (4096 * n) image')) i ≡ slice_index image (4096 * n + i)
     of_image i below = cut_out image' (4096 * n) width i exact below ∙ was.rest (4096 * n + i) (omega arith)
 
-    -- The plan is that of the chip as it was before the scan.
+    -- On a well-behaved bus with an idle chip of this size, the plan is that of the chip as it was before the scan.
     pub planned_before : IsOpen size old
         → (plan.touched ≡ is_touched old.chip.bytes (wanted_at request image size old.chip.bytes) n)
         × (plan.raised ≡ is_raised old.chip.bytes (wanted_at request image size old.chip.bytes) n)
     planned_before is_open = rw (same_before is_open) at (scans.planned (later is_open) image of_image)
 
-    -- The bytes read are those of the chip as it was before the scan.
+    -- On a well-behaved bus with an idle chip of this size, the bytes read are those of the chip as it was before the
+    -- scan.
     pub read_before : length bytes ≡ 4096 → IsOpen size old → IsWholeSector old.chip.bytes n bytes
     read_before long is_open = record {
       whole = long;

@@ -32,8 +32,8 @@ pub record ReadsRest (probed : Probed) (old new : BusState) (identity : Identity
 
 -- Holds after an identification that succeeded. On every bus the chip is a row of the table or was found by SFDP, it
 -- has the requested name, and the last poll showed ready. On a well-behaved bus the contents and non-volatile status
--- bits are unchanged, the chip is idle, and the values read are the chip's own. Its size, erase types and block
--- protection are known only on a modelled bus.
+-- bits are unchanged, the chip is idle, and the values read are the chip's own. The size, erase types and block
+-- protection that were found are known to be the chip's own only on a modelled bus.
 pub record ReadsIdentity (named : Option ChipName) (old new : BusState) (identity : Identity) : Type 0 where
   pub part : IsPart identity.found
   pub wanted : IsWanted named identity.found.name

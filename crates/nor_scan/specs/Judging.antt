@@ -28,8 +28,9 @@ IsIdentityRefusal UndefinedProtection = ⊤
 IsIdentityRefusal RangeNotOffered = ⊤
 IsIdentityRefusal _ = ⊥
 
--- Holds if `code` has the protection bits that a session leaves. For a protection range these are the least value that
--- protects exactly this range on a chip of the size that was found; for a write or an erase, the bits that were read.
+-- Holds if `code` has the protection bits that a session leaves. For a protection range these are the least defined
+-- value that protects exactly this range on a chip of the size that was found; for a write or an erase, the bits that
+-- were read.
 abbrev pub IsFoundCode : What → Identity → ℕ → Type 0
 IsFoundCode (WpRange start len) identity code = IsLeastCode identity.found.size start len code
 IsFoundCode _ identity code = code ≡ code_of (kept_in (status_read identity))
@@ -74,21 +75,21 @@ FindsNeed request identity is_touched_protected code needed = (chip : Chip) (tou
     → MatchBool needed (NeedsStatus request.what request.unlock code touched chip)
     (¬ NeedsStatus request.what request.unlock code touched chip)
 
--- Holds if the promise is true for each chip that has this identification and these touched sectors, and whose
--- identification was accepted with these protection bits.
+-- Holds if the promise is true for each chip and image with three properties: the chip has this identification, the
+-- request touches these sectors, and the check of the identification accepts it with these protection bits.
 abbrev pub OfTouched : Request → Identity → ℕ → (ℕ → Bool) → (List ℕ → Chip → Type 0) → Type 0
 OfTouched request identity code touched promise = (chip : Chip) (image : List ℕ) → IsIdentityOf chip identity
     → IdentityAccepts request image chip code
     → ((s : ℕ) → touched s ≡ is_touched chip.bytes (wanted request image chip) s) → promise image chip
 
 -- Holds if acceptance is right: if the touched sectors are accepted, then `ScanAccepts` holds with the returned choice
--- whether to lift protection, for each chip that `OfTouched` names.
+-- whether to lift protection, for each chip and image that `OfTouched` describes.
 abbrev pub AcceptsScan : Request → Identity → ℕ → (ℕ → Bool) → Result Bool Refusal → Type 0
 AcceptsScan request identity code touched judged =
     OfTouched request identity code touched (λ image chip. IfOk judged (ScanAccepts request image chip))
 
--- Holds if a refusal is right: if the touched sectors are refused, the error is the verdict for each chip that
--- `OfTouched` names.
+-- Holds if a refusal is right: if the touched sectors are refused, the error is the verdict for each chip and image
+-- that `OfTouched` describes.
 abbrev pub RefusesScan : Request → Identity → ℕ → (ℕ → Bool) → Result Bool Refusal → Type 0
 RefusesScan request identity code touched judged =
     OfTouched request identity code touched (λ image chip. IfErr judged (IsVerdict request image chip))

@@ -44,9 +44,9 @@ pub record IsJournalOf (head : Content) (sectors : ℕ → Bool) (bytes : List �
 abbrev pub HoldsJournal : VaultState → Type 0
 HoldsJournal vault = vault.sealed ≡ true → vault.telling ≡ true → IsJournal vault.bytes
 
--- The result of `save` for a chip with this identification. The marks are the touched and the raised sectors, and the
--- image has the target bytes of the touched sectors. If the identification accepted the request, no error applies to
--- it. A `telling` vault has the journal of the chip, which saves exactly the touched sectors.
+-- The result of a `save` that succeeded, for this chip. The marks are the touched and the raised sectors, and the image
+-- has the target bytes of the touched sectors. If the identification accepted the request, no error applies to it. A
+-- `telling` vault has the journal of the chip, which saves exactly the touched sectors.
 pub record HasSavedChip (request : Request) (code : ℕ) (image image' : List ℕ)
     (chip : Chip) (vault : VaultState) (saved : SavedScan) : Type 0 where
   pub touched : (s : ℕ) → has saved.scanned.touched s ≡ is_touched chip.bytes (wanted request image chip) s

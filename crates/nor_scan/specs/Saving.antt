@@ -65,7 +65,7 @@ abbrev pub kept_read : Identity → List ℕ
 kept_read identity = (identity.found.status1 / 4 * 4) ∷ (identity.status2 % 128) ∷ []
 
 -- the header of the journal that is written after this identification: ID, unique ID, non-volatile status bits and
--- size, as they were read
+-- size, as the identification found them
 abbrev pub header_found : Identity → Content
 header_found identity =
     empty_content identity.found.id (Some identity.unique) (kept_read identity) identity.found.size

@@ -19,8 +19,8 @@ use Rattle.nor_request.specs.declared.request.Request.{Request}
 use Rattle.nor_scan.specs.declared.scanning.Scanned.{Scanned}
 use Rattle.nor_request.specs.Request.{target, is_requested, scanned_sectors}
 
--- the target byte at an address of a chip with this size and content: the image's byte or FFh at an address that the
--- request includes, else the byte of `content`
+-- the target byte at an address of a chip with this size and content: the image's byte (for a write) or FFh (for an
+-- erase) at an address that the request may change, else the byte of `content`
 abbrev pub wanted_at : Request → (image : List ℕ) → (size : ℕ) → (content : ℕ → ℕ) → (a : ℕ) → ℕ
 wanted_at request image size content a = if is_requested request size a then target request.what image a else content a
 
@@ -46,7 +46,7 @@ pub record AreMarks (n : ℕ) (scanned : Scanned) : Type 0 where
   pub count : scanned.count ≡ sector_count (has scanned.touched)
 
 -- Holds if the marks of the sectors below `n` are right: touched if some byte differs from the target, raised if some
--- bit must go from 0 to 1.
+-- bit must go from 0 to 1. No other sector is marked.
 pub record AreRight (wanted content : ℕ → ℕ) (n : ℕ) (scanned : Scanned) : Type 0 where
   pub touched : (s : ℕ) → has scanned.touched s ≡ (nat_lt s n && is_touched content wanted s)
   pub raised : (s : ℕ) → has scanned.raised s ≡ (nat_lt s n && is_raised content wanted s)
@@ -68,9 +68,9 @@ pub record ScansSector (request : Request) (size sector : ℕ) (part part' bytes
       → (plan.touched ≡ is_touched old.chip.bytes (wanted_at request image size old.chip.bytes) sector)
       × (plan.raised ≡ is_raised old.chip.bytes (wanted_at request image size old.chip.bytes) sector)
 
--- Holds after each sector with an included address was scanned. The marks are right (`AreRight`), and the image's
--- touched sectors have the target bytes, on a well-behaved bus with an idle chip of this size. Other clauses describe
--- the journal.
+-- Holds after each sector with an included address was scanned (none for a protection range). The marks are right
+-- (`AreRight`), and the image's touched sectors have the target bytes, on a well-behaved bus with an idle chip of this
+-- size. Other clauses of `scan_all` describe the journal.
 pub record Scans (request : Request) (size : ℕ) (image image' : List ℕ) (old new : BusState)
     (scanned : Scanned) : Type 0 where
   pub marks : AreMarks (size / 4096) scanned
@@ -91,7 +91,7 @@ ScanErrors most old new Stopped = RanOutIfHonest most old new
 ScanErrors most old new Vault = ⊤
 ScanErrors most old new _ = ⊥
 
--- Holds for the vault after a scan: it accepted each piece, except after error 11.
+-- Holds for the vault after a scan: it accepted each piece, or after error 11 refused one call.
 abbrev pub ScanPuts : {T : Type 0} → Result T Refusal → (old new : VaultState) → Type 0
 ScanPuts (Err Vault) old new = Refused old new
 ScanPuts _ old new = Accepted old new

@@ -53,7 +53,7 @@ abbrev pub NoneHoldsTo : (number : ℕ) → Request → (image : List ℕ) → C
 NoneHoldsTo number request image chip =
     (refusal : Refusal) → refusal_number refusal ≤ number → ¬ RefusalHolds request image chip refusal
 
--- Holds if the identification accepts the request: none of the errors 1 to 8 applies, and `code` has the target's
+-- Holds if the identification accepts the request: none of the errors 1 to 8 applies, and `code` has the target
 -- protection bits.
 pub record IdentityAccepts (request : Request) (image : List ℕ) (chip : Chip) (code : ℕ) : Type 0 where
   pub clear : NoneHoldsTo 8 request image chip

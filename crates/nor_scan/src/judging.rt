@@ -19,9 +19,10 @@ use nor_request::{Refusal, Request, What};
 /// Checks a request against the identification. `image` is the image's length in bytes. Returns the target protection
 /// bits as a number below 64; for a write or an erase these are the chip's own.
 ///
-/// Returns error 4 (the image isn't as long as the chip) or 5 (an included address isn't on the chip) for a write or an
-/// erase. Returns 6 (no block protection) or 8 (a range that no protection bits select) for a protection range. For
-/// every request it returns 7 if the chip has block protection and its protection bits are undefined.
+/// Returns the error with the lowest number that applies. For a write or an erase these are 4 (the image isn't as long
+/// as the chip), 5 (an included address isn't on the chip) and 7 (the chip has block protection, and its protection
+/// bits are undefined). For a protection range they are 6 (no block protection), 7 and 8 (a range that no protection
+/// bits select).
 #[tactic(auto, using(crate::proofs::Held::code_same, crate::proofs::OneVerdict::opening_judged, crate::proofs::OneVerdict::opening_accepted))]
 pub fn judge_identity(request: &Request, identity: &Identity, image: usize) -> Result<u8, Refusal>
     requires { IsTrue (is_chip_size identity.now.found.size) }
@@ -86,8 +87,9 @@ pub fn first_protected(touched: &SectorSet, identity: &Identity) -> Option<u32>
     None
 }
 
-// Returns true if the status registers must be written: the target protection bits of a range differ from the chip's,
-// or `unlock` is set and a touched sector is protected (`is_touched_protected`).
+// Returns true if the status registers must be written. For a protection range this is so if the target protection bits
+// differ from the chip's; for a write or an erase, if `unlock` is set and a touched sector is protected
+// (`is_touched_protected`).
 fn needs_status(
     request: &Request,
     identity: &Identity,

@@ -1,4 +1,5 @@
-//! Reads the sectors of a chip before anything is changed, and finds those that a session will change.
+//! Reads the sectors of a chip before anything is changed, finds those that a session will change, and writes these to
+//! the journal.
 ghost use Rattle.std.specs.Prelude.{◌≡◌, ◌≢◌, ◌<◌, ◌≤◌, ◌+◌, ◌*◌, ◌/◌, true, false, length, IfOk, IfErr, OnErr, IsTrue};
 ghost use Rattle.nor_model.specs.Size.{is_chip_size};
 ghost use Rattle.nor_driver.specs.OnlyReads.{OnlyReads, RanOutIfHonest, IsOpen};
@@ -60,8 +61,8 @@ impl Scanned {
     }
 }
 
-/// Reads a sector with an included address, copies the bytes that may not change into that sector's part of the image,
-/// and compares the two. For an erase the part is filled with FFh first.
+/// Reads a sector with an included address, copies the bytes that may not change into the sector's part of the image,
+/// and compares the sector with this part. For an erase the part is filled with FFh before bytes are copied into it.
 fn scan_sector<B: Bus>(
     bus: &mut B,
     request: &Request,
