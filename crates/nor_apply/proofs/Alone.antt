@@ -1,4 +1,5 @@
--- Lemmas about a set of a single sector: its number, its bytes, and that it counts as one.
+-- Lemmas about a set of a single sector (its number, its bytes, and that it counts as one), and one about the numbers
+-- below a bound that pass a test.
 use Rattle.std.proofs.Common.{◌≡◌, ◌<◌, ◌≤◌, ◌+◌, ◌-◌, ◌*◌, ◌/◌, ◌∙◌, ℕ, Bool, true, false, List, slice_index, refl, ap, sym, arith}
 use Rattle.std.proofs.lemmas.Bool.Decides.{nat_tests}
 use Rattle.std.proofs.Math.Bool.{or-false}

@@ -58,8 +58,9 @@ pub record Numbers : Type 0 where
 abbrev pub sending_these : Changes → Numbers → Limits
 sending_these changes n = sending changes n.erases n.programs n.status_writes
 
--- Holds if the changes so far led to these bytes, erased sectors and protection bits, with these numbers of operations
--- and reads, and at most `spent` transactions.
+-- Holds if the changes so far sent these numbers of operations and at most `readings` reads, with at most `spent`
+-- transactions. On a well-behaved bus, if `CanApply` held at the start, they changed the chip only as `MayChange`
+-- allows, and led to these bytes, erased sectors and protection bits.
 pub record SoFar (changes : Changes) (wanted bytes : ℕ → ℕ) (worn : ℕ → Bool) (code : ℕ) (numbers : Numbers)
     (readings spent : ℕ) (old now : BusState) (tally : Tally) : Type 0 where
   pub ran : Ran (sending_these changes numbers) readings old now tally

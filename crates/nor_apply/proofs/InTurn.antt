@@ -1,4 +1,5 @@
--- Parts of a change one after another, on every bus: which sectors they target, and how many transactions they take.
+-- Lemmas about successive parts of a change, on every bus: which sectors they target, and how many transactions they
+-- take.
 use Rattle.std.proofs.Common.{◌≡◌, ◌≤◌, ◌+◌, ◌*◌, ◌∙◌, ℕ, true, List, [], ◌∷◌, ◌++◌, length, sym, ap, refl, arith}
 use Rattle.std.proofs.lemmas.List.{length-append, length_push, append_assoc, append-nil}
 use Rattle.std.specs.List.{All}

@@ -1,5 +1,5 @@
--- A sector that is read, unless it was erased, and then programmed. The loop over all sectors: what holds after those
--- below a number, and what follows at each exit.
+-- Lemmas about a sector that is read, unless it was erased, and then programmed; and about the loop over all sectors:
+-- what holds after the sectors below a number, and at each exit.
 use Rattle.std.proofs.Common.{◌≡◌, ◌<◌, ◌≤◌, ◌+◌, ◌*◌, ◌/◌, ◌∙◌, ℕ, Bool, true, false, List, slice_index, refl, ap, sym, arith, inl, inr, Ok, true≢false}
 use Rattle.std.specs.Prelude.{◌&&◌, ◌||◌, nat_lt}
 use Rattle.std.proofs.lemmas.Bool.{cases_Bool, and_parts, lt-ltb, le-ltb}
@@ -155,7 +155,8 @@ sectors_none {touched} {wanted = wanted} state = record {
   counted = λ honest can. sym (count_below-zero (is_programmed touched state.chip.bytes wanted));
 }
 
--- the pages that need a program below sector `n + 1`: those below sector `n`, and those of sector `n`, if it is touched
+-- the number of pages that need a program below sector `n + 1` is the number below sector `n`, plus that in sector `n`
+-- if it is touched
 pages_more : (touched : ℕ → Bool) (content wanted : ℕ → ℕ) (n : ℕ) (is : Bool) → touched n ≡ is
     → count_below (16 * (n + 1)) (is_programmed touched content wanted)
     ≡ count_below (16 * n) (is_programmed touched content wanted)
@@ -220,7 +221,7 @@ module _ {touched raised : ℕ → Bool} {wanted : ℕ → ℕ} {n : ℕ} {first
 
     module _ {erased : Bool} {new : BusState} (erased_is : erased ≡ raised n)
         (leaves : LeavesSector n bytes erased now new) where
-      -- the bytes of sector `n` are still those from the start
+      -- on a well-behaved bus, if `CanProgramAll` held at the start, the bytes of sector `n` are still those from then
       module _ (honest : first.honest ≡ true) (can : CanProgramAll touched raised wanted first.chip) where
         still_old : (a : ℕ) → only n (a / 4096) ≡ true → now.chip.bytes a ≡ first.chip.bytes a
         still_old a here =

@@ -39,15 +39,16 @@ abbrev pub status_writes : Changes → ℕ
 status_writes changes = (if changes.unlock then 1 else 0) + (if writes_code changes then 1 else 0)
 
 -- True if the changes ask for a status write of these two bytes. They are the status that was read, with BUSY, WEL and
--- SUS clear. If protection is lifted first, all protection bits may be clear; if the target's protection bits are
--- written at the end, the bytes may have these.
+-- SUS clear and with other protection bits: all clear if protection is lifted first, or the target ones if these are
+-- written at the end.
 abbrev pub is_status_asked : Changes → (one two : ℕ) → Bool
 is_status_asked changes one two =
     (changes.unlock && is_status_with_code changes.status 0 one two)
     || (writes_code changes && is_status_with_code changes.status changes.code one two)
 
--- limits of these changes: targets are only the touched sectors (`may_target`), status writes only those for which the
--- changes ask, and the numbers of erases, page programs and status writes at most these
+-- limits of these changes: targets are only the touched sectors and, if these are the whole chip, sectors past its end
+-- (`may_target`); status writes are only those for which the changes ask; and the numbers of erases, page programs and
+-- status writes are at most these
 abbrev pub sending : Changes → (erases programs status_writes : ℕ) → Limits
 sending changes erases programs status_writes = record {
   sectors = may_target (touched_in changes) changes.size;
@@ -90,8 +91,8 @@ pub record HasApplied (changes : Changes) (wanted : ℕ → ℕ) (old new : BusS
   pub idle : new.chip.busy ≡ 0
   pub latch : new.chip.latch ≡ true → old.chip.latch ≡ true
 
--- the greatest number of transactions for this number of touched sectors: one read, one erase and sixteen programs for
--- each of them, and two status writes
+-- a bound on the transactions for this number of touched sectors: those of one read, one erase and sixteen programs for
+-- each of them, and of two status writes
 abbrev pub most_applied : ℕ → ℕ
 most_applied touched = touched + most_operation * (17 * touched + 2)
 
@@ -125,8 +126,8 @@ pub record DoesApply (changes : Changes) (wanted : ℕ → ℕ) (old new : BusSt
       → work.programs ≡ count_below 65536
       (is_programmed (touched_in changes) (once_erased (raised_in changes) old.chip.bytes) wanted)
 
--- Holds for every stop. Holds for a timeout that names an address in a touched sector, or names 0 if a status write was
--- needed.
+-- Holds for every stop. Holds for a timeout that names an address in a touched sector, or address 0 if a status write
+-- is needed.
 abbrev pub NamesChange : Changes → OperationError → Type 0
 NamesChange changes Stopped = ⊤
 NamesChange changes (Timeout address) =

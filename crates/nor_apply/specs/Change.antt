@@ -1,5 +1,5 @@
 -- The effect of a change of some sectors, at every exit and on success. Sets of sectors are Boolean functions of the
--- sector number. Bytes may change only in touched sectors, and the raised sectors are those that are erased.
+-- sector number. Bytes may change only in touched sectors, and only raised sectors may be erased.
 use Rattle.std.specs.Prelude.{◌≡◌, ◌≤◌, ◌+◌, ◌-◌, ◌*◌, ◌/◌, ◌==◌, ◌||◌, ◌⊎◌, ℕ, Bool, true, false, List, slice_index, bit_and, if◌then◌else◌}
 use Rattle.nor_model.specs.Chip.{Chip}
 use Rattle.nor_model.specs.Guard.{is_protected}

@@ -59,7 +59,7 @@ pub record CanProgramSector (sector : ℕ) (wanted : List ℕ) (erased : Bool) (
   pub falls : OnlyFalls (only sector) (byte_of sector wanted) chip.bytes
 
 -- Holds after a sector was loaded into `bytes'`. It was read once, except if it was erased: then nothing was sent, and
--- the bytes are as they were.
+-- the bytes are as they were. On a well-behaved bus with an idle chip that has the sector, the bytes read are its own.
 pub record LoadsOk (sector : ℕ) (erased : Bool) (bytes bytes' : List ℕ) (reads : ℕ) (old new : BusState) : Type 0 where
   pub reads_once : reads ≡ (if erased then 0 else 1)
   pub polled_ready : new.polled_ready ≡ old.polled_ready

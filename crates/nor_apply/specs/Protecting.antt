@@ -11,8 +11,8 @@ use Rattle.nor_driver.specs.Operations.{most_operation}
 use Rattle.nor_apply.specs.Spending.{Spends}
 
 -- Holds at every exit. If no status write is needed, nothing was sent. Otherwise on every bus at most one status write
--- was sent, with the bits of `status` and these protection bits. On a well-behaved bus, if `CanWriteStatus` held at the
--- start, the chip changes only as `MayWriteStatus` allows.
+-- was sent, with these protection bits and otherwise the bits of `status`. On a well-behaved bus, if `CanWriteStatus`
+-- held at the start, the chip changes only as `MayWriteStatus` allows.
 pub record LeavesCode (status : Status) (code : ℕ) (needed : Bool) (old new : BusState) : Type 0 where
   pub spends : Spends (if needed then most_operation else 0) old new
   pub sends : SendsWithin (writing (λ one two. needed && is_status_with_code status code one two) (if needed then 1 else 0)) old new

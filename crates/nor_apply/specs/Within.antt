@@ -12,8 +12,8 @@ abbrev pub is_writable : Chip → Bool
 is_writable chip = chip.config.scheme && not (is_locked chip.kept)
 
 -- Holds for an operation that may be in progress on a chip that is to be restored. Its command is known, and it changes
--- only these addresses. It is a status write only if the original chip's status can be written. The operation holds the
--- status bits from before that write, and those that are never changed are the original chip's.
+-- only these addresses. It is a status write only if the original chip's status can be written. A status write in
+-- progress holds the status bits from before it; those that are never changed are the original chip's.
 pub record WorksIn (places : ℕ → Bool) (first : Chip) (running : Running) : Type 0 where
   pub known : is_known_running running ≡ true
   pub inside : (a : ℕ) → is_in_work running a ≡ true → places a ≡ true

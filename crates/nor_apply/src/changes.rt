@@ -16,7 +16,7 @@ use nor_plan::SectorSet;
 /// The changes to make to a chip.
 #[derive(Clone, Copy)]
 pub struct Changes {
-    /// The touched sectors, in which some byte will change.
+    /// The touched sectors, in which bytes may change.
     pub touched: SectorSet,
     /// The raised sectors: touched sectors that have to be erased.
     pub raised: SectorSet,
@@ -58,9 +58,9 @@ pub struct Work {
 /// The touched sectors must lie below `changes.size`, which is at most 16 MiB. Every raised sector must be touched, and
 /// `source` must have every touched sector. On any bus, erases and programs target only touched sectors; if these are
 /// the whole chip, they may target addresses past its end, too. On a well-behaved bus the changes are proved complete
-/// if `CanApply` holds for the chip: it is idle, and has this size, these erase types and this status. It protects no
-/// touched address unless `unlock` is set, a needed status write is possible, and only bits of raised sectors must go
-/// from 0 to 1.
+/// if `CanApply` holds for the chip. It is idle, and has this size, these erase types and this status. If a status
+/// write is needed, it has block protection and its status isn't locked. If `unlock` isn't set, no touched address is
+/// protected. In touched sectors that aren't raised, no bit must go from 0 to 1.
 ///
 /// Returns `Stopped` if the bus stopped. Returns `Timeout` with an address in a touched sector, or 0 for a status
 /// write, if the chip stayed busy for 65,536 polls. On a well-behaved bus there is no timeout.

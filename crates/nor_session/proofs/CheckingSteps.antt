@@ -70,7 +70,8 @@ module _ {t : ℕ → Bool} {w : ℕ → ℕ} {n sent : ℕ} {old mid : BusState
 
   module _ (is : t n ≡ true) (bytes : List ℕ)
       (are : (i : ℕ) → i < 4096 → slice_index bytes i ≡ w (4096 * n + i)) where
-    -- if all sectors could be checked at the start, the next one can be checked after the reads so far
+    -- on a well-behaved bus, if all sectors could be checked at the start, the next one can be checked after the reads
+    -- so far
     can_one : (honest : old.honest ≡ true) → CanCheck t old.chip → CanCheck (only n) mid.chip
     can_one honest can = grind (arith, has.honest_reads.rested honest, can.inside, nat_tests)
 

@@ -21,7 +21,7 @@ pub record IsFirstMismatch (sectors : ℕ → Bool) (wanted content : ℕ → �
   pub differs : content address ≢ wanted address
   pub before : (a : ℕ) → a < address → sectors (a / 4096) ≡ true → content a ≡ wanted a
 
--- Holds if the verification succeeded with `sent` transactions. Each sector was read once. On a well-behaved bus bytes,
+-- Holds if the verification succeeded with `sent` transactions, one for each sector. On a well-behaved bus bytes,
 -- non-volatile bits and erased sectors are as they were (`Rested`), and if `CanCheck` holds, each byte of these sectors
 -- is the target one.
 pub record DoesChecks (sectors : ℕ → Bool) (wanted : ℕ → ℕ) (old new : BusState) (sent : ℕ) : Type 0 where
@@ -32,9 +32,9 @@ pub record DoesChecks (sectors : ℕ → Bool) (wanted : ℕ → ℕ) (old new :
   pub same : old.honest ≡ true → CanCheck sectors old.chip
       → (a : ℕ) → sectors (a / 4096) ≡ true → old.chip.bytes a ≡ wanted a
 
--- Holds if the verification may return this error. `Stopped`, on a well-behaved bus: fewer transactions were left than
--- there are sectors in the set, and all of them were used. `Mismatch`, on a well-behaved bus and if `CanCheck` holds:
--- its address is the first at which the chip differs from the target.
+-- The meaning of an error on a well-behaved bus. `Stopped` means that fewer transactions were left than there are
+-- sectors in the set, and that all of them were used. If `CanCheck` holds, the address of `Mismatch` is the first one
+-- in these sectors at which the chip differs from the target.
 abbrev pub CheckErrors : (ℕ → Bool) → (ℕ → ℕ) → (old new : BusState) → CheckFault → Type 0
 CheckErrors sectors wanted old new Stopped = RanOutIfHonest (sector_count sectors) old new
 CheckErrors sectors wanted old new (Mismatch address) =
