@@ -55,7 +55,7 @@ module _ {journal : Content} {identity : Identity} {scanned : Scanned} {old mid 
   rested_all honest =
       rested_then old mid new (read.opens.rested honest) (read.scans.rested (read.only_reads.nature.honest ∙ honest))
 
-  -- the marks are those of the chip as it was before the restore
+  -- on a modelled bus the marks are those of the chip as it was before the restore
   marks_old : IsModelled old
       → (has scanned.touched ≡ is_touched old.chip.bytes (restored journal old.chip.bytes))
       × (has scanned.raised ≡ is_raised old.chip.bytes (restored journal old.chip.bytes))
@@ -81,7 +81,7 @@ module _ {journal : Content} {identity : Identity} {scanned : Scanned} {old mid 
 
 -- ---- the changes can be made
 
--- if a status write is needed, the chip has block protection
+-- if the journal fits the chip and a status write is needed, the chip has block protection
 scheme_for : (journal : Content) (touched : ℕ → Bool) (chip : Chip) → FitsJournal journal chip
     → NeedsStatusWith journal touched chip → chip.config.scheme ≡ true
 scheme_for journal touched chip fits (inr some) = held_scheme touched chip some

@@ -39,14 +39,14 @@ writes_other changes off writes same = grind (arith, nat_tests)
 pub touched_most : (changes : Changes) → touched_count changes ≤ 4096
 touched_most changes = count_below-most 4096 (touched_in changes)
 
--- the changes take no more transactions than the largest chip may need
+-- the transactions of the changes are within the bound for the largest chip
 pub fits_work : (changes : Changes) (wanted : ℕ → ℕ) (old new : BusState) (work : Work) → ((s : ℕ) → raised_in changes s ≡ true → touched_in changes s ≡ true)
     → DoesApply changes wanted old new work → work.transactions ≤ most_applied 4096
 fits_work changes wanted old new work inside does =
     let most = touched_most changes in let raised = raised_few changes inside in let writes = two_writes changes in
     omega arith
 
--- the number of planned erases is the least possible
+-- if the sectors lie on the chip, the number of planned erases is the least possible
 pub fewest_at : (config : Config) (sectors : ℕ → Bool) (count : ℕ) → ((s : ℕ) → sectors s ≡ true → s < config.size / 4096)
     → count ≡ fewest_erases config.kinds (config.size / 4096) sectors → IsLeastLength config.kinds (config.size / 4096) sectors count
 fewest_at config sectors count below is =

@@ -102,7 +102,7 @@ left_reached : (request : Request) (image : List ℕ) (old new taken : BusState)
 left_reached request image old new taken journal left (inl up) = left_taken request image old new taken journal left up
 left_reached request image old new taken journal left (inr can) = leads_to journal old.chip taken can
 
--- a restore that succeeds leaves the original chip
+-- if the journal can turn the chip into the original one (`LeadsTo`), a restore that succeeds leaves the original chip
 led_back : (journal : Content) (first : Chip) (old new : BusState) (report : Report) → LeadsTo journal first old.chip → IsRestored journal old new report → IsSame first new.chip
 led_back journal first old new report leads done = search (arith, given_back)
 

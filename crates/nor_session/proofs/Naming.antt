@@ -1,4 +1,4 @@
--- Which address an error names: from the errors of the parts to those of a session or restore.
+-- The address that an error of a session or restore names follows from the errors of its parts.
 use Rattle.std.proofs.Common.{ℕ, ◌≡◌, ◌≤◌, ◌/◌, ◌∙◌, true, List, arith, inl, inr}
 use Rattle.nor_model.specs.Bus.{BusState}
 use Rattle.nor_journal.specs.Text.{Content, IsContent, text}
@@ -63,7 +63,7 @@ work_names changes head vault refusal sealed saves names = record {
 
 -- ---- a restore
 
--- an error before the first change names no address in a sector: a timeout names 0
+-- before the first change a timeout names 0, and no mismatch occurs
 pub prepare_names : (journal : Content) (most : ℕ) (old new : BusState) (refusal : Refusal) → PrepareErrors journal most old new refusal → NamesSector (λ sector. is_saved journal sector ≡ true) refusal
 prepare_names journal most old new (Timeout address) errors = inl errors.0
 prepare_names journal most old new (Mismatch address) errors = absurd (let judged = errors.judged in cc)

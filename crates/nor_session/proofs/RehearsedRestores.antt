@@ -115,7 +115,8 @@ pub refuses_before : {journal : Content} {n : ℕ} {old mid : BusState} (refusal
     → LeavesRestores journal n old mid → StopsRestores journal mid refusal → StopsRestores journal old refusal
 refuses_before refusal leaves refuses = search arith
 
--- a restore that is allowed the most transactions that any call needs isn't stopped on a well-behaved bus
+-- a restore that is allowed `most_of 4096` transactions isn't stopped on a well-behaved bus: no restore sends more
+-- there
 pub last_ends : {journal : Content} {now new : BusState} {most : ℕ} → most ≡ most_of 4096
     → RunsRestore journal most now new false → StopsRestores journal now Stopped
 last_ends {journal = journal} is shows = search (arith, saved_room)
@@ -172,7 +173,7 @@ module _ {bytes : List ℕ} {journal : Content} (is : IsContent journal) (same :
     never = λ modelled saved first leads. refuses.never modelled first (can_back saved first leads);
   }
 
--- a session and its only restore ended: the latch is set only if it was set before
+-- if on a modelled bus a session and its only restore ended, the latch is set only if it was set before
 pub latch_alone : {request : Request} {image bytes stops : List ℕ} {allowance : ℕ} {old mid new : BusState}
     {vault : VaultState} {ended : Bool} (restores : ℕ) → RunsSession request image allowance old mid vault ended
     → Undoes bytes stops mid new restores → IsModelled old → IsModelled mid → restores ≤ (if ended then 1 else 0)

@@ -122,15 +122,15 @@ module _ {n : ℕ} {old mid : BusState} (allows : Allows n old mid) where
           };
         }
 
-    -- The session returned an error. If that is a stop, the session was allowed the most transactions that any call
-    -- needs.
+    -- The session returned an error. If that is a stop, the session was allowed `most_of 4096` transactions, a bound
+    -- that no call exceeds on a well-behaved bus.
     pub session_refuses : (refusal : Refusal) → SessionAlways request mid new before after (Err refusal)
         → (mid.honest ≡ true → SessionHonest request image mid new (Err refusal))
         → (IsModelled mid → SessionModelled request image mid new before after (Err refusal))
         → (refusal ≡ Stopped → n ≡ most_of 4096) → RefusesSession request image old new before after refusal
     session_refuses refusal always reply_digits promise all = search (arith, early, no_halt, returned)
 
--- without stops the session is allowed the most transactions that any call needs
+-- without stops the session is allowed `most_of 4096` transactions, a bound that no call exceeds on a well-behaved bus
 pub unlimited : (stops : List ℕ) → length stops ≡ 0 → first_allowance stops ≡ most_of 4096
 unlimited [] none = refl
 unlimited (first ∷ later) none = absurd (omega arith)

@@ -74,8 +74,8 @@ restored_other journal content a is = rw is refl
 restored_at : (journal : Content) (content : ℕ → ℕ) (s : ℕ) (saved : List ℕ) (i : ℕ) → saved_in journal.saved s ≡ Some saved → i < 4096 → slice_index saved i ≡ restored journal content (4096 * s + i)
 restored_at journal content s saved i is below = search (arith, byte_at, is_saved-some, restored_saved, sector_at)
 
--- on a well-behaved bus with an idle chip, the plan of a sector says whether the sector is touched, and whether it is
--- raised
+-- on a well-behaved bus with an idle chip of the journal's size, the plan of a sector says whether the sector is
+-- touched, and whether it is raised
 planned_from : (journal : Content) (s : ℕ) (saved bytes : List ℕ) (old mid new : BusState) (plan : SectorPlan) (i : ℕ) → saved_in journal.saved s ≡ Some saved → s < journal.size / 4096
     → length saved ≡ 4096 → IsOpen journal.size old → HasLooked i old mid → PlansSaved s saved bytes mid new plan
     → (plan.touched ≡ is_touched old.chip.bytes (restored journal old.chip.bytes) s) × (plan.raised ≡ is_raised old.chip.bytes (restored journal old.chip.bytes) s)

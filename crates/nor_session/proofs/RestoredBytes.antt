@@ -53,7 +53,7 @@ written_restored journal old mid new touched a right same is = search (arith, to
 and_same : (b x y : Bool) → (b ≡ true → x ≡ y) → (b && x) ≡ (b && y)
 and_same b x y same = grind arith
 
--- the pages to program depend only on the target bytes of touched sectors
+-- of the target bytes, only those in touched sectors affect the number of pages to program
 pub pages_same : (touched : ℕ → Bool) (old target_sectors target_sectors' : ℕ → ℕ) → ((a : ℕ) → touched (a / 4096) ≡ true → target_sectors a ≡ target_sectors' a)
     → count_below 65536 (is_programmed touched old target_sectors) ≡ count_below 65536 (is_programmed touched old target_sectors')
 unfolding is_page_other

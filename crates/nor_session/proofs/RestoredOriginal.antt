@@ -96,7 +96,7 @@ lost_within p first old new known lost within =
 
 -- ---- protected ranges are whole sectors
 
--- the size of a chip with block protection is a multiple of 256 KiB
+-- the size of a genuine chip with block protection is a multiple of 256 KiB
 scheme_size_at : (config : Config) (row : Option Part) → part_with_id (id_of config) ≡ row → IsGenuine config → config.scheme ≡ true → config.size % 262144 ≡ 0
 scheme_size_at config (Some part) is genuine scheme = search (arith, eqb-true, row_has)
 scheme_size_at config None is genuine scheme = absurd (both_ways config.scheme (genuine.unlisted is) scheme)

@@ -1,4 +1,4 @@
--- The promises of a restore, from those of its preparation and of its changes.
+-- The promises of a restore follow from those of its preparation and of its changes.
 use Rattle.std.proofs.Common.{◌≡◌, ◌<◌, ◌≤◌, ◌^◌, ◌+◌, ◌/◌, ◌∙◌, ℕ, true, length, ap, sym, refl, arith, true≢false}
 use mathlib.Core.Path.{fun_ext}
 use Rattle.nor_model.specs.Chip.{Chip, IsSame}
@@ -158,7 +158,7 @@ module _ (journal : Content) (prepared : PreparedRestore) (old mid new : BusStat
         → IsWithinBound (length journal.saved) 2 true (report_of prepared work sent)
     restored_bounded sum = restored_within 2 sum (two_writes prepared.changes)
 
-    -- if no status write is needed, the report is within the bound without status writes
+    -- on a modelled bus, if no status write is needed, the report is within the bound without status writes
     pub restored_sparing : sent ≡ prepared.transactions + work.transactions → IsModelled old
         → ¬ NeedsStatusFrom journal old.chip
         → IsWithinBound (length journal.saved) 0 true (report_of prepared work sent)
@@ -226,6 +226,6 @@ module _ (journal : Content) (prepared : PreparedRestore) (old mid new : BusStat
               does.unsent (omega arith) ∙ are.only_reads.sent;
         }
 
--- a restore that succeeds leaves the original chip
+-- if the journal can restore the original chip, a restore that succeeds leaves that chip
 pub restored_back : (journal : Content) (first : Chip) (old new : BusState) (report : Report) → CanRestore journal first old → IsRestored journal old new report → IsSame first new.chip
 restored_back journal first old new report can done = search (arith, given_back)

@@ -1,4 +1,5 @@
--- The changes of a session can be made on a modelled bus; and the meaning of their errors.
+-- The changes of a session can be made on a modelled bus, and on a well-behaved bus their errors mean what a session
+-- promises.
 use Rattle.std.proofs.Common.{◌≡◌, ◌≢◌, ◌<◌, ◌≤◌, ◌/◌, ◌∙◌, ℕ, Bool, true, false, List, ap, sym, refl, arith, bit_and}
 use Rattle.nor_probe.specs.Known.{shown_as}
 use Rattle.nor_probe.specs.Found.{part_in}

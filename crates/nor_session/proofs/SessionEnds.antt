@@ -116,7 +116,8 @@ module _ (request : Request) (image image' : List ℕ) (identity : Identity) (st
             does.unsent (omega arith) ∙ is.honest_reads.same_sent;
       }
 
-  -- after a check on a well-behaved bus the touched sectors have the target bytes: they were read back and compared
+  -- after a check on a well-behaved bus, if the chip has the size that was found, the touched sectors have the target
+  -- bytes: they were read back and compared
   pub session_checked : (opened new : BusState) (work : Work) → OnlyReads most_identity old opened
       → ReadsIdentity request.named old opened identity → Scans request identity.found.size image image' opened mid kept.scanned
       → Ready request identity status code kept old mid

@@ -23,7 +23,8 @@ use Rattle.nor_request.specs.declared.refusal.Refusal.TheVariants.{Stopped, Time
 abbrev pub touched_count : Changes → ℕ
 touched_count changes = sector_count (touched_in changes)
 
--- the most transactions of the changes and their check: those of the changes, and one more read of each touched sector
+-- a bound on the transactions of the changes and their check: that of the changes, and one more read of each touched
+-- sector
 abbrev pub most_changed : Changes → ℕ
 most_changed changes = most_applied (touched_count changes) + touched_count changes
 
@@ -35,7 +36,7 @@ read_back changes verify = if verify then touched_count changes else 0
 
 -- Holds after the check succeeded. The touched sectors were read if `verify` is set, and the work counts these reads.
 -- No modifying command was sent. On a well-behaved bus contents and non-volatile status bits are as before, and if the
--- chip can be checked (`CanCheck`), each byte that was read is the target's.
+-- chip can be checked (`CanCheck`), each byte that was read is the target one.
 pub record DoesCheck (changes : Changes) (wanted : ℕ → ℕ) (verify : Bool) (written : Work) (old new : BusState)
     (work : Work) : Type 0 where
   pub erases : work.erases ≡ written.erases
@@ -48,9 +49,9 @@ pub record DoesCheck (changes : Changes) (wanted : ℕ → ℕ) (verify : Bool) 
   pub same : verify ≡ true → old.honest ≡ true → CanCheck (touched_in changes) old.chip
       → (a : ℕ) → touched_in changes (a / 4096) ≡ true → old.chip.bytes a ≡ wanted a
 
--- Holds if the check may fail with this error. `Stopped`, on a well-behaved bus: fewer transactions were left than
--- there are touched sectors. `Mismatch`, on a well-behaved bus and if the chip can be checked: its address is the first
--- difference.
+-- The meaning of an error of the check on a well-behaved bus. `Stopped` means that fewer transactions were left than
+-- there are touched sectors. If the chip can be checked (`CanCheck`), the address of `Mismatch` is that of the first
+-- difference in the touched sectors. No other error occurs, on any bus.
 abbrev pub CheckRefuses : Changes → (ℕ → ℕ) → (old new : BusState) → Refusal → Type 0
 CheckRefuses changes wanted old new Stopped = RanOutIfHonest (touched_count changes) old new
 CheckRefuses changes wanted old new (Mismatch address) =
@@ -98,16 +99,16 @@ pub record DoesChange (changes : Changes) (wanted : ℕ → ℕ) (verify : Bool)
       → HasBytes (touched_in changes) wanted new.chip
 
 -- Holds if the changes and their check may fail with this error. On a well-behaved bus `Stopped` means that fewer
--- transactions were left than they may need, `Timeout` does not occur, and `Mismatch` does not occur if `CanApply` held
--- at the start.
+-- transactions were left than their bound (`most_changed`), `Timeout` does not occur, and `Mismatch` does not occur if
+-- `CanApply` held at the start.
 abbrev pub ChangeErrors : Changes → (ℕ → ℕ) → (old new : BusState) → Refusal → Type 0
 ChangeErrors changes wanted old new Stopped = old.honest ≡ true → RanOut (most_changed changes) old new
 ChangeErrors changes wanted old new (Timeout address) = old.honest ≡ true → ⊥
 ChangeErrors changes wanted old new (Mismatch address) = old.honest ≡ true → CanApply changes wanted old.chip → ⊥
 ChangeErrors changes wanted old new _ = ⊥
 
--- Holds on every bus: a timeout names an address in a touched sector, or 0 if the status is written; a mismatch names
--- an address in a touched sector.
+-- Holds on every bus: a timeout names an address in a touched sector, or 0 if a status write is needed; a mismatch
+-- names an address in a touched sector.
 abbrev pub NamesTouchedSector : Changes → Refusal → Type 0
 NamesTouchedSector changes (Timeout address) =
     ((1 ≤ status_writes changes) × (address ≡ 0)) ⊎ (touched_in changes (address / 4096) ≡ true)

@@ -1,4 +1,5 @@
--- The main promise of a session, a restore and a rehearsal: the original chip can be restored.
+-- The main promises of a session and of a restore: the original chip can be restored, and a restore that succeeds
+-- restores it.
 use Rattle.std.specs.Prelude.{◌≡◌, ◌/◌, ◌&&◌, ℕ, Bool, true, false, not, List, Result, IfErr, IfSome, OnOk}
 use Rattle.nor_model.specs.declared.config.Config.{Config}
 use Rattle.nor_model.specs.Chip.{Chip, IsSame, is_locked, kept_in}

@@ -1,4 +1,5 @@
--- Sessions and restores that follow one another, and power failures of the chip between them.
+-- Definitions for sessions and restores that follow one another. Between two of them the chip may lose its power, or be
+-- kept in files.
 use Rattle.std.specs.Prelude.{◌≡◌, ◌⊎◌, ℕ, true, false, List}
 use Rattle.nor_model.specs.Chip.{IsChip, IsSame}
 use Rattle.nor_model.specs.Power.{PowerLost}

@@ -37,7 +37,7 @@ abbrev pub SinceIdentity : Option ChipName → Identity → BusState → (BusSta
 SinceIdentity named identity now promise =
     (first : BusState) → OnlyReads most_identity first now → ReadsIdentity named first now identity → promise first
 
--- All promises of a session, from one state of the bus to another.
+-- The promises of a session, from one state of the bus to another, except `KeepsOriginal`, which follows from these.
 pub record KeepsPromise (request : Request) (image : List ℕ) (old new : BusState) (vault vault' : VaultState)
     (result : Result Report Refusal) : Type 0 where
   pub always : SessionAlways request old new vault vault' result

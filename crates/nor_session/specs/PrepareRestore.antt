@@ -36,7 +36,7 @@ use Rattle.nor_session.specs.Restore.{IsOfOtherDevice, FitsStatus, NeedsStatusFr
 
 -- ---- the checks, in the order of the code
 
--- Holds if the chip is known, and the journal fits it.
+-- Holds if the chip is identified as some chip type, and the journal fits its ID, size, unique ID and status bits.
 pub record FitsJournal (journal : Content) (chip : Chip) : Type 0 where
   pub named : IsNamed None chip.config
   pub kind : IsOfType journal chip.config

@@ -23,8 +23,8 @@ use Rattle.nor_scan.specs.Verdict.{IsVerdict, IsAccepted}
 use Rattle.nor_session.specs.Session.{SessionReturns, NamesAddress, IsSavedCode, IsWrittenCode, most_status_writes, SendsSaved, WritesStatusAtMost}
 use Rattle.nor_session.specs.Restore.{IsRestoreRefusal}
 
--- the number of transactions that the session of a rehearsal is allowed: the first stop or, without stops, the most
--- that a session may need on a chip of 16 MiB
+-- the number of transactions that the session of a rehearsal is allowed: the first stop or, without stops, the bound
+-- for a session on a chip of 16 MiB
 abbrev pub first_allowance : List ℕ → ℕ
 first_allowance [] = most_of 4096
 first_allowance (first ∷ later) = first
@@ -47,8 +47,8 @@ abbrev pub least_needed : Request → (image : List ℕ) → Chip → (erases : 
 least_needed request image chip erases =
     4 + scanned_sectors request chip.config.size + 3 * (erases + pages_of chip.bytes (wanted request image chip))
 
--- Holds if nothing known here keeps a session from ending on this chip: its request is accepted, and the allowance is
--- at least the lower bound on its transactions.
+-- A necessary condition for a session to end on this chip: its request is accepted, and the allowance is at least
+-- `least_needed` for the least possible number of erases. The session may need more.
 pub record CanEnd (request : Request) (image : List ℕ) (allowance : ℕ) (chip : Chip) : Type 0 where
   pub accepted : IsAccepted request image chip
   pub erases : ℕ
@@ -56,20 +56,20 @@ pub record CanEnd (request : Request) (image : List ℕ) (allowance : ℕ) (chip
   pub enough : least_needed request image chip erases ≤ allowance
 
 -- If the vault was sealed, the allowance was enough for the shortest identification and the scan. If the vault wasn't
--- sealed, the allowance was less than these may need.
+-- sealed, the allowance was below the bound for the identification and the scan.
 pub record SealFits (request : Request) (allowance : ℕ) (chip : Chip) (seal : Bool) : Type 0 where
   pub enough : seal ≡ true → 4 + scanned_sectors request chip.config.size ≤ allowance
   pub below : seal ≡ false → allowance < most_reads (scanned_sectors request chip.config.size)
 
 -- Holds if `restores` restores from a journal of `sectors` sectors were run, with these stops in turn. Each one before
 -- the last was stopped, so its stop was below the bound. The last one ended, so its stop, if it had one, was enough for
--- an identification and a scan.
+-- the shortest identification and the scan.
 pub record AreRestores (sectors : ℕ) (stops : List ℕ) (restores : ℕ) : Type 0 where
   pub stopped : (i : ℕ) → i + 1 < restores → slice_index stops i < most_of sectors
   pub ended : restores ≤ length stops → 4 + sectors ≤ slice_index stops (restores - 1)
 
--- Holds if the stop of the last restore, if it had one, was enough for an identification, a scan and the transactions
--- that are left now.
+-- Holds if the stop of the last restore, if it had one, was enough for the shortest identification, the scan and the
+-- transactions that are left now.
 abbrev pub FitsLastStop : (sectors : ℕ) → (stops : List ℕ) → (left restores : ℕ) → Type 0
 FitsLastStop sectors stops left restores =
     restores ≤ length stops → left + (4 + sectors) ≤ slice_index stops (restores - 1)
@@ -142,8 +142,8 @@ pub record RehearsalModelled (request : Request) (image stops : List ℕ) (old n
   -- session ended
   pub ended : most_of (old.chip.config.size / 4096) ≤ first_allowance stops
       → IfOk result (λ rehearsal. rehearsal.ended ≡ true)
-  -- the session ended only if its request is accepted, and its allowance is at least the fewest transactions that the
-  -- request needs
+  -- the session ended only if its request is accepted, and its allowance is at least the lower bound on what the
+  -- request needs (`CanEnd`)
   pub stopped : IfOk result (λ rehearsal. rehearsal.ended ≡ true
       → CanEnd request image (first_allowance stops) old.chip)
   -- the first allowance and the vault's seal fit each other (`SealFits`)

@@ -38,11 +38,12 @@ pub record CanUndo (saved : ℕ → Bool) (first : Chip) (text : List ℕ) (stat
   pub free : is_locked first.kept ≡ true → NoneProtected saved first
   pub within : IsWithin (addresses_of saved) first state
 
--- At every exit of the session. On a modelled bus: if the vault isn't sealed, the latch is set only if it was set
--- before, and bytes and non-volatile bits are as they were, if the bus is steady or the chip was idle; if the vault is
--- sealed, its bytes can restore the chip, and the request is accepted; only touched sectors were erased. On every bus:
--- no modifying command was sent before the seal, a sealed vault holds a journal that all that was sent fits
--- (`SendsSaved`), and the status was written no more often than the request may need.
+-- Holds at every exit of the session. On every bus, no modifying command was sent if the vault isn't sealed, and a
+-- sealed vault holds a journal that all that was sent fits (`SendsSaved`). The status was written no more often than
+-- the request may need. On a modelled bus, only touched sectors were erased. On a modelled bus with a sealed vault, the
+-- request is accepted, and the vault's bytes can restore the original chip. On a modelled bus with an unsealed vault,
+-- the latch is set only if it was set before; if this bus is steady or its chip was idle, bytes and non-volatile bits
+-- are as they were.
 pub record LeavesSession (request : Request) (image : List ℕ) (old new : BusState) (vault : VaultState) : Type 0 where
   pub nature : KeepsNature old new
   pub same : IsModelled old → IsSteadyOrIdle old → vault.sealed ≡ false → IsSame old.chip new.chip
@@ -57,15 +58,16 @@ pub record LeavesSession (request : Request) (image : List ℕ) (old new : BusSt
       × SendsSaved (IsWrittenCode request.what journal.content) 1 journal.content old new
   pub writes : WritesStatusAtMost (most_status_writes request.what request.unlock) old new
 
--- Holds if the non-volatile status bits are the target's: those from before, with the target's protection bits.
+-- Holds if the non-volatile status bits are the target ones: those from before, with the target protection bits.
 pub record HasWantedBits (what : What) (old new : Chip) : Type 0 where
   pub code : ℕ
   pub is_wanted : IsWantedCode what old code
   pub kept : new.kept ≡ with_code code old.kept
 
--- The session was allowed `allowance` transactions. On a modelled bus, if it ended, the chip is the target, and the
--- latch is set only if it was set before; if it was stopped, the allowance was below the bound. After a stop on a
--- well-behaved bus no transaction is left.
+-- The session was allowed `allowance` transactions, and ended or was stopped. If it ended, the vault is sealed; if it
+-- was stopped on a well-behaved bus, no transaction is left. On a modelled bus, the allowance fits the seal
+-- (`SealFits`). If the session ended there, the chip has the target bytes and bits, the latch is set only if it was set
+-- before, and `CanEnd` holds. If it was stopped there, the allowance was below the bound.
 pub record RunsSession (request : Request) (image : List ℕ) (allowance : ℕ) (old new : BusState) (vault : VaultState)
     (ended : Bool) : Type 0 where
   pub seals : ended ≡ true → vault.sealed ≡ true
@@ -101,8 +103,9 @@ pub record LeavesRestores (journal : Content) (restores : ℕ) (old new : BusSta
   pub writes : WritesStatusAtMost (2 * restores) old new
 
 -- One restore was allowed `allowance` transactions. On a modelled bus, if it ended, it restored each chip that the
--- journal could restore, and the latch is set only if it was set before. On a well-behaved bus, if it was stopped, the
--- allowance was below the bound, and no transaction is left.
+-- journal could restore, and the latch is set only if it was set before. The allowance was then enough for the shortest
+-- identification, the scan and the transactions that are left. On a well-behaved bus, if it was stopped, the allowance
+-- was below the bound, and no transaction is left.
 pub record RunsRestore (journal : Content) (allowance : ℕ) (old new : BusState) (ended : Bool) : Type 0 where
   pub back : IsModelled old → ended ≡ true → (first : Chip) → CanRestore journal first old → IsSame first new.chip
   pub latch : IsModelled old → ended ≡ true → new.chip.latch ≡ true → old.chip.latch ≡ true
@@ -131,8 +134,8 @@ pub record StopsRestores (journal : Content) (old : BusState) (refusal : Refusal
 
 -- ---- restores from bytes
 
--- Restores were run in turn until one ended. On a modelled bus they restored the chip that the bytes can restore, and
--- if none was stopped, the latch is set only if it was set before.
+-- Restores were run in turn until one ended. On a modelled bus they restored the original chip, if the bytes could
+-- restore it; and if none was stopped, the latch is set only if it was set before.
 pub record Undoes (text : List ℕ) (stops : List ℕ) (old new : BusState) (restores : ℕ) : Type 0 where
   pub some : 1 ≤ restores
   pub most : restores ≤ length stops + 1
@@ -143,7 +146,7 @@ pub record Undoes (text : List ℕ) (stops : List ℕ) (old new : BusState) (res
   pub last : IsModelled old → (saved : ℕ → Bool) (first : Chip) → CanUndo saved first text old
       → FitsLastStop (sector_count saved) stops new.left restores
 
--- Holds if, on a modelled bus, only sectors that the bytes save were erased.
+-- Holds if, on a modelled bus and if the bytes can restore the original chip, only sectors that they save were erased.
 abbrev pub WearsSaved : List ℕ → (old new : BusState) → Type 0
 WearsSaved text old new = IsModelled old → (saved : ℕ → Bool) (first : Chip) → CanUndo saved first text old
     → (s : ℕ) → saved s ≡ false → new.worn s ≡ old.worn s
@@ -166,13 +169,14 @@ pub record RefusesUndo (text : List ℕ) (old : BusState) (refusal : Refusal) : 
 pub record LeavesUndo (text stops : List ℕ) (old new : BusState) (result : Result ℕ Refusal) : Type 0 where
   -- whether the bus is well-behaved, steady and unlimited is as before
   pub nature : KeepsNature old new
-  -- at every exit on a modelled bus, only sectors that the bytes save were erased
+  -- at every exit on a modelled bus, if the bytes can restore the original chip, only sectors that they save were
+  -- erased
   pub wears : WearsSaved text old new
   -- if the bytes are a journal, all that was sent fits it (`SendsSaved`)
   pub sends : SendsFromJournal text (length stops + 1) old new
   -- each restore wrote the status at most twice, and at most one ran without a stop
   pub writes : WritesStatusAtMost (2 * (length stops + 1)) old new
-  -- if the restores ended on a modelled bus, they restored the original chip
+  -- if the restores ended on a modelled bus, and the bytes could restore the original chip, they restored it
   pub undoes : IfOk result (Undoes text stops old new)
   -- the restores succeed only if the last poll showed that the chip is ready
   pub polled_ready : OnOk result (new.polled_ready ≡ true)

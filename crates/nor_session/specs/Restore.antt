@@ -92,8 +92,8 @@ IsRestoreRefusal refusal = list_any (λ n. refusal_number refusal == n) (12 ∷ 
 
 -- ---- on a modelled bus
 
--- Holds on a modelled bus: the error is the verdict; or the bus stopped, and fewer transactions were left than the
--- bound.
+-- Holds on a modelled bus: the error is the verdict; or the bus stopped, and fewer transactions were left at the start
+-- than the bound.
 abbrev pub RestoreErrors : Content → (old new : BusState) → Refusal → Type 0
 RestoreErrors journal old new Stopped = RanOut (most_of (length journal.saved)) old new
 RestoreErrors journal old new refusal = IsRestoreVerdict journal old.chip refusal
@@ -120,8 +120,8 @@ pub record IsRestored (journal : Content) (old new : BusState) (report : Report)
 
 -- The promises of a restore on every bus.
 pub record RestoreAlways (journal : Content) (old new : BusState) (result : Result Report Refusal) : Type 0 where
-  -- at every exit on a well-behaved bus, no more transactions were sent than a restore of this number of sectors may
-  -- need
+  -- at every exit on a well-behaved bus, the transactions that were sent are within the bound for this number of
+  -- sectors
   pub spends : Spends (most_of (length journal.saved)) old new
   -- at every exit all that was sent fits the journal (`SendsSaved`)
   pub sends : SendsSaved (IsSavedCode journal) 1 journal old new

@@ -34,7 +34,7 @@ use Rattle.nor_scan.specs.Verdict.{IsNamed, NeedsStatusWrite, IsVerdict, IsAccep
 -- ---- on every bus
 
 -- Holds for the errors of a session, which are 1 to 14. Error 11 occurs only if the vault failed. After errors 1 to 11
--- the vault isn't sealed, and after errors 1 to 8, which the identification decides, the vault is as it was.
+-- the vault isn't sealed, and after errors 1 to 8, which are returned before the vault is used, it is as it was.
 pub record SessionReturns (old new : VaultState) (refusal : Refusal) : Type 0 where
   pub own : refusal_number refusal ≤ 14
   pub vault : refusal ≡ Vault → CountsRefusal old new
@@ -75,7 +75,7 @@ pub record IsPastChipEnd (journal : Content) (sector : ℕ) : Type 0 where
 abbrev pub IsSavedCode : Content → (code : ℕ) → Type 0
 IsSavedCode journal code = (code ≡ 0) ⊎ (code ≡ code_of (kept_in journal.status))
 
--- Holds for the protection bits that a session may write. For a protection range these are the least value that
+-- Holds for the protection bits that a session may write. For a protection range these are the least defined value that
 -- protects exactly this range on a chip of the journal's size. For a write or an erase they are 0 (to lift protection),
 -- or those that the journal saves.
 abbrev pub IsWrittenCode : What → Content → (code : ℕ) → Type 0
@@ -145,9 +145,9 @@ pub record EndsSealed (request : Request) (old new : BusState) (vault vault' : V
 
 -- ---- on a well-behaved bus
 
--- The meaning of errors on a well-behaved bus. A stop occurs only if no transaction is left and fewer were left at the
--- start than the call may need; a timeout does not occur. After an early error, one from before the first modifying
--- command, bytes and non-volatile status bits are as they were.
+-- The meaning of errors on a well-behaved bus. A stop occurs only if no transaction is left and fewer than `most` were
+-- left at the start; a timeout does not occur. After an early error, one from before the first modifying command, bytes
+-- and non-volatile status bits are as they were.
 abbrev pub HonestErrors : (most : ℕ) → (IsEarly : Refusal → Type 0) → (old new : BusState) → Refusal → Type 0
 HonestErrors most IsEarly old new Stopped = RanOut most old new
 HonestErrors most IsEarly old new (Timeout address) = ⊥
@@ -156,7 +156,7 @@ HonestErrors most IsEarly old new refusal = IsEarly refusal → IsSame old.chip 
 -- ---- on a modelled bus
 
 -- Holds on a modelled bus: the error is the verdict on the request; or the vault failed; or the bus stopped, and fewer
--- transactions were left than the bound.
+-- transactions were left at the start than the bound.
 abbrev pub SessionErrors : Request → List ℕ → (old new : BusState) → (vault vault' : VaultState) → Refusal → Type 0
 SessionErrors request image old new vault vault' Vault = CountsRefusal vault vault'
 SessionErrors request image old new vault vault' Stopped = RanOut (most_of (old.chip.config.size / 4096)) old new
@@ -202,7 +202,7 @@ pub record SessionAlways (request : Request) (old new : BusState) (vault vault' 
   -- if the vault isn't sealed, the session only read; on a well-behaved bus it sent at most the transactions of
   -- identifying and scanning the largest chip
   pub only_reads : vault'.sealed ≡ false → OnlyReads (most_reads 4096) old new
-  -- at every exit on a well-behaved bus, no more transactions were sent than a session on the largest chip may need
+  -- at every exit on a well-behaved bus, the transactions that were sent are within the bound for the largest chip
   pub spends : Spends (most_of 4096) old new
   -- at every exit on every bus, no more erases and page programs were sent than the largest chip has sectors and pages
   pub few : SendsFew old new
@@ -240,7 +240,7 @@ pub record SessionHonest (request : Request) (image : List ℕ) (old new : BusSt
 -- The promises of a session on a modelled bus: a well-behaved one whose chip is what its ID or SFDP says.
 pub record SessionModelled (request : Request) (image : List ℕ) (old new : BusState) (vault vault' : VaultState)
     (result : Result Report Refusal) : Type 0 where
-  -- at every exit no more transactions were sent than a session on a chip of this size may need
+  -- at every exit the transactions that were sent are within the bound for a chip of this size
   pub falls : Falls (most_of (old.chip.config.size / 4096)) old new
   -- an error is the verdict on the request, a failure of the vault, or a stop because too few transactions were left
   pub errors : IfErr result (SessionErrors request image old new vault vault')
@@ -251,7 +251,8 @@ pub record SessionModelled (request : Request) (image : List ℕ) (old new : Bus
   -- if the request needs no status write, the bound on the report's transactions includes none
   pub spares : ¬ NeedsStatusWrite request image old.chip
       → IfOk result (IsWithinBound (scanned_sectors request old.chip.config.size) 0 request.verify)
-  -- a stop before the seal occurs only if fewer transactions were left than the identification and the scan may need
+  -- a stop before the seal occurs only if fewer transactions were left at the start than the bound for the
+  -- identification and the scan
   pub early : vault'.sealed ≡ false → IfErr result (λ refusal. refusal ≡ Stopped
       → old.left < most_reads (scanned_sectors request old.chip.config.size))
   -- after an error other than 11 an unsealed faithful vault is empty, or holds the header and complete records of the

@@ -1,5 +1,5 @@
-//! A session after the identification was checked. Its state is in a module of its own: this module can't construct the
-//! evidence `Restorer` except from a sealed vault or a journal.
+//! A session after its request was checked against the identification. Its state is in a module of its own: this module
+//! can't construct the evidence `Restorer` except from a sealed vault or a journal.
 ghost use Rattle.std.specs.Prelude.{length};
 ghost use Rattle.nor_journal.specs.Vault.{IsFresh};
 ghost use Rattle.nor_session.specs.Judged.{IsJudged, SinceIdentity, KeepsPromise};
@@ -24,8 +24,8 @@ pub(crate) struct Judged<'a, B: Bus, V: Vault> {
 }
 
 impl<'a, B: Bus, V: Vault> Judged<'a, B, V> {
-    /// Saves the touched sectors, changes them, and returns the session's report. The clause states all promises of a
-    /// session, from each state of the bus in which the session may have begun.
+    /// Saves the touched sectors, makes the changes, and returns the session's report. The clause states the promises
+    /// of a session (`KeepsPromise`), from each state of the bus in which the session may have begun.
     pub(crate) fn answer(self) -> Result<Report, Refusal>
         requires fresh { IsFresh (V.state self.vault.now) }
         requires judged { IsJudged self.request.now (length self.image.now) self.identity self.code }

@@ -41,7 +41,7 @@ pub(crate) struct Kept<'a, B: Bus, S: Source> {
 }
 
 impl<'a, B: Bus, S: Source> Kept<'a, B, S> {
-    /// Makes the changes, and reads the touched sectors back if `verify` is set.
+    /// Makes the changes. If `verify` is set, reads the touched sectors back and compares them with their target bytes.
     pub(crate) fn finish(self, verify: bool) -> Result<Work, Refusal>
         requires inside { LiesBelow self.changes.now.touched (self.changes.now.size / 4096) }
         requires raised { (s : ℕ) → has self.changes.now.raised s ≡ true → has self.changes.now.touched s ≡ true }
@@ -82,7 +82,8 @@ pub(crate) struct Done<'a, B: Bus, S: Source> {
 }
 
 impl<'a, B: Bus, S: Source> Done<'a, B, S> {
-    // Reads the touched sectors back if `verify` is set. Returns the work, which counts these reads too.
+    // If `verify` is set, reads the touched sectors back and compares them with their target bytes. Returns the work,
+    // which counts these reads too.
     fn check(self, verify: bool) -> Result<Work, Refusal>
         requires fits { self.work.transactions ≤ most_applied 4096 }
         requires sourced { (s : ℕ) → has self.changes.now.touched s ≡ true → S.has self.source.now s ≡ true }

@@ -1,5 +1,6 @@
 //! Laws (theorems) on sessions and restores that follow one another, and on chips in files. They say which chips a
-//! journal can restore after a session, after a loss of power, and while files are being overwritten.
+//! journal can restore after a session, after a loss of power, and while files are being overwritten, and which chips
+//! restores leave.
 ghost use Rattle.std.specs.Prelude.{◌≡◌, ◌⊎◌, true, ℕ, List};
 ghost use Rattle.nor_model.specs.Bus.{BusState};
 ghost use Rattle.nor_model.specs.Chip.{Chip, IsChip, IsSame};
@@ -22,7 +23,7 @@ pub fn restored_stays()
         → ChangesNothing journal old new report }
 {}
 
-/// If a journal can restore a chip, it still can after the chip has lost its power, if the bus isn't steady or the chip
+/// A journal that can restore a chip still can after the chip has lost its power, if the bus isn't steady or the chip
 /// was idle. So the power may fail between a session that was stopped and its restore, and between restores.
 pub fn power_lost_restores_original()
     ensures { (journal : Content) (first : Chip) (old new : BusState)
@@ -76,8 +77,8 @@ pub fn begun_restores_original()
 {}
 
 /// The chip's files held it as it was before a session on a modelled bus, and were being overwritten with the chip
-/// after the session. Wherever that was interrupted, the journal in the session's `telling` vault can restore the
-/// original chip from these files.
+/// after the session. Wherever that was interrupted, the journal in the session's sealed `telling` vault can restore
+/// the original chip from these files.
 pub fn session_written_over()
     ensures { (request : Request) (image : List ℕ) (old new opened : BusState) (vault : VaultState) (journal : Content)
         → IsModelled old → IsChip old.chip → vault.telling ≡ true → CanBeUndone request image old new vault

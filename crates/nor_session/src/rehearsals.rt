@@ -1,4 +1,4 @@
-//! A rehearsal: runs a session that is stopped on purpose, and restores from its journal.
+//! A rehearsal: runs a session that may be stopped on purpose, and restores from its journal.
 ghost use Rattle.std.specs.Prelude.{◌≡◌, ◌≤◌, ◌+◌, true, length, drop, IfOk, IfErr, OnOk};
 ghost use Rattle.nor_model.specs.Chip.{IsSame};
 ghost use Rattle.nor_driver.specs.OnlyReads.{IsSteadyOrIdle};
@@ -28,7 +28,7 @@ pub struct Rehearsal {
 
 /// Runs a session that may send at most the number of transactions given by the first of `stops`. If the session sealed
 /// the vault, runs restores, each with the next number of `stops`, until one ends. If no stop is left, a call may send
-/// the most transactions that a session needs on a chip of 16 MiB.
+/// a number of transactions that is enough for every session and restore.
 ///
 /// There are at most 64 stops, and `vault` must be empty and unsealed. `image` and `request` are as for `session`.
 ///
@@ -76,7 +76,7 @@ const OPENING: u64 = 65_542;
 // The most transactions of an operation: write enable, its command and 65,536 polls.
 const OPERATION: u64 = 65_538;
 
-// Returns the most transactions of a session on a chip of 16 MiB. No session or restore needs more.
+// Returns a bound on the transactions of a session on a chip of 16 MiB. No session or restore needs more.
 fn most_needed() -> u64
     ensures { result ≡ most_of 4096 }
 {
@@ -84,8 +84,8 @@ fn most_needed() -> u64
     OPENING + 3 * sectors + OPERATION * (17 * sectors + 2)
 }
 
-// Returns the number of transactions that the session may send: the first stop or, without stops, the most that any
-// call needs.
+// Returns the number of transactions that the session may send: the first stop or, without stops, the bound that no
+// call exceeds.
 fn first_allowed(stops: &[u64]) -> u64
     ensures { result ≡ first_allowance stops.now }
 {
@@ -136,7 +136,8 @@ fn undo<B: Meter>(bus: &mut B, text: &[u8], stops: &[u64]) -> Result<u32, Refusa
     }
 }
 
-// Restores with these stops in turn, and at last without a stop, until one ends. Returns how many were run.
+// Runs restores until one ends, the first ones with these stops in turn and a last one without a stop. Returns how many
+// restores were run.
 fn restore_in_turn<B: Meter>(
     bus: &mut B,
     journal: &Journal<'_>,

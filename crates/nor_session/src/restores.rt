@@ -1,4 +1,4 @@
-//! A restore: writes the sectors and protection bits of a journal back to the chip.
+//! A restore: gives the chip the sectors and protection bits that a journal saved.
 ghost use Rattle.std.specs.Prelude.{◌≡◌, true};
 ghost use Rattle.nor_probe.specs.Known.{IsModelled};
 ghost use Rattle.nor_session.specs.Headline.{RestoresOriginal};
@@ -11,8 +11,8 @@ use nor_journal::Journal;
 use nor_model::Bus;
 use nor_request::{Refusal, Report};
 
-/// Writes the saved sectors and the protection bits of `journal` back to the chip, and verifies the sectors that it
-/// changed.
+/// Restores the saved sectors and the protection bits of `journal`, and verifies the sectors that it changed. Sectors
+/// that still have their saved bytes are not written.
 ///
 /// A journal of format 1 is accepted for any chip with its ID and size, one of format 2 only for the device whose
 /// unique ID it contains.

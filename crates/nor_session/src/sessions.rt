@@ -17,9 +17,10 @@ use nor_scan::{identify, judge_identity};
 
 /// Saves each sector that it will touch to `vault`, and then makes the chip what `request` asks for.
 ///
-/// `vault` must be empty and unsealed. `image` is the session's only buffer besides fixed arrays. For a write it holds
-/// the target contents of the whole chip, for an erase the same number of bytes of any value; for a protection range it
-/// is not used. Its contents afterwards are unspecified.
+/// `vault` must be empty and unsealed. `image` is the session's only buffer besides fixed arrays. For a write or an
+/// erase it must be as long as the chip. For a write it holds the target byte at each included address; its other
+/// bytes, and all bytes for an erase, may have any value. For a protection range it is not used. Its contents
+/// afterwards are unspecified.
 ///
 /// On every bus no modifying command is sent before the vault is sealed. On a modelled bus the journal of a sealed
 /// `telling` vault can restore the original chip at every exit, even if the bus stopped inside a transaction. On a
@@ -28,7 +29,7 @@ use nor_scan::{identify, judge_identity};
 ///
 /// Returns an error from 1 to 8 before it uses the vault, and one from 9 to 11 before the vault is sealed (`Refusal`
 /// has their meanings). Returns 14 (the bytes that were read back differ) only after the seal, and 12 (the bus stopped)
-/// or 13 (the chip stayed busy) at any time. On a well-behaved bus 13 does not occur.
+/// or 13 (the chip stayed busy) before or after it. On a well-behaved bus 13 does not occur.
 pub fn session<B: Bus, V: Vault>(
     bus: &mut B,
     vault: &mut V,

@@ -11,7 +11,7 @@ use Rattle.nor_session.proofs.Targeting.{none_written, none_sent, change_sends, 
 use Rattle.nor_session.proofs.OfJournal.{restore_of_journal, counted}
 use Rattle.nor_session.proofs.restores.restore.Goals as goal
 
--- the exit at which a check failed or the bus stopped before the first change
+-- the exit with an error from before the first change
 pub returns-in_err-prepared : goal.returns-in_err-prepared
 returns-in_err-prepared g c =
     let journal = c.args.journal.now in let most = most_identity + length journal.saved in
