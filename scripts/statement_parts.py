@@ -280,7 +280,8 @@ SUBJECTS = {
     "Files": "nor_files: specs/Files specs/Faults specs/Calls src/store",
     "Jobs": "nor_words: specs/Text src/programmer specs/Programmer src/job",
     "A chip in files":
-        "flashnor: specs/Found src/chips nor_lines: specs/Stored flashnor: specs/Chips specs/Tasks nor_lines: "
-        "specs/Requests flashnor: specs/Requests specs/Changes src/holding specs/Endings nor_chip: specs/Start",
+        "flashnor: specs/Found src/chips nor_lines: specs/Stored flashnor: specs/Chips nor_lines: specs/Tasks "
+        "flashnor: specs/Tasks nor_lines: specs/Requests flashnor: specs/Requests specs/Changes src/holding "
+        "specs/Endings nor_chip: specs/Start",
     "What a run leaves": "flashnor: specs/Left specs/Run src/run",
 }

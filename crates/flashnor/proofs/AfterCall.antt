@@ -21,15 +21,18 @@ use Rattle.nor_words.specs.declared.job.JournalUse.TheVariants as uses
 use Rattle.nor_words.specs.declared.job.Task.{Task}
 use Rattle.nor_words.specs.declared.job.Task.TheVariants as task
 use Rattle.nor_words.specs.declared.programmer.Programmer.{Programmer}
-use Rattle.flashnor.specs.Changes.{HasMadeChange, IsKeptFile, IsKeptIn}
+use Rattle.flashnor.specs.Changes.{HasMadeChange, IsKeptIn}
+use Rattle.nor_lines.specs.Stored.{IsKeptFile}
 use Rattle.nor_lines.specs.Requests.{AreRangesOf}
 use Rattle.flashnor.specs.Requests.{IsBufferOf}
-use Rattle.flashnor.specs.Roles.{image_of, layout_of, named_by}
+use Rattle.nor_lines.specs.Tasks.{image_of, layout_of, named_by}
 use Rattle.flashnor.specs.Run.{DoesJob, IsViewBut}
 use Rattle.nor_lines.specs.Stored.{AreTwo}
-use Rattle.flashnor.specs.Tasks.{journal_of, keeps_journal, puts_back}
+use Rattle.flashnor.specs.Tasks.{keeps_journal, puts_back}
+use Rattle.nor_lines.specs.Tasks.{journal_of}
 use Rattle.nor_lines.specs.declared.answers.Answer.{Answer}
-use Rattle.flashnor.proofs.Stays.{StayApart, lawful_after, not_that}
+use Rattle.flashnor.proofs.Stays.{StayApart, not_that}
+use Rattle.nor_lines.proofs.Lent.{lawful_after}
 use Rattle.flashnor.proofs.Stays.{settled_after}
 use Rattle.flashnor.proofs.Traced.{reads_before}
 

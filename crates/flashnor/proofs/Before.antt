@@ -10,11 +10,14 @@ use Rattle.nor_words.specs.declared.job.JournalUse.TheVariants as uses
 use Rattle.nor_words.specs.declared.job.Task.{Task}
 use Rattle.nor_words.specs.declared.job.Task.TheVariants as task
 use Rattle.nor_words.specs.declared.programmer.Programmer.{Programmer}
-use Rattle.flashnor.specs.Roles.{HasOwnTrace, HaveOneRole, named_by}
+use Rattle.flashnor.specs.Roles.{HasOwnTrace, HaveOneRole}
+use Rattle.nor_lines.specs.Tasks.{named_by}
 use Rattle.flashnor.specs.Run.{KeepsChange, KeepsFiles, StayBut}
 use Rattle.nor_lines.specs.Stored.{AreTwo, IsNot, LeavesNoMoreOf, MakesNothing, StaysOf}
-use Rattle.flashnor.specs.Tasks.{journal_by, journal_of, keeps_journal, made_by, puts_back}
-use Rattle.flashnor.proofs.Stays.{StayApart, apart, known_after, known_at_rest, not_after, not_that, stays_same}
+use Rattle.flashnor.specs.Tasks.{journal_by, keeps_journal, puts_back}
+use Rattle.nor_lines.specs.Tasks.{journal_of, made_by}
+use Rattle.flashnor.proofs.Stays.{StayApart, apart, known_after, known_at_rest, not_after, not_that}
+use Rattle.nor_lines.proofs.Lent.{stays_same}
 
 -- a promise about all files holds for the file that is named, if one is
 pub leaves_of : (old new : FilesState) (name : Option (Bor Text)) → LeaveNoMore old new → LeavesNoMoreOf name old new

@@ -1,5 +1,6 @@
 -- The results of the calls that change a chip, for the request made from a change.
-use Rattle.std.proofs.Common.{◌≡◌, ◌≤◌, ℕ, List, Option, Result, IsOk, MatchResult, arith, false, true}
+use Rattle.std.proofs.Common.{◌≡◌, ◌≤◌, ℕ, List, Option, Result, Ok, Err, IfOk, IsOk, MatchResult, OnErr, arith, false, true}
+use Rattle.std.specs.Borrow.{Bor}
 use Rattle.nor_model.specs.Bus.{BusState}
 use Rattle.nor_model.specs.Chip.{IsChip, IsSame}
 use Rattle.nor_driver.specs.OnlyReads.{IsSteadyOrIdle, OnlyReads}
@@ -9,18 +10,27 @@ use Rattle.nor_probe.specs.Known.{IsModelled}
 use Rattle.nor_probe.specs.declared.table.ChipName.{ChipName}
 use Rattle.nor_request.specs.Refusal.{refusal_number}
 use Rattle.nor_request.specs.declared.refusal.Refusal.{Refusal}
+use Rattle.nor_request.specs.declared.report.Report.{Report}
 use Rattle.nor_request.specs.declared.request.Request.{Request}
 use Rattle.nor_session.specs.Bounds.{most_of}
-use Rattle.nor_session.specs.Session.{CanBeUndone, HonestErrors}
+use Rattle.nor_session.specs.Session.{CanBeUndone, HonestErrors, SessionAlways, SessionHonest, SessionModelled}
 use Rattle.nor_session.proofs.WrittenBack.{same_over, session_over}
+use Rattle.nor_words.specs.Text.{Text}
 use Rattle.nor_words.specs.declared.job.Change.{Change}
+use Rattle.nor_words.specs.declared.job.JournalUse.TheVariants as uses
+use Rattle.nor_words.specs.declared.job.Regions.{Regions}
 use Rattle.nor_words.specs.declared.programmer.Emulated.{Emulated}
-use Rattle.nor_files.specs.Files.{FilesState, View}
+use Rattle.nor_files.specs.Calls.{BorrowsNone, LeavesOrEmpty}
+use Rattle.nor_files.specs.Files.{FilesState, IsKnownFile, View}
 use Rattle.flashnor.specs.Changes.{FailsSession, HasKeptChange, HasMadeChange, ReportsChange}
+use Rattle.nor_lines.specs.Readings.{AnswersCall, HasReadOut}
 use Rattle.nor_lines.specs.Requests.{AreRangesOf, request_for}
+use Rattle.nor_lines.specs.Sessions.{HasRunInFile, TellsReport}
 use Rattle.flashnor.specs.Requests.{IsBufferOf}
-use Rattle.flashnor.specs.Run.{ChangesChip}
+use Rattle.flashnor.specs.Run.{ChangesChip, DoesRead}
 use Rattle.nor_lines.specs.declared.answers.Answer.{Answer}
+use Rattle.nor_lines.specs.declared.answers.Answer.TheVariants as answer
+use Rattle.nor_lines.specs.declared.messages.Fault.{Fault}
 
 pub does_change : (view : View) (after : FilesState) (chip : Emulated) (named : Option ChipName) (change : Change) (request : Request)
     (ranges : Option (List Span)) (image : List ℕ) (old new : BusState) (outcome : Result Answer Refusal)
@@ -29,30 +39,78 @@ pub does_change : (view : View) (after : FilesState) (chip : Emulated) (named : 
 does_change view after chip named change request ranges image old new outcome same included buffer changed =
     record { ranges = ranges; included = included; image = image; buffer = buffer; changed = rw same at changed }
 
+-- the result of reading the chip into a file, in the ranges of a layout
+pub does_read : (view after : View) (named : Option ChipName) (file : Text) (regions : Option Regions)
+    (ranges : Option (List Span)) (old new : BusState) (result : Result (Result Answer Refusal) Fault)
+    → AreRangesOf view regions ranges → IfOk result (HasReadOut named file ranges old new after)
+    → IfOk result (DoesRead view after named file regions old new)
+does_read view after named file regions ranges old new (Ok outcome) included read =
+    record { ranges = ranges; included = included; read = read }
+does_read view after named file regions ranges old new (Err fault) included read = tt
+
 -- after errors 1 to 11 the chip is as before
-pub stays : (old new : BusState) (refusal : Refusal)
+stays : (old new : BusState) (refusal : Refusal)
     → HonestErrors (most_of 4096) (λ refusal. refusal_number refusal ≤ 11) old new refusal → refusal_number refusal ≤ 11
     → IsSame old.chip new.chip
 stays old new refusal errors early = grind arith
 
+-- what `HasKeptChange` says of a session on a modelled bus
 module _ (request : Request) (image : List ℕ) (old new : BusState) (vault vault' : VaultState)
-    (only_reads : vault'.sealed ≡ false → OnlyReads 69638 old new) (undo : vault'.sealed ≡ true → CanBeUndone request image old new vault')
     (modelled : IsModelled old) (is : IsChip old.chip) (steady_or_idle : IsSteadyOrIdle old) where
-  same : vault'.sealed ≡ false → IsSame old.chip new.chip
-  same unsealed = (((only_reads unsealed).honest_reads modelled.honest).stays.steady_or_idle steady_or_idle)
+  same : (vault'.sealed ≡ false → OnlyReads 69638 old new) → vault'.sealed ≡ false → IsSame old.chip new.chip
+  same only_reads unsealed = (((only_reads unsealed).honest_reads modelled.honest).stays.steady_or_idle steady_or_idle)
 
   -- `HasKeptChange` holds for a session that succeeded, and for one that returned an error
-  pub kept : (outcome : Result Answer Refusal)
+  kept : (vault'.sealed ≡ false → OnlyReads 69638 old new)
+      → (vault'.sealed ≡ true → CanBeUndone request image old new vault') → (outcome : Result Answer Refusal)
       → MatchResult outcome (ReportsChange request image old new) (FailsSession request image old new vault vault')
       → (IsOk outcome → vault'.sealed ≡ true) → HasKeptChange request image old new vault vault' outcome
-  kept outcome returned sealed = record {
+  kept only_reads undo outcome returned sealed = record {
     returned = returned;
     sealed = sealed;
-    same = same;
+    same = same only_reads;
     undo = undo;
     over = λ opened written. record {
-      same = λ unsealed. same_over old.chip new.chip opened.chip (same unsealed) written;
+      same = λ unsealed. same_over old.chip new.chip opened.chip (same only_reads unsealed) written;
       back = λ sealed telling journal sound read.
           session_over request image old new opened vault' journal modelled is telling (undo sealed) sound read written;
     };
   }
+
+  kept_by : (result : Result Report Refusal) (outcome : Result Answer Refusal)
+      → SessionAlways request old new vault vault' result → SessionHonest request image old new result
+      → SessionModelled request image old new vault vault' result → AnswersCall TellsReport result outcome
+      → HasKeptChange request image old new vault vault' outcome
+  kept_by (Ok report) (Ok (answer.Done returned)) always honest model passed =
+      kept always.only_reads model.undo _ (rw passed model.done) (λ ok. always.ends.sealed)
+  kept_by (Ok report) (Ok _) always honest model passed = absurd passed
+  kept_by (Ok report) (Err refusal) always honest model passed = absurd passed
+  kept_by (Err refusal) (Ok found) always honest model passed = absurd passed
+  kept_by (Err refusal) (Err returned) always honest model passed = kept always.only_reads model.undo _ (rw passed (record {
+    refuses = model.errors;
+    same = stays _ _ _ honest.honest_errors;
+    unused = always.answers.unused;
+  })) (λ ok. cc)
+
+-- a session with its journal in a file, as a change of a job
+pub made_in_file : (request : Request) (image : List ℕ) (file : Bor Text) (before : View) (after : FilesState)
+    (old new : BusState) (result : Result (Result Answer Refusal) Fault) → IsModelled old → IsChip old.chip
+    → IsSteadyOrIdle old → IfOk result (HasRunInFile request image file.now before after old new)
+    → IfOk result (HasMadeChange request image (uses.Journal file) old new before after)
+made_in_file request image file before after old new (Ok outcome) modelled is steady_or_idle made = record {
+  missing = made.missing;
+  vault = made.vault;
+  vault' = made.vault';
+  fresh = made.fresh;
+  kept_in = made.kept_in;
+  done = kept_by request image old new made.vault made.vault' modelled is steady_or_idle made.ran.result outcome
+      made.ran.always (made.ran.honest modelled.honest) (made.ran.modelled modelled) made.ran.returned;
+}
+made_in_file request image file before after old new (Err fault) modelled is steady_or_idle made = tt
+
+-- a journal's file that could not be created: nothing of it may be left, or an empty file
+pub unmade_file : (name : Text) (old new : FilesState) (result : Result (Result Answer Refusal) Fault)
+    → OnErr result (BorrowsNone name old new)
+    → OnErr result (IsKnownFile name old.view → LeavesOrEmpty name old new)
+unmade_file name old new (Ok outcome) none = tt
+unmade_file name old new (Err fault) none = none.leaves

@@ -11,8 +11,9 @@ use Rattle.nor_words.specs.declared.words.UsageFault.TheVariants as usage
 use Rattle.flashnor.specs.Endings.{HasPrinted, all_written}
 use Rattle.nor_lines.specs.Printing.{PrintsAnswer}
 use Rattle.nor_files.specs.Files.{AreAtRest, FilesState, View}
-use Rattle.flashnor.specs.Run.{EndsJob, FailsJob, AnswersArguments, HoldsChange, HoldsResult, HoldsTask, IsCalled, IsReportedAs, IsStatus, KeepsFiles, RunSucceeds}
-use Rattle.flashnor.proofs.Stays.{stays_same}
+use Rattle.flashnor.specs.Run.{EndsJob, FailsJob, AnswersArguments, HoldsChange, HoldsResult, HoldsTask, IsCalled, IsStatus, KeepsFiles, RunSucceeds}
+use Rattle.nor_lines.specs.Messages.{IsReportedAs}
+use Rattle.nor_lines.proofs.Lent.{stays_same}
 use Rattle.nor_lines.specs.declared.answers.Answer.{Answer}
 use Rattle.flashnor.specs.declared.holding.Unwritten.{Unwritten}
 use Rattle.nor_lines.specs.declared.messages.Fault.{Fault}

@@ -24,23 +24,27 @@ use Rattle.nor_words.specs.declared.job.JournalUse.{JournalUse}
 use Rattle.nor_words.specs.declared.job.JournalUse.TheVariants as uses
 use Rattle.nor_words.specs.declared.job.Task.{Task}
 use Rattle.nor_words.specs.declared.job.Task.TheVariants as task
-use Rattle.flashnor.specs.Changes.{HasMadeChange, IsKeptFile}
+use Rattle.flashnor.specs.Changes.{HasMadeChange}
+use Rattle.nor_lines.specs.Stored.{IsKeptFile}
 use Rattle.flashnor.specs.Chips.{ArePutBack, IsContentOf, OpensChip}
 use Rattle.flashnor.specs.Endings.{all_written}
 use Rattle.flashnor.specs.Holding.{AreAmid, AreHeld, AreReady, IsReadyIfNamed, MakesDurable, StandsFor, was}
 use Rattle.flashnor.specs.Left.{IsNoFileOf, IsOpenedFrom, IsRestorableFrom, LeavesAsLong, MayFind, Opened}
 use Rattle.nor_lines.specs.Requests.{AreRangesOf, request_for}
 use Rattle.flashnor.specs.Requests.{IsBufferOf}
-use Rattle.flashnor.specs.Roles.{HaveOneRole, image_of, layout_of, named_by}
+use Rattle.flashnor.specs.Roles.{HaveOneRole}
+use Rattle.nor_lines.specs.Tasks.{image_of, layout_of, named_by}
 use Rattle.flashnor.specs.Run.{DoesJob, HoldsChange, HoldsTask, IsViewBut, KeepsChange, KeepsFiles}
 use Rattle.nor_lines.specs.Stored.{AreTwo, IsNot}
-use Rattle.flashnor.specs.Tasks.{journal_of, keeps_journal, made_by, puts_back}
+use Rattle.flashnor.specs.Tasks.{keeps_journal, puts_back}
+use Rattle.nor_lines.specs.Tasks.{journal_of, made_by}
 use Rattle.nor_lines.specs.declared.answers.Answer.{Answer}
 use Rattle.flashnor.specs.declared.holding.Held.{Held}
 use Rattle.flashnor.specs.declared.holding.Unwritten.{Unwritten}
 use Rattle.flashnor.proofs.Before.{image_made, status_made}
-use Rattle.flashnor.proofs.Stays.{StayApart, known_after, known_at_rest, lawful_after, not_after, not_that, rest_on}
-use Rattle.flashnor.proofs.Stays.{settled_after, stays_on}
+use Rattle.flashnor.proofs.Stays.{StayApart, known_after, known_at_rest, not_after, not_that, rest_on}
+use Rattle.nor_lines.proofs.Lent.{lawful_after, stays_on}
+use Rattle.flashnor.proofs.Stays.{settled_after}
 use Rattle.flashnor.proofs.Traced.{missing_before, reads_before}
 use Rattle.flashnor.proofs.AfterCall.{buffer_before, kept_after, ranges_before}
 use Rattle.flashnor.proofs.Reopened.{as_long, as_many, found_either, of_gone, of_none, opened_many, opened_size}

@@ -9,7 +9,7 @@ use Rattle.nor_files.specs.Calls.{LeaveNoMore, Creates, Places, SetsLength, Sync
 use Rattle.nor_files.specs.Calls.{written_over}
 use Rattle.nor_files.specs.Files.{FilesState, Found, IsKnownFile, IsDurable, KnownStay, Name, OthersStay, is_lawful}
 use Rattle.flashnor.specs.Holding.{IsReadyFile, LeavesFileAmid}
-use Rattle.flashnor.proofs.Stays.{apart_after, lawful_after, stays_on}
+use Rattle.nor_lines.proofs.Lent.{apart_after, lawful_after, stays_on}
 
 -- ---- calls on one file
 

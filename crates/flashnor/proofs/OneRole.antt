@@ -1,24 +1,28 @@
--- Names of a job's files that can't be looked up.
-use Rattle.std.proofs.Common.{◌≡◌, ◌⊎◌, Some, inl, inr, true}
-use Rattle.std.specs.Borrow.{Bor}
+-- The faults of comparing two files of a job, or one file with the streams, as faults of the job's roles.
+use Rattle.std.proofs.Common.{◌≡◌, ◌⊎◌, IfErr, Result, Ok, Err, inl, inr, true}
 use Rattle.nor_files.specs.Files.{Nature}
-use Rattle.nor_files.specs.Files.Failure.{Unread}
-use Rattle.nor_words.specs.Text.{Text}
+use Rattle.nor_lines.specs.Roles.{FailsApart, FailsUnprinted}
 use Rattle.nor_words.specs.declared.job.ChipJob.{ChipJob}
-use Rattle.flashnor.specs.Roles.{FailsRoles, file_with_role}
-use Rattle.nor_lines.specs.declared.messages.Fault.TheVariants as end
-use Rattle.nor_lines.specs.declared.messages.FileFault.TheVariants as file
+use Rattle.flashnor.specs.Roles.{FailsRoles, file_with_role, is_written, must_differ}
+use Rattle.nor_lines.specs.declared.messages.Fault.{Fault}
 use Rattle.flashnor.specs.declared.roles.Role.{Role}
 
-module _ (nature : Nature) (job : ChipJob) (name : Bor Text) (fails : nature.fails (Unread name.now) ≡ true) where
-  pub unseen_one : (role : Role) (one : Bor Text) → file_with_role job role ≡ Some one → name.now ≡ one.now
-      → FailsRoles nature job (end.File file.Read name)
-  unseen_one role one is same = inr (inr (role, rw is (same, fails)))
+pub pair_fails : {T : Type 0} (nature : Nature) (job : ChipJob) (earlier later : Role) (result : Result T Fault)
+    → must_differ job earlier later ≡ true
+    → IfErr result (FailsApart nature (file_with_role job earlier) (file_with_role job later))
+    → IfErr result (FailsRoles nature job)
+pair_fails nature job earlier later (Ok done) differ fails = tt
+pair_fails nature job earlier later (Err fault) differ fails = elim fails [
+  | inl shared ↦ inl (earlier, later, differ, shared)
+  | inr (inl unseen) ↦ inr (inr (earlier, unseen))
+  | inr (inr unseen) ↦ inr (inr (later, unseen))
+]
 
-  pub unseen_either : (earlier later : Role) (one other : Bor Text) → file_with_role job earlier ≡ Some one
-      → file_with_role job later ≡ Some other → name.now ≡ one.now ⊎ name.now ≡ other.now
-      → FailsRoles nature job (end.File file.Read name)
-  unseen_either earlier later one other is are either = elim either [
-    | inl same ↦ unseen_one earlier one is same
-    | inr same ↦ unseen_one later other are same
-  ]
+pub stream_fails : {T : Type 0} (nature : Nature) (job : ChipJob) (role : Role) (result : Result T Fault)
+    → is_written job role ≡ true → IfErr result (FailsUnprinted nature (file_with_role job role))
+    → IfErr result (FailsRoles nature job)
+stream_fails nature job role (Ok done) written fails = tt
+stream_fails nature job role (Err fault) written fails = elim fails [
+  | inl printed ↦ inr (inl (role, written, printed))
+  | inr unseen ↦ inr (inr (role, unseen))
+]

@@ -1,33 +1,17 @@
 -- Files that stay as they were, over several calls.
-use Rattle.std.proofs.Common.{◌≡◌, ◌∙◌, Option, None, Some, ap, inl, refl, subst, sym, true}
+use Rattle.std.proofs.Common.{◌≡◌, ◌∙◌, Option, None, Some, inl, subst, sym}
 use Rattle.std.specs.Borrow.{Bor}
-use Rattle.nor_files.specs.Calls.{Borrows, TakesBack}
 use Rattle.nor_files.specs.Files.{AllStay, AreApart, AreAtRest, FilesState, Found, IsKnownFile, IsDurable, KnownStay, Name}
-use Rattle.nor_files.specs.Files.{Nature, KeepsFile, is_lawful}
-use Rattle.nor_journal.specs.Vault.{VaultState}
-use Rattle.nor_words.specs.Text.{Text}
-use Rattle.flashnor.specs.Changes.{IsKeptFile}
+use Rattle.nor_files.specs.Files.{Nature, KeepsFile}
+use Rattle.nor_lines.proofs.Lent.{lawful_after, stays_on}
 use Rattle.nor_lines.specs.Stored.{AreTwo, IsNot, MakesNothing}
-
-pub stays_same : (name : Name) (files : FilesState) → KeepsFile name files files
-stays_same name files = record { out = refl; seen = refl; leaves = λ left can. can }
-
-pub stays_on : {name : Name} {old mid new : FilesState} → KeepsFile name old mid → KeepsFile name mid new → KeepsFile name old new
-stays_on one other = record {
-  out = other.out ∙ one.out;
-  seen = other.seen ∙ one.seen;
-  leaves = λ left can. one.leaves left (other.leaves left can);
-}
+use Rattle.nor_words.specs.Text.{Text}
 
 -- ---- names that are apart
 
 -- if one name is apart from another, the other is apart from the first
 pub apart_swapped : (nature : Nature) (one other : Name) → AreApart nature one other → AreApart nature other one
 apart_swapped nature one other apart = (apart.1, apart.0)
-
--- names stay apart after calls, which keep the nature of the files
-pub apart_after : {old new : Nature} {one other : Name} → new ≡ old → AreApart old one other → AreApart new one other
-apart_after {one = one} {other = other} same apart = subst (λ (n : Nature). AreApart n one other) (sym same) apart
 
 pub not_after : {old new : Nature} (one : Option (Bor Text)) (any : Text) → new ≡ old → IsNot old one any
     → IsNot new one any
@@ -52,16 +36,12 @@ pub apart : (nature : Nature) (Holds : Option (Bor Text) → Type 0) → Holds N
 apart nature Holds none None one other first second each = none
 apart nature Holds none (Some file) one other first second each = each file first second
 
--- ---- if no call creates a file
-
+-- no file is created if the files are as they were
 pub nothing_same : (name : Option (Bor Text)) (files : FilesState) → MakesNothing name files files
 nothing_same None files = tt
 nothing_same (Some name) files = λ known left can. inl can
 
 -- ---- what is known of a file stays known
-
-pub lawful_after : {old new : Nature} → new ≡ old → old.lawful ≡ true → new.lawful ≡ true
-lawful_after same is = ap (λ (n : Nature). n.lawful) same ∙ is
 
 pub known_after : {name : Name} {old new : FilesState} → new.view.nature ≡ old.view.nature → KeepsFile name old new
     → IsKnownFile name old.view → IsKnownFile name new.view
@@ -91,19 +71,3 @@ rest_on same rest stay = record {
   lawful = lawful_after same rest.lawful;
   in_store = λ name. (stay name).out ∙ rest.in_store name;
 }
-
--- a vault that was borrowed and taken back
-module _ (name : Name) (old mid new : FilesState) (vault : VaultState)
-    (made : mid.view.nature ≡ old.view.nature) (borrows : is_lawful old.view ≡ true → Borrows name old mid)
-    (back : new.view.nature ≡ mid.view.nature)
-    (takes : is_lawful mid.view ≡ true → (n : Name) → mid.borrowed ≡ Some n → TakesBack n vault mid new) where
-  taken : is_lawful old.view ≡ true → TakesBack name vault mid new
-  taken is = takes (lawful_after made is) name (borrows is).borrowed
-
-  pub kept_file : is_lawful new.view ≡ true → IsKeptFile name vault new
-  kept_file is =
-      let t = taken (lawful_after (sym (back ∙ made)) is) in
-      record { telling = t.telling; seen = t.seen; settled = t.settled }
-
-  pub others_stay : is_lawful old.view ≡ true → (any : Name) → AreApart old.view.nature name any → KeepsFile any old new
-  others_stay is any other = stays_on ((borrows is).others any other) ((taken is).others any (apart_after made other))

@@ -9,7 +9,8 @@ use Rattle.nor_lines.specs.Files.{IsMaking}
 use Rattle.flashnor.specs.Run.{FailsTraced, IsViewBut}
 use Rattle.nor_lines.specs.declared.messages.Fault.{Fault}
 use Rattle.nor_lines.specs.Stored.{IsMissing, IsNot, MakesNothing}
-use Rattle.flashnor.proofs.Stays.{apart_swapped, known_after, lawful_after, not_after}
+use Rattle.flashnor.proofs.Stays.{apart_swapped, known_after, not_after}
+use Rattle.nor_lines.proofs.Lent.{lawful_after}
 
 pub view_but : (trace : Option (Bor Text)) (name : Bor Text) (old mid : FilesState) → trace ≡ Some name
     → mid.view.nature ≡ old.view.nature → (is_lawful old.view ≡ true → OthersStay name.now old mid)

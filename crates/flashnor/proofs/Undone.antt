@@ -38,7 +38,8 @@ use Rattle.nor_lines.specs.declared.answers.Answer.{Answer}
 use Rattle.flashnor.specs.declared.holding.Unwritten.{Unwritten}
 use Rattle.nor_lines.specs.declared.messages.Fault.{Fault}
 use Rattle.flashnor.proofs.Reopened.{of_gone, opened_many, opened_size}
-use Rattle.flashnor.proofs.Stays.{known_at_rest, lawful_after, not_that}
+use Rattle.flashnor.proofs.Stays.{known_at_rest, not_that}
+use Rattle.nor_lines.proofs.Lent.{lawful_after}
 use Rattle.flashnor.proofs.Traced.{reads_before}
 use Rattle.flashnor.proofs.Aside.{left_seen, mixed_back, none_found, pick}
 

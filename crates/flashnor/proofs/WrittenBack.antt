@@ -11,7 +11,8 @@ use Rattle.nor_words.specs.declared.programmer.Programmer.{Programmer}
 use Rattle.flashnor.specs.Chips.{ArePutBack}
 use Rattle.flashnor.specs.Holding.{AreAmid, AreReady, IsReadyIfNamed, LeavesAmid, MakesDurable}
 use Rattle.nor_lines.specs.Stored.{ArePut, AreTwo, Happens, IsNot, IsReportedOf}
-use Rattle.flashnor.proofs.Stays.{known_after, lawful_after, not_after, not_that, settled_after}
+use Rattle.flashnor.proofs.Stays.{known_after, not_after, not_that, settled_after}
+use Rattle.nor_lines.proofs.Lent.{lawful_after}
 
 -- Holds if, provided that the files obey their contract, each file stays whose name is apart from the given one.
 abbrev OthersOf : Option (Bor Text) → (old new : FilesState) → Type 0

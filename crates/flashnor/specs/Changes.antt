@@ -26,12 +26,11 @@ use Rattle.nor_session.specs.Restore.{IsRestored, RestoreErrors, IsCheckedFirst}
 use Rattle.nor_session.specs.WrittenOver.{IsWrittenOver}
 use Rattle.nor_session.specs.Rehearsal.{AreRestores, CanEnd, IsRehearsal, RehearsalErrors, SealFits, first_allowance}
 use Rattle.nor_session.specs.declared.rehearsals.Rehearsal.{Rehearsal}
-use Rattle.nor_words.specs.Text.{Text}
 use Rattle.nor_words.specs.declared.job.JournalUse.{JournalUse}
 use Rattle.nor_words.specs.declared.job.JournalUse.TheVariants as uses
-use Rattle.nor_files.specs.Files.{FilesState, IsDurable, View, is_lawful}
-use Rattle.nor_lines.specs.Stored.{IsMissing}
-use Rattle.flashnor.specs.Tasks.{journal_of}
+use Rattle.nor_files.specs.Files.{FilesState, View, is_lawful}
+use Rattle.nor_lines.specs.Stored.{IsKeptFile, IsMissing}
+use Rattle.nor_lines.specs.Tasks.{journal_of}
 use Rattle.nor_lines.specs.declared.answers.Answer.{Answer}
 use Rattle.nor_lines.specs.declared.answers.Answer.TheVariants as answer
 
@@ -101,12 +100,6 @@ pub record HasRehearsed (request : Request) (image stops : List ℕ) (old new : 
   pub same : IsSame old.chip new.chip
   pub returned : MatchResult outcome (ReportsRehearsal request image stops old.chip vault')
       (RehearsalErrors request image old.chip vault vault')
-
--- The vault is faithful (`telling`), and the file has exactly its bytes. If the vault is sealed, the bytes are durable.
-pub record IsKeptFile (name : Text) (vault : VaultState) (files : FilesState) : Type 0 where
-  pub telling : vault.telling ≡ true
-  pub seen : files.view.seen name ≡ Some vault.bytes
-  pub settled : vault.sealed ≡ true → IsDurable name (Some vault.bytes) files
 
 -- Holds if the journal is in the file, provided that the files obey their contract; or, in a rehearsal, if it is in
 -- memory, in a faithful vault.

@@ -1,24 +1,13 @@
--- The results of the jobs that leave a chip as it is.
-use Rattle.std.specs.Prelude.{◌≡◌, ◌<◌, ℕ, true, List, Option, Some, Result, Ok, Err, MatchResult}
+-- The results of the jobs that only identify an emulated chip.
+use Rattle.std.specs.Prelude.{◌≡◌, ◌<◌, Option, Result, MatchResult}
 use Rattle.nor_model.specs.Bus.{BusState}
-use Rattle.nor_model.specs.Offered.{IsStart}
 use Rattle.nor_driver.specs.OnlyReads.{OnlyReads}
-use Rattle.nor_journal.specs.Vault.{IsFresh, VaultState}
-use Rattle.nor_layout.specs.declared.ranges.Span.{Span}
-use Rattle.nor_probe.specs.Known.{IsModelled}
 use Rattle.nor_probe.specs.Found.{most_probe}
 use Rattle.nor_probe.specs.declared.table.ChipName.{ChipName}
-use Rattle.nor_read.specs.Protecting.{ProtectionAlways, ProtectionHonest, ProtectionModelled}
-use Rattle.nor_read.specs.Reading.{ReadOutAlways, ReadOutHonest, ReadOutModelled}
-use Rattle.nor_read.specs.Verifying.{VerifyAlways, VerifyHonest, VerifyModelled}
-use Rattle.nor_read.specs.declared.protection.Protection.{Protection}
 use Rattle.nor_request.specs.declared.refusal.Refusal.{Refusal}
 use Rattle.nor_request.specs.declared.refusal.Refusal.TheVariants.{OtherName, Stopped}
-use Rattle.nor_request.specs.declared.report.Report.{Report}
-use Rattle.nor_words.specs.Text.{Text}
 use Rattle.nor_words.specs.declared.programmer.Programmer.{Programmer}
 use Rattle.flashnor.specs.Chips.{allowance_of}
-use Rattle.nor_files.specs.Files.{View, is_lawful}
 use Rattle.flashnor.specs.Found.{HasName, IsEmulatedFound, emulated_part}
 use Rattle.nor_lines.specs.declared.answers.Answer.{Answer}
 use Rattle.nor_lines.specs.declared.answers.Answer.TheVariants as answer
@@ -41,71 +30,8 @@ ReportsSize programmer named (answer.Size size) =
     HasName named programmer.chip × (size ≡ (emulated_part programmer.chip).size)
 ReportsSize programmer named _ = ⊥
 
--- the job returns the answer for the result of its call, or passes the error on
-abbrev pub AnswersCall : {T : Type 0} → (T → Answer → Type 0) → Result T Refusal → Result Answer Refusal → Type 0
-AnswersCall reports (Ok returned) (Ok answer) = reports returned answer
-AnswersCall reports (Err refusal) (Err passed) = passed ≡ refusal
-AnswersCall reports _ _ = ⊥
-
--- the answer is the chip's protection
-abbrev pub ReportsProtection : Protection → Answer → Type 0
-ReportsProtection protection (answer.Protection returned) = returned ≡ protection
-ReportsProtection protection _ = ⊥
-
--- the answer is an iterator over all ranges that can be protected on a chip of this size
-abbrev pub ListsRanges : Protection → Answer → Type 0
-ListsRanges protection (answer.Ranges ranges) = IsStart protection.size ranges
-ListsRanges protection _ = ⊥
-
--- the answer is the report of a chip that was read out
-abbrev pub ReportsReadOut : Report → Answer → Type 0
-ReportsReadOut report (answer.Read returned) = returned ≡ report
-ReportsReadOut report _ = ⊥
-
--- the answer is the report of a chip that was verified
-abbrev pub ReportsVerified : Report → Answer → Type 0
-ReportsVerified report (answer.Verified returned) = returned ≡ report
-ReportsVerified report _ = ⊥
-
--- The chip's protection was requested, and reported or refused.
-pub record HasReported (reports : Protection → Answer → Type 0) (named : Option ChipName) (old new : BusState)
-    (outcome : Result Answer Refusal) : Type 0 where
-  pub result : Result Protection Refusal
-  pub always : ProtectionAlways old new result
-  pub honest : old.honest ≡ true → ProtectionHonest named old new result
-  pub modelled : IsModelled old → ProtectionModelled named old result
-  pub returned : AnswersCall reports result outcome
-
 -- Holds after the identification of the chip, which sends no modifying command: the chip was found or refused.
 pub record HasLookedUp (reports : Answer → Type 0) (programmer : Programmer) (named : Option ChipName)
     (old new : BusState) (outcome : Result Answer Refusal) : Type 0 where
   pub only_reads : OnlyReads most_probe old new
   pub returned : MatchResult outcome reports (FindRefuses programmer named)
-
--- The chip was read out into a vault, in the given ranges, or the reading failed.
-pub record HasReadInto (named : Option ChipName) (ranges : Option (List Span)) (old new : BusState)
-    (empty filled : VaultState) (outcome : Result Answer Refusal) : Type 0 where
-  pub result : Result Report Refusal
-  pub always : ReadOutAlways named ranges old new empty filled result
-  pub honest : old.honest ≡ true → ReadOutHonest named ranges old new result
-  pub modelled : IsModelled old → ReadOutModelled named ranges old new empty filled result
-  pub returned : AnswersCall ReportsReadOut result outcome
-
--- The chip was read out into a file, or the reading failed. If the files obey their contract, the file has exactly the
--- bytes that were put into its vault.
-pub record HasReadOut (named : Option ChipName) (file : Text) (ranges : Option (List Span)) (old new : BusState)
-    (after : View) (outcome : Result Answer Refusal) : Type 0 where
-  pub empty : VaultState
-  pub filled : VaultState
-  pub fresh : IsFresh empty
-  pub read : HasReadInto named ranges old new empty filled outcome
-  pub holds : is_lawful after ≡ true → (filled.telling ≡ true) × (after.seen file ≡ Some filled.bytes)
-
--- The chip was compared with this image, in the given ranges, or the comparison failed.
-pub record HasVerified (named : Option ChipName) (ranges : Option (List Span)) (image : List ℕ)
-    (old new : BusState) (outcome : Result Answer Refusal) : Type 0 where
-  pub result : Result Report Refusal
-  pub always : VerifyAlways named ranges image old new result
-  pub honest : old.honest ≡ true → VerifyHonest named ranges old new result
-  pub modelled : IsModelled old → VerifyModelled named ranges image old new result
-  pub returned : AnswersCall ReportsVerified result outcome

@@ -1,48 +1,16 @@
 -- The roles of a job's files: no file has two of them.
-use Rattle.std.specs.Prelude.{◌≡◌, ◌⊎◌, ◌&&◌, ◌||◌, ℕ, Bool, true, false, Option, None, Some, IsSomeAnd, nat_lt}
+use Rattle.std.specs.Prelude.{◌≡◌, ◌⊎◌, ◌&&◌, ◌||◌, ℕ, Bool, true, false, Option, nat_lt}
 use Rattle.std.specs.Borrow.{Bor}
 use Rattle.nor_words.specs.Text.{Text}
 use Rattle.nor_words.specs.declared.job.ChipJob.{ChipJob}
-use Rattle.nor_words.specs.declared.job.Regions.{Regions}
-use Rattle.nor_words.specs.declared.job.Task.{Task}
-use Rattle.nor_words.specs.declared.job.Task.TheVariants as task
-use Rattle.nor_words.specs.declared.job.Wanted.{Wanted}
-use Rattle.nor_words.specs.declared.job.Wanted.TheVariants as wanted
 use Rattle.nor_files.specs.Files.{Nature}
-use Rattle.nor_files.specs.Files.Failure.{Printed, Shared, Unread}
+use Rattle.nor_lines.specs.Roles.{IsPrintedTo, IsShared, IsUnseenFile}
 use Rattle.nor_lines.specs.Stored.{AreTwo}
-use Rattle.flashnor.specs.Tasks.{journal_of, puts_back}
+use Rattle.nor_lines.specs.Tasks.{named_by}
+use Rattle.flashnor.specs.Tasks.{puts_back}
 use Rattle.nor_lines.specs.declared.messages.Fault.{Fault}
-use Rattle.nor_lines.specs.declared.messages.Fault.TheVariants as end
-use Rattle.nor_lines.specs.declared.messages.FileFault.TheVariants as file
-use Rattle.flashnor.specs.declared.roles.Named.{Named}
 use Rattle.flashnor.specs.declared.roles.Role.{Role}
 use Rattle.flashnor.specs.declared.roles.Role.TheVariants as role
-
--- the layout of the named regions
-abbrev pub layout_of : Option Regions → Option (Bor Text)
-layout_of None = None
-layout_of (Some regions) = Some regions.layout
-
--- the image that is written
-abbrev pub image_of : Wanted → Option (Bor Text)
-image_of (wanted.Write image) = Some image
-image_of _ = None
-
--- the files that a task names, in addition to those of the chip and the trace
-abbrev pub named_by : Task → Named
-named_by (task.Read file regions) =
-    record { layout = layout_of regions; wanted = None; output = Some file; journal = None }
-named_by (task.Verify file regions) =
-    record { layout = layout_of regions; wanted = Some file; output = None; journal = None }
-named_by (task.Change change) = record {
-  layout = layout_of change.regions;
-  wanted = image_of change.wanted;
-  output = None;
-  journal = journal_of change.journal_use;
-}
-named_by (task.Restore journal) = record { layout = None; wanted = None; output = None; journal = Some journal }
-named_by _ = record { layout = None; wanted = None; output = None; journal = None }
 
 -- Holds if the pairs of files that must be apart are apart. If the task changes the chip, its image and its status file
 -- differ from each other and from the files that are only read. Each file that is always written differs from every
@@ -113,33 +81,15 @@ must_differ job role.Image role.Wanted = false
 must_differ job earlier later =
     nat_lt (order_of earlier) (order_of later) && (is_written job earlier || is_written job later)
 
--- the fault names the later of the two files, which is the same file as the earlier one
-abbrev pub IsShared : Nature → (earlier later : Option (Bor Text)) → Fault → Type 0
-IsShared nature earlier later (end.File file.Taken of) = IsSomeAnd earlier (λ one. IsSomeAnd later (λ other.
-    (of.now ≡ other.now) × (nature.fails (Shared one.now other.now) ≡ true)))
-IsShared nature earlier later _ = ⊥
-
 -- Holds if the fault is that two roles have one file, but need different files.
 abbrev pub IsTwice : Nature → ChipJob → Fault → Type 0
 IsTwice nature job fault = (earlier later : Role) × (must_differ job earlier later ≡ true)
     × IsShared nature (file_with_role job earlier) (file_with_role job later) fault
 
--- the fault names this file, to which the program prints
-abbrev pub IsPrintedTo : Nature → Option (Bor Text) → Fault → Type 0
-IsPrintedTo nature named (end.File file.Taken of) = IsSomeAnd named (λ name.
-    (of.now ≡ name.now) × (nature.fails (Printed name.now) ≡ true))
-IsPrintedTo nature named _ = ⊥
-
 -- Holds if the fault is that the program prints to a file of the job that is written.
 abbrev pub IsStream : Nature → ChipJob → Fault → Type 0
 IsStream nature job fault = (written : Role) × (is_written job written ≡ true)
     × IsPrintedTo nature (file_with_role job written) fault
-
--- the fault names this file, which can't be looked up
-abbrev pub IsUnseenFile : Nature → Option (Bor Text) → Fault → Type 0
-IsUnseenFile nature named (end.File file.Read of) = IsSomeAnd named (λ name.
-    (of.now ≡ name.now) × (nature.fails (Unread of.now) ≡ true))
-IsUnseenFile nature named _ = ⊥
 
 -- Holds if the fault is that a file of the job can't be looked up.
 abbrev pub IsUnseen : Nature → ChipJob → Fault → Type 0

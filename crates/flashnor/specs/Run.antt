@@ -42,10 +42,12 @@ use Rattle.nor_lines.specs.Printing.{Prints}
 use Rattle.nor_lines.specs.Stored.{IsNot, IsRead, IsReportedOf, StaysOf}
 use Rattle.flashnor.specs.Left.{KeepsOriginalFiles, KeepsRestorable, IsRestorableFrom, Opened}
 use Rattle.flashnor.specs.Roles.{FailsRoles, HaveOneRole}
-use Rattle.flashnor.specs.Tasks.{made_by, puts_back}
+use Rattle.flashnor.specs.Tasks.{puts_back}
+use Rattle.nor_lines.specs.Tasks.{made_by}
 use Rattle.nor_files.specs.Files.{AllStay, AreAtRest, FilesState, IsKnownFile, IsDurable, Name, KeepsFile, View}
 use Rattle.nor_lines.specs.Files.{IsMaking, IsReadingFault, IsSharingFault}
-use Rattle.flashnor.specs.Readings.{HasLookedUp, HasReadOut, HasReported, HasVerified, ListsRanges, ReportsFound, ReportsProtection, ReportsSize}
+use Rattle.flashnor.specs.Readings.{HasLookedUp, ReportsFound, ReportsSize}
+use Rattle.nor_lines.specs.Readings.{HasReadOut, HasReported, HasVerified, ListsRanges, ReportsProtection}
 use Rattle.nor_lines.specs.Requests.{AreRangesOf, FailsToInclude, request_for}
 use Rattle.flashnor.specs.Requests.{IsBufferOf}
 use Rattle.nor_lines.specs.declared.answers.Answer.{Answer}
@@ -279,11 +281,6 @@ HoldsResult job unwritten (Ok found) old new = unwritten ≡ all_written
 HoldsResult job unwritten (Err fault) old new = ⊤
 
 -- ---- runs
-
--- an error of a call is a fault of the run
-abbrev pub IsReportedAs : Result Answer Refusal → Result Answer Fault → Type 0
-IsReportedAs (Ok found) outcome = outcome ≡ Ok found
-IsReportedAs (Err refusal) outcome = outcome ≡ Err (end.Refused refusal)
 
 -- Holds if a job on a chip ends with the result of its call, or with a fault from before the call.
 abbrev pub EndsJob : (files after : FilesState) → ChipJob → Unwritten → Result Answer Fault → Type 0

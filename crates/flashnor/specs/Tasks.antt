@@ -1,6 +1,7 @@
--- Which files a task changes or creates.
-use Rattle.std.specs.Prelude.{Bool, true, false, Option, None, Some}
+-- Which tasks write the chip back, and the journal that a task creates.
+use Rattle.std.specs.Prelude.{Bool, true, false, Option, None}
 use Rattle.std.specs.Borrow.{Bor}
+use Rattle.nor_lines.specs.Tasks.{journal_of}
 use Rattle.nor_words.specs.Text.{Text}
 use Rattle.nor_words.specs.declared.job.JournalUse.{JournalUse}
 use Rattle.nor_words.specs.declared.job.JournalUse.TheVariants as uses
@@ -12,23 +13,12 @@ abbrev pub keeps_journal : JournalUse → Bool
 keeps_journal (uses.Journal file) = true
 keeps_journal (uses.Rehearse stops) = false
 
--- the file of the journal of a change that is not a rehearsal
-abbrev pub journal_of : JournalUse → Option (Bor Text)
-journal_of (uses.Journal file) = Some file
-journal_of (uses.Rehearse stops) = None
-
 -- True if the chip is written back to its files after the call: the task is a restore, or a change that is not a
 -- rehearsal.
 abbrev pub puts_back : Task → Bool
 puts_back (task.Change change) = keeps_journal change.journal_use
 puts_back (task.Restore journal) = true
 puts_back _ = false
-
--- the file that a task creates
-abbrev pub made_by : Task → Option (Bor Text)
-made_by (task.Read file regions) = Some file
-made_by (task.Change change) = journal_of change.journal_use
-made_by _ = None
 
 -- the file of the journal that a task creates
 abbrev pub journal_by : Task → Option (Bor Text)

@@ -6,24 +6,23 @@ ghost use Rattle.nor_driver.specs.OnlyReads.{IsSteadyOrIdle, OnlyReads};
 ghost use Rattle.nor_journal.specs.Vault.{IsFresh};
 ghost use Rattle.nor_probe.specs.Found.{most_probe};
 ghost use Rattle.nor_probe.specs.Known.{IsModelled};
-ghost use Rattle.flashnor.specs.Changes.{HasMadeChange, HasKeptChange, HasRehearsed, HasRestored, Passes, ProbeRefuses};
+ghost use Rattle.flashnor.specs.Changes.{HasMadeChange, HasRehearsed, HasRestored, Passes, ProbeRefuses};
 ghost use Rattle.nor_lines.specs.Requests.{FailsToInclude};
 ghost use Rattle.flashnor.specs.Requests.{IsBufferOf};
 ghost use Rattle.flashnor.specs.Run.{ChangesChip, DoesRestore, FailsToKeep, FailsToRead, FailsToRestore};
-ghost use Rattle.flashnor.specs.Tasks.{journal_of};
+ghost use Rattle.nor_lines.specs.Tasks.{journal_of};
 ghost use Rattle.nor_lines.specs.Stored.{IsNot, MakesNothing};
 
-use crate::chips::erased;
 use crate::readings::find;
 use nor_chip::{Bus, Meter};
 use nor_files::Store;
 use nor_journal::{Journal, MemVault, Vault};
 use nor_lines::{
-    Answer, Fault, MOST_IMAGE_BYTES, Outcome, make, read_file, read_included, read_journal,
-    request_for,
+    Answer, Fault, MOST_IMAGE_BYTES, Outcome, erased, read_file, read_included, read_journal,
+    request_for, session_in_file,
 };
 use nor_probe::ChipName;
-use nor_session::{Refusal, Request, rehearse, restore, session};
+use nor_session::{Refusal, Request, rehearse, restore};
 use nor_words::{Change, Emulated, JournalUse, Wanted};
 
 /// Changes the chip, or rehearses the change. Returns a fault if one occurred before the session.
@@ -91,33 +90,12 @@ fn change_with<'a, R: Store, B: Meter>(
     ensures err { IfErr result (FailsToKeep (R.state rt.old).view journal_use.now) }
 {
     match journal_use {
-        JournalUse::Journal { file } => {
-            let mut journal = make(rt, *file)?;
-            let outcome = change_with_journal(bus, &mut journal, image, request);
-            rt.hand_back(journal);
-            Ok(outcome)
-        }
+        JournalUse::Journal { file } => session_in_file(rt, bus, *file, image, request),
         JournalUse::Rehearse { stops } => {
             let mut vault = MemVault::new(rt.alloc());
             Ok(rehearse_change(bus, &mut vault, image, request, stops.as_slice()))
         }
     }
-}
-
-// Runs the session of a request with its journal in `vault`.
-fn change_with_journal<B: Bus, V: Vault>(
-    bus: &mut B,
-    vault: &mut V,
-    image: &mut [u8],
-    request: &Request,
-) -> Outcome
-    requires { IsFresh (V.state vault.old) }
-    ensures { IsModelled (B.state bus.old) → IsSteadyOrIdle (B.state bus.old)
-        → HasKeptChange request.now image.old (B.state bus.old) (B.state bus.new)
-        (V.state vault.old) (V.state vault.new) result }
-{
-    let report = session(bus, vault, image, request)?;
-    Ok(Answer::Done(report))
 }
 
 // Rehearses the session of a request with the given stops, and with its journal in `vault`.

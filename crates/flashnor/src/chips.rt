@@ -9,7 +9,7 @@ ghost use Rattle.flashnor.specs.Found.{emulated_part};
 
 use nor_chip::{Bus, Config, Delays, Meter, SimBus};
 use nor_files::Store;
-use nor_lines::{Fault, FileFault, reading, unread};
+use nor_lines::{Fault, FileFault, erased, reading, unread};
 use nor_words::Programmer;
 use std::alloc::{AllocError, Global};
 
@@ -95,13 +95,6 @@ pub fn read_whole<'a, R: Store>(
         return Err(Fault::File { fault, name });
     }
     Ok(Some(bytes))
-}
-
-/// Returns `size` bytes of FFh, the contents of an erased chip.
-pub fn erased(alloc: Global, size: u32) -> Result<Vec<u8>, AllocError>
-    ensures { IfOk result (λ bytes. bytes.items ≡ replicate size 255) }
-{
-    vec![in alloc; 0xFF; size as usize]
 }
 
 /// Returns a bus to the emulated chip with these contents, idle.

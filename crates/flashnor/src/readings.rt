@@ -1,5 +1,5 @@
 //! The jobs that leave a chip as it is.
-ghost use Rattle.std.specs.Prelude.{◌≡◌, ◌⊎◌, IfOk, IfErr, MatchResult, false, option_copied, true};
+ghost use Rattle.std.specs.Prelude.{◌≡◌, ◌⊎◌, IfOk, IfErr, MatchResult, true};
 ghost use Rattle.nor_files.specs.Files.{OthersStay, is_lawful};
 ghost use Rattle.nor_driver.specs.OnlyReads.{OnlyReads};
 ghost use Rattle.nor_probe.specs.Found.{Finds, IsWanted, most_probe};
@@ -8,17 +8,16 @@ ghost use Rattle.flashnor.specs.Changes.{ProbeRefuses};
 ghost use Rattle.flashnor.specs.Chips.{IsReady};
 ghost use Rattle.nor_lines.specs.Files.{IsMaking, IsReadingFault};
 ghost use Rattle.flashnor.specs.Found.{IsEmulatedFound};
-ghost use Rattle.flashnor.specs.Readings.{FindRefuses, HasLookedUp, HasReadInto, HasReported, ListsRanges, ReportsFound, ReportsProtection, ReportsSize};
+ghost use Rattle.flashnor.specs.Readings.{FindRefuses, HasLookedUp, ReportsFound, ReportsSize};
 ghost use Rattle.nor_lines.specs.Requests.{FailsToInclude};
 ghost use Rattle.flashnor.specs.Run.{DoesRead, DoesVerify};
 
-use nor_chip::{Bus, offered};
+use nor_chip::Bus;
 use nor_files::Store;
-use nor_journal::Vault;
-use nor_layout::Ranges;
-use nor_lines::{Answer, Fault, MOST_IMAGE_BYTES, Outcome, empty, read_file, read_included};
+use nor_lines::{
+    Answer, Fault, MOST_IMAGE_BYTES, Outcome, read_file, read_included, read_to_file, verify_image,
+};
 use nor_probe::{ChipName, Found, probe};
-use nor_read::{read_out, verify, wp_status};
 use nor_session::Refusal;
 use nor_words::Regions;
 
@@ -56,22 +55,6 @@ pub fn find<B: Bus>(bus: &mut B, named: Option<ChipName>) -> Result<Found, Refus
     Ok(probe(bus, named)?)
 }
 
-/// Returns the chip's protected range, and whether its status is locked.
-pub fn report_protection<B: Bus>(bus: &mut B, named: Option<ChipName>) -> Outcome
-    ensures { HasReported ReportsProtection named (B.state bus.old) (B.state bus.new) result }
-{
-    let protection = wp_status(bus, named)?;
-    Ok(Answer::Protection(protection))
-}
-
-/// Returns the ranges of the chip that can be protected.
-pub fn list_ranges<B: Bus>(bus: &mut B, named: Option<ChipName>) -> Outcome
-    ensures { HasReported ListsRanges named (B.state bus.old) (B.state bus.new) result }
-{
-    let protection = wp_status(bus, named)?;
-    Ok(Answer::Ranges(offered(protection.size)))
-}
-
 /// Reads the chip into the file of this name. Returns a fault if one occurred before the chip was read.
 pub fn read_chip<'a, R: Store, B: Bus>(
     rt: &mut R,
@@ -90,25 +73,7 @@ pub fn read_chip<'a, R: Store, B: Bus>(
         ⊎ IsMaking (R.state rt.old).view file.now fault) }
 {
     let included = read_included(rt, regions)?;
-    let mut out = empty(rt, file)?;
-    let outcome = read_into(bus, named, included.as_ref(), &mut out);
-    rt.hand_back(out);
-    Ok(outcome)
-}
-
-// Reads the chip into `out`, at the included addresses if any are given.
-fn read_into<B: Bus, V: Vault>(
-    bus: &mut B,
-    named: Option<ChipName>,
-    included: Option<&Ranges>,
-    out: &mut V,
-) -> Outcome
-    requires { (V.state out.old).sealed ≡ false }
-    ensures { HasReadInto named (option_copied included.entry) (B.state bus.old) (B.state bus.new)
-        (V.state out.old) (V.state out.new) result }
-{
-    let report = read_out(bus, included, named, out)?;
-    Ok(Answer::Read(report))
+    read_to_file(rt, bus, named, file, included.as_ref())
 }
 
 /// Compares the chip with the image in the file of this name. Returns a fault if one occurred before the comparison.
@@ -126,8 +91,5 @@ pub fn verify_chip<'a, R: Store, B: Bus>(
 {
     let included = read_included(rt, regions)?;
     let image = read_file(rt, file, MOST_IMAGE_BYTES)?;
-    match verify(bus, &image, included.as_ref(), named) {
-        Ok(report) => Ok(Ok(Answer::Verified(report))),
-        Err(refusal) => Ok(Err(refusal)),
-    }
+    Ok(verify_image(bus, named, &image, included.as_ref()))
 }

@@ -1,23 +1,12 @@
 //! Checks that each file has one role in a run.
 ghost use Rattle.std.specs.Prelude.{◌≡◌, true, IfErr, OnOk};
-ghost use Rattle.flashnor.specs.Roles.{FailsRoles, HasOwnTrace, HaveOneRole, file_with_role, image_of, is_written, layout_of};
-ghost use Rattle.flashnor.specs.Roles.{must_differ, named_by};
-ghost use Rattle.flashnor.specs.Tasks.{journal_of};
+ghost use Rattle.flashnor.specs.Roles.{FailsRoles, HasOwnTrace, HaveOneRole, file_with_role, is_written, must_differ};
 ghost use Rattle.nor_lines.specs.Stored.{AreTwo};
 
 use crate::run::puts_back;
 use nor_files::Store;
-use nor_lines::{Fault, taken, unread};
-use nor_words::{Change, ChipJob, JournalUse, Regions, Task, Wanted};
-
-// The files that a task names, in addition to those of the chip and the trace.
-#[derive(Clone, Copy)]
-struct Named<'a> {
-    layout: Option<&'a str>,
-    wanted: Option<&'a str>,
-    output: Option<&'a str>,
-    journal: Option<&'a str>,
-}
+use nor_lines::{Fault, Named, apart, named_by, unprinted};
+use nor_words::ChipJob;
 
 // The role of a file in a job. If two roles have one file, the fault names the file of the later role in this order.
 #[derive(Clone, Copy)]
@@ -53,12 +42,12 @@ pub fn has_own_trace<'a, R: Store>(rt: &R, job: &ChipJob<'a>) -> Result<(), Faul
     ensures ok { OnOk result (HasOwnTrace (R.state rt.now).view.nature job.now) }
     ensures err { IfErr result (FailsRoles (R.state rt.now).view.nature job.now) }
 {
-    apart(rt, job, Role::Image, Role::Trace)?;
-    apart(rt, job, Role::Status, Role::Trace)?;
-    apart(rt, job, Role::Trace, Role::Layout)?;
-    apart(rt, job, Role::Trace, Role::Wanted)?;
-    apart(rt, job, Role::Trace, Role::Journal)?;
-    unprinted(rt, job, Role::Trace)
+    check_pair(rt, job, Role::Image, Role::Trace)?;
+    check_pair(rt, job, Role::Status, Role::Trace)?;
+    check_pair(rt, job, Role::Trace, Role::Layout)?;
+    check_pair(rt, job, Role::Trace, Role::Wanted)?;
+    check_pair(rt, job, Role::Trace, Role::Journal)?;
+    check_unprinted(rt, job, Role::Trace)
 }
 
 // Checks each pair of roles that needs two files: the store must report that their names refer to different files.
@@ -67,24 +56,24 @@ fn are_apart<'a, R: Store>(rt: &R, job: &ChipJob<'a>) -> Result<(), Fault<'a>>
     ensures err { IfErr result (FailsRoles (R.state rt.now).view.nature job.now) }
 {
     if puts_back(&job.task) {
-        apart(rt, job, Role::Image, Role::Status)?;
-        apart(rt, job, Role::Image, Role::Layout)?;
-        apart(rt, job, Role::Status, Role::Layout)?;
-        apart(rt, job, Role::Status, Role::Wanted)?;
+        check_pair(rt, job, Role::Image, Role::Status)?;
+        check_pair(rt, job, Role::Image, Role::Layout)?;
+        check_pair(rt, job, Role::Status, Role::Layout)?;
+        check_pair(rt, job, Role::Status, Role::Wanted)?;
     }
-    apart(rt, job, Role::Image, Role::Trace)?;
-    apart(rt, job, Role::Status, Role::Trace)?;
-    apart(rt, job, Role::Trace, Role::Layout)?;
-    apart(rt, job, Role::Trace, Role::Wanted)?;
-    apart(rt, job, Role::Image, Role::Output)?;
-    apart(rt, job, Role::Status, Role::Output)?;
-    apart(rt, job, Role::Trace, Role::Output)?;
-    apart(rt, job, Role::Layout, Role::Output)?;
-    apart(rt, job, Role::Image, Role::Journal)?;
-    apart(rt, job, Role::Status, Role::Journal)?;
-    apart(rt, job, Role::Trace, Role::Journal)?;
-    apart(rt, job, Role::Layout, Role::Journal)?;
-    apart(rt, job, Role::Wanted, Role::Journal)
+    check_pair(rt, job, Role::Image, Role::Trace)?;
+    check_pair(rt, job, Role::Status, Role::Trace)?;
+    check_pair(rt, job, Role::Trace, Role::Layout)?;
+    check_pair(rt, job, Role::Trace, Role::Wanted)?;
+    check_pair(rt, job, Role::Image, Role::Output)?;
+    check_pair(rt, job, Role::Status, Role::Output)?;
+    check_pair(rt, job, Role::Trace, Role::Output)?;
+    check_pair(rt, job, Role::Layout, Role::Output)?;
+    check_pair(rt, job, Role::Image, Role::Journal)?;
+    check_pair(rt, job, Role::Status, Role::Journal)?;
+    check_pair(rt, job, Role::Trace, Role::Journal)?;
+    check_pair(rt, job, Role::Layout, Role::Journal)?;
+    check_pair(rt, job, Role::Wanted, Role::Journal)
 }
 
 // Checks that the program prints to no file of the job that is written.
@@ -92,12 +81,12 @@ fn are_unprinted<'a, R: Store>(rt: &R, job: &ChipJob<'a>) -> Result<(), Fault<'a
     ensures { IfErr result (FailsRoles (R.state rt.now).view.nature job.now) }
 {
     if puts_back(&job.task) {
-        unprinted(rt, job, Role::Image)?;
-        unprinted(rt, job, Role::Status)?;
+        check_unprinted(rt, job, Role::Image)?;
+        check_unprinted(rt, job, Role::Status)?;
     }
-    unprinted(rt, job, Role::Trace)?;
-    unprinted(rt, job, Role::Output)?;
-    unprinted(rt, job, Role::Journal)
+    check_unprinted(rt, job, Role::Trace)?;
+    check_unprinted(rt, job, Role::Output)?;
+    check_unprinted(rt, job, Role::Journal)
 }
 
 // Returns the file that a job has in this role, if it names one.
@@ -121,72 +110,9 @@ fn file_with_role<'a>(job: &ChipJob<'a>, role: Role) -> Option<&'a str>
     }
 }
 
-// Returns the files that this task names.
-fn named_by<'a>(task: &Task<'a>) -> Named<'a>
-    ensures { result ≡ named_by task.now }
-{
-    let none = Named {
-        layout: None,
-        wanted: None,
-        output: None,
-        journal: None,
-    };
-    match task {
-        Task::Read { file, regions } => Named {
-            layout: layout_of(*regions),
-            output: Some(*file),
-            ..none
-        },
-        Task::Verify { file, regions } => Named {
-            layout: layout_of(*regions),
-            wanted: Some(*file),
-            ..none
-        },
-        Task::Change(change) => Named {
-            layout: layout_of(change.regions),
-            wanted: image_of(change),
-            journal: journal_of(change),
-            ..none
-        },
-        Task::Restore { journal } => Named {
-            journal: Some(*journal),
-            ..none
-        },
-        _ => none,
-    }
-}
-
-fn layout_of<'a>(regions: Option<Regions<'a>>) -> Option<&'a str>
-    ensures { result ≡ layout_of regions.entry }
-{
-    match regions {
-        Some(Regions { layout, .. }) => Some(layout),
-        None => None,
-    }
-}
-
-// Returns the image that a change writes, if it writes one.
-fn image_of<'a>(change: &Change<'a>) -> Option<&'a str>
-    ensures { result ≡ image_of change.now.wanted }
-{
-    match change.wanted {
-        Wanted::Write { image } => Some(image),
-        Wanted::Erase | Wanted::Range { .. } => None,
-    }
-}
-
-// Returns the file of the change's journal, unless the change is a rehearsal.
-fn journal_of<'a>(change: &Change<'a>) -> Option<&'a str>
-    ensures { result ≡ journal_of change.now.journal_use }
-{
-    match &change.journal_use {
-        JournalUse::Journal { file } => Some(*file),
-        JournalUse::Rehearse { .. } => None,
-    }
-}
-
 // Checks that two roles which need two files have them, if the job names both. Otherwise the fault names the later one.
-fn apart<'a, R: Store>(
+#[tactic(auto, using(crate::proofs::OneRole::pair_fails))]
+fn check_pair<'a, R: Store>(
     rt: &R,
     job: &ChipJob<'a>,
     earlier: Role,
@@ -197,27 +123,14 @@ fn apart<'a, R: Store>(
         (AreTwo (R.state rt.now).view.nature (file_with_role job.now earlier) (file_with_role job.now later)) }
     ensures err { IfErr result (FailsRoles (R.state rt.now).view.nature job.now) }
 {
-    match (file_with_role(job, earlier), file_with_role(job, later)) {
-        (Some(one), Some(other)) => match rt.is_one_file(one, other) {
-            Ok(false) => Ok(()),
-            Ok(true) => Err(taken(other)),
-            Err(name) => Err(unread(name)),
-        },
-        _ => Ok(()),
-    }
+    apart(rt, file_with_role(job, earlier), file_with_role(job, later))
 }
 
 // Checks that the program does not print to the written file of this role, if the job names one.
-fn unprinted<'a, R: Store>(rt: &R, job: &ChipJob<'a>, role: Role) -> Result<(), Fault<'a>>
+#[tactic(auto, using(crate::proofs::OneRole::stream_fails))]
+fn check_unprinted<'a, R: Store>(rt: &R, job: &ChipJob<'a>, role: Role) -> Result<(), Fault<'a>>
     requires { is_written job.now role ≡ true }
     ensures { IfErr result (FailsRoles (R.state rt.now).view.nature job.now) }
 {
-    let Some(name) = file_with_role(job, role) else {
-        return Ok(());
-    };
-    match rt.is_stream(name) {
-        Ok(false) => Ok(()),
-        Ok(true) => Err(taken(name)),
-        Err(name) => Err(unread(name)),
-    }
+    unprinted(rt, file_with_role(job, role))
 }

@@ -5,11 +5,12 @@ ghost use Rattle.flashnor.specs.Chips.{IsReady};
 ghost use Rattle.nor_files.specs.Disk.{unknown};
 ghost use Rattle.nor_files.specs.Files.{AreAtRest, Name, KeepsFile, is_lawful};
 ghost use Rattle.nor_lines.specs.Stored.{AreTwo, IsNot, MakesNothing};
+ghost use Rattle.nor_lines.specs.Tasks.{made_by};
 ghost use Rattle.flashnor.specs.Endings.{EndsWith, HasPrinted, IsUnread, IsWithoutStreams, all_written};
 ghost use Rattle.flashnor.specs.Run.{AnswersArguments, DoesJob, DoesTraced, EndsJob, FailsBefore, FailsJob, FailsTraced, IsStatus};
 ghost use Rattle.flashnor.specs.Roles.{HaveOneRole};
-ghost use Rattle.flashnor.specs.Run.{HoldsResult, IsReportedAs, KeepsFiles, StayBut, arguments_of};
-ghost use Rattle.flashnor.specs.Tasks.{journal_by, made_by, puts_back};
+ghost use Rattle.flashnor.specs.Run.{HoldsResult, KeepsFiles, StayBut, arguments_of};
+ghost use Rattle.flashnor.specs.Tasks.{journal_by, puts_back};
 
 use crate::changes::{change_chip, restore_chip};
 use crate::chips::{read_content, start};
@@ -17,13 +18,13 @@ use crate::existing::{existing_journal, fault_before};
 use crate::holding::{Held, Unwritten, hold_content, write_back};
 use crate::laws::runs_restore_original;
 use crate::printing::{Ending, print_end};
-use crate::readings::{
-    find_chip, list_ranges, read_chip, report_protection, report_size, verify_chip,
-};
+use crate::readings::{find_chip, read_chip, report_size, verify_chip};
 use crate::roles::have_one_role;
 use nor_chip::{Bus, Meter, SimBus, TraceBus};
 use nor_files::{Disk, LockFile, Store};
-use nor_lines::{Answer, DIRECTORY, Fault, Outcome, create_log, unread};
+use nor_lines::{
+    Answer, DIRECTORY, Fault, Outcome, create_log, list_ranges, or_fault, report_protection, unread,
+};
 use nor_words::{Change, ChipJob, Job, JournalUse, Task, UsageFault, request_of};
 use std::alloc::{AllocError, Global};
 use std::env::Args;
@@ -194,7 +195,7 @@ fn look_at_files<'a, R: Store>(rt: &mut R, job: &ChipJob<'a>) -> Result<Work<'a>
         status: None,
         trace: lost,
     };
-    let answer = returned(outcome);
+    let answer = or_fault(outcome);
     Ok(Work { answer, unwritten })
 }
 
@@ -225,18 +226,8 @@ fn change_files<'a, R: Store>(rt: &mut R, job: &ChipJob<'a>) -> Result<Work<'a>,
         status,
         trace: lost,
     };
-    let answer = returned(outcome);
+    let answer = or_fault(outcome);
     Ok(Work { answer, unwritten })
-}
-
-// Returns the result of a call as a run reports it: an error of the call is a fault of the run.
-fn returned<'a>(outcome: Outcome) -> Result<Answer, Fault<'a>>
-    ensures { IsReportedAs outcome result }
-{
-    match outcome {
-        Ok(answer) => Ok(answer),
-        Err(refusal) => Err(Fault::Refused(refusal)),
-    }
 }
 
 // A call that was made: the bus after it, its result, and the trace's name if the trace lost a line.

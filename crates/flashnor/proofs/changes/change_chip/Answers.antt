@@ -1,5 +1,6 @@
 use Rattle.std.proofs.lemmas.Result.{err_from_is_err_and}
-use Rattle.flashnor.proofs.Stays.{nothing_same, stays_same}
+use Rattle.flashnor.proofs.Stays.{nothing_same}
+use Rattle.nor_lines.proofs.Lent.{stays_same}
 use Rattle.flashnor.proofs.changes.change_chip.Goals as goal
 
 pub returns-in_err-included-clause-others : goal.returns-in_err-included-clause-others

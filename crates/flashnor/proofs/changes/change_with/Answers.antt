@@ -1,28 +1,20 @@
 use Rattle.std.proofs.Common.{ap, refl}
-use Rattle.std.proofs.lemmas.Result.{err_from_is_err_and}
 use Rattle.nor_journal.specs.MemVault.{held_by}
-use Rattle.flashnor.proofs.Stays.{kept_file, others_stay}
+use Rattle.flashnor.proofs.Doing.{made_in_file, unmade_file}
 use Rattle.flashnor.proofs.changes.change_with.Goals as goal
 
-pub returns-in_ok-journal-in-Journal-clause-ok : goal.returns-in_ok-journal-in-Journal-clause-ok
-returns-in_ok-journal-in-Journal-clause-ok g c = λ modelled steady_or_idle. rw c.in-Journal.is (record {
-  missing = c.in_ok-journal-in-Journal.ensures.missing;
-  vault = _;
-  vault' = _;
-  fresh = c.in_ok-journal-in-Journal.ensures.fresh;
-  kept_in = kept_file _ _ _ _ _ c.in_ok-journal-in-Journal.ensures.nature c.in_ok-journal-in-Journal.ensures.borrows
-      c.hand_back.ensures.nature c.hand_back.ensures.takes;
-  done = c.change_with_journal-outcome.ensures modelled steady_or_idle;
-})
+pub returns-in-Journal-clause-ok : goal.returns-in-Journal-clause-ok
+returns-in-Journal-clause-ok g c = λ modelled steady_or_idle.
+    rw c.in-Journal.is (made_in_file _ _ _ _ _ _ _ c.session_in_file.result modelled (g.met.B.Bus.reaches c.args.bus.now modelled.honest) steady_or_idle
+    c.session_in_file.ensures.ok)
 
-pub returns-in_ok-journal-in-Journal-clause-others : goal.returns-in_ok-journal-in-Journal-clause-others
-returns-in_ok-journal-in-Journal-clause-others g c = λ is name not.
-    others_stay _ _ _ _ _ c.in_ok-journal-in-Journal.ensures.nature c.in_ok-journal-in-Journal.ensures.borrows
-    c.hand_back.ensures.nature c.hand_back.ensures.takes is name (rw c.in-Journal.is at not)
+pub returns-in-Journal-clause-others : goal.returns-in-Journal-clause-others
+returns-in-Journal-clause-others g c = λ is name not.
+    c.session_in_file.ensures.others is name (rw c.in-Journal.is at not)
 
-pub returns-in_err-journal-in-Journal-clause-others : goal.returns-in_err-journal-in-Journal-clause-others
-returns-in_err-journal-in-Journal-clause-others g c = λ is name not.
-    c.in_err-journal-in-Journal.ensures.others is name (rw c.in-Journal.is at not)
+pub returns-in-Journal-clause-unmade : goal.returns-in-Journal-clause-unmade
+returns-in-Journal-clause-unmade g c = λ is.
+    rw c.in-Journal.is (unmade_file _ _ _ c.session_in_file.result (c.session_in_file.ensures.unmade is))
 
 pub returns-in-Rehearse-clause-ok : goal.returns-in-Rehearse-clause-ok
 returns-in-Rehearse-clause-ok g c = λ modelled steady_or_idle. rw c.in-Rehearse.is (record {
@@ -36,8 +28,3 @@ returns-in-Rehearse-clause-ok g c = λ modelled steady_or_idle. rw c.in-Rehearse
   kept_in = refl;
   done = rw (← c.as_slice.ensures.value) (c.rehearse_change.ensures modelled steady_or_idle);
 })
-
-pub returns-in_err-journal-in-Journal-clause-unmade : goal.returns-in_err-journal-in-Journal-clause-unmade
-returns-in_err-journal-in-Journal-clause-unmade g c =
-    let p = err_from_is_err_and c.from_residual.result c.from_residual.ensures.1 in
-    rw (p.1, c.in-Journal.is) (λ is. (c.in_err-journal-in-Journal.ensures.fails is).leaves)

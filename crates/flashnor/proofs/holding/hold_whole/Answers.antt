@@ -1,5 +1,6 @@
 use Rattle.flashnor.proofs.Holds.{missing_settled}
-use Rattle.flashnor.proofs.Stays.{known_after, known_at_rest, rest_on, stays_on}
+use Rattle.flashnor.proofs.Stays.{known_after, known_at_rest, rest_on}
+use Rattle.nor_lines.proofs.Lent.{stays_on}
 use Rattle.flashnor.proofs.holding.hold_whole.Goals as goal
 
 pub returns-in_err-read_held-in-Ok-true-clause-no_more :

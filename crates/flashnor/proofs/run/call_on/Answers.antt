@@ -1,7 +1,9 @@
 use Rattle.std.proofs.Common.{inl, inr}
 use Rattle.std.proofs.lemmas.Result.{err_from_is_err_and}
-use Rattle.flashnor.specs.Tasks.{journal_by, made_by}
-use Rattle.flashnor.proofs.Stays.{lawful_after, not_after, nothing_same, stays_on}
+use Rattle.flashnor.specs.Tasks.{journal_by}
+use Rattle.nor_lines.specs.Tasks.{made_by}
+use Rattle.flashnor.proofs.Stays.{not_after, nothing_same}
+use Rattle.nor_lines.proofs.Lent.{lawful_after, stays_on}
 use Rattle.flashnor.proofs.Traced.{makes_nothing_before, view_but}
 use Rattle.flashnor.proofs.run.call_on.Goals as goal
 

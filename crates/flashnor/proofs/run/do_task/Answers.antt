@@ -1,6 +1,6 @@
 use Rattle.std.proofs.Common.{arith, rules}
 use Rattle.flashnor.proofs.Ready.{calm_ready, modelled_ready}
-use Rattle.flashnor.proofs.Stays.{stays_same}
+use Rattle.nor_lines.proofs.Lent.{stays_same}
 use Rattle.flashnor.proofs.run.do_task.Goals as goal
 
 pub returns-in-Probe : goal.returns-in-Probe

@@ -2,7 +2,7 @@ use Rattle.std.proofs.Common.{◌∙◌, inr, refl, sym, true≢false}
 use Rattle.std.proofs.lemmas.Result.{err_from_is_err_and}
 use Rattle.flashnor.proofs.Ended.{ends_called}
 use Rattle.flashnor.proofs.Before.{stays_but}
-use Rattle.flashnor.proofs.Stays.{stays_same}
+use Rattle.nor_lines.proofs.Lent.{stays_same}
 use Rattle.flashnor.proofs.run.look_at_files.Goals as goal
 
 pub returns-clause-ok : goal.returns-clause-ok
@@ -19,7 +19,7 @@ returns-clause-ok g c =
       reported = rw c.requires.only_reads (refl, refl);
       left = λ rest puts. absurd (true≢false (sym puts ∙ c.requires.only_reads));
       traced = c.in_ok-called.ensures.lost;
-    }) c.returned-answer.ensures
+    }) c.or_fault-answer.ensures
 
 pub returns-in_err-content-clause-keeps : goal.returns-in_err-content-clause-keeps
 returns-in_err-content-clause-keeps g c = λ lawful.

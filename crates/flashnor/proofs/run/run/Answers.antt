@@ -1,6 +1,6 @@
 use Rattle.std.proofs.Common.{map, string_bytes}
 use Rattle.flashnor.proofs.Ended.{answer_ended, answer_failed}
-use Rattle.flashnor.proofs.Stays.{stays_same}
+use Rattle.nor_lines.proofs.Lent.{stays_same}
 use Rattle.flashnor.proofs.run.run.Goals as goal
 
 pub returns-in-Ok-List : goal.returns-in-Ok-List
