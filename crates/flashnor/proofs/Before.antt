@@ -10,7 +10,7 @@ use Rattle.nor_words.specs.declared.job.JournalUse.TheVariants as uses
 use Rattle.nor_words.specs.declared.job.Task.{Task}
 use Rattle.nor_words.specs.declared.job.Task.TheVariants as task
 use Rattle.nor_words.specs.declared.programmer.Programmer.{Programmer}
-use Rattle.flashnor.specs.Roles.{HasOwnTrace, HaveOneRole}
+use Rattle.flashnor.specs.Roles.{HasOwnTrace, FilesHaveOneRole}
 use Rattle.nor_lines.specs.Tasks.{named_by}
 use Rattle.flashnor.specs.Run.{KeepsChange, KeepsFiles, StayBut}
 use Rattle.nor_lines.specs.Stored.{AreTwo, IsNot, LeavesNoMoreOf, MakesNothing, StaysOf}
@@ -47,10 +47,10 @@ two_kept nature (task.Change change) one two = two
 two_kept nature _ one two = two_none nature one
 
 -- whether each file has one role depends only on the nature of the files, which calls keep
-pub roles_after : {old new : Nature} (job : ChipJob) → new ≡ old → HaveOneRole old job → HaveOneRole new job
-roles_after job same roles = subst (λ (n : Nature). HaveOneRole n job) (sym same) roles
+pub roles_after : {old new : Nature} (job : ChipJob) → new ≡ old → FilesHaveOneRole old job → FilesHaveOneRole new job
+roles_after job same roles = subst (λ (n : Nature). FilesHaveOneRole n job) (sym same) roles
 
-module _ (nature : Nature) (job : ChipJob) (roles : HaveOneRole nature job) where
+module _ (nature : Nature) (job : ChipJob) (roles : FilesHaveOneRole nature job) where
   pub image_made : AreTwo nature job.programmer.image (made_by job.task)
   image_made = two_made nature job.task job.programmer.image roles.image_output roles.image_journal
 
@@ -58,7 +58,7 @@ module _ (nature : Nature) (job : ChipJob) (roles : HaveOneRole nature job) wher
   status_made = two_made nature job.task job.programmer.status roles.status_output roles.status_journal
 
 -- if each file has one role, and all files stay except the trace and the created file, the chip's files stay too
-pub stays_but : (job : ChipJob) (old new : FilesState) → HaveOneRole old.view.nature job
+pub stays_but : (job : ChipJob) (old new : FilesState) → FilesHaveOneRole old.view.nature job
     → StayApart job.programmer.trace (made_by job.task) old new → StayBut job.programmer (made_by job.task) old new
 stays_but job old new roles stay = record {
   image = apart old.view.nature (λ n. StaysOf n old new) tt job.programmer.image job.programmer.trace (made_by job.task)
@@ -145,7 +145,7 @@ module _ (old mid new : FilesState) (rest : AreAtRest old) (nature : mid.view.na
       ]
 
   -- the call was not made, because of a fault of its trace or of a file of its task
-  pub keeps_before : (job : ChipJob) → HaveOneRole old.view.nature job → puts_back job.task ≡ true
+  pub keeps_before : (job : ChipJob) → FilesHaveOneRole old.view.nature job → puts_back job.task ≡ true
       → StayApart job.programmer.trace (made_by job.task) mid new → MakesNothing (journal_by job.task) mid new
       → KeepsFiles job.programmer job.task old new
   keeps_before job roles puts stay makes =

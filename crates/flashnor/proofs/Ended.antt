@@ -11,7 +11,7 @@ use Rattle.nor_words.specs.declared.words.UsageFault.TheVariants as usage
 use Rattle.flashnor.specs.Endings.{HasPrinted, all_written}
 use Rattle.nor_lines.specs.Printing.{PrintsAnswer}
 use Rattle.nor_files.specs.Files.{AreAtRest, FilesState, View}
-use Rattle.flashnor.specs.Run.{EndsJob, FailsJob, AnswersArguments, HoldsChange, HoldsResult, HoldsTask, IsCalled, IsStatus, KeepsFiles, RunSucceeds}
+use Rattle.flashnor.specs.Run.{EndsChipJob, FailsJob, AnswersArguments, HoldsChange, HoldsResult, HoldsTask, IsCalled, IsStatus, KeepsFiles, RunSucceeds}
 use Rattle.nor_lines.specs.Messages.{IsReportedAs}
 use Rattle.nor_lines.proofs.Lent.{stays_same}
 use Rattle.nor_lines.specs.declared.answers.Answer.{Answer}
@@ -38,19 +38,19 @@ no_usage fault view on_chip fails = grind arith
 module _ (files after : FilesState) (on_chip : ChipJob) (unwritten : Unwritten) where
   pub ends_called : (outcome : Result Answer Refusal) (returned : Result Answer Fault)
       → IsCalled files after on_chip unwritten outcome → IsReportedAs outcome returned
-      → EndsJob files after on_chip unwritten returned
+      → EndsChipJob files after on_chip unwritten returned
   ends_called (Ok found) returned called errors = rw errors called
   ends_called (Err refusal) returned called errors = rw errors (inl called)
 
   -- a fault from before the call ends the job
-  fails_ends : (fault : Fault) → FailsJob files.view on_chip fault → EndsJob files after on_chip unwritten (Err fault)
+  fails_ends : (fault : Fault) → FailsJob files.view on_chip fault → EndsChipJob files after on_chip unwritten (Err fault)
   fails_ends (end.Refused refusal) fails = inr fails
   fails_ends _ fails = fails
 
   pub answer_ended : (words : List Text) (returned : Result Answer Fault) → IsJob words (job.Chip on_chip)
       → (AreAtRest files → KeepsFiles on_chip.programmer on_chip.task files after)
       → (AreAtRest files → HoldsResult on_chip unwritten returned files after)
-      → EndsJob files after on_chip unwritten returned → AnswersArguments files after words returned unwritten
+      → EndsChipJob files after on_chip unwritten returned → AnswersArguments files after words returned unwritten
   answer_ended words (Err (end.Usage fault)) asks keeps holds ends = absurd (no_usage fault files.view on_chip ends)
   answer_ended words _ asks keeps holds ends = (job.Chip on_chip, asks, (ends, keeps, holds))
 

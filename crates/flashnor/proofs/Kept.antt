@@ -32,7 +32,7 @@ use Rattle.flashnor.specs.Holding.{AreAmid, AreHeld, AreReady, IsReadyIfNamed, M
 use Rattle.flashnor.specs.Left.{IsNoFileOf, IsOpenedFrom, IsRestorableFrom, LeavesAsLong, MayFind, Opened}
 use Rattle.nor_lines.specs.Requests.{AreRangesOf, request_for}
 use Rattle.flashnor.specs.Requests.{IsBufferOf}
-use Rattle.flashnor.specs.Roles.{HaveOneRole}
+use Rattle.flashnor.specs.Roles.{FilesHaveOneRole}
 use Rattle.nor_lines.specs.Tasks.{image_of, layout_of, named_by}
 use Rattle.flashnor.specs.Run.{DoesJob, HoldsChange, HoldsTask, IsViewBut, KeepsChange, KeepsFiles}
 use Rattle.nor_lines.specs.Stored.{AreTwo, IsNot}
@@ -52,7 +52,7 @@ use Rattle.flashnor.proofs.Reopened.{as_long, as_many, found_either, of_gone, of
 -- ---- the chip's files
 
 module _ (job : ChipJob) (held : Held) (s0 s1 s2 : FilesState) (bus bus' : BusState)
-    (roles : HaveOneRole s0.view.nature job) (read : IsContentOf s0.view job.programmer held.content)
+    (roles : FilesHaveOneRole s0.view.nature job) (read : IsContentOf s0.view job.programmer held.content)
     (opens : OpensChip job.programmer held.content bus)
     (rest : AreAtRest s0) (is_touched_protected : AreHeld job.programmer held s0 s1)
     (nature1 : s1.view.nature ≡ s0.view.nature) (nature2 : s2.view.nature ≡ s1.view.nature)

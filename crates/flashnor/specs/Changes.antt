@@ -161,7 +161,7 @@ pub record Passes (named : Option ChipName) (old new : BusState) : Type 0 where
 -- Describes the result of a restore, which identifies the chip first if a name is given. Take an original chip that the
 -- journal could restore before the restore: from each chip that may be left if writing to the files is interrupted, the
 -- journal can still restore it. If the restore succeeded, the chip is that original chip.
-pub record HasRestored (journal : Journal) (named : Option ChipName) (old new : BusState)
+pub record HasRestoredNamed (journal : Journal) (named : Option ChipName) (old new : BusState)
     (outcome : Result Answer Refusal) : Type 0 where
   -- the bus after the identification for the name, if one is given
   pub found : BusState

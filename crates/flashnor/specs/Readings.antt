@@ -20,18 +20,18 @@ FindRefuses programmer named Stopped = allowance_of programmer < most_probe
 FindRefuses programmer named _ = ⊥
 
 -- Holds if the answer is the chip, which has the given name.
-abbrev pub ReportsFound : Programmer → Option ChipName → Answer → Type 0
-ReportsFound programmer named (answer.Found found) = IsEmulatedFound named programmer.chip found
-ReportsFound programmer named _ = ⊥
+abbrev pub ReportsEmulated : Programmer → Option ChipName → Answer → Type 0
+ReportsEmulated programmer named (answer.Found found) = IsEmulatedFound named programmer.chip found
+ReportsEmulated programmer named _ = ⊥
 
 -- Holds if the answer is the size of the chip, which has the given name.
-abbrev pub ReportsSize : Programmer → Option ChipName → Answer → Type 0
-ReportsSize programmer named (answer.Size size) =
+abbrev pub ReportsEmulatedSize : Programmer → Option ChipName → Answer → Type 0
+ReportsEmulatedSize programmer named (answer.Size size) =
     HasName named programmer.chip × (size ≡ (emulated_part programmer.chip).size)
-ReportsSize programmer named _ = ⊥
+ReportsEmulatedSize programmer named _ = ⊥
 
 -- Holds after the identification of the chip, which sends no modifying command: the chip was found or refused.
-pub record HasLookedUp (reports : Answer → Type 0) (programmer : Programmer) (named : Option ChipName)
+pub record IdentifiesEmulated (reports : Answer → Type 0) (programmer : Programmer) (named : Option ChipName)
     (old new : BusState) (outcome : Result Answer Refusal) : Type 0 where
   pub only_reads : OnlyReads most_probe old new
   pub returned : MatchResult outcome reports (FindRefuses programmer named)

@@ -15,7 +15,7 @@ use Rattle.flashnor.specs.declared.roles.Role.TheVariants as role
 -- Holds if the pairs of files that must be apart are apart. If the task changes the chip, its image and its status file
 -- differ from each other and from the files that are only read. Each file that is always written differs from every
 -- other file. The image to write may be the chip's image.
-pub record HaveOneRole (nature : Nature) (job : ChipJob) : Type 0 where
+pub record FilesHaveOneRole (nature : Nature) (job : ChipJob) : Type 0 where
   pub status : puts_back job.task ≡ true → AreTwo nature job.programmer.image job.programmer.status
   pub image_layout : puts_back job.task ≡ true → AreTwo nature job.programmer.image (named_by job.task).layout
   pub status_layout : puts_back job.task ≡ true → AreTwo nature job.programmer.status (named_by job.task).layout
@@ -96,5 +96,5 @@ abbrev pub IsUnseen : Nature → ChipJob → Fault → Type 0
 IsUnseen nature job fault = (role : Role) × IsUnseenFile nature (file_with_role job role) fault
 
 -- Holds for the faults of comparing a job's files.
-abbrev pub FailsRoles : Nature → ChipJob → Fault → Type 0
-FailsRoles nature job fault = IsTwice nature job fault ⊎ (IsStream nature job fault ⊎ IsUnseen nature job fault)
+abbrev pub FailsFileRoles : Nature → ChipJob → Fault → Type 0
+FailsFileRoles nature job fault = IsTwice nature job fault ⊎ (IsStream nature job fault ⊎ IsUnseen nature job fault)

@@ -35,18 +35,18 @@ use Rattle.nor_words.specs.declared.job.Wanted.TheVariants as wanted
 use Rattle.nor_words.specs.declared.programmer.Emulated.{Emulated}
 use Rattle.nor_words.specs.declared.programmer.Programmer.{Programmer}
 use Rattle.nor_lines.specs.AnswerLines.{AreLines}
-use Rattle.flashnor.specs.Changes.{HasMadeChange, HasRestored, ReportsChange, ReportsRestore}
+use Rattle.flashnor.specs.Changes.{HasMadeChange, HasRestoredNamed, ReportsChange, ReportsRestore}
 use Rattle.flashnor.specs.Chips.{ArePutBack, FailsToHold, FailsToOpen, IsContentOf, StartsBus}
 use Rattle.flashnor.specs.Endings.{HasPrinted, all_written}
 use Rattle.nor_lines.specs.Printing.{Prints}
 use Rattle.nor_lines.specs.Stored.{IsNot, IsRead, IsReportedOf, StaysOf}
 use Rattle.flashnor.specs.Left.{KeepsOriginalFiles, KeepsRestorable, IsRestorableFrom, Opened}
-use Rattle.flashnor.specs.Roles.{FailsRoles, HaveOneRole}
+use Rattle.flashnor.specs.Roles.{FailsFileRoles, FilesHaveOneRole}
 use Rattle.flashnor.specs.Tasks.{puts_back}
 use Rattle.nor_lines.specs.Tasks.{made_by}
 use Rattle.nor_files.specs.Files.{AllStay, AreAtRest, FilesState, IsKnownFile, IsDurable, Name, KeepsFile, View}
 use Rattle.nor_lines.specs.Files.{IsMaking, IsReadingFault, IsSharingFault}
-use Rattle.flashnor.specs.Readings.{HasLookedUp, ReportsFound, ReportsSize}
+use Rattle.flashnor.specs.Readings.{IdentifiesEmulated, ReportsEmulated, ReportsEmulatedSize}
 use Rattle.nor_lines.specs.Readings.{HasReadOut, HasReported, HasVerified, ListsRanges, ReportsProtection}
 use Rattle.nor_lines.specs.Requests.{AreRangesOf, FailsToInclude, request_for}
 use Rattle.flashnor.specs.Requests.{IsBufferOf}
@@ -93,15 +93,15 @@ pub record DoesRestore (view : View) (named : Option ChipName) (file : Text) (ol
   pub journal : Journal
   pub sound : IsContent journal
   pub read : IsRead view file 16793662 (text journal)
-  pub restored : HasRestored journal named old new outcome
+  pub restored : HasRestoredNamed journal named old new outcome
 
 -- the result of the call for a task, on a bus to the emulated chip
 abbrev pub DoesJob : View → FilesState → Programmer → Option ChipName → Task → (old new : BusState)
     → Result Answer Refusal → Type 0
 DoesJob view after programmer named task.Probe old new outcome =
-    HasLookedUp (ReportsFound programmer named) programmer named old new outcome
+    IdentifiesEmulated (ReportsEmulated programmer named) programmer named old new outcome
 DoesJob view after programmer named task.FlashSize old new outcome =
-    HasLookedUp (ReportsSize programmer named) programmer named old new outcome
+    IdentifiesEmulated (ReportsEmulatedSize programmer named) programmer named old new outcome
 DoesJob view after programmer named task.WpStatus old new outcome =
     HasReported ReportsProtection named old new outcome
 DoesJob view after programmer named task.WpList old new outcome = HasReported ListsRanges named old new outcome
@@ -138,7 +138,7 @@ DoesTraced files after job old new outcome = (amid : View) × IsViewBut job.prog
 -- `traced`: the only trace that may have lost a line is the programmer's.
 pub record IsCalled (files after : FilesState) (job : ChipJob) (unwritten : Unwritten)
     (outcome : Result Answer Refusal) : Type 0 where
-  pub roles : HaveOneRole files.view.nature job
+  pub roles : FilesHaveOneRole files.view.nature job
   pub nature : after.view.nature ≡ files.view.nature
   pub content : Content
   pub read : IsContentOf files.view job.programmer content
@@ -154,10 +154,10 @@ pub record IsCalled (files after : FilesState) (job : ChipJob) (unwritten : Unwr
 -- ---- faults from before the call
 
 -- Holds for the faults of making the buffer of a session: of reading the image to write, or out of memory for an erase.
-abbrev pub FailsToRead : View → Wanted → Fault → Type 0
-FailsToRead view (wanted.Write image) fault = IsReadingFault view image.now 16777217 fault
-FailsToRead view wanted.Erase fault = fault ≡ end.Refused Memory
-FailsToRead view (wanted.Range start len) fault = ⊥
+abbrev pub FailsToReadImage : View → Wanted → Fault → Type 0
+FailsToReadImage view (wanted.Write image) fault = IsReadingFault view image.now 16777217 fault
+FailsToReadImage view wanted.Erase fault = fault ≡ end.Refused Memory
+FailsToReadImage view (wanted.Range start len) fault = ⊥
 
 -- Holds for the faults of creating the journal of a change.
 abbrev pub FailsToKeep : View → JournalUse → Fault → Type 0
@@ -171,16 +171,16 @@ FailsToRestore view name (end.Refused (BadJournal fault)) =
 FailsToRestore view name fault = IsSharingFault view name 16793662 fault
 
 -- Holds for the faults of a task before its call.
-abbrev pub FailsBefore : View → Task → Fault → Type 0
-FailsBefore view (task.Read file regions) fault =
+abbrev pub FailsTask : View → Task → Fault → Type 0
+FailsTask view (task.Read file regions) fault =
     FailsToInclude view regions fault ⊎ IsMaking view file.now fault
-FailsBefore view (task.Verify file regions) fault =
+FailsTask view (task.Verify file regions) fault =
     FailsToInclude view regions fault ⊎ IsReadingFault view file.now 16777217 fault
-FailsBefore view (task.Change change) fault =
+FailsTask view (task.Change change) fault =
     FailsToInclude view change.regions fault
-    ⊎ (FailsToRead view change.wanted fault ⊎ FailsToKeep view change.journal_use fault)
-FailsBefore view (task.Restore journal) fault = FailsToRestore view journal.now fault
-FailsBefore view _ fault = ⊥
+    ⊎ (FailsToReadImage view change.wanted fault ⊎ FailsToKeep view change.journal_use fault)
+FailsTask view (task.Restore journal) fault = FailsToRestore view journal.now fault
+FailsTask view _ fault = ⊥
 
 -- Holds for the faults of opening the chip's files. If the task changes the chip, the files are locked too.
 abbrev pub FailsToStart : Bool → View → Programmer → Fault → Type 0
@@ -191,13 +191,13 @@ FailsToStart false view programmer fault = FailsToOpen view programmer fault
 -- with the others after it was created.
 abbrev pub FailsTraced : View → ChipJob → Fault → Type 0
 FailsTraced view on_chip fault = IsSomeAnd on_chip.programmer.trace (λ name. IsMaking view name.now fault)
-    ⊎ (FailsRoles view.nature on_chip fault
-    ⊎ ((amid : View) × IsViewBut on_chip.programmer.trace view amid × FailsBefore amid on_chip.task fault))
+    ⊎ (FailsFileRoles view.nature on_chip fault
+    ⊎ ((amid : View) × IsViewBut on_chip.programmer.trace view amid × FailsTask amid on_chip.task fault))
 
 -- Holds for the faults of a job that occur before its call: those of the roles of its files, of the chip's files, of
 -- the trace, and of its task.
 abbrev pub FailsJob : View → ChipJob → Fault → Type 0
-FailsJob view on_chip fault = FailsRoles view.nature on_chip fault
+FailsJob view on_chip fault = FailsFileRoles view.nature on_chip fault
     ⊎ (FailsToStart (puts_back on_chip.task) view on_chip.programmer fault
     ⊎ FailsTraced view on_chip fault)
 
@@ -283,17 +283,17 @@ HoldsResult job unwritten (Err fault) old new = ⊤
 -- ---- runs
 
 -- Holds if a job on a chip ends with the result of its call, or with a fault from before the call.
-abbrev pub EndsJob : (files after : FilesState) → ChipJob → Unwritten → Result Answer Fault → Type 0
-EndsJob files after on_chip unwritten (Ok found) = IsCalled files after on_chip unwritten (Ok found)
-EndsJob files after on_chip unwritten (Err (end.Refused refusal)) =
+abbrev pub EndsChipJob : (files after : FilesState) → ChipJob → Unwritten → Result Answer Fault → Type 0
+EndsChipJob files after on_chip unwritten (Ok found) = IsCalled files after on_chip unwritten (Ok found)
+EndsChipJob files after on_chip unwritten (Err (end.Refused refusal)) =
     IsCalled files after on_chip unwritten (Err refusal) ⊎ FailsJob files.view on_chip (end.Refused refusal)
-EndsJob files after on_chip unwritten (Err fault) = FailsJob files.view on_chip fault
+EndsChipJob files after on_chip unwritten (Err fault) = FailsJob files.view on_chip fault
 
 -- Holds if the result is one of this job. Only the job of listing the chips has their list as its answer.
 abbrev pub AnswersJob : (files after : FilesState) → Job → Unwritten → Result Answer Fault → Type 0
 AnswersJob files after job.List unwritten (Ok answer.Chips) = (unwritten ≡ all_written) × AllStay files after
 AnswersJob files after job.List unwritten _ = ⊥
-AnswersJob files after (job.Chip on_chip) unwritten outcome = EndsJob files after on_chip unwritten outcome
+AnswersJob files after (job.Chip on_chip) unwritten outcome = EndsChipJob files after on_chip unwritten outcome
     × (AreAtRest files → KeepsFiles on_chip.programmer on_chip.task files after)
     × (AreAtRest files → HoldsResult on_chip unwritten outcome files after)
 

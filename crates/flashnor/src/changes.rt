@@ -6,10 +6,10 @@ ghost use Rattle.nor_driver.specs.OnlyReads.{IsSteadyOrIdle, OnlyReads};
 ghost use Rattle.nor_journal.specs.Vault.{IsFresh};
 ghost use Rattle.nor_probe.specs.Found.{most_probe};
 ghost use Rattle.nor_probe.specs.Known.{IsModelled};
-ghost use Rattle.flashnor.specs.Changes.{HasMadeChange, HasRehearsed, HasRestored, Passes, ProbeRefuses};
+ghost use Rattle.flashnor.specs.Changes.{HasMadeChange, HasRehearsed, HasRestoredNamed, Passes, ProbeRefuses};
 ghost use Rattle.nor_lines.specs.Requests.{FailsToInclude};
 ghost use Rattle.flashnor.specs.Requests.{IsBufferOf};
-ghost use Rattle.flashnor.specs.Run.{ChangesChip, DoesRestore, FailsToKeep, FailsToRead, FailsToRestore};
+ghost use Rattle.flashnor.specs.Run.{ChangesChip, DoesRestore, FailsToKeep, FailsToReadImage, FailsToRestore};
 ghost use Rattle.nor_lines.specs.Tasks.{journal_of};
 ghost use Rattle.nor_lines.specs.Stored.{IsNot, MakesNothing};
 
@@ -44,7 +44,7 @@ pub fn change_chip<'a, R: Store, B: Meter>(
         → IfOk result (ChangesChip (R.state rt.old).view (R.state rt.new) chip named change.now
         (B.state bus.old) (B.state bus.new)) }
     ensures err { IfErr result (λ fault. FailsToInclude (R.state rt.old).view change.now.regions fault
-        ⊎ (FailsToRead (R.state rt.old).view change.now.wanted fault
+        ⊎ (FailsToReadImage (R.state rt.old).view change.now.wanted fault
         ⊎ FailsToKeep (R.state rt.old).view change.now.journal_use fault)) }
 {
     let included = read_included(rt, change.regions)?;
@@ -61,7 +61,7 @@ pub fn read_wanted<'a, R: Store>(
     wanted: Wanted<'a>,
 ) -> Result<Vec<u8>, Fault<'a>>
     ensures ok { IfOk result (λ image. IsBufferOf (R.state rt.now).view chip wanted.entry image.items) }
-    ensures err { IfErr result (FailsToRead (R.state rt.now).view wanted.entry) }
+    ensures err { IfErr result (FailsToReadImage (R.state rt.now).view wanted.entry) }
 {
     match wanted {
         Wanted::Write { image } => read_file(rt, image, MOST_IMAGE_BYTES),
@@ -139,7 +139,7 @@ pub fn restore_chip<'a, R: Store, B: Bus>(
 // Restores the chip from a journal. If `named` is given, the chip must have that name.
 fn restore_named<B: Bus>(bus: &mut B, named: Option<ChipName>, journal: &Journal<'_>) -> Outcome
     ensures { IsModelled (B.state bus.old) → IsSteadyOrIdle (B.state bus.old)
-        → HasRestored journal.now named (B.state bus.old) (B.state bus.new) result }
+        → HasRestoredNamed journal.now named (B.state bus.old) (B.state bus.new) result }
 {
     find_named(bus, named)?;
     let report = restore(bus, journal)?;

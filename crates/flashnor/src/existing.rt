@@ -4,7 +4,7 @@ ghost use Rattle.nor_files.specs.Files.{AreAtRest, Name, KeepsFile, is_lawful};
 ghost use Rattle.nor_files.specs.Files.Failure.{There};
 ghost use Rattle.flashnor.specs.Roles.{HasOwnTrace};
 ghost use Rattle.nor_lines.specs.Files.{IsMaking};
-ghost use Rattle.flashnor.specs.Run.{FailsBefore, FailsJob, KeepsFiles};
+ghost use Rattle.flashnor.specs.Run.{FailsTask, FailsJob, KeepsFiles};
 ghost use Rattle.nor_lines.specs.Stored.{Happens, IsNot};
 ghost use Rattle.flashnor.specs.Tasks.{journal_by};
 
@@ -88,7 +88,7 @@ fn make_trace<'a, R: Store>(rt: &mut R, trace: Option<&'a str>) -> Result<(), Fa
 
 // Reads the layout and the image of a change.
 fn read_sources<'a, R: Store>(rt: &R, job: &ChipJob<'a>) -> Result<(), Fault<'a>>
-    ensures { IfErr result (FailsBefore (R.state rt.now).view job.now.task) }
+    ensures { IfErr result (FailsTask (R.state rt.now).view job.now.task) }
 {
     let Task::Change(change) = &job.task else {
         return Ok(());

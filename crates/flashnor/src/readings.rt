@@ -8,7 +8,7 @@ ghost use Rattle.flashnor.specs.Changes.{ProbeRefuses};
 ghost use Rattle.flashnor.specs.Chips.{IsReady};
 ghost use Rattle.nor_lines.specs.Files.{IsMaking, IsReadingFault};
 ghost use Rattle.flashnor.specs.Found.{IsEmulatedFound};
-ghost use Rattle.flashnor.specs.Readings.{FindRefuses, HasLookedUp, ReportsFound, ReportsSize};
+ghost use Rattle.flashnor.specs.Readings.{FindRefuses, IdentifiesEmulated, ReportsEmulated, ReportsEmulatedSize};
 ghost use Rattle.nor_lines.specs.Requests.{FailsToInclude};
 ghost use Rattle.flashnor.specs.Run.{DoesRead, DoesVerify};
 
@@ -24,7 +24,7 @@ use nor_words::Regions;
 /// Identifies the chip.
 pub fn find_chip<B: Bus>(bus: &mut B, named: Option<ChipName>) -> Outcome
     ensures { (programmer : Programmer) → IsReady programmer (B.state bus.old)
-        → HasLookedUp (ReportsFound programmer named) programmer named
+        → IdentifiesEmulated (ReportsEmulated programmer named) programmer named
         (B.state bus.old) (B.state bus.new) result }
 {
     let found = find(bus, named)?;
@@ -34,7 +34,7 @@ pub fn find_chip<B: Bus>(bus: &mut B, named: Option<ChipName>) -> Outcome
 /// Returns the chip's size in bytes.
 pub fn report_size<B: Bus>(bus: &mut B, named: Option<ChipName>) -> Outcome
     ensures { (programmer : Programmer) → IsReady programmer (B.state bus.old)
-        → HasLookedUp (ReportsSize programmer named) programmer named
+        → IdentifiesEmulated (ReportsEmulatedSize programmer named) programmer named
         (B.state bus.old) (B.state bus.new) result }
 {
     let found = find(bus, named)?;

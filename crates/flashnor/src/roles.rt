@@ -1,6 +1,7 @@
 //! Checks that each file has one role in a run.
 ghost use Rattle.std.specs.Prelude.{◌≡◌, true, IfErr, OnOk};
-ghost use Rattle.flashnor.specs.Roles.{FailsRoles, HasOwnTrace, HaveOneRole, file_with_role, is_written, must_differ};
+ghost use Rattle.flashnor.specs.Roles.{FailsFileRoles, FilesHaveOneRole, HasOwnTrace, file_with_role, is_written};
+ghost use Rattle.flashnor.specs.Roles.{must_differ};
 ghost use Rattle.nor_lines.specs.Stored.{AreTwo};
 
 use crate::run::puts_back;
@@ -29,8 +30,8 @@ enum Role {
 /// Returns file fault 5 with the name of the later of two roles (image, status, trace, layout, image to write or
 /// compare, output, journal), or with a name that is printed to. Returns file fault 1 if a name can't be looked up.
 pub fn have_one_role<'a, R: Store>(rt: &R, job: &ChipJob<'a>) -> Result<(), Fault<'a>>
-    ensures ok { OnOk result (HaveOneRole (R.state rt.now).view.nature job.now) }
-    ensures err { IfErr result (FailsRoles (R.state rt.now).view.nature job.now) }
+    ensures ok { OnOk result (FilesHaveOneRole (R.state rt.now).view.nature job.now) }
+    ensures err { IfErr result (FailsFileRoles (R.state rt.now).view.nature job.now) }
 {
     are_apart(rt, job)?;
     are_unprinted(rt, job)
@@ -40,7 +41,7 @@ pub fn have_one_role<'a, R: Store>(rt: &R, job: &ChipJob<'a>) -> Result<(), Faul
 /// `have_one_role`.
 pub fn has_own_trace<'a, R: Store>(rt: &R, job: &ChipJob<'a>) -> Result<(), Fault<'a>>
     ensures ok { OnOk result (HasOwnTrace (R.state rt.now).view.nature job.now) }
-    ensures err { IfErr result (FailsRoles (R.state rt.now).view.nature job.now) }
+    ensures err { IfErr result (FailsFileRoles (R.state rt.now).view.nature job.now) }
 {
     check_pair(rt, job, Role::Image, Role::Trace)?;
     check_pair(rt, job, Role::Status, Role::Trace)?;
@@ -52,8 +53,8 @@ pub fn has_own_trace<'a, R: Store>(rt: &R, job: &ChipJob<'a>) -> Result<(), Faul
 
 // Checks each pair of roles that needs two files: the store must report that their names refer to different files.
 fn are_apart<'a, R: Store>(rt: &R, job: &ChipJob<'a>) -> Result<(), Fault<'a>>
-    ensures ok { OnOk result (HaveOneRole (R.state rt.now).view.nature job.now) }
-    ensures err { IfErr result (FailsRoles (R.state rt.now).view.nature job.now) }
+    ensures ok { OnOk result (FilesHaveOneRole (R.state rt.now).view.nature job.now) }
+    ensures err { IfErr result (FailsFileRoles (R.state rt.now).view.nature job.now) }
 {
     if puts_back(&job.task) {
         check_pair(rt, job, Role::Image, Role::Status)?;
@@ -78,7 +79,7 @@ fn are_apart<'a, R: Store>(rt: &R, job: &ChipJob<'a>) -> Result<(), Fault<'a>>
 
 // Checks that the program prints to no file of the job that is written.
 fn are_unprinted<'a, R: Store>(rt: &R, job: &ChipJob<'a>) -> Result<(), Fault<'a>>
-    ensures { IfErr result (FailsRoles (R.state rt.now).view.nature job.now) }
+    ensures { IfErr result (FailsFileRoles (R.state rt.now).view.nature job.now) }
 {
     if puts_back(&job.task) {
         check_unprinted(rt, job, Role::Image)?;
@@ -121,7 +122,7 @@ fn check_pair<'a, R: Store>(
     requires { must_differ job.now earlier later ≡ true }
     ensures ok { OnOk result
         (AreTwo (R.state rt.now).view.nature (file_with_role job.now earlier) (file_with_role job.now later)) }
-    ensures err { IfErr result (FailsRoles (R.state rt.now).view.nature job.now) }
+    ensures err { IfErr result (FailsFileRoles (R.state rt.now).view.nature job.now) }
 {
     apart(rt, file_with_role(job, earlier), file_with_role(job, later))
 }
@@ -130,7 +131,7 @@ fn check_pair<'a, R: Store>(
 #[tactic(auto, using(crate::proofs::OneRole::stream_fails))]
 fn check_unprinted<'a, R: Store>(rt: &R, job: &ChipJob<'a>, role: Role) -> Result<(), Fault<'a>>
     requires { is_written job.now role ≡ true }
-    ensures { IfErr result (FailsRoles (R.state rt.now).view.nature job.now) }
+    ensures { IfErr result (FailsFileRoles (R.state rt.now).view.nature job.now) }
 {
     unprinted(rt, file_with_role(job, role))
 }

@@ -7,9 +7,9 @@ ghost use Rattle.nor_files.specs.Files.{AreAtRest, Name, KeepsFile, is_lawful};
 ghost use Rattle.nor_lines.specs.Stored.{AreTwo, IsNot, MakesNothing};
 ghost use Rattle.nor_lines.specs.Tasks.{made_by};
 ghost use Rattle.flashnor.specs.Endings.{EndsWith, HasPrinted, IsUnread, IsWithoutStreams, all_written};
-ghost use Rattle.flashnor.specs.Run.{AnswersArguments, DoesJob, DoesTraced, EndsJob, FailsBefore, FailsJob, FailsTraced, IsStatus};
-ghost use Rattle.flashnor.specs.Roles.{HaveOneRole};
-ghost use Rattle.flashnor.specs.Run.{HoldsResult, KeepsFiles, StayBut, arguments_of};
+ghost use Rattle.flashnor.specs.Run.{AnswersArguments, DoesJob, DoesTraced, EndsChipJob, FailsTask, FailsJob};
+ghost use Rattle.flashnor.specs.Roles.{FilesHaveOneRole};
+ghost use Rattle.flashnor.specs.Run.{FailsTraced, HoldsResult, IsStatus, KeepsFiles, StayBut, arguments_of};
 ghost use Rattle.flashnor.specs.Tasks.{journal_by, puts_back};
 
 use crate::changes::{change_chip, restore_chip};
@@ -158,7 +158,7 @@ fn run<'a, R: Store>(rt: &mut R, words: &'a [String]) -> Work<'a>
 #[tactic(auto, using(crate::proofs::Ended::holds_looked))]
 fn work_on_chip<'a, R: Store>(rt: &mut R, job: &ChipJob<'a>) -> Result<Work<'a>, Fault<'a>>
     ensures ok { IfOk result (λ work.
-        EndsJob (R.state rt.old) (R.state rt.new) job.now work.unwritten work.answer) }
+        EndsChipJob (R.state rt.old) (R.state rt.new) job.now work.unwritten work.answer) }
     ensures err { IfErr result (FailsJob (R.state rt.old).view job.now) }
     ensures keeps { AreAtRest (R.state rt.old)
         → KeepsFiles job.now.programmer job.now.task (R.state rt.old) (R.state rt.new) }
@@ -179,9 +179,9 @@ fn work_on_chip<'a, R: Store>(rt: &mut R, job: &ChipJob<'a>) -> Result<Work<'a>,
 // Reads the chip's files and performs a task that leaves them as they are.
 fn look_at_files<'a, R: Store>(rt: &mut R, job: &ChipJob<'a>) -> Result<Work<'a>, Fault<'a>>
     requires only_reads { puts_back job.now.task ≡ false }
-    requires roles { HaveOneRole (R.state rt.old).view.nature job.now }
+    requires roles { FilesHaveOneRole (R.state rt.old).view.nature job.now }
     ensures ok { IfOk result (λ work.
-        EndsJob (R.state rt.old) (R.state rt.new) job.now work.unwritten work.answer) }
+        EndsChipJob (R.state rt.old) (R.state rt.new) job.now work.unwritten work.answer) }
     ensures err { IfErr result (FailsJob (R.state rt.old).view job.now) }
     ensures keeps { is_lawful (R.state rt.old).view ≡ true
         → StayBut job.now.programmer (made_by job.now.task) (R.state rt.old) (R.state rt.new) }
@@ -202,9 +202,9 @@ fn look_at_files<'a, R: Store>(rt: &mut R, job: &ChipJob<'a>) -> Result<Work<'a>
 // Locks and reads the chip's files, performs a task that changes the chip, and writes the chip back to its files.
 fn change_files<'a, R: Store>(rt: &mut R, job: &ChipJob<'a>) -> Result<Work<'a>, Fault<'a>>
     requires changes { puts_back job.now.task ≡ true }
-    requires roles { HaveOneRole (R.state rt.old).view.nature job.now }
+    requires roles { FilesHaveOneRole (R.state rt.old).view.nature job.now }
     ensures ok { IfOk result (λ work.
-        EndsJob (R.state rt.old) (R.state rt.new) job.now work.unwritten work.answer) }
+        EndsChipJob (R.state rt.old) (R.state rt.new) job.now work.unwritten work.answer) }
     ensures err { IfErr result (FailsJob (R.state rt.old).view job.now) }
     ensures keeps { AreAtRest (R.state rt.old)
         → KeepsFiles job.now.programmer job.now.task (R.state rt.old) (R.state rt.new) }
@@ -309,7 +309,7 @@ fn do_task<'a, R: Store, B: Meter>(
     ensures ok { IsReady job.now.programmer (B.state bus.old)
         → IfOk result (DoesJob (R.state rt.old).view (R.state rt.new) job.now.programmer job.now.named job.now.task
         (B.state bus.old) (B.state bus.new)) }
-    ensures err { IfErr result (FailsBefore (R.state rt.old).view job.now.task) }
+    ensures err { IfErr result (FailsTask (R.state rt.old).view job.now.task) }
 {
     let named = job.named;
     match &job.task {
