@@ -12,7 +12,8 @@ use Rattle.nor_files.specs.declared.stored.Change.TheVariants.{Cut}
 use Rattle.nor_files.specs.declared.stored.Content.{Content}
 use Rattle.nor_files.specs.declared.stored.Stored.{Stored}
 
--- if each content that was possible under `May` is possible under `Might`, so is what a change may make of it
+-- if `Might` allows all bytes that `May` allows, then a content that a change may leave under `May` is also one that it
+-- may leave under `Might`
 becomes_more : (change : Change) (May Might : Found → Type 0) (left : Found)
     → ((bytes : List ℕ) → May (Some bytes) → Might (Some bytes)) → Becomes change May left → Becomes change Might left
 becomes_more change May Might left more becomes = grind arith

@@ -20,7 +20,7 @@ use Rattle.nor_files.specs.declared.stored.Stored.{Stored}
 
 -- ---- finding
 
--- if no file has that name, each index of the list is below `position_or_len`
+-- if no file in the list satisfies `is`, each index of the list is below `position_or_len`
 past : (is : Stored → Bool) (files : List Stored) (k : ℕ) → position is files ≡ None → k < length files
     → k < position_or_len is files
 past is files k none within = grind (arith, nat_tests)
@@ -93,7 +93,7 @@ set_there any (first ∷ files) zero now d same = ap (λ named. cond named true 
 set_there any (first ∷ files) (suc at) now d same =
     ap (cond (is_named any first) true) (set_there any files at now d same)
 
--- The file of that name was replaced, and each file whose name is apart from it is the same.
+-- The file of this name was replaced, and each file whose name is apart from this one is the same.
 pub record IsUpdated (name : Name) (old new : List Stored) (was now : Stored) : Type 0 where
   pub before : file_named old name ≡ file_in was
   pub after : file_named new name ≡ file_in now
@@ -113,7 +113,7 @@ other_named name other stored is ne = false_from_ne_true _
 
 module _ (files : List Stored) (at : ℕ) (was now : Stored) (place : was ≡ get_or files at was)
     (same : now.name ≡ was.name) where
-  -- the replacement keeps its name, so each index refers to the same name as before
+  -- the replacement has the same name as the entry that it replaces
   still_named : (any : Name) → is_named any now ≡ is_named any (get_or files at was)
   still_named any = ap (λ its. are_same_names its.items any) (same ∙ ap (λ stored. stored.name) place)
 

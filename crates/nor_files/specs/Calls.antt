@@ -27,7 +27,8 @@ abbrev pub Counts : {T E : Type 0} → Result T E → (old new : FilesState) →
 Counts (Ok _) old new = Succeeds old new
 Counts (Err _) old new = Fails old new
 
--- A call on one file, which lends no vault or log. Each file whose name is apart from this one is as it was.
+-- The effect of a call on one file that is no loan of a vault or log: each file whose name is apart from this one is as
+-- it was.
 pub record WorksOn {T E : Type 0} (name : Name) (result : Result T E) (old new : FilesState) : Type 0 where
   pub counts : Counts result old new
   pub borrowed : new.borrowed ≡ old.borrowed
@@ -93,7 +94,7 @@ pub record IsMixed (had bytes has : List ℕ) : Type 0 where
   pub longest : length has ≤ max (length had) (length bytes)
   pub each : (i : ℕ) → (slice_index has i ≡ slice_index had i) ⊎ (slice_index has i ≡ slice_index bytes i)
 
--- A host crash can leave what it could leave before, or a mix of that and the bytes.
+-- A host crash can leave only what it could leave before, or a mix of that and the bytes.
 abbrev pub LeavesMixes : Name → List ℕ → (old new : FilesState) → Type 0
 LeavesMixes name bytes old new = (left : Found) → new.may_leave name left → old.may_leave name left
     ⊎ ((had : List ℕ) × old.may_leave name (Some had) × ((has : List ℕ) × (left ≡ Some has) × IsMixed had bytes has))
@@ -107,21 +108,22 @@ abbrev pub with_length : ℕ → List ℕ → List ℕ
 with_length len had = take len had ++ replicate (len - length had) 0
 
 -- The effect of overwriting a file in place: after success a read returns the old content with its beginning replaced
--- by `bytes`. After success or failure a host crash may leave what it could leave before, or a mix of that and `bytes`.
+-- by `bytes`. After success or failure a host crash can leave only what it could leave before, or a mix of that and
+-- `bytes`.
 pub record WritesOver {T E : Type 0} (name : Name) (bytes : List ℕ) (result : Result T E)
     (old new : FilesState) : Type 0 where
   pub seen : (any : T) → result ≡ Ok any → new.view.seen name ≡ option_map (written_over bytes) (old.view.seen name)
   pub leaves : LeavesMixes name bytes old new
 
 -- The effect of setting the length of a file: after success a read returns the old content, truncated to `len` bytes or
--- extended by zeros. After success or failure a host crash may leave what it could leave before, or that with the new
--- length.
+-- extended by zeros. After success or failure a host crash can leave only what it could leave before, or that with the
+-- new length.
 pub record SetsLength {T E : Type 0} (name : Name) (len : ℕ) (result : Result T E) (old new : FilesState) : Type 0 where
   pub seen : (any : T) → result ≡ Ok any → new.view.seen name ≡ option_map (with_length len) (old.view.seen name)
   pub leaves : (left : Found) → new.may_leave name left → old.may_leave name left
       ⊎ ((had : List ℕ) × old.may_leave name (Some had) × (left ≡ Some (with_length len had)))
 
--- The file was missing and was created, empty. A host crash may leave what it could leave before, or an empty file.
+-- The file was missing and was created, empty. A host crash can leave only what it could leave before, or an empty file.
 pub record IsCreated (name : Name) (old new : FilesState) : Type 0 where
   pub missing : old.view.seen name ≡ None
   pub seen : new.view.seen name ≡ Some []

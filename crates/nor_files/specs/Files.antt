@@ -13,11 +13,11 @@ Found = Option (List ℕ)
 pub data Failure : Type 0 where
   -- the file can't be looked up, opened or read, or a read of it may block forever
   Unread : Name → Failure
-  -- the file exists, but can't be opened for overwriting, or can't be locked
+  -- a file or link of this name exists, but can't be opened for overwriting, or can't be locked
   Unheld : Name → Failure
   -- another process has locked the file
   Busy : Name → Failure
-  -- the file can't be created or truncated
+  -- the file can't be created, truncated or locked for a vault or log, or its directory can't be synced
   Unmade : Name → Failure
   -- the file exists, or is a journal that would be truncated
   There : Name → Failure
@@ -68,7 +68,7 @@ is_lawful view = view.nature.lawful
 abbrev pub AreApart : Nature → (one other : Name) → Type 0
 AreApart nature one other = (nature.apart one other ≡ true) × (nature.apart other one ≡ true)
 
--- Holds if the files obey the contract, and no vault or log in that one is borrowed.
+-- Holds if the files obey the contract, and no vault or log in the named file is borrowed.
 pub record IsKnownFile (name : Name) (view : View) : Type 0 where
   pub lawful : is_lawful view ≡ true
   pub in_store : view.out name ≡ false

@@ -1,4 +1,4 @@
--- A file in memory, as contracts see it, and what a host crash may leave of it.
+-- A file in memory, as contracts see it, what a host crash may leave of it, and the effects of calls on it.
 use Rattle.std.specs.Prelude.{◌≡◌, ◌⊎◌, ◌&&◌, ◌||◌, ⊤, ℕ, Bool, true, false, List, [], ◌∷◌, Option, None, Some}
 use Rattle.std.specs.Prelude.{Result, Ok, Err, if◌then◌else◌, is_some, not, option_map}
 use Rattle.std.proofs.Common.{refl, inl, inr}
@@ -62,8 +62,8 @@ Becomes (Written bytes) MayHaveBeen left = IsMixOf bytes.items MayHaveBeen left
 Becomes (Cut len) MayHaveBeen left = IsCutOf len MayHaveBeen left
 Becomes Lent MayHaveBeen left = ⊤
 
--- the content that a read returns, or one that the file may have had before the newest change, or one that this change
--- may make of it
+-- the content that a read returns, one that the file may have had before the newest change, or one that this change may
+-- make of the latter
 abbrev pub MayBe : List Step → Found → Found → Type 0
 MayBe [] seen left = left ≡ seen
 MayBe (step ∷ earlier) seen left = (left ≡ seen) ⊎ (MayBe earlier (content_found step.before) left
@@ -84,7 +84,7 @@ pub seen_may_be : (steps : List Step) (seen : Found) → MayBe steps seen seen
 seen_may_be [] seen = refl
 seen_may_be (step ∷ earlier) seen = inl refl
 
--- it is also one that `OrMissing` allows
+-- if `May` holds, `OrMissing` allows the content that a read returns
 pub seen_or_missing : (unplaced : Bool) (May : Type 0) (seen : Found) → May → OrMissing unplaced May seen seen
 seen_or_missing true May seen may = inr may
 seen_or_missing false May seen may = (refl, may)
@@ -117,7 +117,8 @@ Alters (Ok _) content change old new = IsChanged content change old new
 Alters (Err _) content change old new = IsUnchanged old new
 
 -- The effect of overwriting the file in place: after success a read returns the old content with its beginning replaced
--- by `bytes`. After success or failure a host crash may leave what it could leave before, or a mix of that and `bytes`.
+-- by `bytes`. After success or failure a host crash can leave only what it could leave before, or a mix of that and
+-- `bytes`.
 pub record FileWrites {T E : Type 0} (bytes : List ℕ) (result : Result T E) (old new : Stored) : Type 0 where
   pub name : new.name ≡ old.name
   pub out : new.out ≡ old.out
@@ -126,8 +127,8 @@ pub record FileWrites {T E : Type 0} (bytes : List ℕ) (result : Result T E) (o
       → MayLeave (file_in old) left ⊎ IsMixOf bytes (MayLeave (file_in old)) left
 
 -- The effect of setting the length of the file: after success a read returns the old content, truncated to `len` bytes
--- or extended by zeros. After success or failure a host crash may leave what it could leave before, or that with the
--- new length.
+-- or extended by zeros. After success or failure a host crash can leave only what it could leave before, or that with
+-- the new length.
 pub record FileSets {T E : Type 0} (len : ℕ) (result : Result T E) (old new : Stored) : Type 0 where
   pub name : new.name ≡ old.name
   pub out : new.out ≡ old.out

@@ -190,8 +190,8 @@ where
     }
 }
 
-/// Reads the rest of `file`, but not more than `most` bytes. If the file reports its length, memory for this length, or
-/// for `most` bytes if that is less, is allocated at once.
+/// Reads the rest of `file`, but not more than `most` bytes. If the file reports its length, memory for one byte more
+/// than this length, or than `most` if that is less, is allocated at once.
 pub fn read_up_to<F: Read + OpenFile + Drop>(
     alloc: Global,
     file: F,
@@ -203,7 +203,7 @@ pub fn read_up_to<F: Read + OpenFile + Drop>(
         Ok(metadata) => metadata.len().min(most),
         Err(_) => 0,
     };
-    // One byte more than the file has, so that the read at the end needs no further allocation.
+    // One byte more than is expected, so that the read at the end needs no further allocation.
     let room = (length as usize).saturating_add(1);
     let mut bytes = Vec::with_capacity(alloc, room)?;
     file.take(most).read_to_end(&mut bytes)?;

@@ -1,4 +1,4 @@
-//! The directory of a file, and syncing it.
+//! The directory and the last part of a file's name, and syncing the directory.
 
 use std::fs::{File, OpenFile};
 use std::io;

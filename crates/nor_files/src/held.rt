@@ -18,7 +18,8 @@ pub struct Held<F> {
 }
 
 /// Opens and locks exclusively a file of the chip that the run will write. A missing file is recorded as missing. Fails
-/// if the name refers to anything but a regular file, or if the file can't be opened for writing or locked.
+/// if the name refers to anything but a regular file, if the file can't be looked up, opened for writing or locked, or
+/// if memory runs out.
 pub fn hold_chip<R: Files>(files: &R, alloc: Global, name: &str) -> Result<Held<R::File>, LockFault>
 where
     R::File: LockFile,
@@ -57,8 +58,8 @@ fn own(alloc: Global, name: &str) -> Result<String, LockFault> {
     }
 }
 
-// Returns whether a regular file of this name exists. The error for a directory is `Unread`. For a file of another kind
-// or a dangling link, which can't be overwritten in place, it is `Unheld`.
+// Returns whether a regular file of this name exists. The error for a directory or a failed look-up is `Unread`. For a
+// file of another kind or a dangling link, which can't be overwritten in place, it is `Unheld`.
 fn is_there<R: Files>(files: &R, name: &str) -> Result<bool, LockFault> {
     match fs::metadata(files, name) {
         Ok(metadata) if metadata.is_file() => Ok(true),
@@ -71,7 +72,8 @@ fn is_there<R: Files>(files: &R, name: &str) -> Result<bool, LockFault> {
     }
 }
 
-// Returns false if neither a file nor a link of this name exists. The error for a dangling link is `Unheld`.
+// Returns false if neither a file nor a link of this name exists. Otherwise the error is `Unheld`, as for a dangling
+// link.
 fn is_nowhere<R: Files>(files: &R, name: &str) -> Result<bool, LockFault> {
     match fs::symlink_metadata(files, name) {
         Err(error) if error.kind() == ErrorKind::NotFound => Ok(false),
@@ -141,7 +143,7 @@ pub fn sync_under<R: Files>(files: &R, name: &str, file: &R::File) -> io::Result
     }
 }
 
-/// Returns the mode for a new file, as for `chmod`: read and write for all, except what an open file of the run lacks.
+/// Returns the mode for a new file, as for `chmod`: read and write for all, except what any of these open files lacks.
 pub fn mode_beside<F: OpenFile>(held: &[Held<F>]) -> u32 {
     let mut mode = 0o666;
     for held in held {

@@ -1,4 +1,4 @@
-//! Whether two names refer to one of the system's files.
+//! Whether two names refer to one of the system's files, and whether a name refers to an output stream of the program.
 ghost use Rattle.std.specs.Prelude.{◌≡◌, ◌⊎◌, IfErr};
 
 use crate::folder::{folder_of, last_of};
@@ -12,8 +12,8 @@ use std::rt::Files;
 const STREAMS: [&str; 2] = ["/proc/self/fd/1", "/proc/self/fd/2"];
 
 /// Returns whether two names refer to one file: the same device and inode, or, if neither exists, the same last part in
-/// the same directory. A link to a file that doesn't exist counts as missing. Returns as the error a name that can't be
-/// looked up.
+/// the same existing directory. A link to a file that doesn't exist counts as missing. Returns as the error a name that
+/// can't be looked up.
 pub fn is_one_file<'n, R: Files>(files: &R, one: &'n str, other: &'n str) -> Result<bool, &'n str>
     ensures { IfErr result (λ name. name.now ≡ one.now ⊎ name.now ≡ other.now) }
 {
@@ -54,7 +54,8 @@ pub fn is_same(one: &Metadata, other: &Metadata) -> bool {
     one.dev() == other.dev() && one.ino() == other.ino()
 }
 
-// Returns whether two missing files would be one if they were created: the same last part in the same directory.
+// Returns whether two missing files would be one if they were created: the same last part in the same existing
+// directory.
 fn will_be_one_file<'n, R: Files>(files: &R, one: &'n str, other: &'n str) -> Result<bool, &'n str>
     ensures { IfErr result (λ name. name.now ≡ one.now ⊎ name.now ≡ other.now) }
 {

@@ -1,8 +1,8 @@
 //! The files of a run, by their names, and their contract `Store`.
 //!
-//! A `Store` reads files, locks those that a run will overwrite, syncs them, and lends vaults and logs in them.
-//! Contracts see the bytes of each file, what a host crash may leave of it, and how many calls still succeed. A clause
-//! for every exit of a function therefore covers a kill at each call.
+//! A `Store` reads, locks, creates, overwrites and syncs files, and lends vaults and logs in them. Contracts see the
+//! bytes of each file, what a host crash may leave of it, and how many calls can still succeed. A clause for every exit
+//! of a function therefore covers a kill at each call.
 //!
 //! ```rust
 //! use nor_files::{Loss, Memory, Store};
@@ -21,7 +21,7 @@
 //! - `locks.rt`: locks against other runs
 //! - `making.rt`: creating and truncating the system's files; `VaultedFile`, the file that a vault writes to
 //! - `folder.rt`: syncing a directory
-//! - `identity.rt`: whether two names refer to one of the system's files
+//! - `identity.rt`: whether two names refer to one of the system's files; whether a name refers to an output stream
 //! - `memory.rt`: `Memory`, files in memory that obey the contract, and on which only a given number of calls succeed
 //! - `stored.rt`: one file in memory, and what a host crash may leave of it
 //!

@@ -27,8 +27,8 @@ where
 }
 
 /// Creates or truncates the named file. A regular file is truncated only after it was locked. A journal is never
-/// truncated, since it may be the only way to restore a chip: the error is `There`. A FIFO, a device or a terminal is
-/// opened as it is.
+/// truncated, since it may be the only way to restore a chip: the error is `There`. Any other kind of file, such as a
+/// FIFO, a device or a terminal, is opened as it is, without a lock.
 pub fn make_empty<R: Files>(files: &R, name: &str) -> Result<R::File, CreateFault>
 where
     R::File: LockFile,
@@ -114,7 +114,7 @@ impl<'a, R: Files> VaultedFile<'a, R> {
         }
     }
 
-    // Checks that a later run finds this file under the name, with the number of bytes written. The error is
+    // Checks that a later run finds this file under the name, with the number of bytes written. If not, the error is
     // `NotFound`.
     fn check(&self) -> io::Result<()> {
         let Some(name) = &self.name else {

@@ -9,9 +9,10 @@ use std::{fmt, io};
 /// Why a file can't be opened and locked by `hold` or `share`.
 #[derive(Debug, Drop)]
 pub enum LockFault {
-    /// The file can't be opened or read.
+    /// The file can't be looked up, opened or read, or the program is out of memory.
     Unread(io::Error),
-    /// The file exists, but can't be overwritten or locked: it may be read-only, or not a regular file.
+    /// A file or link of this name exists, but can't be overwritten or locked: it may be read-only, a FIFO, a device or
+    /// a dangling link.
     Unheld,
     /// Another process has locked the file.
     Busy,
@@ -92,8 +93,8 @@ impl From<CreateFault> for io::Error {
 ///
 /// A file may have several names. On lawful files, a call on a name leaves each file whose name is apart from it as it
 /// was; `is_one_file` returns false only for names that are apart. Nothing is promised about other names of the same
-/// file, except for syncs. After a successful `sync` or any `sync_folder`, a read of another name returns the same as
-/// before, if no vault or log in that file is borrowed.
+/// file, except that `hold` and `share` leave all files as they were, and for syncs. After a successful `sync` or any
+/// `sync_folder`, a read of another name returns the same as before, if no vault or log in that file is borrowed.
 pub trait Store: AllocGlobal {
     ghost use Rattle.std.specs.Prelude.{◌≡◌, ◌⊎◌, false, true, None, IfErr, IfOk, Ok, OnErr, OnOk, option_map};
     ghost use Rattle.nor_journal.specs.Vault.{IsFresh};
@@ -113,9 +114,9 @@ pub trait Store: AllocGlobal {
     type Log: Write + Drop;
 
     /// Returns whether the two names refer to one file: the same text, the same file of the system, or the same name in
-    /// the same directory if no file exists yet. If the result is false, the names are apart: on lawful files a call on
-    /// one of them leaves the other as it is, and on the system's files the names differ. Returns as the error a name
-    /// that can't be looked up.
+    /// the same directory if neither file exists yet. If the result is false, the names are apart: on lawful files a
+    /// call on one of them leaves the other as it is, and on the system's files the names differ. Returns as the error a
+    /// name that can't be looked up.
     fn is_one_file<'n>(&self, one: &'n str, other: &'n str) -> Result<bool, &'n str>
         ensures shared { IfOk result (λ is_one. is_one ≡ true
             → (state self.now).view.nature.fails (Shared one.now other.now) ≡ true) }
@@ -192,9 +193,9 @@ pub trait Store: AllocGlobal {
             → Places name.now result (state self.old) (state self.new) }
         ensures fails { OnErr result ((state self.old).view.nature.fails (Unwritten name.now) ≡ true) };
 
-    /// Overwrites the named file in place with `bytes`, from its start, without truncating it. On lawful files, a
-    /// failure may have written some of the bytes; after success or failure, until the next sync, a host crash may
-    /// leave any mix of old and new bytes.
+    /// Overwrites the named file in place with `bytes`, from its start, without truncating it. On lawful files without a
+    /// borrowed vault or log, a failure may have written some of the bytes; after success or failure, until the next
+    /// sync, a host crash may leave any mix of old and new bytes.
     fn write_over(&mut self, name: &str, bytes: &[u8]) -> io::Result<()>
         ensures nature { (state self.new).view.nature ≡ (state self.old).view.nature }
         ensures alone { is_lawful (state self.old).view ≡ true
@@ -203,8 +204,9 @@ pub trait Store: AllocGlobal {
             → WritesOver name.now bytes.now result (state self.old) (state self.new) }
         ensures fails { OnErr result ((state self.old).view.nature.fails (Unwritten name.now) ≡ true) };
 
-    /// Sets the length of the named file to `len` bytes. If it grows, the added bytes are 0. On lawful files, until the
-    /// next sync a host crash may leave what it could leave before, or that with the new length.
+    /// Sets the length of the named file to `len` bytes. If it grows, the added bytes are 0. On lawful files without a
+    /// borrowed vault or log, until the next sync a host crash may leave what it could leave before, or that with the
+    /// new length.
     fn set_len(&mut self, name: &str, len: u64) -> io::Result<()>
         ensures nature { (state self.new).view.nature ≡ (state self.old).view.nature }
         ensures alone { is_lawful (state self.old).view ≡ true
@@ -224,9 +226,9 @@ pub trait Store: AllocGlobal {
         ensures fails { OnErr result ((state self.old).view.nature.fails (Unwritten name.now) ≡ true) };
 
     /// Creates the named file, which must not exist, and lends a vault in it; return the vault with `hand_back`. `Disk`
-    /// returns `There` for an existing file, and syncs the directory. On lawful files, after a failure a host crash can
-    /// leave nothing of a file without a borrowed vault or log that it couldn't leave before, except an empty file if
-    /// the named one was missing.
+    /// returns `There` for an existing file, and syncs the directory. On lawful files, if no vault or log in the named
+    /// file is borrowed, after a failure a host crash can leave nothing of this file that it couldn't leave before,
+    /// except an empty file if it was missing.
     fn vault_in_new(&mut self, name: &str) -> Result<Self::Filed, CreateFault>
         ensures nature { (state self.new).view.nature ≡ (state self.old).view.nature }
         ensures fresh { IfOk result (λ vault. IsFresh (Self.Filed.state vault)) }

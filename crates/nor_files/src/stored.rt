@@ -217,8 +217,8 @@ impl Stored {
         self.out = false;
     }
 
-    // Restores the content of the last sync, or removes the file if a host crash may. Any other file stays there: if it
-    // was missing at the last sync, it was created for a vault or log and keeps its present bytes.
+    // Removes the file if a host crash may, else restores the content of the last sync. A file that was missing at the
+    // last sync, and that a host crash can't remove, was created for a vault or log: it keeps its present bytes.
     fn forget(&mut self)
         ensures { FileForgets self.old self.new }
     {
