@@ -123,7 +123,8 @@ pub record SetsLength {T E : Type 0} (name : Name) (len : ℕ) (result : Result 
   pub leaves : (left : Found) → new.may_leave name left → old.may_leave name left
       ⊎ ((had : List ℕ) × old.may_leave name (Some had) × (left ≡ Some (with_length len had)))
 
--- The file was missing and was created, empty. A host crash can leave only what it could leave before, or an empty file.
+-- The file was missing and was created, empty. A host crash can leave only what it could leave before, or an empty
+-- file.
 pub record IsCreated (name : Name) (old new : FilesState) : Type 0 where
   pub missing : old.view.seen name ≡ None
   pub seen : new.view.seen name ≡ Some []

@@ -115,8 +115,8 @@ pub trait Store: AllocGlobal {
 
     /// Returns whether the two names refer to one file: the same text, the same file of the system, or the same name in
     /// the same directory if neither file exists yet. If the result is false, the names are apart: on lawful files a
-    /// call on one of them leaves the other as it is, and on the system's files the names differ. Returns as the error a
-    /// name that can't be looked up.
+    /// call on one of them leaves the other as it is, and on the system's files the names differ. Returns as the error
+    /// a name that can't be looked up.
     fn is_one_file<'n>(&self, one: &'n str, other: &'n str) -> Result<bool, &'n str>
         ensures shared { IfOk result (λ is_one. is_one ≡ true
             → (state self.now).view.nature.fails (Shared one.now other.now) ≡ true) }
@@ -193,8 +193,8 @@ pub trait Store: AllocGlobal {
             → Places name.now result (state self.old) (state self.new) }
         ensures fails { OnErr result ((state self.old).view.nature.fails (Unwritten name.now) ≡ true) };
 
-    /// Overwrites the named file in place with `bytes`, from its start, without truncating it. On lawful files without a
-    /// borrowed vault or log, a failure may have written some of the bytes; after success or failure, until the next
+    /// Overwrites the named file in place with `bytes`, from its start, without truncating it. On lawful files without
+    /// a borrowed vault or log, a failure may have written some of the bytes; after success or failure, until the next
     /// sync, a host crash may leave any mix of old and new bytes.
     fn write_over(&mut self, name: &str, bytes: &[u8]) -> io::Result<()>
         ensures nature { (state self.new).view.nature ≡ (state self.old).view.nature }
