@@ -84,7 +84,7 @@ kept-cut : (command : Command) (old : Chip) (begun new : KeptBits) → is_operat
     → (new ≡ old.kept) ⊎ (new ≡ kept_after old command)
 kept-cut command old begun new is kept cut = grind arith
 
--- a call that began no operation satisfies `MayOperate`
+-- on an idle chip, a call that began no operation satisfies `MayOperate`
 pub may-before : (command : Command) (sent : List ℕ) (old new : BusState) → old.chip.busy ≡ 0 → KeepsChip old new
     → MayOperate command sent old new
 may-before command sent old new idle stays = grind (arith, stays.steady_or_idle (inr idle))

@@ -71,14 +71,15 @@ erased_where : (chip : Chip) (has : Bool) (start start' len len' : ℕ) → star
     ≡ cond (is_idle chip && has && not (is_block_protected chip start' len')) (Commands.Erase start' len') Commands.Ignored
 erased_where chip has start start' len len' same long = grind (arith, and-false)
 
--- the first address of an aligned block stays the same if it is rounded down to a multiple of the block's length
+-- on the chip, the first address of an aligned block stays the same if it is rounded down to a multiple of the block's
+-- length
 unit_start : (config : Config) (x y z sector len : ℕ) → 65536 * x + 256 * y + z ≡ 4096 * sector
     → 4096 * sector < config.size → 4096 * sector / len * len ≡ 4096 * sector
     → address_of config x y z / len * len ≡ 4096 * sector
 unit_start config x y z sector len names below aligned =
     rw (same_address config x y z (4096 * sector) names below) aligned
 
--- an erase command with a block's first address erases that block, if the chip accepts it
+-- an erase command with the first address of a block that lies on the chip erases that block, if the chip accepts it
 erase_command : (chip : Chip) (unit : EraseBlock) (sector x y z : ℕ) → 65536 * x + 256 * y + z ≡ 4096 * sector
     → (let erase : Erase = record { unit = unit; sector = sector } in IsOnChip erase chip
     → operation_of chip (erase_bytes unit x y z)
@@ -98,7 +99,7 @@ in_unit : (sector n a : ℕ) → (nat_le (4096 * sector) a && nat_lt a (4096 * s
 in_unit sector n a = grind (arith, nat_tests)
 
 module _ (erase : Erase) (old new : BusState) where
-  -- the command that the chip carries out for this erase
+  -- the command that the chip carries out for this erase, if it accepts it
   abbrev does : Command
   does = Commands.Erase (4096 * erase.sector) (block_length old.chip erase)
 

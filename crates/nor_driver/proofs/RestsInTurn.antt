@@ -29,7 +29,8 @@ pub looks_after : (reads more most : ℕ) (old mid new : BusState) → reads + m
 looks_after reads more most old mid new few has only_reads =
     looks_more (reads + more) most old new few (looks_then reads more old mid new (has_looked-only_reads reads old mid has) only_reads)
 
--- if the read after `reads` successful ones stops, an honest bus ran out of transactions for a call that needs `most`
+-- if the read after `reads` successful ones stops, an honest bus ran out of transactions for a call that needs at most
+-- `most`, if that is more than `reads`
 pub runs_out : (reads most : ℕ) (old mid new : BusState) → reads < most → HasLooked reads old mid → RanOutIfHonest 1 mid new → RanOutIfHonest most old new
 runs_out reads most old mid new few has out = grind (arith, has.sent, has.nature.honest, out)
 

@@ -25,7 +25,7 @@ use Rattle.nor_driver.proofs.Taken.{may_taken, has_taken, may_refused, has_refus
 abbrev written : ℕ → ℕ → ℕ
 written kept sent = bit_or (bit_and sent 0b1000011) (bit_or (bit_and kept 0b0111100) (bit_and sent 0b0111000))
 
--- if the low six bits of the sent byte are those of status 2, so are the bits that a status write does not clear
+-- if the low six bits of the sent byte are those of status 2, so are bits 2 to 5, which a status write does not clear
 held_as : (kept sent : ℕ) → kept % 64 ≡ sent % 64 → bit_and kept 60 ≡ bit_and sent 60
 held_as kept sent same =
     sym (and_assoc 60 kept 63) ∙ rw (and_mask kept 6, same, ← and_mask sent 6) (and_assoc 60 sent 63)
@@ -37,7 +37,8 @@ every test n i all small =
     let below : i < length (range_with_len 0 n) = omega (arith, length-range_with_len 0 n) in
     ap test (omega (arith, at)) ∙ AllPass-from_list_all test (range_with_len 0 n) all i 0 below
 
--- if the low six bits agree, status 2 is the sent byte after the write; the proof checks all 128 values of that byte
+-- if the low six bits agree and bit 7 of the sent byte is clear, status 2 is the sent byte after the write; the proof
+-- checks all 128 values of that byte
 written_as : (kept sent : ℕ) → sent < 128 → kept % 64 ≡ sent % 64 → written kept sent ≡ sent
 written_as kept sent small same =
     rw (held_as kept sent same)

@@ -49,7 +49,7 @@ lost_stays old new shaky lost worn = grind (arith, lost.bytes, worn)
 
 -- ---- a transaction that was cut
 
--- the state of the bus after the chip carried out the bytes that were sent, before a power failure
+-- the state of the bus after the chip carried out the bytes that were sent, before a possible power failure
 abbrev pub reached : (out : List ℕ) (old new : BusState) → AtStop out old new → BusState
 reached out old new cut = record old { chip = cut.reached; worn = new.worn }
 
@@ -60,7 +60,7 @@ reached_stays out old new shaky cut = elim cut.chip [
   | inr lost ↦ lost_stays (reached out old new cut) new shaky lost (λ s. refl)
 ]
 
--- if the bytes that were sent ask for no operation, the state satisfies `KeepsChip`
+-- on a bus that is not steady, if the bytes that were sent ask for no operation, the stop satisfies `KeepsChip`
 pub none_begun : (out : List ℕ) (old new : BusState) → old.steady ≡ false → (cut : AtStop out old new)
     → is_operation (done_of old.chip (take cut.count out) (length cut.read)) ≡ false → KeepsChip old new
 none_begun out old new shaky cut none =

@@ -25,7 +25,7 @@ pub record IsOnChip (erase : Erase) (chip : Chip) : Type 0 where
   pub aligned : is_aligned erase.unit erase.sector ≡ true
   pub within : erase.sector + sectors_in (sectors_of chip) erase.unit ≤ sectors_of chip
 
--- The chip is idle, has this erase block and its erase type, and protects no address of it.
+-- The chip is idle, has this erase block and its erase type, and protects no address of the block.
 pub record CanErase (erase : Erase) (chip : Chip) : Type 0 where
   pub on_chip : IsOnChip erase chip
   pub idle : chip.busy ≡ 0

@@ -54,8 +54,8 @@ pub record OnlyReads (most : ℕ) (old new : BusState) : Type 0 where
   pub sent : new.sent ≡ old.sent
   pub honest_reads : old.honest ≡ true → OnlyReadsHonest most old new
 
--- On an honest bus, a call that needs `needed` transactions stopped: fewer were left, and all of these were carried
--- out.
+-- On an honest bus, a call that needs at most `needed` transactions stopped: fewer than `needed` were left, and all of
+-- these were carried out.
 pub record RanOut (needed : ℕ) (old new : BusState) : Type 0 where
   pub none_left : new.left ≡ 0
   pub below : old.left < needed

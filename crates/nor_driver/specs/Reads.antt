@@ -20,7 +20,8 @@ changes_nothing ReadUnique = true
 changes_nothing Ignored = true
 changes_nothing _ = false
 
--- The transaction asks every chip only for a read, or for nothing, and every honest bus takes it.
+-- The transaction asks every chip only for a read other than a poll, or for nothing. Its opcode is a quiet one, and it
+-- sends few enough bytes for every honest bus.
 pub record IsReading (out : List ℕ) : Type 0 where
   pub short : length out ≤ 260
   pub quiet : begins_quiet out ≡ true
@@ -56,31 +57,32 @@ shown config at len = map (sfdp_byte config) (range_with_len (at % config.size) 
 pub record IsSectorOf (content : ℕ → ℕ) (sector : ℕ) (bytes : List ℕ) : Type 0 where
   pub byte : (i : ℕ) → i < 4096 → slice_index bytes i ≡ content (4096 * sector + i)
 
--- A read of the ID. On an honest bus it leaves the chip as it was, and returns the chip's bytes if the chip is idle.
+-- A read of the ID succeeded. On an honest bus it left the chip as it was, and returned the chip's bytes if the chip
+-- was idle.
 pub record ReadsId (old new : BusState) (id : List ℕ) : Type 0 where
   pub read : old.honest ≡ true → HasRead old new
   pub replied : old.honest ≡ true → old.chip.busy ≡ 0 → id ≡ id_of old.chip.config
 
--- A read of status 2. On an honest bus it leaves the chip as it was, and returns the chip's byte even if the chip is
--- busy.
+-- A read of status 2 succeeded. On an honest bus it left the chip as it was, and returned the chip's byte even if the
+-- chip was busy.
 pub record ReadsStatus2 (old new : BusState) (status2 : ℕ) : Type 0 where
   pub read : old.honest ≡ true → HasRead old new
   pub replied : old.honest ≡ true → status2 ≡ old.chip.kept.two
 
--- A read of the unique ID. On an honest bus it leaves the chip as it was, and returns the chip's bytes if the chip is
--- idle.
+-- A read of the unique ID succeeded. On an honest bus it left the chip as it was, and returned the chip's bytes if the
+-- chip was idle.
 pub record ReadsUnique (old new : BusState) (unique : List ℕ) : Type 0 where
   pub read : old.honest ≡ true → HasRead old new
   pub replied : old.honest ≡ true → old.chip.busy ≡ 0 → unique ≡ unique_of old.chip.config
 
--- A read of `len` SFDP bytes. On an honest bus it leaves the chip as it was, and returns the chip's bytes if the chip
--- is idle.
+-- A read of `len` SFDP bytes succeeded. On an honest bus it left the chip as it was, and returned the chip's bytes if
+-- the chip was idle.
 pub record ReadsSfdp (at len : ℕ) (old new : BusState) (bytes : List ℕ) : Type 0 where
   pub read : old.honest ≡ true → HasRead old new
   pub replied : old.honest ≡ true → old.chip.busy ≡ 0 → bytes ≡ shown old.chip.config at len
 
--- A read of a sector. On an honest bus it leaves the chip as it was, and returns the chip's bytes if the chip is idle
--- and the sector lies on it.
+-- A read of a sector succeeded. On an honest bus it left the chip as it was, and returned the chip's bytes if the chip
+-- was idle and the sector lies on it.
 pub record ReadsSector (sector : ℕ) (old new : BusState) (bytes : List ℕ) : Type 0 where
   pub read : old.honest ≡ true → HasRead old new
   pub replied : old.honest ≡ true → old.chip.busy ≡ 0 → 4096 * (sector + 1) ≤ old.chip.config.size

@@ -1,4 +1,5 @@
--- The effect of a status write that sends other protection bits, and the bits that flashnor never changes as they are.
+-- The effect of a status write that sends the given protection bits, and the bits that flashnor never changes as they
+-- are.
 use Rattle.std.specs.Prelude.{◌≡◌, ◌≢◌, ◌+◌, ◌*◌, ◌/◌, ◌%◌, ◌==◌, ◌&&◌, ◌⊎◌, ℕ, Bool, true, false, not}
 use Rattle.nor_model.specs.declared.running.Running.TheVariants as Runs
 use Rattle.nor_model.specs.declared.status.Status.{Status}
@@ -20,7 +21,7 @@ abbrev pub with_code : (code : ℕ) → KeptBits → KeptBits
 with_code code kept = record { one = 32 * (kept.one / 32) + code % 32; two = 64 * (code / 32) + kept.two % 64 }
 
 -- the bytes `one` and `two` of a status write are `status` with the protection bits of `code`: the bits that flashnor
--- never changes are as in `status`, and BUSY, WEL and SUS are clear
+-- never changes are as in `status`, and BUSY, WEL and (for a code below 64) SUS are clear
 abbrev pub is_status_with_code : Status → (code one two : ℕ) → Bool
 is_status_with_code status code one two =
     one == 128 * (status.one.0 / 128) + 4 * (code % 32) && two == status.two.0 % 64 + 64 * (code / 32)

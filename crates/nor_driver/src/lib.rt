@@ -1,5 +1,5 @@
-//! The commands to a flash chip, one function per command, over any bus. The other crates of the engine send no
-//! opcodes.
+//! The commands to a flash chip, over any bus: a function for each read, for polls and waits, and for each operation
+//! with its write enable and wait. The other crates of the engine send no opcodes.
 //!
 //! ```rust
 //! use nor_chip::{Config, Delays, Meter, SimBus};
