@@ -3,14 +3,14 @@ use Rattle.std.proofs.Common.{◌≡◌, ◌<◌, ◌+◌, ◌*◌, ◌/◌, ◌
 use Rattle.nor_model.specs.Chip.{Chip, KeptBits, kept_in}
 use Rattle.nor_model.specs.Chip.{status_of}
 
--- two records of non-volatile bits with equal fields are equal
+-- the record of these non-volatile bits; two records with equal fields are equal (`kept_same`)
 abbrev bits : (one two : ℕ) → KeptBits
 bits one two = record { one = one; two = two }
 
 pub kept_same : (x y : KeptBits) → x.one ≡ y.one → x.two ≡ y.two → x ≡ y
 kept_same x y one two = ap (λ (n : ℕ). bits n x.two) one ∙ ap (bits y.one) two
 
--- the status bytes of a chip contain its non-volatile bits
+-- the status bytes of a chip contain its non-volatile bits (`kept_told`), if those of status 2 are below 128
 quarter : (one : ℕ) (latch idle : Bool) → (4 * one + (if latch then 2 else 0) + (if idle then 0 else 1)) / 4 ≡ one
 quarter one latch idle = grind arith
 

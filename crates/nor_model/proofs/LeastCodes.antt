@@ -43,7 +43,7 @@ least_found size code start len start' len' (Some other) least none there is_lea
       | inr (inr above) ↦ absurd (least.least code above is_least.defined there)
     ]
 
--- the first address of the range that a code protects
+-- the first address of the range that a code protects, if that range is not empty
 pub starts : (size len : ℕ) (complement bottom : Bool) → 0 < len
     → (if not (beq bottom complement) || len == 0 then 0 else size - len)
     ≡ (if complement then (if bottom then size - len else 0) else (if bottom then 0 else size - len))

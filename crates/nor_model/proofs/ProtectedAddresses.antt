@@ -92,7 +92,7 @@ at_borders size test start len a ends fits from before holds = elim ends.side [
   | inr last ↦ grind (arith, nat_tests, last a (omega arith), last (start + len - 1) (omega arith))
 ]
 
--- An address of a page is protected if and only if every address of the page is.
+-- An address of the chip is protected if and only if some address of its page is.
 pub protected_by-page_of : (size code at : ℕ) → IsInBlocks size → at < size
     → (protected_by size code at ≡ true) ↔ HoldsSomewhere (protected_by size code) (at / 256 * 256) 256
 protected_by-page_of size code at are below = (

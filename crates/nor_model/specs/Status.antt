@@ -7,7 +7,7 @@ abbrev pub bytes_of : Status → List ℕ
 bytes_of status = status.one.0 ∷ status.two.0 ∷ []
 
 -- the status bytes with other protection bits: SRP0 and bits 0 to 5 of status 2 are as they were, the other
--- non-volatile bits are those of `code`; BUSY, WEL and SUS are clear
+-- non-volatile bits are those of `code`; BUSY, WEL and (for a code below 64) SUS are clear
 abbrev pub bytes_with_code : Status → ℕ → List ℕ
 bytes_with_code status code =
     (128 * (status.one.0 / 128) + 4 * (code % 32)) ∷ (status.two.0 % 64 + 64 * (code / 32)) ∷ []

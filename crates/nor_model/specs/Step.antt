@@ -33,7 +33,7 @@ done_of chip out replies =
     let command = command_of chip.config out replies in if is_carried_out chip command then command else Ignored
 
 -- The reply byte with index `i`. A read of data continues at address 0 after the chip's end. Past the end of the ID, of
--- the SFDP bytes and of the unique ID, and for all other commands, the reply is FFh.
+-- the SFDP bytes and of the unique ID, and for a command that reads nothing, the reply is FFh.
 abbrev pub reply_byte : Chip → Command → (i : ℕ) → ℕ
 reply_byte chip Poll i = status1_of chip
 reply_byte chip ReadStatus2 i = status2_of chip

@@ -1,4 +1,4 @@
--- The ranges of a chip that are protected, as the datasheets' tables list them.
+-- Tests of addresses that hold in one range at an end of the chip, as the test whether an address is protected does.
 use Rattle.std.specs.Prelude.{◌≡◌, ◌<◌, ◌≤◌, ◌+◌, ◌%◌, ◌⊎◌, ℕ, Bool, true, nat_lt, nat_le}
 
 -- the test holds at some address from `start` to `start + len - 1`
