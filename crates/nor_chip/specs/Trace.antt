@@ -17,7 +17,8 @@ log_of traced = traced.log
 abbrev pub has_lost : {B L : Type 0} → TraceBus B L → Bool
 has_lost traced = traced.lost
 
--- the end of a line, for the bytes received: their hexadecimal digits, or their number if there are more than three
+-- the end of a line, for the bytes received: their hexadecimal digits, their number if there are more than three, or
+-- nothing if there are none
 abbrev pub reply_digits : List ℕ → List ℕ
 reply_digits answer =
     if length answer == 0 then []
