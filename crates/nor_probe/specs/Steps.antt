@@ -74,7 +74,7 @@ IsIdentityFault Stopped = ⊤
 IsIdentityFault Timeout = ⊥
 
 -- For an idle chip on a well-behaved bus, after its ID was read: the chip type is the one that the chip shows
--- (`shown_as`), the remaining reads of the probe were sent, and nothing changed.
+-- (`shown_as`), the remaining reads of the probe were sent, and the chip is unchanged.
 pub record Identifies (old new : BusState) (part : Part) : Type 0 where
   pub rested : Rested old new
   pub shows : shown_as old.chip.config ≡ Ok part
