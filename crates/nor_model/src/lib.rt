@@ -10,9 +10,9 @@
 //! assert!(rt; !protected([0x04, 0x00], chip.size, 0x7DFFFF));
 //! ```
 //!
-//! `specs/` defines what the chip does at each transaction (`Chip`, `Guard`, `Command`, `Step`) and when its power fails
-//! (`Power`), the record of what was sent (`Sent`), and the contract of a bus (`Bus`). The crates that depend on this
-//! one describe chips only by these definitions.
+//! `specs/` defines what the chip does at each transaction (`Chip`, `Guard`, `Command`, `Step`) and when its power
+//! fails (`Power`), the record of what was sent (`Sent`), and the contract of a bus (`Bus`). The crates that depend on
+//! this one describe chips only by these definitions.
 //!
 //! - `bus.rt`: the traits `Bus` and `Meter`, and the error `Stopped`
 //! - `config.rt`: the properties of a chip that never change; the three emulated chips
