@@ -26,7 +26,8 @@ none_rest answer reply [] e len = refl
 none_rest answer reply (x ∷ rest) e len =
     absurd (omega (arith, length-append reply (x ∷ rest), ap length e))
 
--- Calls that receive leave the chip and its erased sectors as they were.
+-- If the chip and its erased sectors stayed as they were after a step, as calls that receive leave them, the step is
+-- also that of the whole exchange.
 steps_then : (out answer : List ℕ) (old sent new : Device) → new.chip ≡ sent.chip → new.worn ≡ sent.worn
     → StepsOnce out answer old sent → StepsOnce out answer old new
 steps_then out answer old sent new chip worn steps = record {
@@ -53,7 +54,7 @@ exchanged frame out replies reply old sent new idle whole opcode goes comes s t 
       steps = steps_then out reply old.device sent.device new.device t.chip t.worn (subst Q got (subst P goes o.steps));
     }
 
--- The reply to an operation begins with ACK.
+-- If the programmer was idle before an operation, the pending reply begins with ACK.
 pub begins_with_ack : (frame : List ℕ) (old sent : PortState) → IsIdle old.device
     → OperatesFrame frame old.device sent.device → AnswerBegins sent
 begins_with_ack frame old sent idle o =
@@ -63,7 +64,7 @@ begins_with_ack frame old sent idle o =
     let Q : List ℕ → Type 0 = λ p. slice_index p 0 ≡ 6 in
     record { some = subst P (sym e) (omega arith); ack = subst Q (sym e) refl }
 
--- The port failed while the frame was sent, so the transaction was interrupted.
+-- The port failed while a whole frame of O_SPIOP was sent to an idle programmer, so the transaction was interrupted.
 pub cut_off : (frame out : List ℕ) (replies wanted : ℕ) (old new : PortState) → IsIdle old.device → IsFrame frame
     → slice_index frame 0 ≡ 0x13 → out_in frame ≡ out → replies_in frame ≡ replies → IsCutOff frame old new
     → Interrupted out replies wanted old new

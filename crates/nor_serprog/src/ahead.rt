@@ -19,7 +19,7 @@ const READ_DATA: u8 = 0x03;
 ///
 /// The block is forgotten at each transaction that is passed on as it is, and if the bus inside stops. A block ends at
 /// a multiple of 64 KiB at the latest, so it never reaches past the end of a chip. It is never longer than the bus
-/// inside can read. A transaction is passed on as it is if it is no read of data, is longer than such a block, or
+/// inside can read. A transaction is passed on as it is if it is no read of data, reads more than the longest block, or
 /// reaches past a multiple of 64 KiB.
 ///
 /// A read over this bus may be no transaction over the bus inside, or a longer one, so this bus is not honest as `Bus`

@@ -11,11 +11,12 @@ use nor_model::{Bus, Sent, Stopped, polled_ready_after};
 
 /// A bus to the chip at a serial programmer, over any port. It needs fewer round trips than `SerprogBus`: a modifying
 /// command without a reply is sent together with the next transaction of another kind. After a modifying command the
-/// engine polls, so write enable, page program and the first poll are one write to the port.
+/// engine polls, so write enable, page program and the first poll are one write to the port, if the programmer's serial
+/// buffer holds all three.
 ///
-/// - `transfer` of a modifying command (06h, 01h, 02h, 20h, 52h, D8h, C7h) that reads no reply returns `Ok` before the
-///   command is sent. If it fails later, the transaction that sends it returns `Stopped`.
-/// - Every other transaction first sends what waits, in order. If it returns `Ok`, nothing waits.
+/// - `transfer` of a modifying command (06h, 01h, 02h, 20h, 52h, D8h, C7h) that reads no reply may return `Ok` before
+///   the command is sent. If it fails later, the transaction or `flush` that sends it returns `Stopped`.
+/// - Every other transaction that isn't rejected first sends what waits, in order. If it returns `Ok`, nothing waits.
 /// - `flush` sends what waits. Without `flush` or a later transaction a command is never sent. A session or restore
 ///   that returns `Ok` has polled after its last modifying command, so nothing waits then.
 /// - What waits fits into the programmer's serial buffer together with what is sent with it. Nothing waits if the

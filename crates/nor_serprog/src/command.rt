@@ -167,7 +167,7 @@ fn arguments_len(opcode: u8) -> usize
 pub enum Answer {
     /// 06h, ACK: the command was carried out, and the bytes that it returns follow.
     Ack,
-    /// 15h, NAK: the command was refused, and nothing follows.
+    /// 15h, NAK: the command was refused, and nothing follows. The reply to SYNCNOP is NAK and then ACK.
     Nak,
     /// Any other byte, which begins no valid reply.
     Other(u8),
