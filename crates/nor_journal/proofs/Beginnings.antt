@@ -27,7 +27,7 @@ front-with_sector c number bytes =
     ap (λ (t : List ℕ). head c ++ t) (records_text-push c.saved added)
     ∙ sym (append_assoc (head c) (records_text c.saved) (record_text added))
 
--- a content with one more sector is valid
+-- a valid content with one more sector of 4,096 bytes, which may follow (`MayFollow`), is valid
 pub IsContent-with_sector : (c : Content) (number : ℕ) (bytes : List ℕ) → IsContent c → MayFollow c number
     → length bytes ≡ 4096 → IsContent (with_sector c number bytes)
 unfolding next_number
@@ -78,7 +78,7 @@ err_any (Err error) holds = holds
 
 -- ---- the end
 
--- if the end mark was refused, a faithful vault holds a prefix of the journal
+-- if the end mark was refused after the header and records, a faithful vault holds a prefix of the journal
 pub begins_mark : (old new : VaultState) (c : Content) (kept : ℕ) → Holds old (front c)
     → PutRefused old end_mark kept new → HoldsPrefix new (text c)
 begins_mark old new c kept returned refused = rw (← text_is c) (λ errors.
@@ -98,7 +98,7 @@ module _ (s0 s1 new : VaultState) (c : Content) (digest : List ℕ) (returned : 
   begins_digest kept refused =
       rw (← whole) (after_refused s1 new _ digest kept (took_more s0 s1 (front c) end_mark returned marked) refused)
 
--- a seal keeps the encoding in a faithful vault; a refused seal has the effect of a refused piece of no bytes
+-- a seal keeps the encoding in a faithful vault; after a refused seal, such a vault holds a prefix of the encoding
 pub seals : {T : Type 0} (old new : VaultState) (r : Result T VaultFault) (c : Content) → Holds old (text c)
     → Seals old r new → OnOk r (Holds new (text c)) × OnErr r (HoldsPrefix new (text c))
 seals old new (Ok x) c returned sealed =

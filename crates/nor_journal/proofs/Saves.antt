@@ -73,7 +73,7 @@ HasKept-none state w id unique status size chip saved n written none = record {
   next = omega (arith, next_number-empty_content id unique status size);
 }
 
--- a sector with a number of at least n may follow
+-- a sector of the chip with a number of at least n may follow
 pub may_follow : {V : Type 0} (state : V → VaultState) (w : Writer V) (head : Content) (chip : ℕ → ℕ) (saved : ℕ → Bool) (n number : ℕ) (kept : HasPutSectors state w head chip saved n) → n ≤ number → number < head.size / 4096 → MayFollow kept.content number
 may_follow state w head chip saved n number kept above place = record {
   rises = omega (arith, kept.next);

@@ -1,8 +1,8 @@
 //! Journals, from which a session can be undone, and vaults, which receive a journal piece by piece and are then
 //! sealed.
 //!
-//! A journal has the original chip's ID, unique ID, size and status bytes, and the contents of the saved sectors. It
-//! ends with an end mark and a SHA-256 digest. Format 2 is written; formats 1 and 2 are read.
+//! A journal has the original chip's ID, unique ID (only in format 2), size and status bytes, and the contents of the
+//! saved sectors. It ends with an end mark and a SHA-256 digest. Format 2 is written; formats 1 and 2 are read.
 //!
 //! ```rust
 //! use nor_journal::{Journal, MemVault, Writer};
