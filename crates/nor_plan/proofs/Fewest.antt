@@ -105,7 +105,8 @@ planned_few whole kinds set from =
     both_le true false = omega arith
     both_le false b = omega arith
 
--- the planned erases are a shortest list that covers the set
+-- the planned erases are a shortest list that covers the set, on a chip of at most 4,096 sectors that has all its
+-- sectors
 pub fewest_least : (kinds : Kinds) (total : ℕ) (set : ℕ → Bool) → total ≤ 4096 → ((s : ℕ) → set s ≡ true → s < total)
     → IsLeastLength kinds total set (fewest_erases kinds total set)
 fewest_least kinds total set few below =

@@ -56,7 +56,8 @@ first_of-holds total Block64 s below = (omega arith, omega arith)
 first_of-holds total Chip s below = (omega arith, omega arith)
 
 module _ (whole : Bool) (kinds : Kinds) (set : ℕ → Bool) where
-  -- the erase block that holds the sector is fit: the chip has it, and it lies in the set
+  -- the erase block that holds the sector is fit: the chip has it, and it lies in the set; the block of 4 KiB is always
+  -- fit
   abbrev pub is_fit : ℕ → EraseBlock → Bool
   is_fit s Sector = true
   is_fit s Block32 = kinds.k32 && holds_block set 8 s

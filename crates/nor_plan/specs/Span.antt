@@ -1,4 +1,5 @@
--- The spans of a sector: the bytes that must be programmed, page by page. A page is 256 bytes.
+-- The spans of a sector: the range to program in each page, from its first to its last differing byte. A page is 256
+-- bytes.
 use Rattle.std.specs.Prelude.{ℕ, ◌≡◌, ◌==◌, ◌-◌, ◌*◌, min, not, Bool, List, [], ◌∷◌, Option, Some, None, MatchOption, length, filter, count_by, slice_index}
 use Rattle.std.specs.List.{filter_map, list_any, range_with_len}
 use Rattle.std.specs.Int.{div_ceil}
