@@ -7,7 +7,7 @@ use Rattle.nor_files.specs.declared.store.LockFault.TheVariants as fault
 use Rattle.nor_files.specs.declared.store.CreateFault.{CreateFault}
 use Rattle.nor_files.specs.declared.store.CreateFault.TheVariants as make
 
--- the store may return this error when it locks the file
+-- the store may return this error when it opens and locks the file
 abbrev pub IsLockFault : Nature → Name → LockFault → Type 0
 IsLockFault nature name (fault.Unread error) = nature.fails (Unread name) ≡ true
 IsLockFault nature name fault.Unheld = nature.fails (Unheld name) ≡ true

@@ -17,7 +17,7 @@ pub data Failure : Type 0 where
   Unheld : Name → Failure
   -- another process has locked the file
   Busy : Name → Failure
-  -- the file can't be created, truncated or locked for a vault or log, or its directory can't be synced
+  -- the file can't be created, read, truncated or locked for a vault or log, or its directory can't be synced
   Unmade : Name → Failure
   -- the file exists, or is a journal that would be truncated
   There : Name → Failure

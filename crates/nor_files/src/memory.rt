@@ -16,7 +16,8 @@ use std::{io, mem};
 ///
 /// A host crash may leave each byte as it was at the last sync of the file, or as any later write or change of length
 /// made it. A file whose vault or log was borrowed since its last sync may have any bytes. A file that was created may
-/// be missing until its directory is synced; `vault_in_new` syncs it, and `hand_back` of a sealed vault syncs both.
+/// be missing until its directory is synced. `vault_in_new` syncs the directory, and `hand_back` of a sealed vault
+/// syncs the file and the directory.
 #[derive(Drop)]
 pub struct Memory {
     alloc: Global,

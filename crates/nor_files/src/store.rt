@@ -37,7 +37,7 @@ pub enum CreateFault {
     There,
     /// Another process has locked the file.
     Busy,
-    /// The file can't be created, truncated or locked, or its directory can't be synced.
+    /// The file can't be created, read, truncated or locked, or its directory can't be synced.
     Unmade(io::Error),
     /// The program is out of memory.
     Memory,
