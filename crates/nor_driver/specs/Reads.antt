@@ -20,8 +20,8 @@ changes_nothing ReadUnique = true
 changes_nothing Ignored = true
 changes_nothing _ = false
 
--- The transaction asks every chip only for a read other than a poll, or for nothing. Its opcode is a quiet one, and it
--- sends few enough bytes for every honest bus.
+-- The transaction asks every chip only for a read other than a poll, or for nothing. It begins with a quiet opcode or
+-- sends nothing, and it sends few enough bytes for every honest bus.
 pub record IsReading (out : List ℕ) : Type 0 where
   pub short : length out ≤ 260
   pub quiet : begins_quiet out ≡ true
