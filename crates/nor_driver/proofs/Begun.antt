@@ -29,7 +29,7 @@ enabled old new [] none carries =
     grind (arith, nothing, carries.step, carries.worn)
 enabled old new (byte ∷ rest) none carries = absurd (omega arith)
 
--- after write enable, the chip carries out the command that `operation_of` names
+-- after write enable, the chip carries out the command that `operation_of` returns, if the bytes ask for an operation
 pub then_done : (out : List ℕ) (old ready : BusState) → AsksForOperation out → IsEnabled old ready
     → done_of ready.chip out 0 ≡ operation_of old.chip out
 then_done out old ready asks enabling = elim (eqb_tells old.chip.busy 0) [
@@ -37,7 +37,7 @@ then_done out old ready asks enabling = elim (eqb_tells old.chip.busy 0) [
   | inr busy ↦ grind (arith, asks.whole old.chip.config)
 ]
 
--- the effect of a prefix of the command's bytes: the command's operation, or nothing
+-- after write enable, the chip carries out for a prefix of the command's bytes the command's operation, or nothing
 pub part_done : (out : List ℕ) (old ready : BusState) (count replies : ℕ) → AsksForOperation out
     → IsEnabled old ready → (done_of ready.chip (take count out) replies ≡ Ignored)
     ⊎ (done_of ready.chip (take count out) replies ≡ operation_of old.chip out)

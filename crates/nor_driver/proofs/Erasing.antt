@@ -54,7 +54,7 @@ pub other_bytes : (unit : EraseBlock) (opcode x y z : ℕ) → opcode ≡ opcode
     → opcode ∷ x ∷ y ∷ z ∷ [] ≡ erase_bytes unit x y z
 other_bytes unit opcode x y z same other = grind arith
 
--- the bytes target only the block that the erase names
+-- the bytes of an erase with the address of a sector below 4,096 target only the block that the erase names
 named : (unit : EraseBlock) (sector x y z : ℕ) → 65536 * x + 256 * y + z ≡ 4096 * sector → sector < 4096
     → (s : ℕ) → targets (erase_bytes unit x y z) s ≡ true
     → is_sector_named (record { unit = unit; sector = sector }) s ≡ true

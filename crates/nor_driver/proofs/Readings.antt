@@ -39,7 +39,8 @@ pub carried_ignored : (out answer : List ℕ) (old new : BusState) → done_of o
     → Carries out answer old new → HasRead old new
 carried_ignored out answer old new ignored carries = carried_by out answer old new (ap changes_nothing ignored) carries
 
--- the relation for reads that succeeded (`Rested`) implies the one for every exit (`OnlyReadsHonest`)
+-- if `most` transactions were carried out, the relation for reads that succeeded (`Rested`) implies the one for every
+-- exit (`OnlyReadsHonest`)
 pub looked_by : (old new : BusState) (most : ℕ) → Rested old new → old.left ≡ new.left + most → OnlyReadsHonest most old new
 looked_by old new most rested count = search (arith, unchanged_stays old new rested.unchanged)
 
@@ -69,7 +70,7 @@ looked_at (Err stopped) out answer old new is stops carries = looked_at_stop out
 pub poll_fits : (bus : BusState) → bus.honest ≡ true → IsHonestFor (5 ∷ []) 1 bus
 poll_fits bus honest = record { honest = honest; fits = inr (omega arith, omega arith) }
 
--- every honest bus takes a transaction that reads no more than a sector
+-- every honest bus takes a transaction that only reads (`IsReading`), and no more than a sector
 pub read_fits : (out asked : List ℕ) (bus : BusState) → IsReading out → length asked ≤ 4096 → bus.honest ≡ true
     → IsHonestFor out (length asked) bus
 read_fits out asked bus is short honest = record { honest = honest; fits = inr (is.short, short) }

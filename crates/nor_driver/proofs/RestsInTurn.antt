@@ -24,7 +24,8 @@ has_looked-none state = search (arith, nature_refl state, rested_none state)
 has_looked-only_reads : (reads : ℕ) (old new : BusState) → HasLooked reads old new → OnlyReads reads old new
 has_looked-only_reads reads old new has = search (looked_by old new reads, has.rested, has.sent)
 
--- reads that succeeded, followed by a call that only reads and may fail, satisfy `OnlyReads`
+-- reads that succeeded, followed by a call that only reads and may fail, satisfy `OnlyReads` with the sum of the bounds
+-- or a greater bound
 pub looks_after : (reads more most : ℕ) (old mid new : BusState) → reads + more ≤ most → HasLooked reads old mid → OnlyReads more mid new → OnlyReads most old new
 looks_after reads more most old mid new few has only_reads =
     looks_more (reads + more) most old new few (looks_then reads more old mid new (has_looked-only_reads reads old mid has) only_reads)
