@@ -75,7 +75,7 @@ same_reply_03 (x ∷ y ∷ z ∷ b ∷ []) old mid new first again one two len =
 same_reply_03 (x ∷ y ∷ z ∷ b ∷ c ∷ rest) old mid new first again one two len =
     alike Ignored Ignored (b ∷ c ∷ rest) old mid new first again one two len (λ i. refl)
 
--- A transaction that begins as a read of data is sent twice: the replies are equal.
+-- A transaction that begins as a read of data is sent twice: if the replies have the same length, they are equal.
 pub same_reply : (out : List ℕ) (old mid new : Chip) (first again : List ℕ) → begins_read out ≡ true
     → Step old out first mid → Step mid out again new → length again ≡ length first → again ≡ first
 same_reply [] old mid new first again reads one two len = absurd (false≢true reads)

@@ -47,7 +47,8 @@ stops_silent out port sent sent' polled_ready few = record {
   };
 }
 
--- a transaction that failed is a stop of the bus, whether the link was in step or not
+-- over an honest port, a transaction that failed and fits the bus is a stop of the bus, whether the link was in step or
+-- not
 pub stops_over : {P C : Type 0} (port : P → PortState) (out : List ℕ) (replies : ℕ) (link link' : Link P C)
     (sent sent' : Sent) (polled_ready : Bool) → IsSettled port link → (is_in_step link ≡ false → link' ≡ link)
     → ((port link.port).honest ≡ true → (link' ≡ link)

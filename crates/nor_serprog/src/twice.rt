@@ -140,7 +140,7 @@ impl<B: Bus> Bus for ReadTwice<B> {
     }
 }
 
-// Returns whether a transaction reads data.
+// Returns whether a transaction begins with 03h, the opcode of a read of data.
 fn reads_data(out: &[u8]) -> bool
     ensures { result ≡ begins_read out.now }
 {
