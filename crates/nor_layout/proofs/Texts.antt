@@ -161,7 +161,7 @@ module _ (before : List (List ℕ)) (n : ℕ) (line : List ℕ) (regions : List 
     unfolding layout_says
     returned said e = ap (lines_say [] 1) lines_are ∙ onward said e after
 
-    -- a text with a line that adds a region allocates (`AsksMemory`)
+    -- a text with a line that adds a region, after lines without a fault, allocates (`AsksMemory`)
     asks_memory : (region : Region) → with_line regions (n + 1) line ≡ Ok (regions ++ region ∷ []) → AsksMemory text
     unfolding lines_say
     asks_memory region e = record {
@@ -175,7 +175,7 @@ module _ (before : List (List ℕ)) (n : ℕ) (line : List ℕ) (regions : List 
       more = rw counted e;
     }
 
-    -- a text with a line that adds a region doesn't define a layout without regions
+    -- a text with a line that adds a region, after lines without a fault, doesn't define a layout without regions
     gives_one : (region : Region) → AreRegions regions → with_line regions (n + 1) line ≡ Ok (regions ++ region ∷ [])
         → layout_says text ≢ Ok []
     gives_one region kept e none =
