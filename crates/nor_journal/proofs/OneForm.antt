@@ -202,7 +202,7 @@ none_at_end c f is found =
     let few = few_sectors c.size is.size in
     grind (arith, number_at-marked (end_mark ++ digest), length-end_mark, mark, last, long, len, few)
 
--- bytes with a fault don't begin with a valid next record
+-- bytes after the header and records that have a fault don't begin with a valid next record
 faulty : (c : Content) (rest : List ℕ) (f : JournalFault) → IsContent c → NextFault c rest f
     → NoRecord (c.size / 4096) (next_number c) rest
 faulty c rest f is found begins = grind (arith, number_at-marked rest, few_sectors c.size is.size)
