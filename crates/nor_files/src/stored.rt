@@ -24,7 +24,7 @@ pub enum Content {
 pub enum Change {
     /// The file was overwritten in place with these bytes, from its start.
     Written(Vec<u8>),
-    /// The length was set to this.
+    /// The length was set to this number of bytes.
     Cut(u64),
     /// The file was emptied, and a vault or a log in it was borrowed.
     Lent,
