@@ -63,8 +63,8 @@ pub record FilesState : Type 1 where
 abbrev pub is_lawful : View → Bool
 is_lawful view = view.nature.lawful
 
--- The two names are apart, in both orders. This doesn't require lawful files, so a promise about names that are apart
--- holds for the system's files, too.
+-- The two names are apart, in both orders. This doesn't require lawful files: on the system's files, two names are
+-- apart if they differ.
 abbrev pub AreApart : Nature → (one other : Name) → Type 0
 AreApart nature one other = (nature.apart one other ≡ true) × (nature.apart other one ≡ true)
 
