@@ -89,7 +89,7 @@ impl From<CreateFault> for io::Error {
 /// Contracts see the files as a `FilesState`. If the state is lawful, the files obey the contract. Each call then has
 /// the effect that its clauses give for success or failure, and the state says what a host crash may leave at each
 /// moment. For other files, such as those of `Disk`, most clauses say nothing. A clause proved for every lawful store
-/// covers an interruption at each call, because a call fails and changes nothing if no call is left.
+/// covers an interruption at each call, because each call that is counted fails and changes nothing if none is left.
 ///
 /// A file may have several names. On lawful files, a call on a name leaves each file whose name is apart from it as it
 /// was; `is_one_file` returns false only for names that are apart. Nothing is promised about other names of the same
