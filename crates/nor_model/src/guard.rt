@@ -158,9 +158,9 @@ fn addresses_of(size: u32, code: u8) -> Places
     Places { start, len }
 }
 
-/// Returns the range that this status protects on a chip of this size: its first address and its length, or two zeros
-/// if nothing is protected. Returns `None` if the datasheets don't define the status's protection bits; the model then
-/// protects every address. `size` must be a power of two from 65,536 to 16,777,216.
+/// Returns the range that this status protects on a chip of this size that has block protection: its first address and
+/// its length, or two zeros if nothing is protected. Returns `None` if the datasheets don't define the status's
+/// protection bits; the model then protects every address. `size` must be a power of two from 65,536 to 16,777,216.
 pub fn protected_range(status: Status, size: u32) -> Option<(u32, u32)>
     requires { IsTrue (is_chip_size size) }
     ensures { MatchOption result (is_undefined (code_of (kept_in (bytes_of status))) ≡ true)

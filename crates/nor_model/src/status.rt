@@ -216,7 +216,8 @@ impl Status {
         }
     }
 
-    /// True if the datasheets don't define the protection bits. The model then protects every address.
+    /// True if the datasheets don't define the protection bits. On a chip with block protection, the model then
+    /// protects every address.
     pub fn is_undefined(self) -> bool
         ensures { result ≡ is_undefined (code_of (kept_in (bytes_of self))) }
     {
