@@ -1,4 +1,4 @@
-//! The allowances that a rehearsal sets on its bus: for each call its stop, or the most that any call needs.
+//! The allowances that a rehearsal sets on its bus: for each call its stop, or if it has none, a bound of every call.
 ghost use Rattle.std.specs.Prelude.{◌≤◌, false, length};
 ghost use Rattle.std.proofs.lemmas.Bool.{false≢true};
 
@@ -55,8 +55,8 @@ fn stops_in_turn(stops: &[u64], restores: u32) -> [u64; MOST] {
     allowances
 }
 
-// Rehearses with these stops. Asserts that the bus was allowed each call's stop in turn, and nothing else. Returns the
-// number of restores.
+// Rehearses with these stops. Asserts that the rehearsal set the allowances of `stops_in_turn`, and no others. Returns
+// the number of restores.
 fn rehearse_allowed(rt: &impl Abort, alloc: Global, stops: &[u64]) -> u32
     requires { length stops.now ≤ 64 }
 {

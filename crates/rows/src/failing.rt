@@ -11,8 +11,8 @@ pub enum Fault {
     Stop,
     /// The bus inverts each bit of the reply.
     Spoil,
-    /// If the transaction is a poll, it shows BUSY, and so does each poll among the 65,535 transactions after it. All
-    /// of these transactions are polls of one wait.
+    /// If the transaction is a poll, it shows BUSY, and so does each poll among the 65,535 transactions after it. If
+    /// the poll begins a wait of the engine, all of these transactions are polls of that wait.
     Busy,
 }
 
@@ -27,16 +27,16 @@ pub struct OnceBus {
     allowed: u64,
     /// The number of transactions requested, including the one that failed.
     pub asked: u64,
-    /// The first four bytes that transaction number `behind`, counted from 0, sent. If it sent fewer, its first byte
-    /// and three zeros follow. All four are zeros before that transaction. With `Busy` it is recorded even if it is no
-    /// poll, and so doesn't fail.
+    /// The first four bytes that transaction number `behind`, counted from 0, sent. If it sent fewer than four, this is
+    /// its first byte and three zeros. Before that transaction all four are zeros. With `Busy` the bytes are recorded
+    /// even if the transaction is no poll; then nothing fails.
     pub met: [u8; 4],
     polled_ready: bool,
 }
 
 impl OnceBus {
-    /// Returns a bus that carries out `allowed` transactions, except that the transaction after the first `behind`
-    /// fails.
+    /// Returns a bus with the allowance `allowed`, on which the transaction after the first `behind` fails in the way
+    /// of `fault`. With `None` no transaction fails.
     pub fn new(mut bus: SimBus, allowed: u64, fault: Fault, behind: Option<u64>) -> OnceBus {
         bus.allow(allowed);
         OnceBus {

@@ -10,7 +10,8 @@ use std::alloc::Global;
 use std::process::Abort;
 
 // Runs a second session, which writes the image of another row, on the chip that a session left, with `allowed`
-// transactions. Returns the chip and the vault of the second session, and whether it ended.
+// transactions. Asserts that it ends or is stopped. Returns the chip and the vault of the second session, and whether
+// it ended.
 fn write_again(rt: &impl Abort, alloc: Global, bus: SimBus, row: Row, allowed: u64) -> (Cut, bool) {
     let mut bus = bus;
     bus.allow(allowed);
@@ -42,7 +43,7 @@ fn undo_both(rt: &impl Abort, second: Cut, first: MemVault, allowed: u64) -> Sim
 }
 
 // Stops the second session after each number of transactions until it ends, on the chip that the first one left after
-// `n`. Returns the number of transactions of the second session.
+// `n` transactions. Undoes both each time. Returns the number of transactions of the second session.
 fn stop_second(rt: &impl Abort, alloc: Global, runs: &Runs, other: Row, n: u64) -> u64 {
     for m in 0..AMPLE {
         let Cut { bus, vault } = runs.cut(rt, n);

@@ -1,5 +1,5 @@
-//! Tests of the public calls across crates: with a bus, a vault or a file that fails, and with malformed input. The
-//! crate has no other code.
+//! Tests of the public calls across crates, most of them with a bus, a vault, a file or a serial port that fails, or
+//! with malformed input. The crate has no other code.
 //!
 //! Shared by the tests:
 //!
@@ -7,8 +7,8 @@
 //! - `row.rt`: the sessions that are tested (the rows), each with its chip, its image and its request
 //! - `runs.rt`: runs a row's session and its restores, each stopped after a given number of transactions
 //! - `spoilt.rt`: runs a row's session, or a restore, on a faulty bus
-//! - `failing.rt`: a bus on which one transaction fails and all others succeed
-//! - `stages.rt`: calls on that bus, with each of their transactions failing in turn
+//! - `failing.rt`: a bus on which one transaction, or the polls of one wait, fail and all others succeed
+//! - `stages.rt`: calls on that bus, with each of their transactions or waits failing in turn
 //! - `held.rt`: an assertion whose message has a number
 //!
 //! Stops and power failures:
@@ -21,8 +21,8 @@
 //! - `power.rt`: sessions and restores during which the chip loses its power
 //! - `rehearsed.rt`: rehearsals with each stop, and on faulty buses
 //! - `allowances.rt`: how many transactions a rehearsal allows each of its calls
-//! - `once.rt`: after a stop or a timeout no call sends anything more
-//! - `readings.rt`: reading calls that are stopped, or whose vault refuses a piece
+//! - `once.rt`: after a stop or a timeout no call sends anything more; a spoilt sector isn't read again
+//! - `readings.rt`: reading calls that are stopped, or whose vault refuses a piece; the status that they report
 //!
 //! Faulty buses, vaults and files:
 //!
@@ -34,12 +34,12 @@
 //! - `traced.rt`: a trace whose log refuses lines
 //! - `losses.rt`: the model of files: calls that fail, and host crashes
 //!
-//! serprog (nor_serprog), over a port in memory:
+//! serprog (nor_serprog), most of it over a port in memory:
 //!
 //! - `serprog_model.rt`: a port to a simulated programmer and chip
-//! - `serprog_frames.rt`: the bytes of each command
+//! - `serprog_frames.rt`: the bytes of six commands
 //! - `serprog_handshakes.rt`: how a link is synchronized, and how a programmer is identified
-//! - `serprog_buses.rt`: sessions over the bus, and failures of the port
+//! - `serprog_buses.rt`: transactions over the bus, and faults of the programmer and the port
 //! - `serprog_stops.rt`: sessions and restores over an honest port (nor_wire), which fails at each of its calls
 //! - `serprog_wrappers.rt`: paced polls, and readings that are made twice
 //!

@@ -4,7 +4,8 @@ use nor_journal::Vault;
 use std::alloc::{AllocError, Global};
 use std::io;
 
-// Saves the four bytes of `image` in a new journal. If the journal was sealed and closed, overwrites `image` in place.
+// Saves the four bytes of `image` in a new journal. If the journal was sealed and closed, overwrites `image` in place,
+// and syncs it.
 fn change<S: Store>(files: &mut S) -> io::Result<()> {
     let mut journal = files.vault_in_new("journal")?;
     let _ = journal.put(b"abcd");
@@ -74,7 +75,8 @@ fn a_torn_write_fails(rt: HostRuntime) -> Result<(), AllocError> {
     Ok(())
 }
 
-// The bytes of a sealed vault in a file that existed are durable. Those of an unsealed vault are lost.
+// A host crash that loses all that wasn't synced: the bytes of a sealed vault in a file that existed remain, and those
+// of an unsealed vault are lost.
 #[test]
 fn a_sealed_vault_is_durable(rt: HostRuntime) -> Result<(), io::Error> {
     for is_sealed in [false, true] {

@@ -92,7 +92,7 @@ fn each_lost_reply_of_a_session(rt: HostRuntime) {
     }
 }
 
-// Loses the reply to each transaction of the session that follows the seal, and then to each transaction of the
+// Loses the reply to each transaction that the session sends after the seal, and then to each transaction of the
 // restore. Returns the number of replies that restores lost.
 fn lose_in_restores(rt: &impl Abort, pair: &Pair, row: Row, start: Start) -> u64 {
     let mut lost: u64 = 0;
@@ -115,7 +115,7 @@ fn lose_in_restore(rt: &impl Abort, pair: &Pair, n: u64) -> u64 {
 }
 
 // The number of replies that the restores of a row lose: the transactions of the restores that follow the stops of
-// `undone`, without the first stop, at which the vault has just been sealed.
+// `undone.rt`, without the first of these, at which the vault has just been sealed.
 const RESTORES: [(Row, Start, u64); 5] = [
     (Row::AByteIsProgrammed, Start::IDLE, 2 * 8 + 3 * 12),
     (

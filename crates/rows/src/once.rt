@@ -1,5 +1,5 @@
 //! After a stop or a timeout each call ends and sends nothing more, even though the bus would carry out further
-//! transactions, and further polls would show that the chip is ready. A spoilt reply isn't read again.
+//! transactions, and further polls would show that the chip is ready. A sector with a spoilt reply isn't read again.
 use crate::failing::{Fault, OnceBus};
 use crate::held::assert_held;
 use crate::row::{Row, Start, erased};

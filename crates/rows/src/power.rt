@@ -75,7 +75,7 @@ fn each_loss_behind_two_pages(rt: HostRuntime) {
 //
 // Two stops interrupt the erase, so that all pages have to be programmed. Two interrupt each page program, so that its
 // page has to be programmed again. The original sector is full of 00h. So with that fill nothing remains to be done
-// after an interrupted erase, and an interrupted page program leaves its page as it was.
+// after an interrupted erase, and an interrupted page program leaves its page as it was originally.
 #[test]
 fn each_loss_behind_a_sector_that_mostly_stays(rt: HostRuntime) {
     let runs = 8 + 2 * 9 + 3 * 91 + 5 * (15 * 11 + 5 * 15 * 16 / 2);

@@ -111,7 +111,8 @@ type Said = Result<(u32, Kinds), SfdpFault>;
 //   2 (14h), and the erase types in double words 8 and 9 (2Ch)
 //
 // A table at FFFFFFh lies past the SFDP bytes, so each of its bytes is FFh. A table at 0 is the header, which begins
-// with 53 46 44 50. In both, the address bytes field of double word 1 is 3 or 2, which a probe refuses.
+// with 53 46 44 50. The address bytes field of double word 1 is 3 in the first and 2 in the second; a probe refuses
+// both.
 const SAYINGS: &[(usize, &[u8], Said)] = &[
     (0x00, &[], Ok((65_536, ALL_KINDS))),
     (0x0C, &[0xFF, 0xFF, 0xFF], Err(SfdpFault::Address)),

@@ -77,7 +77,7 @@ impl Start {
     }
 }
 
-/// A session that is tested. Each has a chip of its own.
+/// A session that is tested. Each run of it gets a new chip.
 #[derive(Clone, Copy)]
 pub enum Row {
     /// Programs one byte of an erased chip.

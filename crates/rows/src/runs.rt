@@ -9,7 +9,7 @@ use nor_session::{Refusal, Report, restore, session};
 use std::alloc::Global;
 use std::process::Abort;
 
-/// A number of transactions that is enough for a restore of any row.
+/// A number of transactions that is enough for a restore of any row, except on the slowest chip.
 pub const AMPLE: u64 = 10_000;
 
 /// Runs a row's session on a bus to its chip, and returns its result.

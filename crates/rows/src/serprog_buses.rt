@@ -43,8 +43,8 @@ fn cause(alloc: Global, bus: &SerprogBus<Model>) -> Result<String, Fail> {
     }
 }
 
-// Each of these faults stops the bus, and the bus keeps the cause. The bus sends nothing more until `synchronize`
-// succeeds, and works again after that.
+// Each of these faults stops the bus, and the bus keeps the cause. Further transactions send nothing until
+// `synchronize` succeeds. The bus works again after that.
 #[test]
 fn each_fault_stops_the_bus(rt: HostRuntime) -> Result<(), Fail> {
     let faults = [

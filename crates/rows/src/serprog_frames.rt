@@ -1,4 +1,4 @@
-//! The frames of serprog commands, byte by byte.
+//! The frames of five serprog commands, byte by byte, and a transaction that is too long for a frame.
 
 use nor_serprog::{Command, frame_len};
 

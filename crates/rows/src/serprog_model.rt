@@ -33,7 +33,7 @@ pub enum Fault {
     Cut,
 }
 
-/// The reason why the port failed: no reply byte arrived, or the port was cut.
+/// The reason why the port failed: fewer reply bytes arrived than were asked for, or the port was cut.
 #[derive(Clone, Copy, Debug, PartialEq, Eq)]
 pub enum Cause {
     Silent,

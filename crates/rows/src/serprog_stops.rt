@@ -16,10 +16,11 @@ use std::process::Abort;
 
 const CALLS: u64 = 3;
 
-// More calls than a handshake and a restore of any row take.
+// More calls than a handshake and any restore of these tests take.
 const AMPLE: u64 = 100_000;
 
-// The port sends no byte of a transaction that it cuts, the opcode and the address, one byte of data, or all bytes.
+// How many bytes the port sends of a transaction that it cuts: none, the opcode and the address, these and one byte of
+// data, or all.
 const CUTS: [u32; 4] = [0, 4, 5, u32::MAX];
 
 // Returns a bus over this port, after the handshake.

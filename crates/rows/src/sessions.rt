@@ -64,8 +64,8 @@ fn a_busy_chip_is_waited_for(rt: HostRuntime) {
     assert!(rt; report.transactions == 65_558 && report.found.status1 == 0x00);
 }
 
-// Runs the session of a request on an idle TINY64. Bits of its byte 0 must be raised, so one sector is erased. Returns
-// the number of transactions.
+// Runs the session of a request on an idle TINY64. At least one bit of its byte 0 must be raised, so one sector is
+// erased. Returns the number of transactions.
 fn sent_for(rt: &impl Abort, alloc: Global, request: &Request) -> u64 {
     let mut image = Row::ABitRises.wanted(rt, alloc);
     let mut bus = Row::ABitRises.bus(rt, alloc, Start::IDLE);

@@ -1,4 +1,5 @@
-//! Sets of addresses made from spans: in any order, adjacent, overlapping, and too many.
+//! Sets of addresses made from spans: in any order, adjacent, overlapping, too many, and spans that end before they
+//! start.
 use crate::held::assert_held;
 use nor_layout::{Ranges, Span};
 

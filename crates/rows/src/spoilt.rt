@@ -8,8 +8,8 @@ use nor_session::{Refusal, restore};
 use std::alloc::Global;
 use std::process::Abort;
 
-/// Returns the most transactions of a session on a chip of `sectors` sectors, or of a restore of that number of saved
-/// sectors:
+/// Returns a bound on the transactions of a session on a chip of `sectors` sectors, or of a restore of that number of
+/// saved sectors. It is the sum of:
 ///
 /// - 65,542 to identify the chip
 /// - three readings of each sector

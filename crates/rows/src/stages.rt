@@ -1,4 +1,5 @@
-//! Calls on a bus on which one transaction fails: each transaction of the call in turn.
+//! Calls on a bus on which one transaction, or the polls of one wait, fail: each transaction or wait of the call in
+//! turn.
 ghost use Rattle.nor_journal.specs.Vault.{IsFresh};
 
 use crate::contents::{put, put_run};
@@ -161,8 +162,8 @@ impl Stage {
         vault.bytes().to_vec(self.alloc).expect(rt, "memory")
     }
 
-    // Returns a bus to the original chip, or for a restore to the chip that the session left. The bus allows the most
-    // transactions of a session.
+    // Returns a bus to the original chip, or for a restore to the chip that the session left. The bus allows the bound
+    // of a session.
     fn bus(&self, rt: &impl Abort, call: Call, fault: Fault, behind: Option<u64>) -> OnceBus {
         let bytes = if call == Call::Restore {
             &self.image
@@ -251,7 +252,7 @@ impl Stage {
         waits
     }
 
-    /// Spoils each reply of a call in turn. Checks the result if the reply is a poll's, or a sector's that is compared
+    /// Spoils each reply of a call in turn. Checks the result if the reply is a poll's, or a sector's that is verified
     /// or written to the output. Returns the number of replies that were checked.
     pub fn spoil_each(&self, rt: &impl Abort, call: Call, touched: u64) -> u64 {
         let right = self.right(rt, call);
@@ -269,9 +270,9 @@ impl Stage {
 }
 
 // Returns the expected error and number of transactions of a call if the reply of transaction `n`, counted from 0, is
-// spoilt. `right` has both without a fault, `touched` is the number of sectors that the call compares at its end, and
+// spoilt. `right` has both without a fault, `touched` is the number of sectors that the call verifies at its end, and
 // `met` has the first bytes of that transaction. Returns `None` unless the reply is that of a poll, or of a sector that
-// is compared or written to the output.
+// is verified or written to the output.
 fn told_of_spoilt(
     call: Call,
     touched: u64,

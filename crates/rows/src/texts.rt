@@ -131,7 +131,7 @@ fn journals_of_a_million_bytes(rt: HostRuntime) {
     }
 }
 
-// Returns the journal of a session that saves one sector, of 4,161 bytes:
+// Returns the 4,161 bytes of the journal of a session that saves one sector:
 //
 // - from 0 on the magic, from 8 the ID, from 11 the unique ID, from 19 the status, from 21 the size
 // - from 25 on the number of the sector, from 29 its bytes

@@ -15,8 +15,8 @@ const SHORT: [u32; 7] = [0, 1, 2, 3, 4, 5, 6];
 // which four precede the data. A test with each number would take minutes.
 const LONG: [u32; 10] = [0, 1, 2, 3, 4, 5, 6, 132, 259, 260];
 
-// Two chips that keep their power, one of them busy at first and after each operation, and chips that lose it, one for
-// each fill of `power`.
+// Two chips that keep their power, one of them busy at first and after each operation, and three chips that lose it,
+// one for each fill of `power.rt`.
 fn starts() -> [Start; 5] {
     [
         Start::IDLE,
@@ -184,7 +184,8 @@ fn each_cut_of_a_session_on_a_protected_chip(rt: HostRuntime) {
 // restores. For the programmed byte it was also calculated by hand:
 //
 // - On an idle chip three stops that send up to four bytes leave the byte as it was, and two leave it programmed. These
-//   restores have 8 and 12 transactions. The third stop programs the byte if it sends five: 5 * 48 + 2 * 52 = 344.
+//   restores have 8 and 12 transactions. The third stop programs the byte if it sends five or six bytes:
+//   5 * 48 + 2 * 52 = 344.
 // - On a slow chip the next restore also waits for the remaining polls that show BUSY. A poll that was cut is no longer
 //   one of them: 83 + 4 * 81 + 2 * 89 = 585.
 // - On a chip that loses its power a restore has 14 transactions if it erases. 10 restores for each fill follow a loss
@@ -243,7 +244,7 @@ fn each_cut_of_a_restore_that_programs_pages(rt: HostRuntime) {
 
 // The session is stopped three times, since each run on this chip takes long: in the status write that lifts the
 // protection, in the page program, and in the status write that restores the protection. An operation takes three
-// transactions and the polls that show BUSY. The sector is read before its program. No transaction has more than five
+// transactions and the polls that show BUSY. The sector is read before its program. No transaction sends more than five
 // bytes.
 const RESTORES_IN_THE_RANGE: Stops = Stops {
     kept: 172,
