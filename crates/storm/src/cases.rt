@@ -104,7 +104,8 @@ fn request_for(
     Ok((request, spans))
 }
 
-// Draws an image for a chip: the chip's bytes with changes. For one image in 25 the length is changed, too.
+// Draws an image for a chip: the chip's bytes with changes, sometimes of all bytes. For one image in 25 the length is
+// changed, too.
 fn image_for(alloc: Global, dice: &mut Dice, chip: &Chip) -> Result<Vec<u8>, Fault> {
     let mut image = chip.bytes.to_vec(alloc)?;
     contents::alter(dice, image.as_mut_slice());
@@ -174,8 +175,8 @@ fn spans_for(alloc: Global, dice: &mut Dice, chip: &Chip) -> Result<Vec<Span>, F
     Ok(spans)
 }
 
-// Draws a span of up to 300 bytes, one sector, 40,000 bytes, or half of the chip. About one span in 40 may end past the
-// chip's end.
+// Draws a span. Its greatest length is 300 bytes, one sector, 40,000 bytes, or half of the chip. About one span in 40
+// may end past the chip's end.
 fn span_for(dice: &mut Dice, size: u32) -> Span {
     let sector = contents::sector(dice, size / SECTOR_LEN);
     let offset = dice.pick(0, &[0, 0x800, 0xFFF, 0x100]);

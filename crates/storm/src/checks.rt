@@ -66,7 +66,7 @@ fn is_quiet(bus: &SimBus, chip: &Chip) -> bool {
 }
 
 /// Checks that a refused session returned this error, changed neither the bytes nor the non-volatile status bits, left
-/// its vault unsealed, and sent the expected transactions.
+/// the chip idle and its vault unsealed, set no write enable latch, and sent the expected transactions.
 pub fn check_refused(alloc: Global, case: &Case, refusal: Refusal, ran: &Ran) -> Result<(), Fault> {
     agree_all(&[
         (ran.answer == Err(refusal), "the refusal of a session"),

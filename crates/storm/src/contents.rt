@@ -50,7 +50,7 @@ pub fn sector_at(bytes: &[u8], number: u32) -> &[u8] {
         .unwrap_or(&[])
 }
 
-/// Fills a chip with FFh, with 00h or, if it is small, with random bytes, and then changes up to eight runs of sectors.
+/// Fills a chip with FFh or 00h, or one small chip in five with random bytes. Then changes up to eight runs of sectors.
 pub fn paint(dice: &mut Dice, bytes: &mut [u8]) {
     let base = dice.pick(Style::Erased, &[Style::Erased, Style::Cleared]);
     let small = bytes.len() <= 262_144;

@@ -17,8 +17,8 @@ pub enum Fault {
     Case,
     /// The result differs from that of the reference implementation. The text names the difference.
     Differs(&'static str),
-    /// The call, which the text names, sent a transaction that differs from that of the reference implementation. The
-    /// number of the first difference is counted from 1.
+    /// The call, which the text names, sent other, fewer or more transactions than the reference implementation. The
+    /// number is that of the first transaction that differs, counted from 1.
     Sends(&'static str, u64),
     /// A comparison did not detect a planted error. The text names the error.
     Untold(&'static str),

@@ -11,8 +11,8 @@ pub struct High {
     pub bit: u8,
 }
 
-/// A faulty bus over `bus`. If `high` is `Some`, it sets a bit in each byte of the replies to one opcode; otherwise it
-/// has no fault.
+/// A bus over `bus`. If `high` is `Some`, it sets a bit in each byte of the replies to one opcode; otherwise it adds no
+/// fault.
 #[derive(Drop)]
 pub struct HighBus<B> {
     bus: B,

@@ -12,8 +12,8 @@ use std::alloc::Global;
 // The length of what follows the records: an end mark of four bytes and a SHA-256.
 const END_LEN: usize = 36;
 
-/// Returns the journal after the sectors below `below` were scanned: the header, and a record for each touched sector
-/// in ascending order. The end mark and the digest are missing.
+/// Returns the journal after the sectors below `below` were scanned: the header, and a record for each touched one of
+/// these sectors, in ascending order. The end mark and the digest are missing.
 pub fn begun(alloc: Global, case: &Case, wanted: &Wanted, below: u32) -> Result<Vec<u8>, Fault> {
     let mut text = Vec::new(alloc);
     put_head(&mut text, &case.chip)?;
@@ -84,8 +84,8 @@ pub fn check_refused(
     )
 }
 
-/// Checks the vault of a session that stopped after `sent` transactions, before its seal. It must hold the header if
-/// the chip was identified, and the records of the touched sectors that were scanned.
+/// Checks the vault of a session that stopped after `sent` transactions, before its seal. If the chip was identified,
+/// it must hold the header and the records of the touched sectors that were scanned; otherwise nothing.
 pub fn check_stopped(
     alloc: Global,
     case: &Case,

@@ -15,8 +15,8 @@ pub struct Stop {
     pub after: u64,
     /// The number of bytes that are sent of the next transaction, all if it has fewer. With `None` no byte is sent.
     pub cut: Option<u32>,
-    /// The byte that each byte of a running program or erase becomes if the chip then loses its power. With `None` the
-    /// chip keeps its power.
+    /// The byte that each byte of a running program or erase becomes if the chip then loses its power. If it is even, a
+    /// running status write is undone. With `None` the chip keeps its power.
     pub fill: Option<u8>,
 }
 
@@ -157,8 +157,8 @@ impl Model {
         self.pace().bits() == 0b0000_0010
     }
 
-    // Writes SRP, QE, BP, TB, SEC and CMP as sent. An LB bit that is set stays set, and the reserved bit keeps its
-    // value.
+    // Writes SRP, QE, BP, TB, SEC and CMP as sent, if the chip is idle, its latch is set and its status isn't locked. An
+    // LB bit that is set stays set, and the reserved bit keeps its value.
     fn write_status(&mut self, one: u8, two: u8) {
         let before = guards::kept(self.chip.status);
         if !self.is_ready() || guards::is_locked(before) {

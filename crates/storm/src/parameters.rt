@@ -57,8 +57,8 @@ pub fn show(dice: &mut Dice, told: Told) -> Shown {
     shown
 }
 
-// Draws the second double word, which has the size in bits: the number of bits minus one, or with bit 31 set its binary
-// logarithm.
+// Draws the second double word, which has the size in bits: the number of bits minus one, or with bit 31 set the binary
+// logarithm of the number of bits.
 fn density(dice: &mut Dice, size: u32) -> [u8; 4] {
     let bits = size.saturating_mul(8);
     if dice.hits(1, 3) {
@@ -136,8 +136,8 @@ pub fn put(shown: &mut Shown, at: usize, piece: &[u8]) {
     }
 }
 
-/// Returns the size and erase types that the bytes describe, or the first of the eight faults. `size` is the chip's
-/// size, by which it reduces the table's address.
+/// Returns the size and erase types that the bytes describe, or the first of the eight faults. The chip takes the
+/// table's address modulo its size, `size`.
 pub fn read(shown: &Shown, size: u32) -> Result<Told, SfdpFault> {
     if shown[..4] != [0x53, 0x46, 0x44, 0x50] {
         return Err(SfdpFault::Signature);

@@ -204,7 +204,7 @@ fn first_difference(case: &Case) -> Option<Refusal> {
 }
 
 /// Compares the result of a successful call on a faulty bus with the chip that the replies described to the reference
-/// implementation.
+/// implementation. A probe and a verification have no result to compare.
 pub fn check_known(alloc: Global, known: &Case, told: &Told) -> Result<(), Fault> {
     match told {
         Told::Found | Told::Comparison(_) => Ok(()),
@@ -283,8 +283,8 @@ struct Copied {
     sent: Vec<u8>,
 }
 
-// Checks a readout into a vault that refuses one of its calls. The error must have the number of bytes that the vault
-// has, with those that it kept of the refused piece.
+// Checks a readout into a vault that refuses one of its calls. The error must be that of the readout without this
+// refusal, or have the number of bytes that the vault has, with those that it kept of the refused piece.
 fn check_refused_copy(alloc: Global, dice: &mut Dice, case: &Case) -> Result<(), Fault> {
     let nth = u64::from(dice.below(case.chip.sectors() / 16)).saturating_add(1);
     let kept = dice.pick(0, &[1, 4095, 65_535]);

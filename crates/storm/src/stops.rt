@@ -173,7 +173,8 @@ fn is_gentle(old: &[u8], new: &[u8], now: &[u8]) -> bool {
 }
 
 // Restores with up to four stops, and at last without a stop, until a restore succeeds. At each stop the chip loses its
-// power if it did at the session's stop. Returns the counts `cuts` with the stops of these restores added.
+// power if it did at the session's stop. Returns the counts `cuts` with these restores' stops inside a transaction
+// added.
 fn give_back(
     alloc: Global,
     dice: &mut Dice,

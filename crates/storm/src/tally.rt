@@ -31,8 +31,8 @@ pub struct Tally {
     pub cuts: Cuts,
 }
 
-/// Stops inside a transaction, in accepted sessions and in the restores from their journals. Such a stop sends some
-/// bytes of its transaction, none, or all.
+/// Stops inside a transaction, in accepted sessions and in the restores of the chips that they left. Such a stop sends
+/// a drawn number of bytes of its transaction, which may be 0 or all.
 #[derive(Clone, Copy)]
 pub struct Cuts {
     /// The number of these stops in sessions.

@@ -1,4 +1,4 @@
-//! The error that a call must return, if any. The rules are checked in their order.
+//! The error that a call must return, if any. Errors are checked in the order in which a call must check them.
 
 use crate::cases::Case;
 use crate::chips::Chip;
