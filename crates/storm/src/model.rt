@@ -157,8 +157,8 @@ impl Model {
         self.pace().bits() == 0b0000_0010
     }
 
-    // Writes SRP, QE, BP, TB, SEC and CMP as sent, if the chip is idle, its latch is set and its status isn't locked. An
-    // LB bit that is set stays set, and the reserved bit keeps its value.
+    // Writes SRP, QE, BP, TB, SEC and CMP as sent, if the chip is idle, its latch is set and its status isn't locked.
+    // An LB bit that is set stays set, and the reserved bit keeps its value.
     fn write_status(&mut self, one: u8, two: u8) {
         let before = guards::kept(self.chip.status);
         if !self.is_ready() || guards::is_locked(before) {
