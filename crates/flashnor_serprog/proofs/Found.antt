@@ -25,7 +25,7 @@ module _ (named : Option ChipName) (old new : BusState) where
   fails_first (Ok found) result is returned = rw returned tt
   fails_first (Err refusal) result is returned = rw returned (refusal, is, refl)
 
-  -- the fault of an erase whose buffer could not be made
+  -- a fault of making the buffer of a session is a fault of a change with a journal in a file
   pub fill_fails : (target : Wanted) (file : Bor Text) (view : View) (fault : Fault) → FailsToFill named target old new fault
       → FailsToChange named target (uses.Journal file) view old new fault
   fill_fails wanted.Erase file view fault (inl found) = inl found

@@ -100,7 +100,7 @@ task_sends named (task.Restore journal) ranges bytes before after old new outcom
   sends = sends_after _ _ old does.found new (named_reads named old does.found does.first) does.ran.always.sends;
 })
 
--- before a change's session no modifying command is sent
+-- a change that fails before its session sends no modifying command
 fails_change : (named : Option ChipName) (target : Wanted) (kept : JournalUse) (view : View) (old new : BusState)
     (fault : Fault) → FailsToChange named target kept view old new fault → KeepsSent old new
 fails_change named target (uses.Rehearse stops) view old new fault fails = unsent old new fails.0

@@ -72,8 +72,8 @@ abbrev pub FailsToFind : Option ChipName → (old new : BusState) → Fault → 
 FailsToFind named old new fault =
     (refusal : Refusal) × HasIdentified named old new (Err refusal) × (fault ≡ end.Refused refusal)
 
--- after the identification, and before anything else was sent, the file of this name could not be created or emptied,
--- or memory ran out
+-- after the identification, and before anything else was sent, the file of this name could not be created or truncated,
+-- existed but must not, or was locked by another process; or memory ran out
 abbrev pub FailsToMake : Option ChipName → Text → View → (old new : BusState) → Fault → Type 0
 FailsToMake named file view old new fault =
     (chip : Found) × HasIdentified named old new (Ok chip) × IsMaking view file fault

@@ -17,7 +17,8 @@ use Rattle.flashnor_serprog.specs.Sources.{AreSources, HaveOneRole}
 use Rattle.flashnor_serprog.specs.declared.trouble.Trouble.{Trouble}
 use Rattle.flashnor_serprog.specs.declared.trouble.Trouble.TheVariants as trouble
 
--- Before the programmer is used: the files of the job have one role each, and the job's ranges and bytes were read.
+-- Before the programmer is used: neither its device nor a file that the job writes has a second role (`HaveOneRole`),
+-- and the job's ranges and bytes were read.
 pub record IsPrepared (view : View) (operation : Operation) (ranges : Option (List Span)) (bytes : List ℕ) : Type 0 where
   pub device : Bor Text
   pub roles : HaveOneRole view.nature device operation.task

@@ -25,8 +25,9 @@ use std::alloc::Global;
 /// Performs the job that the arguments ask for, with the contents of the files that it needs. An error is a fault that
 /// occurred before the job's call to the engine.
 ///
-/// The clauses hold on every bus: the promises of each call (`DoesTask`), the faults before the call with the commands
-/// sent until then (`FailsBefore`), and that only the file that the task creates is changed.
+/// The clauses hold on every bus: the promises of each call (`DoesTask`), and the faults before the call with the
+/// commands sent until then (`FailsBefore`). If the files obey the contract of `Store`, only the file that the task
+/// creates or truncates is changed.
 ///
 /// A read identifies the chip before it empties its file, so a file is kept if there is no chip. An erase identifies
 /// the chip to know its size, before its journal is created.

@@ -1,4 +1,4 @@
-//! `flashnor_serprog` does the jobs of `flashnor` on a chip at a serial programmer.
+//! `flashnor_serprog` does the jobs of `flashnor`, except `-L` and rehearsals, on a chip at a serial programmer.
 //!
 //! It identifies, reads, verifies, writes, erases and write-protects a SPI NOR chip over the serprog protocol. Before a
 //! change it saves a journal in a new file, from which `--restore` restores the original chip. It uses the engine of

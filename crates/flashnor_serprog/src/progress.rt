@@ -6,8 +6,8 @@ use std::fs;
 use std::os::unix::fs::FileTypeExt;
 
 // The steps of a job. A job may omit a step, and the order varies: `--unlock` sends a status write before the erases,
-// and some sectors are read again before they are programmed. After the first modifying command each read counts as
-// `ReadBack`.
+// and some sectors are read again before they are programmed. After the first modifying command each read of a sector
+// counts as `ReadBack`.
 #[derive(Clone, Copy)]
 enum Step {
     Identify,
@@ -18,7 +18,7 @@ enum Step {
     ReadBack,
 }
 
-// The number of transactions sent so far for each step.
+// The number of transactions sent so far for each step, if the progress is printed.
 #[derive(Clone, Copy, Default)]
 struct Counts {
     identify: u64,

@@ -1,4 +1,4 @@
-//! Checks that each file has one role in a run.
+//! Checks that neither the device nor a file that a job writes has a second role in a run.
 ghost use Rattle.std.specs.Prelude.{IfErr, OnOk};
 ghost use Rattle.flashnor_serprog.specs.Sources.{FailsRoles, HaveOneRole};
 

@@ -24,7 +24,7 @@ pub struct Sources {
 }
 
 impl Sources {
-    /// Returns a copy of the image that a task writes or compares, or `None` if it has no image or memory is short.
+    /// Returns a copy of the image that a task writes or compares, or `None` if it has no image or memory runs out.
     pub fn image_of(&self, task: &Task<'_>) -> Option<Vec<u8>> {
         match task {
             Task::Verify { .. } => self.bytes.clone().ok(),

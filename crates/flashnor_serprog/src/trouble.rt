@@ -91,7 +91,8 @@ pub enum ProgrammerFault {
     NoDevice,
     /// 3: another process has locked the device.
     InUse,
-    /// 4 to 11: the programmer can't be identified, or lacks a command, a bus type or a length that is needed.
+    /// 4 to 11: the port fails, or the programmer replies wrongly, refuses a command, speaks another version, or lacks
+    /// a command, SPI, or a length that is needed.
     Handshake(HandshakeFault<PortFault>),
 }
 
