@@ -21,7 +21,7 @@ fault-returned : (words : List Text) (fault : UsageFault) → refusals_of words 
 fault-returned words (why.Words error) taken h = absurd (not-words _ _ _ _ _ _ _ _ error h)
 fault-returned words _ taken h = search
 
--- the job or fault of the options that the arguments give is that of the arguments
+-- if `clap` accepts the arguments, the job or fault of the options that they give is that of the arguments
 pub asked-by_words : (words : List Text) (given : Texts) (r : Result Job UsageFault) → refusals_of words ≡ []
     → given ≡ given_by words
     → MatchResult r (λ job. (first_fault (usage_faults given) ≡ None) × IsAsked given job)

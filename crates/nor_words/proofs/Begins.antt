@@ -1,4 +1,5 @@
--- The result of `strip_prefix`, in terms of `starts_with`; and which texts describe a programmer.
+-- The result of `strip_prefix`, in terms of `starts_with`; which texts describe no programmer; and the result of
+-- `option_and_then`.
 use Rattle.std.proofs.Common.{◌≡◌, ◌∙◌, true, false, List, Option, Some, None, ℕ, length, drop, ap, codes, option_map}
 use Rattle.std.proofs.Common.{arith, refl, sym, nat_eq}
 use Rattle.std.specs.Prelude.{option_and_then}
@@ -16,7 +17,7 @@ pub stripped : (p s rest : List ℕ) → StripsPrefix (FindsTextPrefix p) s rest
 stripped p s rest h =
     (sym (starts_text true p s (h.0, h.1, rw h.1.0 h.1.2)), h.2 ∙ ap (λ n. drop n s) h.1.0)
 
--- ---- which texts describe a programmer
+-- ---- which texts describe no programmer
 
 pub is_programmer-unsound : (text : Text) → are_settings (settings_of text) ≡ false → is_programmer_text text ≡ false
 is_programmer-unsound text unsound = grind arith

@@ -19,7 +19,7 @@ use Rattle.nor_words.specs.declared.settings.Settings.{Settings}
 
 -- Holds for one key, while settings are taken in one after another. The key's value in all settings is the value in its
 -- field; if the field is empty, it is the key's value in the settings that remain. If the field has a value, all
--- settings have the key once more than those that remain.
+-- settings have the key once more than those that remain; otherwise equally often.
 pub record Open {T : Type 0} (all left : List Text) (key : Text) (read : Text → Option T)
     (place : Option T) : Type 0 where
   pub value : option_and_then read (value_in all key) ≡ option_or place (option_and_then read (value_in left key))
@@ -98,7 +98,8 @@ either true true c first more is = first refl refl
 either true false c first more is = more is
 either false b c first more is = more is
 
--- if a statement holds for a setting with each key, it holds for a setting with any known key
+-- if a statement holds for a setting with each key and a correct value, it holds for any setting with a known key and
+-- a correct value
 any-key : (setting : Text) (P : Type 0) → EachKey (λ T key is_value read place. has_key key setting ≡ true
     → is_value (value_of setting) ≡ true → P) → is_setting setting ≡ true → P
 any-key setting P each =

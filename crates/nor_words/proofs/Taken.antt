@@ -8,7 +8,7 @@ use Rattle.nor_words.specs.Text.{Text}
 use Rattle.nor_words.specs.Options.{options}
 use Rattle.nor_words.specs.Words.{refusals_of}
 
--- no option requires or excludes another
+-- no option requires or excludes another, and all options have a form for which `clap` defines the matches
 options_are_free : is_simple_and_free options ≡ true
 unfolding clap_on_literals
 options_are_free = refl

@@ -142,7 +142,7 @@ impl<'a> Given<'a> {
         }
     }
 
-    // Returns the first of the faults 2 to 9 that the options have.
+    // Returns the first of the faults 2 to 9 that the options have, if any.
     fn fault(&self, meaning: &Meaning<'a>) -> Option<UsageFault>
         requires { IsMeaning (texts_of self.now) meaning.now }
         ensures { result ≡ first_fault (usage_faults (texts_of self.now)) }
@@ -271,8 +271,8 @@ impl<'a> Given<'a> {
         }
     }
 
-    // Returns the operation on the chip. Requires options without a fault, and the parsed values of `--wp-range` and
-    // `--rehearse`.
+    // Returns the operation on the chip. Requires options without `-L` and without a fault, and the parsed values of
+    // `--wp-range` and `--rehearse`.
     fn task(&self, range: Option<(u32, u32)>, stops: Option<ArrayVec<u64, MOST_STOPS>>) -> Task<'a>
         requires { ((texts_of self.now).list ≡ false) × (first_fault (usage_faults (texts_of self.now)) ≡ None)
             × (option_and_then range_of (texts_of self.now).wp_range ≡ range)

@@ -98,7 +98,7 @@ pub struct Change<'a> {
 pub enum Wanted<'a> {
     /// `-w FILE`: the image in the named file.
     Write { image: &'a str },
-    /// `-E`: an erased chip.
+    /// `-E`: FFh for each included byte.
     Erase,
     /// `--wp-range S,L`: protection of exactly the `len` bytes that begin at `start`.
     Range { start: u32, len: u32 },

@@ -1,4 +1,4 @@
-//! `request_of`, which turns arguments into a job, and the faults that arguments may have.
+//! `request_of` and `operation_of`, which turn arguments into jobs, and the faults that arguments may have.
 ghost use Rattle.std.specs.Prelude.{◌≡◌, MatchResult, map, string_bytes};
 ghost use Rattle.nor_words.specs.Words.{IsJob, IsFault};
 
