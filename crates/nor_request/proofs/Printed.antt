@@ -1,4 +1,4 @@
--- Formatting of numbers with leading zeros, as `{:06x}` prints them.
+-- Formatting of hexadecimal numbers with leading zeros, as `{:06x}` prints them.
 use Rattle.std.proofs.Common.{◌≡◌, ℕ, ◌-◌, ◌^◌, false, [], length, append-nil, arith}
 use Rattle.std.specs.Fmt.{char_count, digits, format_spec, padded_integral}
 use Rattle.nor_request.specs.Texts.{hex_digits}

@@ -1,4 +1,4 @@
--- The meaning of errors that occur before anything is modified.
+-- The meaning of errors from the identification of a chip.
 use Rattle.std.specs.Prelude.{◌≡◌, ℕ, true, Option}
 use Rattle.nor_model.specs.Bus.{BusState}
 use Rattle.nor_driver.specs.OnlyReads.{RanOutIfHonest}
@@ -8,9 +8,10 @@ use Rattle.nor_probe.specs.Found.{ProbeErrors}
 use Rattle.nor_request.specs.declared.refusal.Refusal.{Refusal}
 use Rattle.nor_request.specs.declared.refusal.Refusal.TheVariants.{NoChip, UnknownChip, OtherName, Stopped, Timeout}
 
--- The meaning of an error from a probe or the reads that follow it, which have at most `most` transactions together.
--- `NoChip`, `UnknownChip` and `OtherName` mean the same as the probe's faults. On a well-behaved bus (`honest`) a stop
--- occurs only with fewer than `most` transactions left, and a timeout doesn't occur. The address of a timeout is 0.
+-- The meaning of an error from a probe or the reads that follow it, which have at most `most` transactions together. On
+-- a well-behaved bus (`honest`) `NoChip`, `UnknownChip` and `OtherName` mean the same as the probe's faults, a stop
+-- occurs only with fewer than `most` transactions left, and a timeout doesn't occur. On any bus the address of a
+-- timeout is 0, and no further error occurs.
 abbrev pub IdentificationErrors : (most : ℕ) → Option ChipName → (old new : BusState) → Refusal → Type 0
 IdentificationErrors most named old new NoChip = old.honest ≡ true → ProbeErrors named old new Probes.NoChip
 IdentificationErrors most named old new (UnknownChip fault) = old.honest ≡ true → ProbeErrors named old new (Probes.UnknownChip fault)

@@ -38,7 +38,7 @@ of_probe Probes.OtherName = OtherName
 of_probe Probes.Stopped = Stopped
 of_probe Probes.Timeout = Timeout 0
 
--- the error of a call for a wait that failed
+-- the error of a call for an operation or a wait that failed
 abbrev pub of_operation : OperationError → Refusal
 of_operation OperationFails.Stopped = Stopped
 of_operation (OperationFails.Timeout address) = Timeout address

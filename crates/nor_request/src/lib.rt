@@ -8,7 +8,7 @@
 //! ```rust
 //! use nor_request::{Refusal, Request};
 //!
-//! // The whole chip, of any name, becomes FFh, and is read back then.
+//! // The whole chip, of any name, becomes FFh. The sectors that change are read back then.
 //! let erase = Request::erase().verified();
 //! assert!(rt; erase.is_data());
 //! let refusal = Refusal::Protected { address: 0x1000 };

@@ -32,8 +32,8 @@ pub enum Refusal {
     RangeNotOffered,
     /// 9: the status registers must be written, and they are locked (SRP0 or SRP1 is set).
     StatusLocked,
-    /// 10: a sector that would change is protected, and the request doesn't lift protection. The address is that of the
-    /// lowest such sector.
+    /// 10: a sector that would change has a protected address, and the request doesn't lift protection. The address is
+    /// that of the lowest such sector.
     Protected { address: u32 },
     /// 11: the vault refused a piece of the journal, or its seal.
     Vault,

@@ -49,7 +49,8 @@ impl Request {
         Request::plain(What::Erase)
     }
 
-    /// Returns a request to protect exactly the `len` addresses from `start` on. It accepts a chip of any name.
+    /// Returns a request to protect exactly the `len` addresses from `start` on. It accepts a chip of any name, and
+    /// reads no sector back.
     pub const fn protect(start: u32, len: u32) -> Request
         ensures { result ≡ plain (Whats.WpRange start len) }
     {
