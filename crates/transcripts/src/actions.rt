@@ -1,4 +1,4 @@
-//! The actions of a case: transactions, and calls of nor_driver.
+//! The actions of a case: transactions, changes of the bus's allowance, and calls of nor_driver.
 
 use crate::agree::{agree, agree_bytes};
 use crate::calls;
@@ -10,8 +10,8 @@ use nor_chip::{Bus, Meter};
 use std::alloc::Global;
 
 /// Performs the action on `bus`, and compares its result with the expected one. Returns `Unread` if a value in the line
-/// can't be parsed, `Differs` if the result differs from the expected one, and `Stopped` if the bus stops a transaction
-/// that it must carry out.
+/// can't be parsed, `Differs` if the result differs from the expected one, `Stopped` if the bus stops a transaction
+/// that it must carry out, and `Memory` if memory runs out.
 pub fn take(alloc: Global, bus: &mut Way<'_>, action: Action<'_>) -> Result<(), Fault> {
     match action {
         Action::Carries(exchange) => carry(alloc, bus, exchange),

@@ -1,7 +1,7 @@
-//! `transcripts` reads cases from standard input and plays each on a simulated chip. It compares the replies, and the
-//! state that the chip has at the end, with those that the case states. It prints a line for each case that fails, and
-//! how many passed and failed. If a line can't be parsed, it plays no case and prints only that line's number and
-//! fault.
+//! `transcripts` reads cases from standard input and plays each on a simulated chip. It compares the replies, the
+//! trace, and the state that the chip has at the end, with those that the case states. It prints a line for each case
+//! that fails, and how many passed and failed. If a line can't be parsed, it plays no case and prints only that line's
+//! number and fault.
 //!
 //! - `main.rt`: reads the cases, plays them and prints the results
 //! - `case.rt`: parses the text into cases, and plays one case
