@@ -13,8 +13,8 @@ pub any_below-decided : (n : ℕ) (verdict : Bool) (test : ℕ → Bool) (P Q : 
 any_below-decided n true test P Q passes fails some = sym (any_below-some n some.0 test some.1 (passes some.0 some.2))
 any_below-decided n false test P Q passes fails none = sym (any_below-all n test (λ k below. fails k (none k below)))
 
--- if k is below n, `p` rejects k, and `q` accepts k and the numbers that `p` accepts, then the count of `q` is greater
--- by 1 than that of `p`
+-- if k is below n, `p` rejects k, and `q` accepts exactly k and the numbers that `p` accepts, then the count of `q`
+-- below n is greater by 1 than that of `p`
 pub count_below-insert : (n k : ℕ) (p q : ℕ → Bool) → k < n → p k ≡ false → ((s : ℕ) → q s ≡ ((s == k) || p s)) → count_below n q ≡ count_below n p + 1
 unfolding count_below
 count_below-insert zero k p q below fails inserted = absurd (omega arith)
