@@ -33,7 +33,7 @@ use played::{PlayedPort, PlayedWires};
 use std::alloc::Global;
 use std::{env, fs};
 
-/// The example's bus over a port. It pauses between polls that show BUSY, and reads data (03h) twice.
+/// The example's bus over a port. If many polls in a row show BUSY, it pauses between them. It reads data (03h) twice.
 type PortBus<'a, P> = Paced<ReadTwice<SerprogBus<P>>, &'a HostRuntime>;
 
 fn main(rt: HostRuntime) -> Result<(), Fault> {
@@ -70,7 +70,8 @@ fn open<P: Port + Drop>(
     Ok(Paced::new(bus, rt))
 }
 
-// Runs the example without hardware: reads, changes and restores a simulated chip, and then interrupts a change.
+// Runs the example without hardware: reads, changes and restores a simulated chip, and then interrupts a change of
+// another one.
 fn play(rt: &HostRuntime) -> Result<(), Fault> {
     let mut bus = open(rt, PlayedPort::new(erased_chip(rt.alloc())?))?;
     let found = probe(&mut bus, None)?;
