@@ -38,7 +38,7 @@ const PROGRAMS: Measurement = Measurement {
 
 /// Prints the time of the simulated chip's reads, erases and programs, each as a ratio to a reference that copies 16
 /// MiB sector by sector. The reference for reads copies each sector of memory to a buffer. The reference for erases and
-/// programs copies the buffer to each sector. Returns a checksum of all results.
+/// programs copies a buffer to each sector. Returns a checksum of all results.
 pub fn measure<R: Clock + Print + AllocGlobal>(rt: &R) -> Result<u64, Fault> {
     let mut bus = open_bus(rt.alloc())?;
     let mut memory = erased_bytes(rt.alloc())?;

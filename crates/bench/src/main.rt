@@ -1,5 +1,5 @@
-//! Measures parts of this project. Each line of output has the ratio of a piece of work's time to that of a simpler
-//! reference, measured in the same run, and the greatest ratio that is acceptable.
+//! Measures parts of this project. Each measurement prints a line with the ratio of a piece of work's time to that of a
+//! simpler reference, measured in the same run, and the greatest ratio that is acceptable.
 //!
 //! - `main.rt`: runs the measurement that the argument selects
 //! - `words.rt`: the arguments
