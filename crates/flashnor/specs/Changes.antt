@@ -57,9 +57,10 @@ pub record IsSafe (old opened : BusState) (vault : VaultState) : Type 0 where
   pub back : vault.sealed ≡ true → vault.telling ≡ true
       → (journal : Journal) → IsContent journal → vault.bytes ≡ text journal → CanRestore journal old.chip opened
 
--- Holds for a session, with its journal in a vault, at every exit. Until the vault is sealed the chip is as before;
--- after that the session can be undone. `over`: both hold for each chip that may be left if writing the new chip to the
--- old chip's files is interrupted.
+-- Holds for a session, with its journal in a vault, at every exit. Until the vault is sealed the chip is as before.
+-- After that the chip changed only as `CanBeUndone` says, and a faithful vault holds the journal that can undo the
+-- session. `over`: each chip that may be left if writing the new chip to the old chip's files is interrupted is safe
+-- (`IsSafe`).
 pub record HasKeptChange (request : Request) (image : List ℕ) (old new : BusState) (vault vault' : VaultState)
     (outcome : Result Answer Refusal) : Type 0 where
   pub returned : MatchResult outcome (ReportsChange request image old new) (FailsSession request image old new vault vault')
@@ -75,11 +76,11 @@ pub record IsRehearsed (request : Request) (image stops : List ℕ) (chip : Chip
     (vault : VaultState) (rehearsal : Rehearsal) : Type 0 where
   pub counts : IsRehearsal (length stops) vault rehearsal
   -- The session ended if it was allowed the bound of all sessions on a chip of this size; and only if its request is
-  -- accepted, and it was allowed at least the fewest transactions that it needs.
+  -- accepted, and it was allowed at least a lower bound on its transactions (`CanEnd`).
   pub ended : most_of (chip.config.size / 4096) ≤ first_allowance stops → rehearsal.ended ≡ true
   pub enough : rehearsal.ended ≡ true → CanEnd request image (first_allowance stops) chip
   -- The journal was sealed if the identification and the scan were allowed their bound; and only if the request is
-  -- accepted and they were allowed the fewest transactions that they need. A sealed journal saves the touched sectors.
+  -- accepted, and the shortest identification and the scan were allowed. A sealed journal saves the touched sectors.
   pub fits : SealFits request (first_allowance stops) chip rehearsal.sealed
   pub accepted : rehearsal.sealed ≡ true → IsAccepted request image chip
   pub saves : rehearsal.sealed ≡ true
@@ -117,7 +118,7 @@ HasDone request image (uses.Rehearse stops) old new vault vault' outcome =
     HasRehearsed request image stops.items old new vault vault' outcome
 
 -- Describes the result of a change or a rehearsal, with its journal in a file or in memory. A journal in a file is a
--- new file: if the files obey their contract, the file was missing before the change.
+-- new file: if the file is known (`IsKnownFile`), it was missing before the change.
 pub record HasMadeChange (request : Request) (image : List ℕ) (kept : JournalUse) (old new : BusState)
     (before : View) (after : FilesState) (outcome : Result Answer Refusal) : Type 0 where
   pub missing : IsMissing (journal_of kept) before

@@ -89,8 +89,8 @@ pub record LeavesOriginalRestorable (programmer : Programmer) (file : Text) (old
   pub same : sealed ≡ false → LeavesOnly first (λ opened. IsSame first.bus.chip opened.chip) new
   pub back : sealed ≡ true → IsRestorableFrom file first new
 
--- Holds if nothing was changed, and nothing was created except the trace and, if its file was missing, an empty file
--- for the journal. If the trace has the name of one of the chip's files, that file was not created either.
+-- Holds if nothing was changed or created except the trace and, if its file was missing, an empty file for the journal.
+-- The chip's files were not changed or created, even if the trace has the name of one of them.
 pub record LeavesAll (programmer : Programmer) (file : Text) (old new : FilesState) : Type 0 where
   pub image : LeavesNoMoreOf programmer.image old new
   pub status : LeavesNoMoreOf programmer.status old new
@@ -104,8 +104,8 @@ abbrev pub KeepsOriginalFiles : Programmer → (file : Text) → (old new : File
 KeepsOriginalFiles programmer file old new =
     LeavesAll programmer file old new ⊎ LeavesOriginalRestorable programmer file old new
 
--- Holds if nothing was changed, and nothing was created except the trace. If the trace has the name of another file of
--- the run, that file was not created either.
+-- Holds if nothing was changed or created except the trace. The chip's files and the journal were not changed or
+-- created, even if the trace has the name of one of them.
 pub record LeavesSources (programmer : Programmer) (file : Text) (old new : FilesState) : Type 0 where
   pub image : LeavesNoMoreOf programmer.image old new
   pub status : LeavesNoMoreOf programmer.status old new

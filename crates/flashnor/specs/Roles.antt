@@ -1,4 +1,4 @@
--- The roles of a job's files: no file has two of them.
+-- The roles of a job's files, and which roles need different files.
 use Rattle.std.specs.Prelude.{◌≡◌, ◌⊎◌, ◌&&◌, ◌||◌, ℕ, Bool, true, false, Option, nat_lt}
 use Rattle.std.specs.Borrow.{Bor}
 use Rattle.nor_words.specs.Text.{Text}

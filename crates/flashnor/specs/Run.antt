@@ -114,8 +114,8 @@ DoesJob view after programmer named (task.Change change) old new outcome =
 DoesJob view after programmer named (task.Restore journal) old new outcome =
     DoesRestore view named journal.now old new outcome
 
--- Holds if the names are those of the chip's files that could not be written. No name is given if the task does not
--- change the chip, since its files are not written then.
+-- Holds if each given name is that of a file of the chip that could not be written. No name is given if the task does
+-- not write the chip back.
 abbrev pub AreReported : Bool → Programmer → Unwritten → View → Type 0
 AreReported true programmer unwritten view =
     IsReportedOf programmer.image unwritten.image view × IsReportedOf programmer.status unwritten.status view
@@ -133,9 +133,10 @@ abbrev pub DoesTraced : (files after : FilesState) → ChipJob → (old new : Bu
 DoesTraced files after job old new outcome = (amid : View) × IsViewBut job.programmer.trace files.view amid
     × DoesJob amid after job.programmer job.named job.task old new outcome
 
--- Holds if the call was made, and each file of the job has one role. The bus was started as the programmer says, to the
--- chip that its files hold. `left`: if the files were at rest and the task changes the chip, the chip was written back.
--- `traced`: the only trace that may have lost a line is the programmer's.
+-- Holds if the call was made, and the roles that need different files have them. The bus was started as the programmer
+-- says, to the chip that its files hold. `left`: if the files were at rest and the task writes the chip back, each of
+-- its files was written or is named in `unwritten`. `traced`: the only trace that may have lost a line is the
+-- programmer's.
 pub record IsCalled (files after : FilesState) (job : ChipJob) (unwritten : Unwritten)
     (outcome : Result Answer Refusal) : Type 0 where
   pub roles : FilesHaveOneRole files.view.nature job

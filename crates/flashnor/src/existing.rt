@@ -33,9 +33,9 @@ pub fn existing_journal<'a, R: Store>(rt: &R, task: &Task<'a>) -> Option<&'a str
 
 /// Returns the first fault of a session whose journal exists.
 ///
-/// Everything that a session reads before it creates its journal is read first, and the first fault of these reads is
-/// returned. If there is none, the fault is file fault 4. The run creates or truncates only the trace, if the trace's
-/// name is apart from those of the job's other files.
+/// The role of the trace is checked first. Then everything that a session reads before it creates its journal is read,
+/// and the trace is created or truncated. The first fault of these steps is returned, or file fault 4 if there is none.
+/// The run creates or truncates only the trace, if the trace's name is apart from those of the job's other files.
 pub fn fault_before<'a, R: Store>(rt: &mut R, job: &ChipJob<'a>, journal: &'a str) -> Fault<'a>
     requires makes { journal_by job.now.task ≡ Some journal }
     requires there { Happens (R.state rt.old).view (There journal.now) }

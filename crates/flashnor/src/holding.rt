@@ -26,8 +26,8 @@ pub struct Held {
     pub status_there: bool,
 }
 
-/// Locks the chip's files against other runs and reads them. FFh stands for a missing image, and clear status bytes for
-/// a missing status file.
+/// Locks the chip's files against other runs and reads them. FFh stands for an image that is missing or not named, and
+/// clear status bytes for a status file that is missing or not named.
 ///
 /// If the files obey the contract of `Store` and none is open for a vault or a log (`AreAtRest`), the contents that
 /// were read are durable: a host crash leaves them.
@@ -113,7 +113,7 @@ fn read_held<'a, R: Store>(rt: &mut R, name: &'a str, len: u32) -> Result<Vec<u8
     }
 }
 
-/// The names of the files that could not be written after a call.
+/// The names of the chip's files that could not be written after a call, and of the trace if it lost a line.
 #[derive(Clone, Copy)]
 pub struct Unwritten<'a> {
     pub image: Option<&'a str>,

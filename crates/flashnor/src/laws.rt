@@ -1,4 +1,4 @@
-//! Laws about runs that follow one another, each of which a kill or a host crash may interrupt anywhere.
+//! A law about runs that follow one another, each of which a kill or a host crash may interrupt anywhere.
 ghost use Rattle.std.specs.Prelude.{◌≡◌, Ok, Result};
 ghost use Rattle.nor_words.specs.Text.{Text};
 ghost use Rattle.nor_words.specs.declared.job.ChipJob.{ChipJob};
@@ -19,8 +19,8 @@ use nor_files::Store;
 /// writes all files leaves the original chip, even if the host then crashes. Between two runs a file of the chip that
 /// was missing before the change may be moved aside.
 ///
-/// The contract of `run_over` supplies the premise: on files at rest, an interrupted change leaves files from which the
-/// journal restores the original chip, or files that open to the original chip.
+/// The contract of `run_over` supplies the premise: on files at rest, a change leaves at every exit files from which
+/// the journal can restore the original chip, or files that open to the original chip.
 pub fn runs_restore_original<R: Store>()
     ensures leads { (programmer : Programmer) (file : Text) (start old mid new : R)
         (first : Opened programmer (R.state start)) (on_chip : ChipJob)

@@ -6,7 +6,8 @@
 //!
 //! - `run.rt`: a run of the program, from its arguments to its exit status
 //! - `existing.rt`: ends a run if the file for its new journal already exists
-//! - `roles.rt`: checks that no file of a job has two roles, and that none that is written is a standard stream
+//! - `roles.rt`: checks that no file that a job writes has a second role, or is a standard stream (only the image to
+//!   write may be the chip's own image)
 //! - `holding.rt`: opens, locks, reads and syncs the chip's files if the job writes them, and writes them back
 //! - `chips.rt`: reads the chip's files, and makes the simulated bus
 //! - `readings.rt`: the jobs that leave a chip as it is

@@ -1,4 +1,4 @@
-//! Checks that each file has one role in a run.
+//! Checks that the roles of a run which need different files have them.
 ghost use Rattle.std.specs.Prelude.{◌≡◌, true, IfErr, OnOk};
 ghost use Rattle.flashnor.specs.Roles.{FailsFileRoles, FilesHaveOneRole, HasOwnTrace, file_with_role, is_written};
 ghost use Rattle.flashnor.specs.Roles.{must_differ};
@@ -21,7 +21,8 @@ enum Role {
     Journal,
 }
 
-/// Checks that each file of a job has one role, and that no file that is written is one that the program prints to.
+/// Checks that roles of a job which need different files have them, and that no file that is written is one that the
+/// program prints to.
 ///
 /// Two roles may share a file only if both files are only read, or if the two are the chip's image and the image to
 /// write. The journal of a restore counts as written. The order of the checks is fixed: first pairs of files, then

@@ -33,7 +33,7 @@ use std::io::Write;
 use std::rt::Files;
 
 /// Performs the job given by the program's arguments, prints results to `output` and faults to `errors`, and returns
-/// the exit status: 0, or 1 after any fault.
+/// the exit status: 0, or 1 after any fault or if not all results could be printed.
 ///
 /// The first of the arguments is the program's name, which is skipped. If the system could not provide the arguments,
 /// `given` is an error, which is printed as a fault too.
@@ -117,7 +117,7 @@ pub fn run_over<R: Store, O: Write, E: Write>(
     print_end(output, errors, answer, unwritten)
 }
 
-// The result of a run's work, and the files that could not be written after its call.
+// The result of a run's work, and the names of the files that could not be written.
 #[derive(Drop)]
 struct Work<'a> {
     answer: Result<Answer, Fault<'a>>,
