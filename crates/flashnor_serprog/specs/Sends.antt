@@ -22,30 +22,31 @@ changes _ = false
 abbrev pub KeepsSent : (old new : BusState) → Type 0
 KeepsSent old new = new.sent ≡ old.sent
 
--- The file durably has one journal, which a host crash does not lose. Erases and programs were sent only for sectors
--- that the journal saves, or that lie past the end of a chip that it saves whole. Each status write has bits that
--- `WritesOnly` allows for this journal and request.
+-- The file durably has one journal, which a host crash does not lose. What was sent fits this journal and request
+-- (`SendsSaved`). Each sector that was targeted, but not before, is saved, or lies past the end of a chip that the
+-- journal saves whole. Each status write of bytes that were not written before is one that `WritesOnly` allows.
 pub record SendsJournalled (what : What) (file : Text) (old new : BusState) (after : FilesState) : Type 0 where
   pub bytes : List ℕ
   pub journal : IsJournal bytes
   pub settled : IsDurable file (Some bytes) after
   pub sends : SendsSaved (IsWrittenCode what journal.content) 1 journal.content old new
 
--- a change sends no modifying command until its journal is durable, if the files obey the contract of `Store`
+-- A change sent no modifying command; or, if the files obey the contract of `Store`, its journal is durable, and all
+-- that it sent fits that journal. A rehearsal, which this program doesn't perform, sends no modifying command.
 abbrev pub SendsChange : What → JournalUse → (old new : BusState) → FilesState → Type 0
 SendsChange what (uses.Journal file) old new after =
     KeepsSent old new ⊎ (is_lawful after.view ≡ true → SendsJournalled what file.now old new after)
 SendsChange what (uses.Rehearse stops) old new after = KeepsSent old new
 
--- The bytes are a journal. Erases and programs were sent only for sectors that the journal saves, or that lie past the
--- end of a chip that it saves whole. Each status write has the status bits that the journal saves, or the same bits
--- with all protection bits clear.
+-- The bytes are a journal, and what was sent fits it (`SendsSaved`). Each sector that was targeted, but not before, is
+-- saved, or lies past the end of a chip that the journal saves whole. Each status write of bytes that were not written
+-- before has the status bits that the journal saves, or the same bits with all protection bits clear.
 pub record SendsRestore (bytes : List ℕ) (old new : BusState) : Type 0 where
   pub journal : IsJournal bytes
   pub sends : SendsSaved (IsSavedCode journal.content) 1 journal.content old new
 
--- Holds if a job sent only what it may: a change or a restore as its journal allows, any other job no modifying
--- command.
+-- Holds if a job sent only what it may: a change or a restore what its journal allows, if it sent any modifying command;
+-- any other job no modifying command.
 abbrev pub SendsOnly : Task → (bytes : List ℕ) → (old new : BusState) → FilesState → Type 0
 SendsOnly (task.Change change) bytes old new after =
     SendsChange (what_of change.wanted) change.journal_use old new after
