@@ -45,8 +45,8 @@ pub record SendsRestore (bytes : List ℕ) (old new : BusState) : Type 0 where
   pub journal : IsJournal bytes
   pub sends : SendsSaved (IsSavedCode journal.content) 1 journal.content old new
 
--- Holds if a job sent only what it may: a change or a restore what its journal allows, if it sent any modifying command;
--- any other job no modifying command.
+-- Holds if a job sent only what it may. A change or a restore sent no modifying command, or only what its journal
+-- allows. Any other job sent no modifying command.
 abbrev pub SendsOnly : Task → (bytes : List ℕ) → (old new : BusState) → FilesState → Type 0
 SendsOnly (task.Change change) bytes old new after =
     SendsChange (what_of change.wanted) change.journal_use old new after
