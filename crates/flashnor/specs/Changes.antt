@@ -59,8 +59,8 @@ pub record IsSafe (old opened : BusState) (vault : VaultState) : Type 0 where
 
 -- Holds for a session, with its journal in a vault, at every exit. Until the vault is sealed the chip is as before.
 -- After that the chip changed only as `CanBeUndone` says, and a faithful vault holds the journal that can undo the
--- session. `over`: each chip that may be left if writing the new chip to the old chip's files is interrupted is safe
--- (`IsSafe`).
+-- session. `over`: `IsSafe` holds for each chip that may be left if writing the new chip to the old chip's files is
+-- interrupted.
 pub record HasKeptChange (request : Request) (image : List ℕ) (old new : BusState) (vault vault' : VaultState)
     (outcome : Result Answer Refusal) : Type 0 where
   pub returned : MatchResult outcome (ReportsChange request image old new) (FailsSession request image old new vault vault')
