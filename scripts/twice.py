@@ -18,12 +18,7 @@ ALLOWED = {
     # the states of two buses of nor_serprog, which differ in what they send: each reads them from its own fields
     *"cause_of is_ready link_of polled_ready_of port_in sent_of serprog_state".split(),
     # the same notion of the two programs, which differ in their chips, files and arguments
-    *"EndsJob FailsBefore FailsRoles FailsToRead HasLookedUp HasPrinted HasRestored HaveOneRole IsBufferOf".split(),
-    *"ReportsFound ReportsSize".split(),
-    # the notions of flashnor that nor_lines has, too, for the other program
-    *"AnswersCall HasReadInto HasReadOut HasReported HasVerified IsKeptFile IsPrintedTo IsReportedAs IsShared".split(),
-    *"IsUnseenFile ListsRanges ReportsProtection ReportsReadOut ReportsVerified".split(),
-    *"image_of journal_of layout_of made_by named_by".split(),
+    *"HasPrinted IsBufferOf".split(),
 }
 
 

@@ -104,8 +104,8 @@ impl Config {
         Self::emulated([0xEF, 0x40, 0x18], 16_777_216, ALL_KINDS, true)
     }
 
-    /// Returns the emulated chip with these properties. Its unique ID is zero, and its SFDP bytes describe this size and
-    /// all erase types. The size must be a power of two from 65,536 to 16,777,216.
+    /// Returns the emulated chip with these properties. Its unique ID is zero, and its SFDP bytes describe this size
+    /// and all erase types. The size must be a power of two from 65,536 to 16,777,216.
     pub fn emulated(id: [u8; 3], size: u32, kinds: Kinds, scheme: bool) -> Config
         requires { IsTrue (is_chip_size size) }
         ensures { IsEmulatedWith id size kinds scheme result }

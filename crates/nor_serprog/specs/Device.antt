@@ -128,8 +128,8 @@ pub record Exchanged (out answer : List ℕ) (old new : PortState) : Type 0 wher
   pub steps : StepsOnce out answer old.device new.device
 
 -- A transaction that requests this number of reply bytes was cut, and too few calls are left for another one. If it is
--- within the limits of every honest programmer, and no more bytes were `wanted` than it requests, fewer than three calls
--- were left before it.
+-- within the limits of every honest programmer, and no more bytes were `wanted` than it requests, fewer than three
+-- calls were left before it.
 pub record Interrupted (out : List ℕ) (replies wanted : ℕ) (old new : PortState) : Type 0 where
   pub few_left : length out ≤ 260 → replies ≤ 4096 → wanted ≤ replies → old.left < 3
   pub few : new.left < 3

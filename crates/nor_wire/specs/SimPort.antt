@@ -6,8 +6,8 @@ use Rattle.nor_serprog.specs.Device.{Device, PortState}
 use Rattle.nor_wire.specs.declared.sim_port.SimPort.{SimPort}
 
 -- The chip of a simulated port, as a simulated bus.
-abbrev pub chip_of : SimPort → SimBus
-chip_of port = port.chip
+abbrev pub simulated_chip : SimPort → SimBus
+simulated_chip port = port.chip
 
 -- The number of calls that the port still carries out.
 abbrev pub left_of : SimPort → ℕ

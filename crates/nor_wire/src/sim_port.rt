@@ -2,7 +2,7 @@
 ghost use Rattle.std.specs.Prelude.{◌≡◌, ◌≤◌, ◌∷◌, true, false, [], ℕ, List, length, slice_index, OnOk, OnErr};
 ghost use Rattle.nor_serprog.specs.Device.{IsIdle, IsSent, IsCutOff, IsCut, StepsOnce};
 ghost use Rattle.nor_serprog.specs.Frame.{IsFrame, out_in, replies_in};
-ghost use Rattle.nor_wire.specs.SimPort.{chip_of, left_of, device_over, port_over};
+ghost use Rattle.nor_wire.specs.SimPort.{simulated_chip, left_of, device_over, port_over};
 
 use arrayvec::ArrayVec;
 use nor_chip::{Bus, Meter, SimBus};
@@ -55,7 +55,7 @@ pub struct SimPort {
 impl SimPort {
     /// Returns a port to a programmer with this chip. `left` is the number of calls that succeed.
     pub fn new(chip: SimBus, left: u64) -> SimPort
-        ensures chip { chip_of result ≡ chip }
+        ensures chip { simulated_chip result ≡ chip }
         ensures state { ⟦<SimPort as Port>⟧.state result ≡ port_over (⟦<SimBus as Bus>⟧.state chip) [] left }
     {
         SimPort {
@@ -67,7 +67,7 @@ impl SimPort {
 
     /// Returns the chip.
     pub fn chip(&self) -> &SimBus
-        ensures { result.now ≡ chip_of self.now }
+        ensures { result.now ≡ simulated_chip self.now }
     {
         &self.chip
     }
