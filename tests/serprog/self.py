@@ -19,6 +19,7 @@ MISTAKES = {
     "synchronizes once": "takes_stale_bytes",
     "takes any version": "needs_version_1",
     "takes small limits": "needs_wide_limits",
+    "selects without the command": "needs_commands",
     "reads once": "reads_twice",
     "verifies anything": "verifies",
     "restores any device": "restores_no_other",

@@ -190,10 +190,12 @@ class Link:
         if self.has(0x15):
             self.exchange(b"\x15\x01", 0)
         if "cs" in keys:
-            self.need(0x16, ". Leave cs= out.")
+            if MISTAKE != "selects without the command":
+                self.need(0x16, ". Leave cs= out.")
             try:
                 self.exchange(b"\x16" + bytes([int(keys["cs"])]), 0)
             except Stopped as stopped:
+                self.need(0x16, ". Leave cs= out.")
                 raise Fault(f"Programmer fault 11: {stopped}. Give cs= the number of another chip select.") from None
 
     def has(self, opcode):
