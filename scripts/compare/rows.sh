@@ -243,8 +243,11 @@ layouts() {
 2 \040000000:000fff a\n
 2 \t000000:000fff a\n
 4 000000:000fff a\r\n
+4 000000:000fff a word\n
 4 000000:000fff a\040\n
 END
+    printf '000000:000fff a word\n001000:001fff b\n' > layout
+    refuses 'Error parsing layout file' rom -l layout -i a -r out
     printf '# a comment\n000000:000fff a\n' > layout
     refuses 'Error parsing layout file' rom -l layout -i a -r out
     refuses 'Layout fault 1 at line 1.' nor -l layout -i a -r out
