@@ -1,4 +1,5 @@
--- The contents that may be left of a file of the chip while it is overwritten in place or created.
+-- The contents that a host crash may leave of a file of the chip while the program overwrites it in place or creates
+-- it.
 use Rattle.std.proofs.Common.{◌≡◌, ◌+◌, ◌-◌, ◌∷◌, ◌⊎◌, ◌∙◌, ℕ, List, [], None, Some, Result, Ok, Err, OnOk, ap, arith}
 use Rattle.std.proofs.Common.{drop, false, inl, inr, is_some, length, option_map, refl, sym, true}
 use Rattle.std.proofs.lemmas.Bool.{false≢true}

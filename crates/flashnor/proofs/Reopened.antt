@@ -68,7 +68,7 @@ found_either had bytes missing (Some name) there files was' left stood unnamed m
   | inr aside ↦ inl (rw (aside.1, moved aside.0) refl)
 ]
 
--- a file that existed keeps its length while it is overwritten
+-- if an existing file is overwritten in place with as many bytes as it has, a host crash leaves it with the same length
 pub as_long : (name : Option (Bor Text)) (there : Bool) (had put : List ℕ) (s0 s1 s3 : FilesState) → AllStay s0 s1
     → MakesDurable name (was there had) s1 → length had ≡ length put → LeavesAmid name there had put s3
     → LeavesAsLong name s0 s3

@@ -12,8 +12,9 @@ use Rattle.flashnor.specs.Found.{HasName, IsEmulatedFound, emulated_part}
 use Rattle.nor_lines.specs.declared.answers.Answer.{Answer}
 use Rattle.nor_lines.specs.declared.answers.Answer.TheVariants as answer
 
--- Holds for the errors of the identification of an emulated chip: another name than the given one, or fewer
--- transactions than the identification may take. No other error occurs on a ready bus.
+-- Holds for the errors that the identification of an emulated chip may return on a ready bus (`IsReady`): error 3 only
+-- if the chip's name isn't the given one, error 12 only if the bus carries out fewer than `most_probe` transactions. It
+-- returns no other error.
 abbrev pub FindRefuses : Programmer → Option ChipName → Refusal → Type 0
 FindRefuses programmer named OtherName = HasName named programmer.chip → ⊥
 FindRefuses programmer named Stopped = allowance_of programmer < most_probe

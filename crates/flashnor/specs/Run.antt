@@ -212,8 +212,9 @@ pub record StayBut (programmer : Programmer) (made : Option (Bor Text)) (old new
   pub others : (name : Name) → IsNot old.view.nature programmer.trace name → IsNot old.view.nature made name
       → KeepsFile name old new
 
--- Holds for a change. With a journal in a file, nothing was changed yet, or the original chip can be restored. A
--- rehearsal leaves the files as they were, except the trace.
+-- Holds for a change. With a journal in a file, one of two cases holds: nothing was changed or created except the trace
+-- and an empty file for the journal; or the original chip can be restored. A rehearsal leaves the files as they were,
+-- except the trace.
 abbrev pub KeepsChange : Programmer → JournalUse → (old new : FilesState) → Type 0
 KeepsChange programmer (uses.Journal file) old new = KeepsOriginalFiles programmer file.now old new
 KeepsChange programmer (uses.Rehearse stops) old new = StayBut programmer None old new

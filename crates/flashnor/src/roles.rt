@@ -9,7 +9,8 @@ use nor_files::Store;
 use nor_lines::{Fault, Named, apart, named_by, unprinted};
 use nor_words::ChipJob;
 
-// The role of a file in a job. If two roles have one file, the fault names the file of the later role in this order.
+// The role of a file in a job. If two roles that need different files have one, the fault names the file of the later
+// role in this order.
 #[derive(Clone, Copy)]
 enum Role {
     Image,

@@ -88,7 +88,7 @@ FailsJournal view name (end.Refused (BadJournal why)) =
     (bytes : List ℕ) × IsRead view name 16793662 bytes × HasFault bytes why
 FailsJournal view name fault = IsSharingFault view name 16793662 fault
 
--- the faults of reading the files that a task needs
+-- the faults of the files that a task reads; for a change also the fault that its journal exists already
 abbrev pub FailsSources : View → Task → Fault → Type 0
 FailsSources view (task.Read file regions) fault = FailsToInclude view regions fault
 FailsSources view (task.Verify file regions) fault =

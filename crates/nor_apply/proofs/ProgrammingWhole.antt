@@ -234,7 +234,8 @@ module _ {touched raised : ℕ → Bool} {wanted : ℕ → ℕ} {n : ℕ} {first
             let able = can_after now.chip only_touched can.can done.config done.kept done.idle in
             grind (arith, still_old, only_touched, wanted_byte, can.blank, can.falls, nat_tests)
 
-      -- the limits of `n'` page programs and of those for one more sector add up
+      -- the limits of `n'` page programs in touched sectors and of `more` page programs in sector `n` add up to those
+      -- of `all` page programs in touched sectors
       pages_after : (n' more all : ℕ) → all ≡ n' + more
           → IsSum (programming touched n') (programming (only n) more) (programming touched all)
       pages_after n' more all is = record {

@@ -55,12 +55,16 @@ pub struct Work {
 /// protection bits if `changes.unlock` is set, erases the raised sectors with the fewest erases, and programs the
 /// touched sectors. Then it writes the protection bits if they are not the target ones.
 ///
-/// The touched sectors must lie below `changes.size`, which is at most 16 MiB. Every raised sector must be touched, and
-/// `source` must have every touched sector. On any bus, erases and programs target only touched sectors; if these are
-/// the whole chip, they may target addresses past its end, too. On a well-behaved bus the changes are proved complete
-/// if `CanApply` holds for the chip. It is idle, and has this size, these erase types and this status. If a status
-/// write is needed, it has block protection and its status isn't locked. If `unlock` isn't set, no touched address is
-/// protected. In touched sectors that aren't raised, no bit must go from 0 to 1.
+/// The touched sectors must lie below `changes.size`, which is at most 16 MiB. Every raised sector must be touched,
+/// `source` must have every touched sector, and `changes.code` must be below 64. On any bus, erases and programs target
+/// only touched sectors; if these are the whole chip, they may target addresses past its end, too.
+///
+/// On a well-behaved bus, after success the changes are complete if `CanApply` held for the chip at the start:
+///
+/// - The chip is idle, and has the size, the erase types and the status that `changes` names.
+/// - If a status write is needed, the chip has block protection and its status isn't locked.
+/// - If `unlock` isn't set, no touched address is protected.
+/// - In touched sectors that aren't raised, no bit must go from 0 to 1.
 ///
 /// Returns `Stopped` if the bus stopped. Returns `Timeout` with an address in a touched sector, or 0 for a status
 /// write, if the chip stayed busy for 65,536 polls. On a well-behaved bus there is no timeout.

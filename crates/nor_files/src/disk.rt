@@ -19,8 +19,8 @@ use std::{fs, io};
 /// and obeys the contract of `Store` is assumed, and tested.
 ///
 /// Files opened by `hold` and `share` stay open and locked until the store is dropped. A later `read_named`, `sync`,
-/// `write_over` or `set_len` of the same name works on the file that was opened and locked, even if the name refers to
-/// another file by then.
+/// `write_over` or `set_len` of the same name works on the file that was opened and locked. This holds even if the name
+/// refers to another file by then, but `sync` then returns `NotFound`.
 #[derive(Drop)]
 pub struct Disk<'a, R: Files> {
     files: &'a R,

@@ -17,9 +17,9 @@ pub struct Held<F> {
     pub file: Option<F>,
 }
 
-/// Opens and locks exclusively a file of the chip that the run will write. A missing file is recorded as missing. Fails
-/// if the name refers to anything but a regular file, if the file can't be looked up, opened for writing or locked, or
-/// if memory runs out.
+/// Opens a file of the chip that the run will write, and locks it exclusively. A missing file is recorded as missing.
+/// Fails if the name refers to anything but a regular file, if the file can't be looked up, opened for reading and
+/// writing, or locked, or if the program is out of memory.
 pub fn hold_chip<R: Files>(files: &R, alloc: Global, name: &str) -> Result<Held<R::File>, LockFault>
 where
     R::File: LockFile,

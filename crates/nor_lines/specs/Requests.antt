@@ -53,7 +53,7 @@ pub record AreOfLayout (view : View) (regions : Regions) (ranges : List Span) : 
   pub whole : length text ≤ 16777216
   pub included : AreIncluded text regions.names.now ranges
 
--- Holds if there are no ranges when no regions are named, and otherwise the ranges of the named regions.
+-- Holds if the ranges are those of the named regions, or, if no regions are given, `None` (the whole chip).
 abbrev pub AreRangesOf : View → Option Regions → Option (List Span) → Type 0
 AreRangesOf view None ranges = ranges ≡ None
 AreRangesOf view (Some regions) None = ⊥

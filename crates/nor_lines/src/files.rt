@@ -63,8 +63,8 @@ pub fn unread(name: &str) -> Fault<'_>
     Fault::File { fault, name }
 }
 
-/// Creates the file of this name or truncates it, and returns a vault in it. A file that is a journal is never
-/// truncated: that is file fault 4. `making` lists the other faults.
+/// Creates the file of this name or truncates it, and returns a vault in it. `Disk` never truncates a journal:
+/// the fault is then file fault 4. `making` lists the other faults.
 pub fn empty<'a, R: Store>(rt: &mut R, name: &'a str) -> Result<R::Filed, Fault<'a>>
     ensures nature { (R.state rt.new).view.nature ≡ (R.state rt.old).view.nature }
     ensures fresh { IfOk result (λ vault. IsFresh (R.Filed.state vault)) }
@@ -101,8 +101,8 @@ pub fn make<'a, R: Store>(rt: &mut R, name: &'a str) -> Result<R::Filed, Fault<'
     }
 }
 
-/// Creates the file of this name or truncates it, and returns a buffered writer to it. A file that is a journal is
-/// never truncated: that is file fault 4. `making` lists the other faults.
+/// Creates the file of this name or truncates it, and returns a buffered writer to it. `Disk` never truncates a
+/// journal: the fault is then file fault 4. `making` lists the other faults.
 pub fn create_log<'a, R: Store>(rt: &mut R, name: &'a str) -> Result<BufWriter<R::Log>, Fault<'a>>
     ensures nature { (R.state rt.new).view.nature ≡ (R.state rt.old).view.nature }
     ensures others { is_lawful (R.state rt.old).view ≡ true

@@ -46,8 +46,8 @@ fn included_in(alloc: Global, text: &[u8], names: &str) -> Result<Ranges, Layout
     Layout::read(alloc, text)?.include(names)
 }
 
-/// Returns the request of a change. If `named` is given, the chip must have that name; `included` has the included
-/// addresses.
+/// Returns the request of a change. `named` is the name that the chip must have, and `included` has the addresses that
+/// may change; `None` means any chip, or the whole chip.
 pub fn request_for(
     change: &Change<'_>,
     named: Option<ChipName>,

@@ -70,7 +70,8 @@ module _ (f g : ℕ → ℕ) (at mask : ℕ) (is : IsMask mask (λ i. not (nat_e
   passed_before before none k high =
       elim (cases_lt k at) [ inl earlier ↦ before k earlier | inr here ↦ passed_block none k here high ]
 
-  -- if the mask isn't 0, its lowest set bit shows the first of these positions at which the functions differ
+  -- if the mask isn't 0, its lowest set bit shows the first of the 32 positions from `at` on at which they
+  -- differ
   pub first_in_block : 0 < mask → let t = trailing_zeros w64
       mask in (t < 32) × (f (at + t) ≢ g (at + t)) × ((k : ℕ) → at ≤ k → k < at + t → f k ≡ g k)
   first_in_block some =

@@ -7,8 +7,8 @@ use Rattle.nor_driver.specs.declared.units.Erase.{Erase}
 use Rattle.nor_driver.specs.declared.units.EraseBlock.{EraseBlock}
 use Rattle.nor_driver.specs.declared.units.EraseBlock.TheVariants.{Sector, Block32, Block64, Chip}
 
--- A chip with these erase types has this erase block. (`has_block` is the same test for a configuration. Of a chip that
--- was found, only the erase types are known.)
+-- A chip with these erase types has this erase block. (`has_block` is the same test for a configuration. A probe
+-- returns a chip's erase types, but not its configuration.)
 abbrev pub is_offered : Kinds → EraseBlock → Bool
 is_offered kinds Sector = true
 is_offered kinds Block32 = kinds.k32

@@ -12,7 +12,8 @@ pub has_looked : {most more : ℕ} {old new : BusState} → OnlyReads most old n
     → (old.honest ≡ true → old.left ≡ new.left + more) → StaysReady old new → HasLooked more old new
 has_looked only_reads rested fell polled_ready = assumption
 
--- `HasLooked` holds for two successive steps together, with the sum of their reads.
+-- If `HasLooked` holds for each of two successive steps, it holds for both together, with the sum of their
+-- transactions.
 pub looked_on : {reads more : ℕ} {old mid new : BusState} → HasLooked reads old mid → HasLooked more mid new
     → HasLooked (reads + more) old new
 looked_on {reads} {more} {old} {mid} {new} has next =

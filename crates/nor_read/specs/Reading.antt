@@ -116,7 +116,7 @@ pub record ReadOutModelled (named : Option ChipName) (included : Option (List Sp
   -- has the number of bytes of the copy that a `telling` vault has.
   pub errors : IfErr result (ReadOutErrors named included old new vault vault')
 
--- ---- piece by piece, and each of these sector by sector
+-- ---- the copy: in pieces of sixteen sectors, and each piece sector by sector
 
 -- Holds after one sector of the copy was made, with one transaction if it has an included address and with none
 -- otherwise. Its bytes are known to be right on a well-behaved bus with an idle chip that has this sector.

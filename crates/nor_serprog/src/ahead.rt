@@ -15,7 +15,7 @@ const LONGEST_BLOCK: u32 = 1 << 16;
 const READ_DATA: u8 = 0x03;
 
 /// A bus that reads data (03h) ahead, if reads follow each other. A read that begins where the last block ended reads a
-/// block of twice the length, up to 64 KiB. Reads inside the last block are answered from memory.
+/// block of up to twice its length, at most 64 KiB. Reads inside the last block are answered from memory.
 ///
 /// The block is forgotten at each transaction that is passed on as it is, and if the bus inside stops. A block ends at
 /// a multiple of 64 KiB at the latest, so it never reaches past the end of a chip. It is never longer than the bus

@@ -82,7 +82,8 @@ module _ {n : ℕ} {journal : Content} {old mid new : BusState} (allows : Allows
 
 -- ---- restores in turn
 
--- Holds if `n` restores were stopped. If `n` is 0, the latch is set only if it was set before.
+-- Holds after the first `n` restores were stopped. On a modelled bus each of their stops is below the bound on the
+-- transactions of one restore (`most_of`). If `n` is 0, the latch is set only if it was set before.
 pub record AreStopped (journal : Content) (stops : List ℕ) (old now : BusState) (n : ℕ) : Type 0 where
   pub leaves : LeavesRestores journal n old now
   pub stopped : IsModelled old → (i : ℕ) → i < n → slice_index stops i < most_of (length journal.saved)
@@ -160,7 +161,7 @@ module _ {bytes : List ℕ} {journal : Content} (is : IsContent journal) (same :
     undo_wears modelled saved first leads s other = leaves.worn modelled s
         (sym (Saves-set first.bytes saved journal s (saves_all saved first leads)) ∙ other)
 
-    -- the bytes are the encoding of no journal except the one that was read
+    -- All that the restores sent fits each journal that the bytes encode: that can only be the journal that was read.
     pub undo_sends : SendsFromJournal bytes n old new
     undo_sends other =
         rw (is_read bytes (Ok journal) other.content (is, same) tt other.is other.same) at leaves.sends

@@ -35,7 +35,8 @@ saves_chip first saved journal small same saves =
     rw (← status) (kept_same first.kept (kept_in ((4 * first.kept.one) ∷ first.kept.two ∷ [])) (omega arith) (omega arith)) in
     search arith
 
--- if the original chip's status is locked, no address in a saved sector is protected
+-- if bytes can restore the original chip (`CanUndo`) and its status is locked, no address in a saved sector is
+-- protected
 saved_free : (saved : ℕ → Bool) (first : Chip) (text : List ℕ) (state : BusState) (a : ℕ) → CanUndo saved first text state → saved (a / 4096) ≡ true → (is_locked first.kept && is_protected first a) ≡ false
 saved_free saved first text state a leads is = false_from_ne_true _ (λ both.
     let (locked, guarded) = and_parts _ _ both in

@@ -165,7 +165,8 @@ abbrev pub NeedsStatusWith : Content → (touched : ℕ → Bool) → Chip → T
 NeedsStatusWith journal touched chip =
     (code_of chip.kept ≢ code_of (kept_in journal.status)) ⊎ SomeProtected touched chip
 
--- Holds if protection is lifted if and only if a touched sector is protected, and a locked status isn't written.
+-- Holds if both are true: protection is lifted if and only if a touched sector is protected; and if the status is
+-- locked, no status write is needed.
 pub record MayChangeStatus (journal : Content) (touched : ℕ → Bool) (chip : Chip) (changes : Changes) : Type 0 where
   pub lifts : changes.unlock ≡ true → SomeProtected touched chip
   pub free : changes.unlock ≡ true ⊎ NoneProtected touched chip

@@ -26,10 +26,10 @@ use Rattle.nor_session.specs.Rehearsal.{CanEnd, SealFits, AreRestores, FitsLastS
 
 -- ---- the session
 
--- Holds if these bytes can restore the original chip (`first`) on this bus. That chip is known. The bytes are its
--- journal, which saves exactly these sectors. All of them lie inside the chip, and none is protected if the status is
--- locked. The bus's chip differs from the original one only in these sectors and in protection bits that can be
--- written.
+-- Holds if these bytes can restore the original chip (`first`) on this bus. That chip is known (`IsKnown`). The bytes
+-- are its journal, which saves exactly these sectors. All these sectors lie inside the chip, and if its status is
+-- locked, none of them is protected. The bus's chip differs from the original one only in bytes of these sectors, in
+-- protection bits that can be written, and in BUSY and WEL (`IsWithin`).
 pub record CanUndo (saved : ℕ → Bool) (first : Chip) (text : List ℕ) (state : BusState) : Type 0 where
   pub is : IsChip first
   pub known : IsKnown first.config

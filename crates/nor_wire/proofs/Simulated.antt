@@ -28,7 +28,7 @@ worn_then n out replies old mid worn allows after s =
     subst P allows.chip
     (after s ∙ ap (λ (w : Bool). w || wears (done_of mid.chip out replies) s) (allows.worn s))
 
--- A transaction at which the simulated bus stopped was cut.
+-- A transaction at which the simulated bus stopped was interrupted, as `IsCut` describes.
 pub cut : (out : List ℕ) (old mid new : BusState) (pending : List ℕ) → Allows 0 old mid → AtStop out mid new
     → IsCut out (device_over old pending) (device_over new pending)
 cut out old mid new pending allows stop =

@@ -60,8 +60,8 @@ SessionFails request image port vault vault' refusal = IsVerdict request image p
 pub record KeepsOriginalChip (old new : PortState) (sent sent' : Sent) (vault : VaultState) : Type 0 where
   -- on every port: if the vault isn't sealed, no modifying command was sent
   pub unsent : vault.sealed ≡ false → sent' ≡ sent
-  -- on an honest port whose chip was idle: if the vault isn't sealed, bytes and non-volatile status bits of the chip
-  -- are as they were (a failure of the port may interrupt an operation that was in progress at the start)
+  -- on an honest port whose chip was idle at the start: if the vault isn't sealed, bytes and non-volatile status bits
+  -- of the chip are as they were. A busy chip is excluded: a failure of the port may interrupt its operation.
   pub same : vault.sealed ≡ false → old.honest ≡ true → old.device.chip.busy ≡ 0
       → IsSame old.device.chip new.device.chip
   -- on an honest port to a genuine chip, idle or busy: if a faithful vault is sealed, its bytes are a journal that can

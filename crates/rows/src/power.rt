@@ -55,8 +55,9 @@ fn each_loss_behind_a_bit_that_rises(rt: HostRuntime) {
 }
 
 // 23 stops are before the seal. Three leave the bytes as they were, and the restore has 8 transactions. Two interrupt
-// the first page program, which fills the page. With FFh the bytes are then as they were. With another fill, and after
-// the last eight stops, the sector is erased, with 14 transactions.
+// the first page program, and the fill byte is then in the whole page. If it is FFh, the bytes are as they were. If it
+// is another byte, the restore erases the sector and has 14 transactions. So does the restore after each of the last
+// eight stops, with every fill byte.
 #[test]
 fn each_loss_behind_two_pages(rt: HostRuntime) {
     let runs = 23 + 3 * 9 + 8 * 15;

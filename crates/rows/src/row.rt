@@ -172,7 +172,7 @@ struct Written {
     sealed: u32,
     // the number of transactions of the session, on a chip without delays
     length: u32,
-    // the number of these that are erases, page programs and status writes; the session waits for each of them
+    // the number of the session's transactions that are erases, page programs and status writes; it waits for each
     operations: u32,
 }
 

@@ -203,8 +203,9 @@ fn first_difference(case: &Case) -> Option<Refusal> {
     None
 }
 
-/// Compares the result of a successful call on a faulty bus with the chip that the replies described to the reference
-/// implementation. A probe and a verification have no result to compare.
+/// Compares the protection or the copy that a successful call on a faulty bus returned with the chip that the replies
+/// described to the reference implementation. Does not compare the report of a copy or a verification. A probe has no
+/// result here.
 pub fn check_known(alloc: Global, known: &Case, told: &Told) -> Result<(), Fault> {
     match told {
         Told::Found | Told::Comparison(_) => Ok(()),

@@ -39,8 +39,8 @@ pub fn session(alloc: Global, case: &Case, wanted: &Wanted) -> Result<Lines, Fau
 }
 
 // Appends steps 1 to 3 of a session. Step 3 reads the sectors below `below` that hold an included address, and is left
-// out for a protection range. The session writes each touched sector to the vault as soon as it has read the sector,
-// and seals the vault after the last one.
+// out for a protection range. During step 3 the session writes each touched sector to the vault as soon as it has read
+// the sector. After step 3 it seals the vault, if the request is accepted. Neither adds a line.
 fn save(lines: &mut Lines, case: &Case, below: u32) {
     find(lines, &case.chip);
     identify(lines);
