@@ -157,7 +157,7 @@ statement: ## makes docs/STATEMENT.md and docs/STATEMENT-FULL.md from the source
 lint: ## checks each script with its linter (shellcheck, a C compiler, pyflakes)
 	@scripts/lint.sh
 
-quick: toolchain ## makes all checks that need no proof, in a few minutes
+quick: toolchain ## makes checks that need no proof, in a few minutes
 	@scripts/quick.sh '$(PROGRAM)'
 
 check: toolchain ## the merge gate: proves everything from nothing and passes all tests

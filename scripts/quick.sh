@@ -1,5 +1,5 @@
 #!/usr/bin/env bash
-# scripts/quick.sh [PROGRAM]: makes all checks that need no proof, in a few minutes.
+# scripts/quick.sh [PROGRAM]: makes checks that need no proof, in a few minutes.
 #
 # It checks that the sources are formatted, that the pages agree, that each crate compiles and its tests pass, and, if a
 # program is built, that it passes the cases of tests/. It checks no contract: only the gate proves. The output of what

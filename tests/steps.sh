@@ -14,8 +14,8 @@ nobody() {
     fi
 }
 
-# `closed flashnor ..`: runs the program with each of its three standard streams closed, alone and together with others,
-# each time in a copy of this directory. Then it runs the program here, with all of them open. Each copy must have the
+# `closed flashnor ..`: runs the program here, with its three standard streams open. Then it runs the program with each
+# of them closed, alone and together with others, each time in a copy of this directory. Each copy must have the
 # same files afterwards as this directory. A stream that is open must get the same text as here. The status must be 1 if
 # a text could not be printed, and else it must be the same as here. Each difference is printed, after the redirections
 # that closed the streams.

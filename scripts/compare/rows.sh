@@ -1,5 +1,5 @@
 #!/usr/bin/env bash
-# scripts/compare/rows.sh [PROGRAM]: runs flashrom and flashnor for each row of docs/FLASHROM.md.
+# scripts/compare/rows.sh [PROGRAM]: runs flashrom and flashnor for most rows of docs/FLASHROM.md.
 #
 # Each row has arguments that flashrom accepts or refuses, and arguments that flashnor accepts or refuses; a refusal is
 # recognized by its printed line. Each option that docs/FLASHROM.md names must be tried by some row. The exit status is
