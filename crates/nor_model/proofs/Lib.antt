@@ -2,9 +2,12 @@ pub mod Guarded
 pub mod ProtectedAddresses
 pub mod Kept
 pub mod LeastCodes
+pub mod Histories
 pub mod Nature
+pub mod Noted
 pub mod Round
 pub mod Sizes
 pub mod StatusBits
 pub mod Steps
 pub mod PageBytes
+mod Walks

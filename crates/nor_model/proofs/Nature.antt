@@ -1,9 +1,30 @@
 -- The nature of a bus stays the same over several transactions.
-use Rattle.std.proofs.Common.{◌∙◌, refl}
-use Rattle.nor_model.specs.Bus.{BusState, KeepsNature}
+use Rattle.std.proofs.Common.{◌≡◌, ◌∙◌, ◌∷◌, refl}
+use Rattle.nor_model.specs.Exchange.{Exchange}
+use Rattle.nor_model.specs.Bus.{BusState, SameNature, KeepsNature}
+use Rattle.nor_model.proofs.Histories.{continues_refl, continues_then, continues_by}
 
 pub nature_refl : (state : BusState) → KeepsNature state state
-nature_refl state = record { honest = refl; steady = refl; unlimited = refl; config = λ honest. refl }
+nature_refl state = record {
+  honest = refl;
+  steady = refl;
+  unlimited = refl;
+  config = λ honest. refl;
+  history = continues_refl state.history;
+  allowances = refl;
+}
+
+-- one transaction
+pub nature_by : {old new : BusState} {exchange : Exchange} → SameNature old new → new.history ≡ exchange ∷ old.history
+    → new.allowances ≡ old.allowances → KeepsNature old new
+nature_by same history allowances = record {
+  honest = same.honest;
+  steady = same.steady;
+  unlimited = same.unlimited;
+  config = same.config;
+  history = continues_by history;
+  allowances = allowances;
+}
 
 pub nature_then : (old mid new : BusState) → KeepsNature mid new → KeepsNature old mid → KeepsNature old new
 nature_then old mid new later earlier = record {
@@ -11,4 +32,6 @@ nature_then old mid new later earlier = record {
   steady = later.steady ∙ earlier.steady;
   unlimited = later.unlimited ∙ earlier.unlimited;
   config = λ honest. later.config (earlier.honest ∙ honest) ∙ earlier.config honest;
+  history = continues_then earlier.history later.history;
+  allowances = later.allowances ∙ earlier.allowances;
 }

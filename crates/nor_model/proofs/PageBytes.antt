@@ -1,12 +1,11 @@
 -- The byte that is programmed to each address of a page.
-use Rattle.std.proofs.Common.{◌≡◌, ◌≢◌, ℕ, suc, zero, ◌+◌, ◌-◌, ◌*◌, ◌/◌, ◌%◌, ◌<◌, ◌≤◌, min, List, [], ◌∷◌, length, refl, arith, ◌∙◌, inl, inr}
-use Rattle.std.specs.Prelude.{Bool, true, false, Option, None, Some, slice_index, bit_and, nat_le, nat_lt, ◌==◌, ◌&&◌, if◌then◌else◌}
+use Rattle.std.proofs.Common.{◌≡◌, ◌≢◌, ℕ, suc, zero, ◌+◌, ◌-◌, ◌/◌, ◌%◌, ◌<◌, ◌≤◌, List, [], ◌∷◌, length, refl, arith, inl, inr}
+use Rattle.std.specs.Prelude.{true, false, None, Some, slice_index, bit_and, nat_le, nat_lt, ◌&&◌, if◌then◌else◌}
 use Rattle.std.proofs.lemmas.Bool.Decides.{eqb_tells, nat_tests}
-use Rattle.std.proofs.lemmas.Bool.{cases_lt, eq-eqb, ne_eqb}
-use Rattle.std.proofs.lemmas.Nat.{and_le_l}
+use Rattle.std.proofs.lemmas.Bool.{eq-eqb, ne_eqb}
 use Rattle.nor_model.specs.declared.command.Command.TheVariants.{Program}
 use Rattle.nor_model.specs.Chip.{Chip}
-use Rattle.nor_model.specs.Step.{last_for, lowered, byte_after}
+use Rattle.nor_model.specs.Step.{last_for, byte_after}
 
 -- if none of the sent bytes is for an address, `last_for` is `None`
 pub last_for-apart : (at : ℕ) (sent : List ℕ) (a : ℕ) → ((i : ℕ) → i < length sent → (at + i) % 256 ≢ a % 256)

@@ -1,12 +1,13 @@
 -- The contract of a bus. Contracts see a bus as one state.
-use Rattle.std.specs.Prelude.{◌≡◌, ◌≤◌, ◌+◌, ◌⊎◌, ◌||◌, ℕ, Bool, true, false, List, [], length, take, Result, OnOk, OnErr}
+use Rattle.std.specs.Prelude.{◌≡◌, ◌≤◌, ◌+◌, ◌⊎◌, ◌||◌, ℕ, Bool, true, false, List, [], ◌∷◌, length, take, Result, OnOk, OnErr}
 use Rattle.std.proofs.Common.{refl}
 use Rattle.nor_model.specs.declared.running.Running.TheVariants.{Unknown}
 use Rattle.nor_model.specs.Chip.{Chip}
 use Rattle.nor_model.specs.Power.{PowerLost}
-use Rattle.nor_model.specs.declared.sent.Sent.{Sent}
-use Rattle.nor_model.specs.Sent.{Notes}
-use Rattle.nor_model.specs.PolledReady.{polled_ready_after}
+use Rattle.nor_model.specs.Exchange.{Exchange}
+use Rattle.nor_model.specs.History.{Continues, exchange_of}
+use Rattle.nor_model.specs.Sent.{Sent, sent_in, with_sent}
+use Rattle.nor_model.specs.PolledReady.{polled_ready_after, polled_ready_in}
 use Rattle.nor_model.specs.declared.bus.Stopped.{Stopped}
 use Rattle.nor_model.specs.Step.{Step, done_of, wears}
 
@@ -17,8 +18,12 @@ pub record BusState : Type 0 where
   pub left : ℕ
   -- the bus obeys the contract of a bus
   pub honest : Bool
-  -- the record of the transactions that may modify a chip, and that were sent or that the bus was asked to send
+  -- the transactions that the bus was asked to carry out, each with its reply, the last one first
+  pub history : List Exchange
+  -- those of them that may modify a chip, by the bytes that they send
   pub sent : Sent
+  -- the allowances that were set, the last one first
+  pub allowances : List ℕ
   -- the sectors that were erased
   pub worn : ℕ → Bool
   -- a stop of the honest bus sends no byte of its transaction and keeps the chip's power, so the chip stays as it was
@@ -30,11 +35,21 @@ pub record BusState : Type 0 where
 
 -- A bus is honest, steady or unlimited after a call if and only if it was so before the call. On an honest bus the
 -- chip's configuration stays the same: its ID, size, SFDP and all else that no command changes.
+pub record SameNature (old new : BusState) : Type 0 where
+  pub honest : new.honest ≡ old.honest
+  pub steady : new.steady ≡ old.steady
+  pub unlimited : new.unlimited ≡ old.unlimited
+  pub config : old.honest ≡ true → new.chip.config ≡ old.chip.config
+
+-- What any number of transactions keeps on every bus: its nature is the same (`SameNature`), its history continues the
+-- earlier one, and no allowance was set.
 pub record KeepsNature (old new : BusState) : Type 0 where
   pub honest : new.honest ≡ old.honest
   pub steady : new.steady ≡ old.steady
   pub unlimited : new.unlimited ≡ old.unlimited
   pub config : old.honest ≡ true → new.chip.config ≡ old.chip.config
+  pub history : Continues old.history new.history
+  pub allowances : new.allowances ≡ old.allowances
 
 -- The bus is honest, and takes a transaction that sends `out` and reads `replies` bytes. An unlimited bus takes every
 -- transaction, any other bus those that send at most 260 bytes (a page program) and read at most 4,096 (a sector).
@@ -42,14 +57,12 @@ pub record IsHonestFor (out : List ℕ) (replies : ℕ) (bus : BusState) : Type 
   pub honest : bus.honest ≡ true
   pub fits : (bus.unlimited ≡ true) ⊎ ((length out ≤ 260) × (replies ≤ 4096))
 
--- The effect of a transaction on every bus: the bus keeps its nature (`KeepsNature`), and notes the transaction in its
--- record if it may modify a chip.
-pub record Sends (out : List ℕ) (old new : BusState) : Type 0 where
-  pub nature : KeepsNature old new
-  pub sent : Notes out old.sent new.sent
-
--- The effect of a transaction on `polled_ready`, on every bus. If the bus stopped, `polled_ready` stays as it was.
-pub record RecordsPoll (out answer : List ℕ) (outcome : Result Unit Stopped) (old new : BusState) : Type 0 where
+-- The effect of a transaction on every bus, in all that the bus records: its history, what was sent, and the last poll.
+-- If the bus stopped, `polled_ready` stays as it was.
+pub record Records (out answer : List ℕ) (outcome : Result Unit Stopped) (old new : BusState) : Type 0 where
+  pub history : new.history ≡ exchange_of out answer outcome ∷ old.history
+  pub sent : new.sent ≡ with_sent out old.sent
+  pub allowances : new.allowances ≡ old.allowances
   pub returned : OnOk outcome (new.polled_ready ≡ polled_ready_after out answer old.polled_ready)
   pub stopped : OnErr outcome (new.polled_ready ≡ old.polled_ready)
 
@@ -80,12 +93,15 @@ pub record Carries (out answer : List ℕ) (old new : BusState) : Type 0 where
   pub step : Step old.chip out answer new.chip
   pub worn : (s : ℕ) → new.worn s ≡ (old.worn s || wears (done_of old.chip out (length answer)) s)
 
--- The effect of `allow`: `n` transactions are left if the bus is honest. Nothing except `left` changed.
+-- The effect of `allow`: `n` transactions are left if the bus is honest, and the allowance is recorded. Nothing else
+-- changed.
 pub record Allows (n : ℕ) (old new : BusState) : Type 0 where
   pub chip : new.chip ≡ old.chip
   pub left : old.honest ≡ true → new.left ≡ n
-  pub nature : KeepsNature old new
+  pub nature : SameNature old new
+  pub history : new.history ≡ old.history
   pub sent : new.sent ≡ old.sent
+  pub allowances : new.allowances ≡ n ∷ old.allowances
   pub polled_ready : new.polled_ready ≡ old.polled_ready
   pub worn : (s : ℕ) → new.worn s ≡ old.worn s
 
@@ -108,16 +124,18 @@ unknown_chip = record {
   running = Unknown;
 }
 
--- The state of a bus to a chip outside the model: only the record of what was sent and the last poll are known. The bus
--- isn't honest, so nothing is claimed about its chip.
-abbrev pub unknown_bus : Sent → Bool → BusState
-unknown_bus sent polled_ready = record {
+-- The state of a bus to a chip outside the model: only its history is known. The bus isn't honest, so nothing is claimed
+-- about its chip.
+abbrev pub unknown_bus : List Exchange → BusState
+unknown_bus history = record {
   chip = unknown_chip;
   left = 0;
   honest = false;
-  sent = sent;
+  history = history;
+  sent = sent_in history;
+  allowances = [];
   worn = λ s. false;
   steady = false;
   unlimited = false;
-  polled_ready = polled_ready;
+  polled_ready = polled_ready_in history;
 }

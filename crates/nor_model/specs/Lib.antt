@@ -5,6 +5,8 @@ pub mod Power
 pub mod Guard
 pub mod Command
 pub mod Step
+pub mod Exchange
+pub mod History
 pub mod Sent
 pub mod PolledReady
 pub mod Bus

@@ -1,5 +1,6 @@
 -- The result of the last poll: whether the chip was ready. (W25Q64FV datasheet, Read Status Register-1.)
-use Rattle.std.specs.Prelude.{◌-◌, ◌%◌, ◌==◌, ◌&&◌, ℕ, Bool, false, List, [], ◌∷◌, length, nat_lt, slice_index, if◌then◌else◌}
+use Rattle.std.specs.Prelude.{◌-◌, ◌%◌, ◌==◌, ◌&&◌, ℕ, Bool, false, List, [], ◌∷◌, Option, Some, None, length, nat_lt, slice_index, if◌then◌else◌}
+use Rattle.nor_model.specs.Exchange.{Exchange}
 
 -- true if a transaction that sends these bytes is a poll
 abbrev pub is_poll : List ℕ → Bool
@@ -15,3 +16,13 @@ shows_ready answer = slice_index answer (length answer - 1) % 2 == 0
 -- poll with at least one reply byte decides this; any other transaction keeps the result `before`.
 abbrev pub polled_ready_after : (out answer : List ℕ) → (before : Bool) → Bool
 polled_ready_after out answer before = if is_poll out && nat_lt 0 (length answer) then shows_ready answer else before
+
+-- the same, given the reply or that the bus stopped, which keeps the result
+abbrev pub polled_ready_by : (out : List ℕ) → (reply : Option (List ℕ)) → (before : Bool) → Bool
+polled_ready_by out (Some answer) before = polled_ready_after out answer before
+polled_ready_by out None before = before
+
+-- True if the last poll of this history that received a reply showed that the chip is ready. False without such a poll.
+abbrev pub polled_ready_in : List Exchange → Bool
+polled_ready_in [] = false
+polled_ready_in (exchange ∷ earlier) = polled_ready_by exchange.out exchange.reply (polled_ready_in earlier)

@@ -1,9 +1,13 @@
--- The record of the transactions over a bus that may modify a chip. A transaction is recorded by the bytes that it
--- sends, even if the chip ignores it. (W25Q64FV datasheet, instruction set table.)
-use Rattle.std.specs.Prelude.{◌≡◌, ◌+◌, ◌*◌, ◌/◌, ◌-◌, ◌^◌, ◌==◌, ◌&&◌, ◌||◌, not, ℕ, Bool, true, false, List, [], ◌∷◌, min, nat_le, nat_lt, slice_index_or, if◌then◌else◌}
-use Rattle.nor_model.specs.declared.sent.TargetedSectors.{TargetedSectors}
-use Rattle.nor_model.specs.declared.sent.Sent.{Sent}
+-- The modifying commands among the transactions over a bus. A transaction is one by the bytes that it sends, even if the
+-- chip ignores it. (W25Q64FV datasheet, instruction set table.)
+use Rattle.std.specs.Prelude.{◌≡◌, ◌+◌, ◌*◌, ◌/◌, ◌-◌, ◌^◌, ◌==◌, ◌&&◌, ◌||◌, not, ℕ, Bool, true, false, List, [], ◌∷◌, min, nat_le, nat_lt, if◌then◌else◌}
+use Rattle.nor_model.specs.Exchange.{Exchange}
 use Rattle.nor_model.specs.Command.{begins_change, begins_quiet, is_change, is_erase_opcode}
+
+-- consecutive sectors: the first of them, and their number
+pub record TargetedSectors : Type 0 where
+  pub first : ℕ
+  pub count : ℕ
 
 -- all 4,096 sectors that a 24-bit address can lie in
 abbrev pub all_targeted : TargetedSectors
@@ -72,52 +76,65 @@ writes_status _ one two = false
 abbrev pub is_unknown_to_model : (out : List ℕ) → Bool
 is_unknown_to_model out = not (begins_quiet out || is_change out)
 
--- ---- the record of these transactions
+-- ---- what was sent
 
--- true if a modifying opcode was sent
-abbrev pub is_stirred : Sent → Bool
-is_stirred sent = sent.stirred
+-- the bytes of each transaction that was sent, or that the bus was asked to send, except for those that are empty or
+-- begin with a quiet opcode; the last one first
+abbrev pub Sent : Type 0
+Sent = List (List ℕ)
 
--- true if a transaction was sent that the model does not know
-abbrev pub has_unknown : Sent → Bool
-has_unknown sent = sent.unknown
+-- what was sent, after a transaction that sends `out`
+abbrev pub with_sent : (out : List ℕ) → Sent → Sent
+with_sent out before = if begins_quiet out then before else out ∷ before
 
--- true if the sector was targeted
-abbrev pub is_targeted : Sent → ℕ → Bool
-is_targeted sent s = slice_index_or sent.targeted s false
+-- what was sent by all transactions of a history
+abbrev pub sent_in : List Exchange → Sent
+sent_in [] = []
+sent_in (exchange ∷ earlier) = with_sent exchange.out (sent_in earlier)
 
--- true if a status write with these two bytes was sent
-abbrev pub has_written : Sent → (one two : ℕ) → Bool
-has_written sent one two = nat_lt two 256 && slice_index_or sent.written (256 * one + two) false
-
--- the number of erases that were sent; it stays at the greatest u64
-abbrev pub erases_of : Sent → ℕ
-erases_of sent = sent.erases
-
--- the number of page programs that were sent; it stays at the greatest u64
-abbrev pub programs_of : Sent → ℕ
-programs_of sent = sent.programs
-
--- the number of status writes that were sent; it stays at the greatest u64
-abbrev pub status_writes_of : Sent → ℕ
-status_writes_of sent = sent.status_writes
-
--- Nothing was sent that may modify a chip.
-pub record IsNothing (sent : Sent) : Type 0 where
-  pub stirred : is_stirred sent ≡ false
-  pub unknown : has_unknown sent ≡ false
-  pub targeted : (s : ℕ) → is_targeted sent s ≡ false
-  pub written : (one two : ℕ) → has_written sent one two ≡ false
-  pub erases : erases_of sent ≡ 0
-  pub programs : programs_of sent ≡ 0
-  pub status_writes : status_writes_of sent ≡ 0
+-- true if some transaction satisfies the test
+abbrev pub has_sent : (is : List ℕ → Bool) → Sent → Bool
+has_sent is [] = false
+has_sent is (out ∷ before) = has_sent is before || is out
 
 -- `before`, plus one if `is` is true, but at most the greatest u64
 abbrev pub counted_once : (is : Bool) → (before : ℕ) → ℕ
 counted_once is before = if is then min (before + 1) (2 ^ 64 - 1) else before
 
--- The effect on the record of a transaction that the bus sent, or was asked to send. If it sends nothing, or begins
--- with a quiet opcode, the record stays as it was. Any other transaction is added to the record, by its bytes.
+-- the number of transactions that satisfy the test, but at most the greatest u64
+abbrev pub times_sent : (is : List ℕ → Bool) → Sent → ℕ
+times_sent is [] = 0
+times_sent is (out ∷ before) = counted_once (is out) (times_sent is before)
+
+-- true if a modifying opcode was sent
+abbrev pub is_stirred : Sent → Bool
+is_stirred sent = has_sent begins_change sent
+
+-- true if a transaction was sent that the model does not know
+abbrev pub has_unknown : Sent → Bool
+has_unknown sent = has_sent is_unknown_to_model sent
+
+-- true if the sector was targeted
+abbrev pub is_targeted : Sent → ℕ → Bool
+is_targeted sent s = has_sent (λ (out : List ℕ). targets out s) sent
+
+-- true if a status write with these two bytes was sent
+abbrev pub has_written : Sent → (one two : ℕ) → Bool
+has_written sent one two = has_sent (λ (out : List ℕ). writes_status out one two) sent
+
+-- the number of erases that were sent
+abbrev pub erases_of : Sent → ℕ
+erases_of sent = times_sent begins_erase sent
+
+-- the number of page programs that were sent
+abbrev pub programs_of : Sent → ℕ
+programs_of sent = times_sent begins_program sent
+
+-- the number of status writes that were sent
+abbrev pub status_writes_of : Sent → ℕ
+status_writes_of sent = times_sent begins_status_write sent
+
+-- The effect of a transaction that the bus sent, or was asked to send, on what was sent.
 pub record Notes (out : List ℕ) (old new : Sent) : Type 0 where
   pub quiet : begins_quiet out ≡ true → new ≡ old
   pub stirred : is_stirred new ≡ (is_stirred old || begins_change out)

@@ -1,7 +1,7 @@
 //! The traits of a bus to a chip.
 ghost use Rattle.std.specs.Prelude.{◌≡◌, true, length, OnOk, OnErr};
 ghost use Rattle.nor_model.specs.Chip.{IsChip};
-ghost use Rattle.nor_model.specs.Bus.{BusState, IsHonestFor, Sends, Stops, Carries, RecordsPoll, Allows};
+ghost use Rattle.nor_model.specs.Bus.{BusState, IsHonestFor, SameNature, Stops, Carries, Records, Allows};
 
 use std::fmt;
 
@@ -23,28 +23,28 @@ impl std::error::Error for Stopped {}
 /// Contracts see a bus as a `BusState`. An *honest* (well-behaved) bus stops if and only if it has no transaction left;
 /// otherwise the chip makes one step. That holds for every transaction of an *unlimited* bus, and on any other honest
 /// bus for transactions that send at most 260 bytes (a page program) and read at most 4,096 (a sector). For a longer
-/// transaction on a bus that isn't unlimited, only `sends` and `records_poll` hold.
+/// transaction on a bus that isn't unlimited, only `nature` and `records` hold.
 ///
 /// At a stop a *steady* bus sends nothing and keeps the chip's power. Any other honest bus may at a stop have sent the
 /// first bytes of the transaction (none, some or all) and have read bytes of the reply, which are lost. The chip may
 /// then have lost its power.
 ///
-/// A faulty bus, which isn't honest, may do anything else, but `sends` and `records_poll` hold for every bus. No call
-/// changes whether a bus is honest, steady or unlimited. Every bus records each transaction that may modify a chip, and
-/// `polled_ready` follows the replies to its polls.
+/// A faulty bus, which isn't honest, may do anything else, but `nature` and `records` hold for every bus. No call changes
+/// whether a bus is honest, steady or unlimited. Every bus records each transaction with its reply, and `polled_ready`
+/// follows the replies to its polls.
 pub trait Bus {
     ghost state: { Self → BusState };
 
     /// Sends `out`, then reads `reply`. Returns `Stopped` if the bus did not carry out the whole transaction.
     fn transfer(&mut self, out: &[u8], reply: &mut [u8]) -> Result<(), Stopped>
-        ensures sends { Sends out.now (state self.old) (state self.new) }
+        ensures nature { SameNature (state self.old) (state self.new) }
         ensures stops { IsHonestFor out.now (length reply.old) (state self.old)
             → OnErr result (Stops out.now (state self.old) (state self.new)) }
         ensures unread { IsHonestFor out.now (length reply.old) (state self.old)
             → OnErr result (reply.new ≡ reply.old) }
         ensures carries { IsHonestFor out.now (length reply.old) (state self.old)
             → OnOk result (Carries out.now reply.new (state self.old) (state self.new)) }
-        ensures records_poll { RecordsPoll out.now reply.new result (state self.old) (state self.new) };
+        ensures records { Records out.now reply.new result (state self.old) (state self.new) };
 
     /// Proves that an honest bus reaches a chip whose status bits, bytes and polls are in range (`IsChip`).
     ghost reaches: { (bus : Self) → (state bus).honest ≡ true → IsChip (state bus).chip };

@@ -1,6 +1,6 @@
 //! Decodes the bytes of a transaction.
 ghost use Rattle.std.specs.Prelude.{◌≡◌, ◌<◌};
-ghost use Rattle.nor_model.specs.Command.{command_of, bare_command, addressed_command, aligned_erase, address_of, begins_change, begins_quiet, is_change};
+ghost use Rattle.nor_model.specs.Command.{command_of, bare_command, addressed_command, aligned_erase, address_of, begins_change};
 
 use crate::Config;
 use nor_geometry::SECTOR_LEN;
@@ -104,29 +104,4 @@ pub fn is_changing(out: &[u8]) -> bool
     ensures { result ≡ begins_change out.now }
 {
     matches!(out, [0x06 | 0x01 | 0x02 | 0x20 | 0x52 | 0xD8 | 0xC7, ..])
-}
-
-/// Returns whether `out` is empty, or begins with an opcode that reads (03h, 05h, 35h, 4Bh, 5Ah, 9Fh) or with write
-/// disable (04h).
-pub(crate) fn is_quiet(out: &[u8]) -> bool
-    ensures { result ≡ begins_quiet out.now }
-{
-    matches!(
-        out,
-        [] | [0x03 | 0x04 | 0x05 | 0x35 | 0x4B | 0x5A | 0x9F, ..]
-    )
-}
-
-/// Returns whether `out` has the form of a modifying command: one of the seven opcodes, followed by the number of bytes
-/// that its command takes (02h: an address and at least one byte).
-pub(crate) fn is_change(out: &[u8]) -> bool
-    ensures { result ≡ is_change out.now }
-{
-    match out {
-        [opcode] => matches!(opcode, 0x06 | 0xC7),
-        [opcode, _, _] => matches!(opcode, 0x01),
-        [opcode, _, _, _] => matches!(opcode, 0x20 | 0x52 | 0xD8),
-        [opcode, _, _, _, _, ..] => matches!(opcode, 0x02),
-        _ => false,
-    }
 }

@@ -11,8 +11,8 @@
 //! ```
 //!
 //! `specs/` defines what the chip does at each transaction (`Chip`, `Guard`, `Command`, `Step`) and when its power
-//! fails (`Power`), the record of what was sent (`Sent`), and the contract of a bus (`Bus`). The crates that depend on
-//! this one describe chips only by these definitions.
+//! fails (`Power`), the history of a bus (`History`, `Sent`), and the contract of a bus (`Bus`). The crates that depend
+//! on this one describe chips only by these definitions.
 //!
 //! - `bus.rt`: the traits `Bus` and `Meter`, and the error `Stopped`
 //! - `config.rt`: the properties of a chip that never change; the three emulated chips
@@ -21,17 +21,15 @@
 //! - `guard.rt`: the ranges that block protection protects
 //! - `guard/walk.rt`: an iterator over the ranges that can be protected
 //! - `running.rt`: the operation that a busy chip carries out
-//! - `sent.rt`: records the transactions over a bus that may modify a chip
-//! - `polled_ready.rt`: records whether the last poll showed that the chip is ready
+//! - `history.rt`: the transactions over a bus and their replies, which only contracts see
 #![tactic(auto)]
 
 mod bus;
 mod command;
 mod config;
 mod guard;
-mod polled_ready;
+mod history;
 mod running;
-mod sent;
 mod status;
 
 pub use bus::{Bus, Meter, Stopped};
@@ -39,7 +37,6 @@ pub use command::{Command, is_changing};
 pub use config::{ALL_KINDS, Config, Kinds, TINY64_SFDP};
 pub use guard::walk::Offered;
 pub use guard::{code_for, is_protected, offered, protected, protected_range, unit_protected};
-pub use polled_ready::polled_ready_after;
+pub use history::History;
 pub use running::Running;
-pub use sent::Sent;
 pub use status::{Status, Status1, Status2};

@@ -1,0 +1,68 @@
+-- The history of a bus: the transactions over it, each with its reply. A history begins with the last transaction.
+use Rattle.std.specs.Prelude.{◌≡◌, ◌+◌, ◌*◌, ◌==◌, ◌&&◌, ◌++◌, ℕ, Bool, true, false, List, [], ◌∷◌, Option, Some, None, Result, Ok, Err, if◌then◌else◌}
+use Rattle.nor_model.specs.Exchange.{Exchange}
+use Rattle.nor_model.specs.declared.bus.Stopped.{Stopped}
+use Rattle.nor_model.specs.declared.history.Event.{Event}
+use Rattle.nor_model.specs.declared.history.Event.TheVariants as event
+
+-- a transaction that succeeded
+abbrev pub replied : (out reply : List ℕ) → Exchange
+replied out reply = record { out = out; reply = Some reply }
+
+-- a transaction at which the bus stopped
+abbrev pub stopped : (out : List ℕ) → Exchange
+stopped out = record { out = out; reply = None }
+
+-- a transaction with this result
+abbrev pub exchange_of : (out answer : List ℕ) → Result Unit Stopped → Exchange
+exchange_of out answer (Ok done) = replied out answer
+exchange_of out answer (Err stop) = stopped out
+
+-- the history after an event
+abbrev pub exchanges_with : Event → List Exchange → List Exchange
+exchanges_with (event.Replied out reply) earlier = replied out.now reply.now ∷ earlier
+exchanges_with (event.Stopped out) earlier = stopped out.now ∷ earlier
+exchanges_with (event.Allowed n) earlier = earlier
+
+-- the allowances after an event, the last one first
+abbrev pub allowances_with : Event → List ℕ → List ℕ
+allowances_with (event.Allowed n) earlier = n ∷ earlier
+allowances_with _ earlier = earlier
+
+-- The history `new` continues `old`: it has the same earlier transactions.
+pub record Continues (old new : List Exchange) : Type 0 where
+  -- the later transactions
+  pub later : List Exchange
+  pub is : new ≡ later ++ old
+
+-- the bytes of a reply, or no bytes
+abbrev pub bytes_or_none : Option (List ℕ) → List ℕ
+bytes_or_none (Some bytes) = bytes
+bytes_or_none None = []
+
+-- the reply to the last transaction whose sent bytes satisfy the test; empty if there is none, or if the bus stopped at
+-- it
+abbrev pub last_reply : (is : List ℕ → Bool) → List Exchange → List ℕ
+last_reply is [] = []
+last_reply is (exchange ∷ earlier) = if is exchange.out then bytes_or_none exchange.reply else last_reply is earlier
+
+-- true if a transaction begins with this opcode
+abbrev pub begins_with : (opcode : ℕ) → (out : List ℕ) → Bool
+begins_with opcode [] = false
+begins_with opcode (first ∷ rest) = first == opcode
+
+-- true if a transaction begins with this opcode and this address of three bytes, high byte first
+abbrev pub names : (opcode address : ℕ) → (out : List ℕ) → Bool
+names opcode address (first ∷ x ∷ y ∷ z ∷ rest) = first == opcode && 65536 * x + 256 * y + z == address
+names opcode address _ = false
+
+-- The last replies to all transactions that fail the test `may` are the same in both histories.
+pub record KeepsReplies (may : List ℕ → Bool) (old new : List Exchange) : Type 0 where
+  pub same : (is : List ℕ → Bool) → ((out : List ℕ) → may out ≡ true → is out ≡ false)
+      → last_reply is new ≡ last_reply is old
+
+-- The bus stopped at the last transaction.
+pub record EndsStopped (history : List Exchange) : Type 0 where
+  pub out : List ℕ
+  pub earlier : List Exchange
+  pub is : history ≡ stopped out ∷ earlier

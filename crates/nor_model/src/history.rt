@@ -1,0 +1,73 @@
+//! The history of a bus: the transactions over it with their replies, and the allowances that were set. It exists only
+//! in proofs: it takes no memory, and its functions do nothing at run time.
+ghost use Rattle.std.specs.Prelude.{◌≡◌, ℕ, List, [], ◌∷◌};
+ghost use base.Fml.{ftrue};
+ghost use Rattle.nor_model.specs.Exchange.{Exchange, exchanges_code, numbers_code};
+
+use std::marker::Model;
+
+/// The transactions over a bus with their replies, and the allowances that were set. The last of each comes first.
+///
+/// A bus holds one `History` and adds to it each transaction that it is asked to carry out, and each allowance. Only
+/// contracts can read it.
+#[derive(Drop)]
+pub struct History {
+    pub ghost exchanges: { List Exchange } by { exchanges_code },
+    pub ghost allowances: { List ℕ } by { numbers_code },
+}
+
+impl Model for History {
+    ghost also_owns = { λ _. ftrue };
+}
+
+// An event that is added to a history.
+#[derive(Clone, Copy)]
+enum Event<'a> {
+    Replied(&'a [u8], &'a [u8]),
+    Stopped(&'a [u8]),
+    Allowed(u64),
+}
+
+impl History {
+    ghost use Rattle.nor_model.specs.History.{replied, stopped, exchanges_with, allowances_with};
+
+    /// Returns the history of a bus over which nothing was sent, and for which no allowance was set.
+    pub fn new() -> History
+        ensures { (result.exchanges ≡ []) × (result.allowances ≡ []) }
+    {
+        History {}
+    }
+
+    /// Returns this history with a transaction that sent `out` and received `reply`.
+    pub fn replied(&self, out: &[u8], reply: &[u8]) -> History
+        ensures exchanges { result.exchanges ≡ replied out.now reply.now ∷ self.now.exchanges }
+        ensures allowances { result.allowances ≡ self.now.allowances }
+    {
+        self.with(&Event::Replied(out, reply))
+    }
+
+    /// Returns this history with a transaction that sends `out`, at which the bus stopped.
+    pub fn stopped(&self, out: &[u8]) -> History
+        ensures exchanges { result.exchanges ≡ stopped out.now ∷ self.now.exchanges }
+        ensures allowances { result.allowances ≡ self.now.allowances }
+    {
+        self.with(&Event::Stopped(out))
+    }
+
+    /// Returns this history with an allowance of `n` transactions.
+    pub fn allowed(&self, n: u64) -> History
+        ensures exchanges { result.exchanges ≡ self.now.exchanges }
+        ensures allowances { result.allowances ≡ n ∷ self.now.allowances }
+    {
+        self.with(&Event::Allowed(n))
+    }
+
+    // Returns this history with an event. (Nothing happens at run time: the proof names the lists.)
+    #[inline(always)]
+    fn with(&self, _event: &Event<'_>) -> History
+        ensures { (result.exchanges ≡ exchanges_with _event.now self.now.exchanges)
+            × (result.allowances ≡ allowances_with _event.now self.now.allowances) }
+    {
+        History {}
+    }
+}
