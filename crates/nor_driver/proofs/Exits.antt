@@ -5,8 +5,9 @@ use Rattle.std.proofs.Math.Bool.{or-true}
 use Rattle.nor_model.specs.declared.command.Command.{Command}
 use Rattle.nor_model.specs.Sent.{is_stirred}
 use Rattle.nor_model.specs.Step.{Does, is_operation, done_of}
-use Rattle.nor_model.specs.Bus.{BusState, IsHonestFor, Sends, AtStop, Stops, Carries}
+use Rattle.nor_model.specs.Bus.{BusState, IsHonestFor, AtStop, Stops, Carries}
 use Rattle.nor_model.proofs.Nature.{nature_then}
+use Rattle.nor_driver.proofs.Sends.{Sends}
 use Rattle.nor_driver.specs.declared.waits.Waited.{Waited}
 use Rattle.nor_driver.specs.OnlyReads.{Unchanged, KeepsChip, Falls, OnlyReads}
 use Rattle.nor_driver.specs.Waits.{Waits}

@@ -2,8 +2,10 @@ pub mod Limits
 pub mod Asks
 pub mod Cuts
 pub mod ReadsInTurn
+pub mod Sends
 pub mod Readings
 pub mod RestsInTurn
+pub mod Waiting
 pub mod Told
 pub mod Torn
 pub mod Begun

@@ -3,7 +3,8 @@ use Rattle.std.proofs.Common.{◌≡◌, ◌≤◌, ◌+◌, ℕ, Bool, true, fa
 use Rattle.std.proofs.lemmas.Bool.Decides.{nat_tests}
 use Rattle.std.proofs.Math.Bool.{or-false}
 use Rattle.nor_model.specs.Sent.{none_targeted, is_in_targeted, begins_erase, begins_program, begins_status_write, is_stirred, is_unknown_to_model, erases_of, programs_of, status_writes_of, counted_once}
-use Rattle.nor_model.specs.Bus.{BusState, Sends}
+use Rattle.nor_model.specs.Bus.{BusState}
+use Rattle.nor_driver.proofs.Sends.{Sends}
 use Rattle.nor_driver.specs.Limits.{Limits, limits_of, SendsWithin, SendsExactly, CountsUp, Stirs}
 
 -- The second limits allow all that the first ones allow.

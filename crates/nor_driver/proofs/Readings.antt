@@ -7,11 +7,13 @@ use Rattle.nor_model.specs.declared.command.Command.{Command}
 use Rattle.nor_model.specs.declared.command.Command.TheVariants.{Ignored}
 use Rattle.nor_model.specs.Chip.{Chip}
 use Rattle.nor_model.specs.Step.{Does, is_operation, done_of}
-use Rattle.nor_model.specs.Bus.{BusState, IsHonestFor, Sends, Stops, Carries, RecordsPoll}
+use Rattle.nor_model.specs.Bus.{BusState, IsHonestFor, Stops, Carries, Records}
 use Rattle.nor_model.specs.PolledReady.{is_poll}
+use Rattle.nor_model.specs.History.{replied}
 use Rattle.nor_model.specs.declared.bus.Stopped.{Stopped}
-use Rattle.nor_driver.specs.OnlyReads.{Rested, OnlyReadsHonest, OnlyReads}
+use Rattle.nor_driver.specs.OnlyReads.{Rested, OnlyReadsHonest, OnlyReads, HasStopped}
 use Rattle.nor_driver.specs.Reads.{changes_nothing, IsReading, HasRead, Replies}
+use Rattle.nor_driver.proofs.Sends.{Sends, stopped_by}
 use Rattle.nor_driver.proofs.Cuts.{stays_then, unchanged_none, unchanged_then, unchanged_stays}
 pub use Rattle.nor_driver.proofs.Torn.{Wore, no_operation}
 use Rattle.nor_driver.proofs.Torn.{looked_at_stop}
@@ -86,8 +88,23 @@ read_leaves outcome out answer old new is sends stops carries = record {
 }
 
 pub read_does : {T E : Type 0} (outcome : Result T E) (out answer : List ℕ) (old new : BusState) → IsReading out
+    → OnOk outcome (new.history ≡ replied out answer ∷ old.history)
     → (old.honest ≡ true → OnOk outcome (Carries out answer old new)) → OnOk outcome (Replies out old new answer)
-read_does outcome out answer old new is carries = grind (arith, carries, carried_reading out answer old new is)
+read_does outcome out answer old new is history carries =
+    grind (arith, history, carries, carried_reading out answer old new is)
+
+-- if the bus stopped at a transaction, it was the last one, and an honest bus ran out of transactions
+pub read_fails : (outcome : Result Unit Stopped) (out answer : List ℕ) (old new : BusState)
+    → Records out answer outcome old new → (old.honest ≡ true → OnErr outcome (Stops out old new))
+    → OnErr outcome (HasStopped 1 old new)
+read_fails (Ok done) out answer old new records stops = tt
+read_fails (Err stop) out answer old new records stops = record {
+  last = stopped_by (Err stop) out answer old new records;
+  ran_out = λ honest. let stop = stops honest in record {
+    none_left = omega (arith, stop.none_left, stop.left);
+    below = omega (arith, stop.none_left);
+  };
+}
 
 -- a transaction that reads is no poll
 no_poll : (config : Config) (out : List ℕ) → IsReading out → is_poll out ≡ false
@@ -99,6 +116,6 @@ no_poll config _ is = refl
 
 -- a transaction that reads leaves `polled_ready` as it was
 pub read_heard : (outcome : Result Unit Stopped) (out answer : List ℕ) (old new : BusState) → IsReading out
-    → RecordsPoll out answer outcome old new → new.polled_ready ≡ old.polled_ready
-read_heard outcome out answer old new is records_poll =
-    grind (arith, no_poll old.chip.config out is, records_poll.returned, records_poll.stopped)
+    → Records out answer outcome old new → new.polled_ready ≡ old.polled_ready
+read_heard outcome out answer old new is records =
+    grind (arith, no_poll old.chip.config out is, records.returned, records.stopped)

@@ -2,7 +2,7 @@
 use Rattle.std.proofs.Common.{◌≡◌, ◌<◌, ◌≤◌, ◌+◌, ℕ, true, arith}
 use Rattle.nor_model.specs.Bus.{BusState, KeepsNature}
 use Rattle.nor_model.proofs.Nature.{nature_refl, nature_then}
-use Rattle.nor_driver.specs.OnlyReads.{Rested, OnlyReads, RanOutIfHonest}
+use Rattle.nor_driver.specs.OnlyReads.{Rested, OnlyReads, HasStopped}
 use Rattle.nor_driver.specs.Ready.{StaysReady}
 use Rattle.nor_driver.specs.Reads.{HasRead}
 use Rattle.nor_driver.proofs.ReadsInTurn.{looks_then, looks_more}
@@ -32,7 +32,7 @@ looks_after reads more most old mid new few has only_reads =
 
 -- if the read after `reads` successful ones stops, an honest bus ran out of transactions for a call that needs at most
 -- `most`, if that is more than `reads`
-pub runs_out : (reads most : ℕ) (old mid new : BusState) → reads < most → HasLooked reads old mid → RanOutIfHonest 1 mid new → RanOutIfHonest most old new
+pub runs_out : (reads most : ℕ) (old mid new : BusState) → reads < most → HasLooked reads old mid → HasStopped 1 mid new → HasStopped most old new
 runs_out reads most old mid new few has out = grind (arith, has.sent, has.nature.honest, out)
 
 -- if the next read succeeds too, `reads + 1` have succeeded

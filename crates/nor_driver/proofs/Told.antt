@@ -3,6 +3,7 @@ use Rattle.std.proofs.Common.{◌≡◌, ◌<◌, ◌≤◌, ◌+◌, ◌*◌, �
 use Rattle.std.specs.Prelude.{map, slice_index_or}
 use Rattle.std.specs.List.{range_with_len}
 use Rattle.std.proofs.Math.Nat.{mod-eq_of_lt}
+use Rattle.std.proofs.lemmas.Bool.{eq-eqb}
 use Rattle.std.proofs.lemmas.List.{ext_get_or}
 use Rattle.std.proofs.lemmas.List.FromFn.{get_or-map-range_with_len, length-map-range_with_len}
 use Rattle.nor_model.specs.declared.config.Config.{Config}
@@ -23,10 +24,11 @@ reply_shown config at len bytes long replies =
 
 pub reads_sfdp : (old new : BusState) (x y z at len : ℕ) (answer : List ℕ) → 65536 * x + 256 * y + z ≡ at
     → length answer ≡ len → Replies (0x5A ∷ x ∷ y ∷ z ∷ 0 ∷ []) old new answer → ReadsSfdp at len old new answer
-reads_sfdp old new x y z at len answer names long replies = record {
+reads_sfdp old new x y z at len answer named long replies = record {
+  answered = record { out = 0x5A ∷ x ∷ y ∷ z ∷ 0 ∷ []; asks = eq-eqb _ _ named; history = replies.history };
   read = replies.read;
   replied = λ honest idle. reply_shown old.chip.config at len answer long
-      (λ i below. replies.replied honest i below ∙ rw (idle, names) refl);
+      (λ i below. replies.replied honest i below ∙ rw (idle, named) refl);
 }
 
 -- the address that the chip reads for byte `i` of a sector that lies on the chip
@@ -38,17 +40,19 @@ place_in size at sector i names inside small =
 
 pub reads_sector : (old new : BusState) (x y z sector : ℕ) (answer : List ℕ) → 65536 * x + 256 * y + z ≡ 4096 * sector
     → length answer ≡ 4096 → Replies (0x03 ∷ x ∷ y ∷ z ∷ []) old new answer → ReadsSector sector old new answer
-reads_sector old new x y z sector answer names long replies = record {
+reads_sector old new x y z sector answer named long replies = record {
+  answered = record { out = 0x03 ∷ x ∷ y ∷ z ∷ []; asks = eq-eqb _ _ named; history = replies.history };
   read = replies.read;
   replied = λ honest idle inside. record {
     byte = λ i small. replies.replied honest i (omega arith) ∙ rw idle
-        (ap old.chip.bytes (place_in old.chip.config.size (65536 * x + 256 * y + z) sector i names inside small));
+        (ap old.chip.bytes (place_in old.chip.config.size (65536 * x + 256 * y + z) sector i named inside small));
   };
 }
 
 pub reads_unique : (old new : BusState) (x y z last : ℕ) (answer : List ℕ) → length answer ≡ 8
     → Replies (0x4B ∷ x ∷ y ∷ z ∷ last ∷ []) old new answer → ReadsUnique old new answer
 reads_unique old new x y z last answer long replies = record {
+  answered = record { out = 0x4B ∷ x ∷ y ∷ z ∷ last ∷ []; asks = refl; history = replies.history };
   read = replies.read;
   replied = λ honest idle. ext_get_or 0 answer (unique_of old.chip.config) long
       (λ i below. replies.replied honest i below ∙ rw idle (sym

@@ -2,6 +2,7 @@
 use Rattle.std.specs.Prelude.{◌≡◌, ◌≢◌, ◌≤◌, ◌<◌, ◌+◌, ◌⊎◌, ℕ, true, false}
 use Rattle.nor_model.specs.Chip.{IsSame}
 use Rattle.nor_model.specs.Power.{is_in_work, KeptCut}
+use Rattle.nor_model.specs.History.{EndsStopped}
 use Rattle.nor_model.specs.Bus.{BusState, KeepsNature}
 
 -- The bus is steady or the chip is idle, so a stop can't interrupt an operation from before the call.
@@ -60,9 +61,11 @@ pub record RanOut (needed : ℕ) (old new : BusState) : Type 0 where
   pub none_left : new.left ≡ 0
   pub below : old.left < needed
 
--- on an honest bus, the call ran out of transactions
-abbrev pub RanOutIfHonest : ℕ → (old new : BusState) → Type 0
-RanOutIfHonest needed old new = old.honest ≡ true → RanOut needed old new
+-- The bus stopped at the last transaction of a call that needs at most `needed`, and nothing was sent after it. On an
+-- honest bus the call ran out of transactions.
+pub record HasStopped (needed : ℕ) (old new : BusState) : Type 0 where
+  pub last : EndsStopped new.history
+  pub ran_out : old.honest ≡ true → RanOut needed old new
 
 -- The bus is honest, and its chip is idle and has this size.
 pub record IsOpen (size : ℕ) (state : BusState) : Type 0 where

@@ -1,6 +1,9 @@
 -- The results of polls and waits.
-use Rattle.std.specs.Prelude.{◌≡◌, ◌≤◌, ◌<◌, ◌+◌, ◌-◌, ◌%◌, ◌==◌, ℕ, Bool, true, false, if◌then◌else◌, ⊤}
+use Rattle.std.specs.Prelude.{◌≡◌, ◌≤◌, ◌<◌, ◌+◌, ◌-◌, ◌%◌, ◌==◌, ℕ, Bool, true, false, List, [], ◌∷◌, if◌then◌else◌, ⊤}
 use Rattle.nor_model.specs.Chip.{Chip, status1_of}
+use Rattle.nor_model.specs.Exchange.{Exchange}
+use Rattle.nor_model.specs.History.{KeepsReplies, EndsStopped, EndsBusy, replied, last_reply}
+use Rattle.nor_model.specs.PolledReady.{is_poll}
 use Rattle.nor_model.specs.Bus.{BusState}
 use Rattle.nor_driver.specs.declared.waits.OperationError.{OperationError}
 use Rattle.nor_driver.specs.declared.waits.OperationError.TheVariants.{Stopped, Timeout}
@@ -16,9 +19,10 @@ pub record HasPolled (old new : BusState) (status : ℕ) : Type 0 where
   pub latch : new.chip.latch ≡ (if old.chip.busy == 1 then false else old.chip.latch)
   pub count : old.left ≡ new.left + 1
 
--- the effect of a poll that succeeded: on an honest bus `HasPolled`
-abbrev pub Polls : (old new : BusState) → ℕ → Type 0
-Polls old new status = old.honest ≡ true → HasPolled old new status
+-- A poll succeeded: on every bus this status is its reply.
+pub record Polls (old new : BusState) (status : ℕ) : Type 0 where
+  pub history : new.history ≡ replied (0x05 ∷ []) (status ∷ []) ∷ old.history
+  pub done : old.honest ≡ true → HasPolled old new status
 
 -- the write enable latch of a chip after a wait: an operation that was running has ended and cleared it
 abbrev pub latch_when_idle : Chip → Bool
@@ -33,8 +37,11 @@ pub record HasWaited (old new : BusState) (waited : Waited) : Type 0 where
   pub polls : waited.polls ≡ old.chip.busy + 1
   pub count : old.left ≡ new.left + waited.polls
 
--- A wait succeeded. On every bus its last poll showed that the chip is ready.
+-- A wait succeeded. On every bus it only polled, and its last poll received this status, which shows that the chip is
+-- ready.
 pub record Waits (old new : BusState) (waited : Waited) : Type 0 where
+  pub only_polls : KeepsReplies is_poll old.history new.history
+  pub status : last_reply is_poll new.history ≡ waited.status1 ∷ []
   pub some : 1 ≤ waited.polls
   pub few : waited.polls ≤ 65536
   pub clear : waited.status1 % 2 ≡ 0
@@ -46,9 +53,16 @@ abbrev pub NamesTimeout : ℕ → OperationError → Type 0
 NamesTimeout at Stopped = ⊤
 NamesTimeout at (Timeout address) = address ≡ at
 
+-- The last transaction of a call that returned this error: the bus stopped at it, or it was a poll that showed BUSY.
+-- Nothing was sent after it.
+abbrev pub EndsAt : OperationError → List Exchange → Type 0
+EndsAt Stopped history = EndsStopped history
+EndsAt (Timeout address) history = EndsBusy history
+
 -- A call that waits returned an error. On an honest bus that is a stop: fewer than `needed` transactions were left, and
 -- all of these were carried out.
 pub record OperationFails (needed : ℕ) (old new : BusState) (halt : OperationError) : Type 0 where
+  pub last : EndsAt halt new.history
   pub stopped : old.honest ≡ true → halt ≡ Stopped
   pub ran_out : old.honest ≡ true → RanOut needed old new
 

@@ -1,7 +1,7 @@
 //! Commands that read from the chip and modify nothing.
 
 ghost use Rattle.std.specs.Prelude.{◌≡◌, ◌<◌, ◌≤◌, ◌^◌, true, length, IfOk, OnOk, OnErr};
-ghost use Rattle.nor_driver.specs.OnlyReads.{OnlyReads, RanOutIfHonest};
+ghost use Rattle.nor_driver.specs.OnlyReads.{OnlyReads, HasStopped};
 ghost use Rattle.nor_driver.specs.Reads.{IsReading, Replies, ReadsId, ReadsStatus2, ReadsUnique, ReadsSfdp, ReadsSector};
 
 use crate::operations::address_bytes;
@@ -24,7 +24,7 @@ const READ_ID: u8 = 0x9F;
 pub fn read_id<B: Bus>(bus: &mut B) -> Result<[u8; 3], Stopped>
     ensures leaves { OnlyReads 1 (B.state bus.old) (B.state bus.new) }
     ensures does { IfOk result (ReadsId (B.state bus.old) (B.state bus.new)) }
-    ensures fails { OnErr result (RanOutIfHonest 1 (B.state bus.old) (B.state bus.new)) }
+    ensures fails { OnErr result (HasStopped 1 (B.state bus.old) (B.state bus.new)) }
     ensures polled_ready { (B.state bus.new).polled_ready ≡ (B.state bus.old).polled_ready }
 {
     let mut id = [0; 3];
@@ -37,7 +37,7 @@ pub fn read_id<B: Bus>(bus: &mut B) -> Result<[u8; 3], Stopped>
 pub fn read_status2<B: Bus>(bus: &mut B) -> Result<u8, Stopped>
     ensures leaves { OnlyReads 1 (B.state bus.old) (B.state bus.new) }
     ensures does { IfOk result (ReadsStatus2 (B.state bus.old) (B.state bus.new)) }
-    ensures fails { OnErr result (RanOutIfHonest 1 (B.state bus.old) (B.state bus.new)) }
+    ensures fails { OnErr result (HasStopped 1 (B.state bus.old) (B.state bus.new)) }
     ensures polled_ready { (B.state bus.new).polled_ready ≡ (B.state bus.old).polled_ready }
 {
     let mut reply = [0];
@@ -50,7 +50,7 @@ pub fn read_status2<B: Bus>(bus: &mut B) -> Result<u8, Stopped>
 pub fn read_unique<B: Bus>(bus: &mut B) -> Result<[u8; 8], Stopped>
     ensures leaves { OnlyReads 1 (B.state bus.old) (B.state bus.new) }
     ensures does { IfOk result (ReadsUnique (B.state bus.old) (B.state bus.new)) }
-    ensures fails { OnErr result (RanOutIfHonest 1 (B.state bus.old) (B.state bus.new)) }
+    ensures fails { OnErr result (HasStopped 1 (B.state bus.old) (B.state bus.new)) }
     ensures polled_ready { (B.state bus.new).polled_ready ≡ (B.state bus.old).polled_ready }
 {
     let mut unique = [0; 8];
@@ -67,7 +67,7 @@ pub fn read_parameters<B: Bus>(bus: &mut B, address: u32, bytes: &mut [u8]) -> R
     requires short { length bytes.old ≤ 4096 }
     ensures leaves { OnlyReads 1 (B.state bus.old) (B.state bus.new) }
     ensures does { OnOk result (ReadsSfdp address (length bytes.old) (B.state bus.old) (B.state bus.new) bytes.new) }
-    ensures fails { OnErr result (RanOutIfHonest 1 (B.state bus.old) (B.state bus.new)) }
+    ensures fails { OnErr result (HasStopped 1 (B.state bus.old) (B.state bus.new)) }
     ensures polled_ready { (B.state bus.new).polled_ready ≡ (B.state bus.old).polled_ready }
     ensures unread { (B.state bus.old).honest ≡ true → OnErr result (bytes.new ≡ bytes.old) }
 {
@@ -84,7 +84,7 @@ pub fn read_sector<B: Bus>(bus: &mut B, sector: u32, bytes: &mut [u8]) -> Result
     requires whole { length bytes.old ≡ 4096 }
     ensures leaves { OnlyReads 1 (B.state bus.old) (B.state bus.new) }
     ensures does { OnOk result (ReadsSector sector (B.state bus.old) (B.state bus.new) bytes.new) }
-    ensures fails { OnErr result (RanOutIfHonest 1 (B.state bus.old) (B.state bus.new)) }
+    ensures fails { OnErr result (HasStopped 1 (B.state bus.old) (B.state bus.new)) }
     ensures polled_ready { (B.state bus.new).polled_ready ≡ (B.state bus.old).polled_ready }
     ensures unread { (B.state bus.old).honest ≡ true → OnErr result (bytes.new ≡ bytes.old) }
 {
@@ -98,7 +98,7 @@ fn read<B: Bus>(bus: &mut B, out: &[u8], reply: &mut [u8]) -> Result<(), Stopped
     requires short { length reply.old ≤ 4096 }
     ensures leaves { OnlyReads 1 (B.state bus.old) (B.state bus.new) }
     ensures does { OnOk result (Replies out.now (B.state bus.old) (B.state bus.new) reply.new) }
-    ensures fails { OnErr result (RanOutIfHonest 1 (B.state bus.old) (B.state bus.new)) }
+    ensures fails { OnErr result (HasStopped 1 (B.state bus.old) (B.state bus.new)) }
     ensures polled_ready { (B.state bus.new).polled_ready ≡ (B.state bus.old).polled_ready }
     ensures unread { (B.state bus.old).honest ≡ true → OnErr result (reply.new ≡ reply.old) }
 {

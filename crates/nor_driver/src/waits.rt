@@ -2,7 +2,7 @@
 
 ghost use Rattle.std.specs.Prelude.{◌≡◌, ◌%◌, ◌==◌, IfOk, IfErr, OnErr};
 ghost use Rattle.nor_driver.specs.declared.waits.OperationError.TheVariants as OperationFails;
-ghost use Rattle.nor_driver.specs.OnlyReads.{OnlyReads, RanOutIfHonest};
+ghost use Rattle.nor_driver.specs.OnlyReads.{OnlyReads, HasStopped};
 ghost use Rattle.nor_driver.specs.Waits.{Polls, Waits, WaitFails};
 
 use bitflags::Flags;
@@ -21,7 +21,7 @@ pub fn poll<B: Bus>(bus: &mut B) -> Result<u8, Stopped>
     ensures leaves { OnlyReads 1 (B.state bus.old) (B.state bus.new) }
     ensures does { IfOk result (Polls (B.state bus.old) (B.state bus.new)) }
     ensures polled_ready { IfOk result (λ status. (B.state bus.new).polled_ready ≡ (status % 2 == 0)) }
-    ensures fails { OnErr result (RanOutIfHonest 1 (B.state bus.old) (B.state bus.new)) }
+    ensures fails { OnErr result (HasStopped 1 (B.state bus.old) (B.state bus.new)) }
 {
     let mut reply = [0];
     bus.transfer(&[READ_STATUS1], &mut reply)?;

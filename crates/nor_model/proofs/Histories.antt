@@ -3,7 +3,7 @@ use Rattle.std.proofs.Common.{◌≡◌, ◌∙◌, ◌∷◌, ◌++◌, ℕ, Bo
 use Rattle.std.specs.Prelude.{if◌then◌else◌}
 use Rattle.std.proofs.lemmas.List.{append_assoc}
 use Rattle.nor_model.specs.Exchange.{Exchange}
-use Rattle.nor_model.specs.History.{Continues, KeepsReplies, last_reply, bytes_or_none}
+use Rattle.nor_model.specs.History.{Continues, KeepsReplies, Answered, last_reply, bytes_or_none}
 
 -- ---- a history that goes on
 
@@ -41,3 +41,15 @@ keeps_replies_by {may} {exchange} {old} {new} by passes = record {
 pub keeps_replies_less : {may might : List ℕ → Bool} {old new : List Exchange} → KeepsReplies may old new
     → ((out : List ℕ) → may out ≡ true → might out ≡ true) → KeepsReplies might old new
 keeps_replies_less keeps less = record { same = λ is others. keeps.same is (λ out passes. others out (less out passes)) }
+
+-- ---- one transaction with a reply
+
+pub answered_keeps : {is : List ℕ → Bool} {old new : List Exchange} {reply : List ℕ} → Answered is old new reply
+    → KeepsReplies is old new
+answered_keeps answered = keeps_replies_by answered.history answered.asks
+
+-- its reply is the last one
+pub answered_last : {is : List ℕ → Bool} {old new : List Exchange} {reply : List ℕ} → Answered is old new reply
+    → last_reply is new ≡ reply
+answered_last {is} {old} {new} {reply} answered =
+    ap (last_reply is) answered.history ∙ ap (λ (b : Bool). if b then reply else last_reply is old) answered.asks

@@ -1,5 +1,5 @@
 -- The history of a bus: the transactions over it, each with its reply. A history begins with the last transaction.
-use Rattle.std.specs.Prelude.{◌≡◌, ◌+◌, ◌*◌, ◌==◌, ◌&&◌, ◌++◌, ℕ, Bool, true, false, List, [], ◌∷◌, Option, Some, None, Result, Ok, Err, if◌then◌else◌}
+use Rattle.std.specs.Prelude.{◌≡◌, ◌+◌, ◌*◌, ◌/◌, ◌%◌, ◌==◌, ◌&&◌, ◌++◌, ℕ, Bool, true, false, List, [], ◌∷◌, Option, Some, None, Result, Ok, Err, if◌then◌else◌}
 use Rattle.nor_model.specs.Exchange.{Exchange}
 use Rattle.nor_model.specs.declared.bus.Stopped.{Stopped}
 use Rattle.nor_model.specs.declared.history.Event.{Event}
@@ -61,8 +61,29 @@ pub record KeepsReplies (may : List ℕ → Bool) (old new : List Exchange) : Ty
   pub same : (is : List ℕ → Bool) → ((out : List ℕ) → may out ≡ true → is out ≡ false)
       → last_reply is new ≡ last_reply is old
 
+-- One transaction, whose sent bytes satisfy the test, received this reply.
+pub record Answered (is : List ℕ → Bool) (old new : List Exchange) (reply : List ℕ) : Type 0 where
+  pub out : List ℕ
+  pub asks : is out ≡ true
+  pub history : new ≡ replied out reply ∷ old
+
+-- ---- the last transaction
+
 -- The bus stopped at the last transaction.
 pub record EndsStopped (history : List Exchange) : Type 0 where
   pub out : List ℕ
   pub earlier : List Exchange
   pub is : history ≡ stopped out ∷ earlier
+
+-- The last transaction was a poll that showed BUSY.
+pub record EndsBusy (history : List Exchange) : Type 0 where
+  pub status : ℕ
+  pub earlier : List Exchange
+  pub is : history ≡ replied (0x05 ∷ []) (status ∷ []) ∷ earlier
+  pub busy : status % 2 ≡ 1
+
+-- The last transaction read the sector that has this address.
+pub record EndsReading (address : ℕ) (history : List Exchange) : Type 0 where
+  pub earlier : List Exchange
+  pub bytes : List ℕ
+  pub read : Answered (names 0x03 (address / 4096 * 4096)) earlier history bytes

@@ -1,4 +1,6 @@
 use Rattle.std.proofs.Common.{◌≡◌, ◌<◌, ◌+◌, true}
+use Rattle.nor_model.specs.History.{KeepsReplies, EndsBusy}
+use Rattle.nor_model.specs.PolledReady.{is_poll}
 use Rattle.nor_model.specs.Bus.{KeepsNature}
 use Rattle.nor_driver.specs.OnlyReads.{Rested}
 use Rattle.nor_driver.specs.Waits.{latch_when_idle}
@@ -10,6 +12,8 @@ invariant-loop-polls g l =
     record {
       nature : KeepsNature old now;
       sent : now.sent ≡ old.sent;
+      only_polls : KeepsReplies is_poll old.history now.history;
+      shown_busy : 0 < l.polls → EndsBusy now.history;
       rested : old.honest ≡ true → Rested old now;
       busy : old.honest ≡ true → now.chip.busy + l.polls ≡ old.chip.busy;
       running : old.honest ≡ true → 0 < now.chip.busy → now.chip.latch ≡ old.chip.latch;

@@ -1,0 +1,33 @@
+-- The effect of one transaction on what a bus records.
+use Rattle.std.proofs.Common.{◌≡◌, ◌∷◌, ℕ, List}
+use Rattle.std.specs.Prelude.{Result, Ok, Err, OnOk, OnErr}
+use Rattle.nor_model.specs.declared.bus.Stopped.{Stopped}
+use Rattle.nor_model.specs.History.{EndsStopped, replied}
+use Rattle.nor_model.specs.Sent.{Notes}
+use Rattle.nor_model.specs.Bus.{BusState, SameNature, KeepsNature, Records}
+use Rattle.nor_model.proofs.Nature.{nature_by}
+use Rattle.nor_model.proofs.Noted.{notes_by}
+
+-- One transaction kept the bus as `KeepsNature` says, and had the effect `Notes` on what was sent.
+pub record Sends (out : List ℕ) (old new : BusState) : Type 0 where
+  pub nature : KeepsNature old new
+  pub sent : Notes out old.sent new.sent
+
+pub sends_by : {out answer : List ℕ} {outcome : Result Unit Stopped} {old new : BusState} → SameNature old new
+    → Records out answer outcome old new → Sends out old new
+sends_by same records = record {
+  nature = nature_by same records.history records.allowances;
+  sent = notes_by records.sent;
+}
+
+-- the history after a transaction that succeeded
+pub answered_by : (outcome : Result Unit Stopped) (out answer : List ℕ) (old new : BusState)
+    → Records out answer outcome old new → OnOk outcome (new.history ≡ replied out answer ∷ old.history)
+answered_by (Ok done) out answer old new records = records.history
+answered_by (Err stop) out answer old new records = tt
+
+-- the history after a stop
+pub stopped_by : (outcome : Result Unit Stopped) (out answer : List ℕ) (old new : BusState)
+    → Records out answer outcome old new → OnErr outcome (EndsStopped new.history)
+stopped_by (Ok done) out answer old new records = tt
+stopped_by (Err stop) out answer old new records = record { out = out; earlier = old.history; is = records.history }
