@@ -3,11 +3,12 @@ use Rattle.std.proofs.Common.{◌≡◌, ◌∙◌, ℕ, true≢false, List, [],
 use Rattle.std.specs.Prelude.{◌&&◌}
 use Rattle.std.proofs.Math.Bool.{or-false}
 use Rattle.nor_model.specs.Chip.{Chip}
-use Rattle.nor_model.specs.declared.sent.Sent.{Sent}
+use Rattle.nor_model.specs.declared.history.History.{History}
 use Rattle.nor_model.proofs.Steps.{nothing_sent}
 use Rattle.nor_model.specs.Power.{PowerLost, PowerLostWith}
 use Rattle.nor_model.specs.Bus.{BusState, AtStop}
-use Rattle.nor_chip.specs.Sim.{TornTo, WornTo, LostTo}
+use Rattle.nor_chip.specs.declared.sim.SimBus.{SimBus}
+use Rattle.nor_chip.specs.Sim.{sim_state, TornTo, WornTo, LostTo}
 
 -- a simulated power failure (`PowerLostWith`) is one that the contract of a bus allows (`PowerLost`)
 pub power_lost : (fill : ℕ) (old new : Chip) → PowerLostWith fill old new → PowerLost old new
@@ -57,10 +58,10 @@ stops_at (Some count) (Some fill) out old new reached steady torn lost worn = re
   unsent = λ is. absurd (true≢false (sym is ∙ steady));
 }
 
--- the record of what was sent does not affect a stop
-pub stops_as : (out : List ℕ) (old new : BusState) (sent : Sent) → AtStop out (record old { sent = sent }) new
-    → AtStop out old new
-stops_as out old new sent stop = record {
+-- the history does not affect a stop
+pub stops_as : (out : List ℕ) (old : SimBus) (history : History) (new : BusState)
+    → AtStop out (sim_state (record old { history = history })) new → AtStop out (sim_state old) new
+stops_as out old history new stop = record {
   count = stop.count;
   read = stop.read;
   reached = stop.reached;

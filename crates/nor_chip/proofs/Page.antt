@@ -1,12 +1,10 @@
 -- The effect of a program of the simulated chip.
-use Rattle.std.proofs.Common.{◌≡◌, ◌≢◌, ℕ, suc, zero, ◌+◌, ◌-◌, ◌*◌, ◌/◌, ◌%◌, ◌<◌, ◌≤◌, min, List, [], ◌∷◌, length, refl, arith, ◌∙◌, inl, inr}
-use Rattle.std.specs.Prelude.{Bool, true, false, Option, None, Some, slice_index, bit_and, nat_le, nat_lt, ◌==◌, ◌&&◌, if◌then◌else◌}
-use Rattle.std.proofs.lemmas.Bool.Decides.{eqb_tells, nat_tests}
-use Rattle.std.proofs.lemmas.Bool.{cases_lt, eq-eqb, ne_eqb}
+use Rattle.std.proofs.Common.{◌≡◌, ℕ, ◌+◌, ◌-◌, ◌*◌, ◌/◌, ◌%◌, ◌<◌, ◌≤◌, min, List, length, arith, ◌∙◌, inl, inr}
+use Rattle.std.specs.Prelude.{Bool, true, Option, Some, slice_index, bit_and, ◌==◌, if◌then◌else◌}
+use Rattle.std.proofs.lemmas.Bool.Decides.{eqb_tells}
+use Rattle.std.proofs.lemmas.Bool.{cases_lt}
 use Rattle.std.proofs.lemmas.Nat.{and_le_l}
-use Rattle.nor_model.specs.declared.command.Command.TheVariants.{Program}
-use Rattle.nor_model.specs.Chip.{Chip}
-use Rattle.nor_model.specs.Step.{last_for, lowered, byte_after}
+use Rattle.nor_model.specs.Step.{last_for, lowered}
 use Rattle.nor_model.proofs.PageBytes.{last_for-apart, last_for-at}
 use Rattle.nor_chip.specs.Cells.{HasPageProgrammed}
 

@@ -7,6 +7,8 @@ use Rattle.nor_model.specs.Chip.{Chip}
 use Rattle.nor_chip.specs.Flash.{chip_of}
 use Rattle.nor_model.specs.Power.{PowerLostWith}
 use Rattle.nor_model.specs.Step.{Step, is_operation, done_of, wears}
+use Rattle.nor_model.specs.Sent.{sent_in}
+use Rattle.nor_model.specs.PolledReady.{polled_ready_in}
 use Rattle.nor_model.specs.Bus.{BusState}
 
 -- The state of a simulated bus. The bus is always honest, and takes transactions of any length. The bus is steady if
@@ -16,11 +18,13 @@ sim_state bus = record {
   chip = chip_of bus.flash;
   left = bus.left;
   honest = true;
-  sent = bus.sent;
+  history = bus.history.exchanges;
+  sent = sent_in bus.history.exchanges;
+  allowances = bus.history.allowances;
   worn = λ s. slice_index_or bus.worn s false;
   steady = is_none bus.fill && is_none bus.torn;
   unlimited = true;
-  polled_ready = bus.polled_ready;
+  polled_ready = polled_ready_in bus.history.exchanges;
 }
 
 -- the fill that `lose` set: the effect of a power failure at a stop
@@ -45,15 +49,14 @@ abbrev pub LostTo : (fill : Option ℕ) → (old new : Chip) → Type 0
 LostTo None old new = new ≡ old
 LostTo (Some fill) old new = PowerLostWith fill old new
 
--- A stop keeps the settings of the bus, the number of transactions left, and the records of what was sent and of the
--- last poll.
+-- The bytes that a stop sends, and the loss of power after them, keep the settings of the bus, the number of
+-- transactions left, and the history.
 pub record KeepsBus (old new : SimBus) : Type 0 where
   pub fill : fill_of new ≡ fill_of old
   pub torn : torn_of new ≡ torn_of old
   pub pace : pace_of new ≡ pace_of old
   pub left : new.left ≡ old.left
-  pub sent : new.sent ≡ old.sent
-  pub polled_ready : new.polled_ready ≡ old.polled_ready
+  pub history : new.history ≡ old.history
 
 -- the sectors that are recorded as erased after a stop
 abbrev pub WornTo : (torn : Option ℕ) → (out : List ℕ) → Chip → (old new : ℕ → Bool) → Type 0

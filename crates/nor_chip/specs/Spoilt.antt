@@ -1,11 +1,12 @@
 -- The faulty bus, as contracts see it.
-use Rattle.std.specs.Prelude.{◌≡◌, ◌<◌, ◌+◌, ◌-◌, ◌^◌, ◌==◌, ◌&&◌, ℕ, true, false, List, length, Option, None, Some, Result, Ok, Err, OnOk, OnErr, IsOk, IfSome, IfNone, replicate, min, nat_lt, nat_le, bit_and, bit_or, slice_index, if◌then◌else◌}
+use Rattle.std.specs.Prelude.{◌≡◌, ◌<◌, ◌+◌, ◌-◌, ◌^◌, ◌==◌, ◌&&◌, ℕ, false, List, length, Option, None, Some, Result, Ok, Err, OnOk, OnErr, IsOk, IfSome, IfNone, replicate, min, nat_lt, nat_le, bit_and, bit_or, slice_index, if◌then◌else◌}
 use Rattle.nor_chip.specs.declared.spoilt.SpoiltBus.{SpoiltBus}
 use Rattle.nor_chip.specs.declared.spoilt.Spoil.{Spoil}
 use Rattle.nor_chip.specs.declared.spoilt.Spoil.TheVariants.{Fill, BusyFrom, Drop, Low}
 use Rattle.nor_model.specs.declared.bus.Stopped.{Stopped}
-use Rattle.nor_model.specs.declared.sent.Sent.{Sent}
-use Rattle.nor_model.specs.PolledReady.{is_poll}
+use Rattle.nor_model.specs.Exchange.{Exchange}
+use Rattle.nor_model.specs.Sent.{sent_in}
+use Rattle.nor_model.specs.PolledReady.{is_poll, polled_ready_in}
 use Rattle.nor_model.specs.Bus.{BusState, IsHonestFor, Stops, Carries}
 
 -- the bus inside
@@ -16,21 +17,24 @@ bus_in bus = bus.bus
 abbrev pub spoil_of : {B : Type 0} → SpoiltBus B → Spoil
 spoil_of bus = bus.spoil
 
--- the record of what was sent over the faulty bus
-abbrev pub noted_of : {B : Type 0} → SpoiltBus B → Sent
-noted_of bus = bus.noted
+-- the transactions that the faulty bus was asked to carry out, each with the reply that it returned
+abbrev pub history_of : {B : Type 0} → SpoiltBus B → List Exchange
+history_of bus = bus.history.exchanges
 
 -- the number of transactions that succeeded; it stays at the greatest u64
 abbrev pub succeeded_of : {B : Type 0} → SpoiltBus B → ℕ
 succeeded_of bus = bus.sent
 
--- The state of a faulty bus. It isn't honest. It records each transaction that it is asked to send, even one that it
--- drops, and the last poll by its own replies. All else is the state of the bus inside.
+-- The state of a faulty bus. The faulty bus isn't honest. Its history has each transaction that it was asked to carry
+-- out, even a dropped one, with the reply that the faulty bus returned. The allowances are those that were set on the
+-- faulty bus. All else is the state of the bus inside.
 abbrev pub spoilt_state : {B : Type 0} → (B → BusState) → SpoiltBus B → BusState
 spoilt_state state bus = record (state bus.bus) {
   honest = false;
-  sent = bus.noted;
-  polled_ready = bus.polled_ready;
+  history = history_of bus;
+  sent = sent_in (history_of bus);
+  allowances = bus.history.allowances;
+  polled_ready = polled_ready_in (history_of bus);
 }
 
 -- If the bus drops the transaction that follows the first `sent` ones, the value of each of its reply bytes; otherwise

@@ -1,15 +1,14 @@
 -- The start of a simulated bus, and what it shows of its chip.
-use Rattle.std.specs.Prelude.{◌≡◌, ◌<◌, ◌/◌, ◌%◌, ◌==◌, [], ◌∷◌, ℕ, List, true, false, length, slice_index}
+use Rattle.std.specs.Prelude.{◌≡◌, ◌<◌, ◌/◌, ◌%◌, ◌==◌, [], ℕ, List, true, false, length, slice_index}
 use Rattle.nor_model.specs.declared.config.Config.{Config}
 use Rattle.nor_chip.specs.declared.sim.Delays.{Delays}
 use Rattle.nor_model.specs.declared.running.Running.TheVariants.{Unknown}
 use Rattle.nor_model.specs.Chip.{Chip, kept_in}
-use Rattle.nor_model.specs.Sent.{IsNothing}
 use Rattle.nor_model.specs.Bus.{BusState}
 
 -- The state of a simulated bus at its start. Its chip has this configuration, these bytes, and the non-volatile bits
 -- and latch of these two status bytes. The given number of polls will show BUSY, and the operation in progress is
--- unknown. The bus is honest and steady, and has no transaction left. Nothing was sent that may modify the chip, no
+-- unknown. The bus is honest and steady, and has no transaction left. No transaction was sent, no allowance was set, no
 -- sector was erased, and no poll showed that the chip is ready.
 pub record Starts (setup : Config) (image flags : List ℕ) (delays : Delays) (state : BusState) : Type 0 where
   pub config : state.chip.config ≡ setup
@@ -20,7 +19,9 @@ pub record Starts (setup : Config) (image flags : List ℕ) (delays : Delays) (s
   pub running : state.chip.running ≡ Unknown
   pub left : state.left ≡ 0
   pub honest : state.honest ≡ true
-  pub sent : IsNothing state.sent
+  pub history : state.history ≡ []
+  pub sent : state.sent ≡ []
+  pub allowances : state.allowances ≡ []
   pub worn : (s : ℕ) → state.worn s ≡ false
   pub steady : state.steady ≡ true
   pub polled_ready : state.polled_ready ≡ false

@@ -26,9 +26,9 @@ mod trace;
 
 pub use nor_geometry::{MOST_SECTORS, SECTOR_LEN};
 pub use nor_model::{
-    ALL_KINDS, Bus, Command, Config, Meter, Offered, Running, Sent, Status, Status1, Status2,
-    Stopped, TINY64_SFDP, code_for, is_changing, offered, polled_ready_after, protected,
-    protected_range, unit_protected,
+    ALL_KINDS, Bus, Command, Config, History, Meter, Offered, Running, Status, Status1, Status2,
+    Stopped, TINY64_SFDP, code_for, is_changing, offered, protected, protected_range,
+    unit_protected,
 };
 pub use sim::{Delays, SimBus, WrongLength};
 pub use spoilt::{Spoil, SpoiltBus};

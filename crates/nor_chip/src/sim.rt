@@ -7,9 +7,7 @@ ghost use Rattle.nor_model.specs.Step.{wears};
 use bitflags::Flags;
 use flash::Flash;
 use nor_geometry::{MOST_SECTORS, SECTOR_LEN};
-use nor_model::{
-    Bus, Command, Config, Meter, Running, Sent, Status, Status1, Stopped, polled_ready_after,
-};
+use nor_model::{Bus, Command, Config, History, Meter, Running, Status, Status1, Stopped};
 use std::fmt;
 
 mod cells;
@@ -42,9 +40,8 @@ pub struct SimBus {
     left: u64,
     fill: Option<u8>,
     torn: Option<u32>,
-    sent: Sent,
+    history: History,
     worn: [bool; MOST_SECTORS as usize],
-    polled_ready: bool,
 }
 
 impl SimBus {
@@ -84,15 +81,13 @@ impl SimBus {
             each: delays.each,
             running: Running::Unknown,
         };
-        let sent = Sent::new();
         Ok(SimBus {
             flash,
             left: 0,
             fill: None,
             torn: None,
-            sent,
+            history: History::new(),
             worn: [false; MOST_SECTORS as usize],
-            polled_ready: false,
         })
     }
 
@@ -169,7 +164,7 @@ impl SimBus {
 }
 
 impl Bus for SimBus {
-    ghost use Rattle.nor_model.specs.Bus.{IsHonestFor, Sends, Stops, Carries, RecordsPoll};
+    ghost use Rattle.nor_model.specs.Bus.{IsHonestFor, SameNature, Stops, Carries, Records};
     ghost use Rattle.nor_chip.specs.Sim.{sim_state, Simulates};
 
     ghost state = { sim_state };
@@ -182,25 +177,25 @@ impl Bus for SimBus {
     } };
 
     fn transfer(&mut self, out: &[u8], reply: &mut [u8]) -> Result<(), Stopped>
-        ensures sends { Sends out.now (sim_state self.old) (sim_state self.new) }
+        ensures nature { SameNature (sim_state self.old) (sim_state self.new) }
         ensures stops { IsHonestFor out.now (length reply.old) (sim_state self.old)
             → OnErr result (Stops out.now (sim_state self.old) (sim_state self.new)) }
         ensures unread { IsHonestFor out.now (length reply.old) (sim_state self.old)
             → OnErr result (reply.new ≡ reply.old) }
         ensures carries { IsHonestFor out.now (length reply.old) (sim_state self.old)
             → OnOk result (Carries out.now reply.new (sim_state self.old) (sim_state self.new)) }
-        ensures records_poll { RecordsPoll out.now reply.new result (sim_state self.old) (sim_state self.new) }
+        ensures records { Records out.now reply.new result (sim_state self.old) (sim_state self.new) }
         ensures simulates { Simulates out.now reply.new result self.old self.new }
     {
-        self.sent.note(out);
         if self.left == 0 {
+            self.history = self.history.stopped(out);
             self.cut(out);
             return Err(Stopped);
         }
         self.left -= 1;
         let command = self.flash.step(out, reply);
         wear(&mut self.worn, command);
-        self.polled_ready = polled_ready_after(out, reply, self.polled_ready);
+        self.history = self.history.replied(out, reply);
         Ok(())
     }
 }
@@ -216,6 +211,7 @@ impl Meter for SimBus {
         ensures pace { pace_of self.new ≡ pace_of self.old }
     {
         self.left = n;
+        self.history = self.history.allowed(n);
     }
 }
 

@@ -1,12 +1,11 @@
 //! A faulty bus, for tests.
-ghost use Rattle.std.specs.Prelude.{◌≡◌, Bool, true, false, length, OnOk, OnErr, MatchBool, EachIndex, slice_index, ⊤};
+ghost use Rattle.std.specs.Prelude.{◌≡◌, [], Bool, true, false, length, OnOk, OnErr, MatchBool, EachIndex, slice_index, ⊤};
 ghost use Rattle.std.proofs.Common.{subst};
 ghost use Rattle.nor_model.specs.Chip.{IsChip};
-ghost use Rattle.nor_model.specs.Sent.{IsNothing};
-ghost use Rattle.nor_model.specs.Bus.{IsHonestFor, Sends, Stops, Carries, RecordsPoll, Allows};
-ghost use Rattle.nor_chip.specs.Spoilt.{bus_in, spoil_of, succeeded_of, noted_of, spoilt_state, withheld, spoilt_byte, Spoils};
+ghost use Rattle.nor_model.specs.Bus.{IsHonestFor, SameNature, Stops, Carries, Records, Allows};
+ghost use Rattle.nor_chip.specs.Spoilt.{bus_in, spoil_of, succeeded_of, history_of, spoilt_state, withheld, spoilt_byte, Spoils};
 
-use nor_model::{Bus, Meter, Sent, Stopped, polled_ready_after};
+use nor_model::{Bus, History, Meter, Stopped};
 
 /// The way in which a faulty bus fails. Its transactions are counted from 1.
 #[derive(Clone, Copy, Debug, PartialEq, Eq)]
@@ -28,8 +27,7 @@ pub struct SpoiltBus<B> {
     bus: B,
     spoil: Spoil,
     sent: u64,
-    noted: Sent,
-    polled_ready: bool,
+    history: History,
 }
 
 impl<B: Bus> SpoiltBus<B> {
@@ -40,17 +38,18 @@ impl<B: Bus> SpoiltBus<B> {
         ensures sent { succeeded_of result ≡ 0 }
         ensures state { ⟦<SpoiltBus<B> as Bus>⟧.state result ≡ record (B.state inner) {
           honest = false;
-          sent = noted_of result;
+          history = [];
+          sent = [];
+          allowances = [];
           polled_ready = false;
         } }
-        ensures nothing { IsNothing (noted_of result) }
+        ensures nothing { history_of result ≡ [] }
     {
         SpoiltBus {
             bus: inner,
             spoil,
             sent: 0,
-            noted: Sent::new(),
-            polled_ready: false,
+            history: History::new(),
         }
     }
 
@@ -70,8 +69,7 @@ impl<B: Bus> SpoiltBus<B> {
             bus,
             spoil: _,
             sent: _,
-            noted: _,
-            polled_ready: _,
+            history: _,
         } = self;
         bus
     }
@@ -84,26 +82,29 @@ impl<B: Bus> Bus for SpoiltBus<B> {
         subst (λ (b : Bool). MatchBool b (IsChip (spoilt_state B.state spoilt).chip) ⊤) honest tt };
 
     fn transfer(&mut self, out: &[u8], reply: &mut [u8]) -> Result<(), Stopped>
-        ensures sends { Sends out.now (spoilt_state B.state self.old) (spoilt_state B.state self.new) }
+        ensures nature { SameNature (spoilt_state B.state self.old) (spoilt_state B.state self.new) }
         ensures stops { IsHonestFor out.now (length reply.old) (spoilt_state B.state self.old)
             → OnErr result (Stops out.now (spoilt_state B.state self.old) (spoilt_state B.state self.new)) }
         ensures unread { IsHonestFor out.now (length reply.old) (spoilt_state B.state self.old)
             → OnErr result (reply.new ≡ reply.old) }
         ensures carries { IsHonestFor out.now (length reply.old) (spoilt_state B.state self.old)
             → OnOk result (Carries out.now reply.new (spoilt_state B.state self.old) (spoilt_state B.state self.new)) }
-        ensures records_poll { RecordsPoll out.now reply.new result (spoilt_state B.state self.old) (spoilt_state B.state self.new) }
+        ensures records { Records out.now reply.new result
+            (spoilt_state B.state self.old) (spoilt_state B.state self.new) }
         ensures spoils { Spoils B.state out.now reply.old reply.new result self.old self.new }
     {
-        self.noted.note(out);
         match withheld(self.spoil, self.sent) {
             Some(byte) => reply.fill(byte),
             None => {
-                self.bus.transfer(out, reply)?;
+                if let Err(stopped) = self.bus.transfer(out, reply) {
+                    self.history = self.history.stopped(out);
+                    return Err(stopped);
+                }
                 spoil_all(self.spoil, self.sent, out, reply);
             }
         }
         self.sent = self.sent.saturating_add(1);
-        self.polled_ready = polled_ready_after(out, reply, self.polled_ready);
+        self.history = self.history.replied(out, reply);
         Ok(())
     }
 }
@@ -116,6 +117,7 @@ impl<B: Meter> Meter for SpoiltBus<B> {
         ensures sent { succeeded_of self.new ≡ succeeded_of self.old }
     {
         self.bus.allow(n);
+        self.history = self.history.allowed(n);
     }
 }
 

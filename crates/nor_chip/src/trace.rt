@@ -2,7 +2,7 @@
 ghost use Rattle.std.specs.Prelude.{◌≡◌, true, false, length, OnOk, OnErr};
 ghost use Rattle.std.specs.Io.KnownBytes.{Appends, Keeps};
 ghost use Rattle.hex.specs.Hex.{encode_lower};
-ghost use Rattle.nor_model.specs.Bus.{IsHonestFor, Sends, Stops, Carries, RecordsPoll, Allows};
+ghost use Rattle.nor_model.specs.Bus.{IsHonestFor, SameNature, Stops, Carries, Records, Allows};
 ghost use Rattle.nor_chip.specs.Trace.{traced_by, log_of, has_lost, traced_line, Traces};
 
 use nor_model::{Bus, Meter, Stopped};
@@ -79,14 +79,15 @@ impl<B: Bus, L: Write> Bus for TraceBus<B, L> {
     ghost reaches = { λ traced honest. B.reaches traced.bus honest };
 
     fn transfer(&mut self, out: &[u8], reply: &mut [u8]) -> Result<(), Stopped>
-        ensures sends { Sends out.now (B.state (traced_by self.old)) (B.state (traced_by self.new)) }
+        ensures nature { SameNature (B.state (traced_by self.old)) (B.state (traced_by self.new)) }
         ensures stops { IsHonestFor out.now (length reply.old) (B.state (traced_by self.old))
             → OnErr result (Stops out.now (B.state (traced_by self.old)) (B.state (traced_by self.new))) }
         ensures unread { IsHonestFor out.now (length reply.old) (B.state (traced_by self.old))
             → OnErr result (reply.new ≡ reply.old) }
         ensures carries { IsHonestFor out.now (length reply.old) (B.state (traced_by self.old))
             → OnOk result (Carries out.now reply.new (B.state (traced_by self.old)) (B.state (traced_by self.new))) }
-        ensures records_poll { RecordsPoll out.now reply.new result (B.state (traced_by self.old)) (B.state (traced_by self.new)) }
+        ensures records { Records out.now reply.new result
+            (B.state (traced_by self.old)) (B.state (traced_by self.new)) }
         ensures traces { Traces L.contents out.now reply.new result self.old self.new }
     {
         self.bus.transfer(out, reply)?;

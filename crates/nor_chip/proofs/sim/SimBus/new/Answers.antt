@@ -9,4 +9,4 @@ pub returns-clause-starts : goal.returns-clause-starts
 returns-clause-starts c =
     let latch = c.contains.ensures tt
     ∙ (wel_set c.of-status.result.one.0 ∙ ap (λ bytes. slice_index bytes 0 / 2 % 2 == 1) c.of-status.ensures) in
-    search (arith, common_steps, c.new-sent.ensures, latch, λ (s : ℕ). get_or-replicate_all 4096 s false)
+    search (arith, common_steps, c.new.ensures, latch, λ (s : ℕ). get_or-replicate_all 4096 s false)

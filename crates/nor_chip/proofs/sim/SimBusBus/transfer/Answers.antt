@@ -6,5 +6,5 @@ pub returns-then-self-eq0-clause-stops : goal.returns-then-self-eq0-clause-stops
 returns-then-self-eq0-clause-stops c = λ honest. record {
   none_left = grind (arith, c.if-self-eq0.true);
   left = c.cut.ensures.bus.left;
-  at_stop = stops_as _ _ _ _ c.cut.ensures.at_stop;
+  at_stop = stops_as _ c.args.self.now c.stopped-self.result _ c.cut.ensures.at_stop;
 }

@@ -1,6 +1,6 @@
 use Rattle.std.proofs.Common.{rules, refl, ◌∙◌, sym}
 use Rattle.nor_chip.proofs.spoilt.SpoiltBusBus.transfer.Goals as goal
-use Rattle.nor_chip.proofs.spoilt.SpoiltBusBus.transfer.Goals.{in-Some, in-None+in_ok-transfer-in-None}
+use Rattle.nor_chip.proofs.spoilt.SpoiltBusBus.transfer.Goals.{in-Some, in-None+in_default}
 
 pub returns-clause-spoils : goal.returns-clause-spoils
 returns-clause-spoils g c =
@@ -18,7 +18,7 @@ returns-clause-spoils g c =
             };
             passed_on = rw kept tt;
           }
-      | in-None+in_ok-transfer-in-None w ↦
+      | in-None+in_default w ↦
           let passed = sym c.withheld.ensures ∙ w.in-None.is in
           record {
             spoil = rw w.self-is refl;
@@ -29,7 +29,7 @@ returns-clause-spoils g c =
               replied = w.transfer.new.reply;
               as_many = search rules;
               replies = w.spoil_all.ensures;
-              inner = w.in_ok-transfer-in-None.ensures.carries;
+              inner = w.in_default.ensures.carries;
             };
           }
     ]
