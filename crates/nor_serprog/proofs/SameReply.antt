@@ -9,7 +9,7 @@ use Rattle.nor_model.specs.declared.command.Command.{Command}
 use Rattle.nor_model.specs.declared.command.Command.TheVariants.{ReadData, Ignored}
 use Rattle.nor_model.specs.Command.{address_of}
 use Rattle.nor_model.specs.Step.{Step, Does, reply_byte}
-use Rattle.nor_model.specs.Bus.{BusState, KeepsNature, IsHonestFor}
+use Rattle.nor_model.specs.Bus.{BusState, SameNature, IsHonestFor}
 use Rattle.nor_serprog.specs.Twice.{begins_read}
 
 -- The parts of a chip that a read of data leaves as they are: all that the reply depends on.
@@ -86,7 +86,7 @@ same_reply (a ∷ rest) old mid new first again reads one two len =
     same_reply_03 rest old mid new first again (subst P three one) (subst Q three two) len
 
 -- If an honest bus takes a transaction, it then takes another one that sends the same bytes and reads equally many.
-pub fits_again : (out : List ℕ) (m n : ℕ) (old new : BusState) → KeepsNature old new → n ≡ m → IsHonestFor out m old
+pub fits_again : (out : List ℕ) (m n : ℕ) (old new : BusState) → SameNature old new → n ≡ m → IsHonestFor out m old
     → IsHonestFor out n new
 fits_again out m n old new nature same fits = record {
   honest = nature.honest ∙ fits.honest;

@@ -1,8 +1,8 @@
 -- A bus over an honest port stops as the contract of a bus allows.
-use Rattle.std.proofs.Common.{◌≡◌, ◌∙◌, ◌<◌, ◌≤◌, ◌⊎◌, ℕ, Bool, true, false, List, [], length, refl, sym, ap, subst, arith, inl, inr}
+use Rattle.std.proofs.Common.{◌≡◌, ◌∙◌, ◌<◌, ◌≤◌, ◌⊎◌, ℕ, true, false, List, [], length, refl, sym, ap, subst, arith, inl, inr}
 use Rattle.std.proofs.Math.Bool.{or-false}
 use Rattle.std.proofs.lemmas.Bool.{cases_Bool, false≢true}
-use Rattle.nor_model.specs.declared.sent.Sent.{Sent}
+use Rattle.nor_model.specs.Exchange.{Exchange}
 use Rattle.nor_model.specs.Bus.{IsHonestFor, Stops}
 use Rattle.nor_model.proofs.Steps.{nothing_sent}
 use Rattle.nor_serprog.specs.declared.link.Link.{Link}
@@ -11,10 +11,10 @@ use Rattle.nor_serprog.specs.Device.{PortState, Interrupted}
 use Rattle.nor_serprog.specs.Link.{is_in_step, IsSettled}
 
 -- an interrupted transaction is a stop of the bus
-stops_cut : (out : List ℕ) (replies : ℕ) (old new : PortState) (sent sent' : Sent) (polled_ready : Bool)
+stops_cut : (out : List ℕ) (replies : ℕ) (old new : PortState) (history history' : List Exchange)
     → old.left < 3 → Interrupted out replies replies old new
-    → Stops out (over_port old sent polled_ready) (over_port new sent' polled_ready)
-stops_cut out replies old new sent sent' polled_ready few is = record {
+    → Stops out (over_port old history) (over_port new history')
+stops_cut out replies old new history history' few is = record {
   none_left = omega (arith, few);
   left = omega (arith, few, is.few);
   at_stop = record {
@@ -30,9 +30,9 @@ stops_cut out replies old new sent sent' polled_ready few is = record {
 }
 
 -- a transaction of which nothing was sent, because too few calls are left, is a stop of the bus
-stops_silent : (out : List ℕ) (port : PortState) (sent sent' : Sent) (polled_ready : Bool) → port.left < 3
-    → Stops out (over_port port sent polled_ready) (over_port port sent' polled_ready)
-stops_silent out port sent sent' polled_ready few = record {
+stops_silent : (out : List ℕ) (port : PortState) (history history' : List Exchange) → port.left < 3
+    → Stops out (over_port port history) (over_port port history')
+stops_silent out port history history' few = record {
   none_left = omega (arith, few);
   left = refl;
   at_stop = record {
@@ -50,24 +50,24 @@ stops_silent out port sent sent' polled_ready few = record {
 -- over an honest port, a transaction that failed and fits the bus is a stop of the bus, whether the link was in step or
 -- not
 pub stops_over : {P C : Type 0} (port : P → PortState) (out : List ℕ) (replies : ℕ) (link link' : Link P C)
-    (sent sent' : Sent) (polled_ready : Bool) → IsSettled port link → (is_in_step link ≡ false → link' ≡ link)
+    (history history' : List Exchange) → IsSettled port link → (is_in_step link ≡ false → link' ≡ link)
     → ((port link.port).honest ≡ true → (link' ≡ link)
     ⊎ Interrupted out replies replies (port link.port) (port link'.port))
     → (length out ≤ 260 → replies ≤ 4096 → is_in_step link' ≡ false)
-    → IsHonestFor out replies (over_port (port link.port) sent polled_ready)
-    → Stops out (over_port (port link.port) sent polled_ready) (over_port (port link'.port) sent' polled_ready)
-stops_over {P} {C} port out replies link link' sent sent' polled_ready settled silent interrupted fits honest =
+    → IsHonestFor out replies (over_port (port link.port) history)
+    → Stops out (over_port (port link.port) history) (over_port (port link'.port) history')
+stops_over {P} {C} port out replies link link' history history' settled silent interrupted fits honest =
     let Ends : Link P C → Type 0 = λ (now : Link P C).
-    Stops out (over_port (port link.port) sent polled_ready) (over_port (port now.port) sent' polled_ready) in
+    Stops out (over_port (port link.port) history) (over_port (port now.port) history') in
     elim (cases_Bool (is_in_step link)) [
       | inr lost ↦
           subst Ends (sym (silent lost))
-          (stops_silent out (port link.port) sent sent' polled_ready (settled.spent honest.honest lost))
+          (stops_silent out (port link.port) history history' (settled.spent honest.honest lost))
       | inl in_step ↦ elim honest.fits [
         | inl unlimited ↦ absurd (false≢true unlimited)
         | inr short ↦ elim (interrupted honest.honest) [
           | inr cut ↦
-              stops_cut out replies (port link.port) (port link'.port) sent sent' polled_ready
+              stops_cut out replies (port link.port) (port link'.port) history history'
               (cut.few_left short.0 short.1 (omega arith)) cut
           | inl same ↦
               absurd (false≢true (sym (fits short.0 short.1) ∙ ap (λ (l : Link P C). is_in_step l) same ∙ in_step))

@@ -1,5 +1,7 @@
 -- A bus that reads ahead, as contracts see it.
 use Rattle.std.specs.Prelude.{ℕ, List}
+use Rattle.nor_model.specs.Bus.{BusState, unknown_bus}
+use Rattle.nor_model.specs.Exchange.{Exchange}
 use Rattle.nor_serprog.specs.declared.ahead.ReadAhead.{ReadAhead}
 
 -- The bus inside.
@@ -17,3 +19,12 @@ held ahead = ahead.len
 -- The bytes in memory, of which the first `held` are data.
 abbrev pub block_of : {B : Type 0} → ReadAhead B → List ℕ
 block_of ahead = ahead.block
+
+-- The transactions that the bus was asked to carry out, each with its reply, the last one first. A read that was
+-- answered from memory is one of them.
+abbrev pub history_of : {B : Type 0} → ReadAhead B → List Exchange
+history_of ahead = ahead.history.exchanges
+
+-- The state of the bus: only its history is known.
+abbrev pub ahead_state : {B : Type 0} → ReadAhead B → BusState
+ahead_state ahead = unknown_bus (history_of ahead)

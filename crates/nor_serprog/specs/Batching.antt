@@ -1,7 +1,9 @@
 -- The bus that sends commands together, as contracts see it.
 use Rattle.std.specs.Prelude.{ℕ, List, Bool, Option}
 use Rattle.nor_model.specs.Bus.{BusState, unknown_bus}
-use Rattle.nor_model.specs.declared.sent.Sent.{Sent}
+use Rattle.nor_model.specs.Exchange.{Exchange}
+use Rattle.nor_model.specs.PolledReady.{polled_ready_in}
+use Rattle.nor_model.specs.Sent.{Sent, sent_in}
 use Rattle.nor_serprog.specs.declared.batching.BatchingBus.{BatchingBus}
 use Rattle.nor_serprog.specs.declared.link.Link.{Link}
 use Rattle.nor_serprog.specs.declared.port.Port.{Ghosts}
@@ -20,13 +22,17 @@ port_in batching = batching.batch.link.port
 abbrev pub waiting_of : {P C : Type 0} {over : Ghosts P C} → BatchingBus P C over → List ℕ
 waiting_of batching = batching.batch.waiting.items
 
--- The modifying commands that were sent, or that the bus was asked to send.
-abbrev pub sent_of : {P C : Type 0} {over : Ghosts P C} → BatchingBus P C over → Sent
-sent_of batching = batching.sent
+-- The transactions that the bus was asked to carry out, each with its reply, the last one first.
+abbrev pub history_of : {P C : Type 0} {over : Ghosts P C} → BatchingBus P C over → List Exchange
+history_of batching = batching.history.exchanges
 
--- The reply to the last poll showed that the chip is ready.
+-- The transactions that may modify the chip and that were sent, or that the bus was asked to send.
+abbrev pub sent_of : {P C : Type 0} {over : Ghosts P C} → BatchingBus P C over → Sent
+sent_of batching = sent_in (history_of batching)
+
+-- The reply to the last poll showed that the chip is ready. False before the first poll.
 abbrev pub polled_ready_of : {P C : Type 0} {over : Ghosts P C} → BatchingBus P C over → Bool
-polled_ready_of batching = batching.polled_ready
+polled_ready_of batching = polled_ready_in (history_of batching)
 
 -- The cause of the last transaction or `flush` that failed, except for transactions that were rejected because an
 -- earlier one failed.
@@ -37,6 +43,6 @@ cause_of batching = batching.cause
 abbrev pub is_ready : {P C : Type 0} {over : Ghosts P C} → BatchingBus P C over → Bool
 is_ready batching = is_in_step batching.batch.link
 
--- The state of the bus: only what was sent, or waits, and the replies to polls are known.
+-- The state of the bus: only its history is known. A command that waits is already in the history, with an empty reply.
 abbrev pub serprog_state : {P C : Type 0} {over : Ghosts P C} → BatchingBus P C over → BusState
-serprog_state batching = unknown_bus batching.sent batching.polled_ready
+serprog_state batching = unknown_bus (history_of batching)

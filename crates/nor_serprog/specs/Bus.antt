@@ -1,7 +1,9 @@
 -- The bus to the chip at a programmer, as contracts see it.
-use Rattle.std.specs.Prelude.{◌/◌, Bool, false, Option}
-use Rattle.nor_model.specs.declared.sent.Sent.{Sent}
+use Rattle.std.specs.Prelude.{◌/◌, Bool, false, List, [], Option}
 use Rattle.nor_model.specs.Bus.{BusState}
+use Rattle.nor_model.specs.Exchange.{Exchange}
+use Rattle.nor_model.specs.PolledReady.{polled_ready_in}
+use Rattle.nor_model.specs.Sent.{Sent, sent_in}
 use Rattle.nor_serprog.specs.declared.bus.SerprogBus.{SerprogBus}
 use Rattle.nor_serprog.specs.declared.link.Link.{Link}
 use Rattle.nor_serprog.specs.declared.link.Failure.{Failure}
@@ -9,19 +11,22 @@ use Rattle.nor_serprog.specs.declared.port.Port.{Ghosts}
 use Rattle.nor_serprog.specs.Device.{PortState}
 use Rattle.nor_serprog.specs.Link.{is_in_step}
 
--- The state of a bus over a port in this state. Its chip is the programmer's. A transaction takes three calls of the
--- port: one sends the frame, one receives ACK, and one receives the reply. The bus is not steady, since a port can fail
--- inside a transaction, and not unlimited, since a frame sends at most 260 bytes.
-abbrev pub over_port : PortState → Sent → (polled_ready : Bool) → BusState
-over_port port sent polled_ready = record {
+-- The state of a bus with this history over a port in this state. Its chip is the programmer's. A transaction takes
+-- three calls of the port: one sends the frame, one receives ACK, and one receives the reply. The bus is not steady,
+-- since a port can fail inside a transaction, and not unlimited, since a frame sends at most 260 bytes. It takes no
+-- allowances.
+abbrev pub over_port : PortState → (history : List Exchange) → BusState
+over_port port history = record {
   chip = port.device.chip;
   left = port.left / 3;
   honest = port.honest;
-  sent = sent;
+  history = history;
+  sent = sent_in history;
+  allowances = [];
   worn = port.device.worn;
   steady = false;
   unlimited = false;
-  polled_ready = polled_ready;
+  polled_ready = polled_ready_in history;
 }
 
 -- The link to the programmer.
@@ -32,13 +37,17 @@ link_of bus = bus.link
 abbrev pub port_in : {P C : Type 0} {over : Ghosts P C} → SerprogBus P C over → P
 port_in bus = bus.link.port
 
--- The modifying commands that were sent, or that the bus tried to send.
+-- The transactions that the bus was asked to carry out, each with its reply, the last one first.
+abbrev pub history_of : {P C : Type 0} {over : Ghosts P C} → SerprogBus P C over → List Exchange
+history_of bus = bus.history.exchanges
+
+-- The transactions that may modify the chip and that were sent, or that the bus was asked to send.
 abbrev pub sent_of : {P C : Type 0} {over : Ghosts P C} → SerprogBus P C over → Sent
-sent_of bus = bus.sent
+sent_of bus = sent_in (history_of bus)
 
 -- The reply to the last poll showed that the chip is ready. False before the first poll.
 abbrev pub polled_ready_of : {P C : Type 0} {over : Ghosts P C} → SerprogBus P C over → Bool
-polled_ready_of bus = bus.polled_ready
+polled_ready_of bus = polled_ready_in (history_of bus)
 
 -- The cause of the last transaction that failed, except for those that were rejected because an earlier one failed.
 abbrev pub cause_of : {P C : Type 0} {over : Ghosts P C} → SerprogBus P C over → Option (Failure C)
@@ -50,4 +59,4 @@ is_ready bus = is_in_step bus.link
 
 -- The state of the bus.
 abbrev pub serprog_state : {P C : Type 0} {over : Ghosts P C} → SerprogBus P C over → BusState
-serprog_state {over = over} bus = over_port (over.state bus.link.port) bus.sent bus.polled_ready
+serprog_state {over = over} bus = over_port (over.state bus.link.port) (history_of bus)

@@ -3,6 +3,7 @@ use Rattle.std.specs.Prelude.{◌≡◌, ◌==◌, ℕ, Bool, false, Option, Non
 use Rattle.std.proofs.Common.{Vec, Global}
 use Rattle.nor_serprog.specs.ReadsAs.{address_in, part}
 use Rattle.nor_model.specs.Bus.{BusState, Carries, unknown_bus}
+use Rattle.nor_model.specs.Exchange.{Exchange}
 use Rattle.nor_serprog.specs.declared.twice.ReadTwice.{ReadTwice}
 
 -- The bus inside.
@@ -24,9 +25,14 @@ Expects twice out answer = elim twice.expected [
   | Some image ↦ answer ≡ part image.items (address_in out) (length answer)
 ]
 
--- The state of the bus: only what was sent over the bus inside, and the replies to polls, are known.
-abbrev pub view_of : BusState → BusState
-view_of inside = unknown_bus inside.sent inside.polled_ready
+-- The transactions that the bus was asked to carry out, each with its reply, the last one first. A read that the bus
+-- inside carried out twice is one of them.
+abbrev pub history_of : {B : Type 0} → ReadTwice B → List Exchange
+history_of twice = twice.history.exchanges
+
+-- The state of the bus: only its history is known.
+abbrev pub twice_state : {B : Type 0} → ReadTwice B → BusState
+twice_state twice = unknown_bus (history_of twice)
 
 -- True if a transaction begins with 03h, the opcode of a read of data.
 abbrev pub begins_read : (out : List ℕ) → Bool

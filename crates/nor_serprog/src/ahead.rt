@@ -1,12 +1,11 @@
 //! A bus that reads ahead.
-ghost use Rattle.std.specs.Prelude.{◌≡◌, ◌≤◌, ◌+◌, ◌-◌, true, false, length, OnOk, OnErr, IfSome};
+ghost use Rattle.std.specs.Prelude.{◌≡◌, ◌≤◌, ◌+◌, ◌-◌, [], true, false, length, OnOk, OnErr, IfSome};
 ghost use Rattle.std.proofs.lemmas.Bool.{false≢true};
-ghost use Rattle.nor_model.specs.Bus.{IsHonestFor, Sends, Stops, Carries, RecordsPoll};
-ghost use Rattle.nor_serprog.specs.ReadsAs.{reads_data, address_in, part, KeepsRecord};
-ghost use Rattle.nor_serprog.specs.Twice.{view_of};
+ghost use Rattle.nor_model.specs.Bus.{IsHonestFor, SameNature, Stops, Carries, Records};
+ghost use Rattle.nor_serprog.specs.ReadsAs.{reads_data, address_in, part, KeepsRecord, RecordsInside};
 
 use nor_geometry::SECTOR_LEN;
-use nor_model::{Bus, Stopped};
+use nor_model::{Bus, History, Stopped};
 
 // The greatest length of a block. The size of a chip is a power of two from 64 KiB, and so a multiple of this length.
 // Therefore a block that lies between two multiples of this length does not reach past the end of a chip.
@@ -33,6 +32,7 @@ pub struct ReadAhead<B> {
     // The length of the last block before it was shortened to end at a multiple of 64 KiB.
     step: u32,
     longest: u32,
+    history: History,
     ghost fits: { len ≤ 65536 },
     ghost below: { start ≤ 16777216 },
     ghost longest_fits: { longest ≤ 65536 },
@@ -40,13 +40,14 @@ pub struct ReadAhead<B> {
 }
 
 impl<B: Bus + Drop> ReadAhead<B> {
-    ghost use Rattle.nor_serprog.specs.Ahead.{ahead_of, held};
+    ghost use Rattle.nor_serprog.specs.Ahead.{ahead_of, held, history_of};
 
     /// Returns a bus that reads ahead over `bus`, which can read `longest_read` bytes in a transaction. If that is less
     /// than 4,096, nothing is read ahead.
     pub fn new(bus: B, longest_read: u32) -> ReadAhead<B>
         ensures bus { ahead_of result ≡ bus }
         ensures empty { held result ≡ 0 }
+        ensures history { history_of result ≡ [] }
     {
         let longest = longest_read.min(LONGEST_BLOCK) / SECTOR_LEN * SECTOR_LEN;
         ReadAhead {
@@ -56,6 +57,7 @@ impl<B: Bus + Drop> ReadAhead<B> {
             len: 0,
             step: 0,
             longest,
+            history: History::new(),
         }
     }
 
@@ -68,13 +70,32 @@ impl<B: Bus + Drop> ReadAhead<B> {
 }
 
 impl<B: Bus> ReadAhead<B> {
-    ghost use Rattle.nor_serprog.specs.Ahead.{ahead_of, begin, held, block_of};
+    ghost use Rattle.nor_serprog.specs.Ahead.{ahead_of, begin, held, block_of, history_of};
+
+    // Makes one transaction, and does not add it to the history.
+    fn carry(&mut self, out: &[u8], reply: &mut [u8]) -> Result<(), Stopped>
+        ensures inside { RecordsInside out.now reply.new result
+            (B.state (ahead_of self.old)) (B.state (ahead_of self.new)) }
+        ensures history { history_of self.new ≡ history_of self.old }
+        ensures forgets { reads_data out.now ≡ false → held self.new ≡ 0 }
+    {
+        match data_address(out) {
+            Some(address) if is_in_block(address, reply.len(), self.longest) => {
+                self.read(address, reply)
+            }
+            _ => {
+                self.len = 0;
+                self.bus.transfer(out, reply)
+            }
+        }
+    }
 
     // Reads `reply` out of the block, which is read first if it does not hold all of these bytes.
     fn read(&mut self, address: u32, reply: &mut [u8]) -> Result<(), Stopped>
         requires address { address ≤ 16777215 }
         requires len { length reply.old ≤ 65536 }
         ensures record { KeepsRecord (B.state (ahead_of self.old)) (B.state (ahead_of self.new)) }
+        ensures history { history_of self.new ≡ history_of self.old }
         ensures part { OnOk result
             (reply.new ≡ part (block_of self.new) (address - begin self.new) (length reply.old)) }
     {
@@ -89,6 +110,7 @@ impl<B: Bus> ReadAhead<B> {
         requires address { address ≤ 16777215 }
         requires len { len ≤ 65536 }
         ensures record { KeepsRecord (B.state (ahead_of self.old)) (B.state (ahead_of self.new)) }
+        ensures history { history_of self.new ≡ history_of self.old }
         ensures begins { OnOk result (begin self.new ≤ address) }
         ensures ends { OnOk result (address + len ≤ begin self.new + held self.new) }
     {
@@ -114,6 +136,7 @@ impl<B: Bus> ReadAhead<B> {
         requires address { address ≤ 16777215 }
         requires len { len ≤ 65536 }
         ensures record { KeepsRecord (B.state (ahead_of self.old)) (B.state (ahead_of self.new)) }
+        ensures history { history_of self.new ≡ history_of self.old }
         ensures begins { OnOk result (begin self.new ≡ address) }
         ensures filled { OnOk result (held self.new ≡ len) }
     {
@@ -129,33 +152,33 @@ impl<B: Bus> ReadAhead<B> {
 }
 
 impl<B: Bus> Bus for ReadAhead<B> {
-    ghost use Rattle.nor_serprog.specs.Ahead.{ahead_of, held};
+    ghost use Rattle.nor_serprog.specs.Ahead.{ahead_of, held, ahead_state};
 
-    ghost state = { λ ahead. view_of (B.state ahead.bus) };
+    ghost state = { ahead_state };
 
     ghost reaches = { λ ahead honest. absurd (false≢true honest) };
 
     fn transfer(&mut self, out: &[u8], reply: &mut [u8]) -> Result<(), Stopped>
-        ensures sends { Sends out.now (view_of (B.state (ahead_of self.old))) (view_of (B.state (ahead_of self.new))) }
-        ensures stops { IsHonestFor out.now (length reply.old) (view_of (B.state (ahead_of self.old)))
-            → OnErr result
-            (Stops out.now (view_of (B.state (ahead_of self.old))) (view_of (B.state (ahead_of self.new)))) }
-        ensures unread { IsHonestFor out.now (length reply.old) (view_of (B.state (ahead_of self.old)))
+        ensures nature { SameNature (ahead_state self.old) (ahead_state self.new) }
+        ensures stops { IsHonestFor out.now (length reply.old) (ahead_state self.old)
+            → OnErr result (Stops out.now (ahead_state self.old) (ahead_state self.new)) }
+        ensures unread { IsHonestFor out.now (length reply.old) (ahead_state self.old)
             → OnErr result (reply.new ≡ reply.old) }
-        ensures carries { IsHonestFor out.now (length reply.old) (view_of (B.state (ahead_of self.old)))
-            → OnOk result (Carries out.now reply.new
-            (view_of (B.state (ahead_of self.old))) (view_of (B.state (ahead_of self.new)))) }
-        ensures records_poll { RecordsPoll out.now reply.new result
-            (view_of (B.state (ahead_of self.old))) (view_of (B.state (ahead_of self.new))) }
+        ensures carries { IsHonestFor out.now (length reply.old) (ahead_state self.old)
+            → OnOk result (Carries out.now reply.new (ahead_state self.old) (ahead_state self.new)) }
+        ensures records { Records out.now reply.new result (ahead_state self.old) (ahead_state self.new) }
+        ensures inside { RecordsInside out.now reply.new result
+            (B.state (ahead_of self.old)) (B.state (ahead_of self.new)) }
         ensures forgets { reads_data out.now ≡ false → held self.new ≡ 0 }
     {
-        match data_address(out) {
-            Some(address) if is_in_block(address, reply.len(), self.longest) => {
-                self.read(address, reply)
+        match self.carry(out, reply) {
+            Ok(()) => {
+                self.history = self.history.replied(out, reply);
+                Ok(())
             }
-            _ => {
-                self.len = 0;
-                self.bus.transfer(out, reply)
+            Err(Stopped) => {
+                self.history = self.history.stopped(out);
+                Err(Stopped)
             }
         }
     }

@@ -1,13 +1,12 @@
 //! A bus to the chip at a serial programmer that needs few round trips.
 ghost use Rattle.std.specs.Prelude.{◌≡◌, ◌<◌, ◌⊎◌, [], true, false, length, OnOk, OnErr, IsSome, option_copied};
 ghost use Rattle.std.proofs.lemmas.Bool.{false≢true};
-ghost use Rattle.nor_model.specs.Bus.{IsHonestFor, Sends, RecordsPoll, Stops, Carries};
+ghost use Rattle.nor_model.specs.Bus.{IsHonestFor, SameNature, Records, Stops, Carries};
 ghost use Rattle.nor_model.specs.Command.{begins_change};
-ghost use Rattle.nor_model.specs.Sent.{IsNothing};
 
 use crate::batch::Batch;
 use crate::{Failure, Link, Port, Programmer, Sync};
-use nor_model::{Bus, Sent, Stopped, polled_ready_after};
+use nor_model::{Bus, History, Stopped};
 
 /// A bus to the chip at a serial programmer, over any port. It needs fewer round trips than `SerprogBus`: a modifying
 /// command without a reply is sent together with the next transaction of another kind. After a modifying command the
@@ -22,10 +21,10 @@ use nor_model::{Bus, Sent, Stopped, polled_ready_after};
 /// - What waits fits into the programmer's serial buffer together with what is sent with it. Nothing waits if the
 ///   programmer does not report the size of that buffer.
 ///
-/// Over any port the modifying commands and the replies to polls are recorded; a modifying command is recorded before
-/// it waits. A transaction that sends more than 260 bytes, or reads more than the programmer can, is rejected: nothing
-/// is sent, and what waits still waits. After any other transaction that failed, what waited is dropped, and nothing
-/// more is sent until `synchronize` returns `Ok`.
+/// Over any port the history has each transaction with its reply; a transaction that failed or was rejected has none. A
+/// modifying command that waits is already in the history, with an empty reply. A transaction that sends more than 260
+/// bytes, or reads more than the programmer can, is rejected: nothing is sent, and what waits still waits. After any
+/// other transaction that failed, what waited is dropped, and nothing more is sent until `synchronize` returns `Ok`.
 ///
 /// The bus is not honest as `Bus` defines it, even over an honest port: a command that waits has not reached the chip.
 #[derive(Drop)]
@@ -33,18 +32,19 @@ pub struct BatchingBus<P: Port + Drop> {
     batch: Batch<P>,
     programmer: Programmer,
     cause: Option<Failure<P::Cause>>,
-    sent: Sent,
-    polled_ready: bool,
+    history: History,
 }
 
 impl<P: Port + Drop> BatchingBus<P> {
-    ghost use Rattle.nor_serprog.specs.Batching.{link_of, port_in, waiting_of, sent_of, polled_ready_of, cause_of, is_ready};
+    ghost use Rattle.nor_serprog.specs.Batching.{link_of, port_in, waiting_of, history_of, sent_of, polled_ready_of};
+    ghost use Rattle.nor_serprog.specs.Batching.{cause_of, is_ready};
 
     /// Returns a bus over a link whose programmer was identified (`Programmer::identify`).
     pub fn new(link: Link<P>, programmer: Programmer) -> BatchingBus<P>
         ensures link { link_of result ≡ link }
         ensures empty { waiting_of result ≡ [] }
-        ensures sent { IsNothing (sent_of result) }
+        ensures history { history_of result ≡ [] }
+        ensures sent { sent_of result ≡ [] }
         ensures polled_ready { polled_ready_of result ≡ false }
     {
         let batch = Batch::new(link, &programmer);
@@ -52,8 +52,7 @@ impl<P: Port + Drop> BatchingBus<P> {
             batch,
             programmer,
             cause: None,
-            sent: Sent::new(),
-            polled_ready: false,
+            history: History::new(),
         }
     }
 
@@ -79,6 +78,7 @@ impl<P: Port + Drop> BatchingBus<P> {
 
     /// Sends what waits, and reads its acknowledgements. Returns `Stopped` if an exchange failed.
     pub fn flush(&mut self) -> Result<(), Stopped>
+        ensures history { history_of self.new ≡ history_of self.old }
         ensures sent { sent_of self.new ≡ sent_of self.old }
         ensures polled_ready { polled_ready_of self.new ≡ polled_ready_of self.old }
         ensures silent { is_ready self.old ≡ false → link_of self.new ≡ link_of self.old }
@@ -94,8 +94,9 @@ impl<P: Port + Drop> BatchingBus<P> {
     }
 
     /// Synchronizes the programmer after a transaction failed, as `Link::synchronize` does. A programmer that is in
-    /// step is left alone; otherwise nothing waits afterwards. The record of modifying commands and polls is kept.
+    /// step is left alone; otherwise nothing waits afterwards. The history of the bus is kept.
     pub fn synchronize(&mut self) -> Result<(), Failure<P::Cause>>
+        ensures history { history_of self.new ≡ history_of self.old }
         ensures sent { sent_of self.new ≡ sent_of self.old }
         ensures polled_ready { polled_ready_of self.new ≡ polled_ready_of self.old }
         ensures ok { OnOk result (is_ready self.new ≡ true) }
@@ -116,14 +117,14 @@ impl<P: Port + Drop> Bus for BatchingBus<P> {
     ghost reaches = { λ batching honest. absurd (false≢true honest) };
 
     fn transfer(&mut self, out: &[u8], reply: &mut [u8]) -> Result<(), Stopped>
-        ensures sends { Sends out.now (serprog_state self.old) (serprog_state self.new) }
+        ensures nature { SameNature (serprog_state self.old) (serprog_state self.new) }
         ensures stops { IsHonestFor out.now (length reply.old) (serprog_state self.old)
             → OnErr result (Stops out.now (serprog_state self.old) (serprog_state self.new)) }
         ensures unread { IsHonestFor out.now (length reply.old) (serprog_state self.old)
             → OnErr result (reply.new ≡ reply.old) }
         ensures carries { IsHonestFor out.now (length reply.old) (serprog_state self.old)
             → OnOk result (Carries out.now reply.new (serprog_state self.old) (serprog_state self.new)) }
-        ensures records_poll { RecordsPoll out.now reply.new result (serprog_state self.old) (serprog_state self.new) }
+        ensures records { Records out.now reply.new result (serprog_state self.old) (serprog_state self.new) }
         ensures silent { is_ready self.old ≡ false → link_of self.new ≡ link_of self.old }
         ensures was_ready { OnOk result (is_ready self.old ≡ true) }
         ensures ok { OnOk result (is_ready self.new ≡ true) }
@@ -133,14 +134,14 @@ impl<P: Port + Drop> Bus for BatchingBus<P> {
         ensures cause { is_ready self.old ≡ true → OnErr result (IsSome (cause_of self.new)) }
         ensures first_cause { is_ready self.old ≡ false → cause_of self.new ≡ cause_of self.old }
     {
-        self.sent.note(out);
         let was_in_step = self.batch.link().sync() == Sync::InStep;
         match self.batch.transact(out, reply) {
             Ok(()) => {
-                self.polled_ready = polled_ready_after(out, reply, self.polled_ready);
+                self.history = self.history.replied(out, reply);
                 Ok(())
             }
             Err(cause) => {
+                self.history = self.history.stopped(out);
                 if was_in_step {
                     self.cause = Some(cause);
                 }

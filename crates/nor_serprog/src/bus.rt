@@ -1,12 +1,11 @@
 //! A bus to the chip at a serial programmer.
-ghost use Rattle.std.specs.Prelude.{◌≡◌, ◌≤◌, ◌⊎◌, true, false, length, OnOk, OnErr, IsSome, option_copied};
-ghost use Rattle.nor_model.specs.Sent.{IsNothing};
-ghost use Rattle.nor_model.specs.Bus.{IsHonestFor, Sends, RecordsPoll, Stops, Carries};
+ghost use Rattle.std.specs.Prelude.{◌≡◌, ◌≤◌, ◌⊎◌, true, false, length, OnOk, OnErr, [], IsSome, option_copied};
+ghost use Rattle.nor_model.specs.Bus.{IsHonestFor, SameNature, Records, Stops, Carries};
 ghost use Rattle.nor_serprog.specs.Device.{IsIdle, Exchanged, Interrupted};
 ghost use Rattle.nor_serprog.specs.Link.{port_of, is_in_step, IsSettled};
 
 use crate::{Command, Failure, Link, Port, Programmer, Sync};
-use nor_model::{Bus, Sent, Stopped, polled_ready_after};
+use nor_model::{Bus, History, Stopped};
 
 /// A bus to the chip at a serial programmer, over any port. One transaction is one O_SPIOP (serprog protocol,
 /// flashrom's Documentation/serprog-protocol.txt).
@@ -15,24 +14,22 @@ use nor_model::{Bus, Sent, Stopped, polled_ready_after};
 /// bytes and reads at most 4,096 is one step of the chip, and fails only if fewer than three calls of the port are
 /// left. After such a failure the chip may have carried out any part of the transaction, and may have lost its power.
 ///
-/// Over any port the modifying commands that were sent and the replies to polls are recorded; a modifying command is
-/// recorded before its first byte is sent. A transaction that sends more than 260 bytes, or reads more than the
-/// programmer can, is rejected, and nothing is sent. After any other transaction that failed, nothing more is sent
-/// until `synchronize` returns `Ok`.
+/// Over any port the history has each transaction with its reply; a transaction that failed or was rejected has none. A
+/// transaction that sends more than 260 bytes, or reads more than the programmer can, is rejected, and nothing is sent.
+/// After any other transaction that failed, nothing more is sent until `synchronize` returns `Ok`.
 #[derive(Drop)]
 pub struct SerprogBus<P: Port + Drop> {
     link: Link<P>,
     programmer: Programmer,
     cause: Option<Failure<P::Cause>>,
-    sent: Sent,
-    polled_ready: bool,
+    history: History,
     // If the link is in step, an honest port leads to a programmer that waits for a frame; otherwise the port has too
     // few calls left for a transaction.
     ghost idle: { IsSettled P.state link },
 }
 
 impl<P: Port + Drop> SerprogBus<P> {
-    ghost use Rattle.nor_serprog.specs.Bus.{link_of, port_in, sent_of, polled_ready_of, cause_of, is_ready};
+    ghost use Rattle.nor_serprog.specs.Bus.{link_of, port_in, history_of, sent_of, polled_ready_of, cause_of, is_ready};
 
     /// Returns a bus over a link whose programmer was identified (`Programmer::identify`). The link must be in step.
     /// Over an honest port the programmer must be idle.
@@ -40,15 +37,15 @@ impl<P: Port + Drop> SerprogBus<P> {
         requires in_step { is_in_step link ≡ true }
         requires idle { (P.state (port_of link)).honest ≡ true → IsIdle (P.state (port_of link)).device }
         ensures link { link_of result ≡ link }
-        ensures sent { IsNothing (sent_of result) }
+        ensures history { history_of result ≡ [] }
+        ensures sent { sent_of result ≡ [] }
         ensures polled_ready { polled_ready_of result ≡ false }
     {
         SerprogBus {
             link,
             programmer,
             cause: None,
-            sent: Sent::new(),
-            polled_ready: false,
+            history: History::new(),
         }
     }
 
@@ -73,10 +70,11 @@ impl<P: Port + Drop> SerprogBus<P> {
     }
 
     /// Synchronizes the programmer after a transaction failed, as `Link::synchronize` does. A programmer that is in
-    /// step is left alone. The record of modifying commands and polls is kept.
+    /// step is left alone. The history of the bus is kept.
     ///
     /// The chip may have carried out the transaction that failed, or not.
     pub fn synchronize(&mut self) -> Result<(), Failure<P::Cause>>
+        ensures history { history_of self.new ≡ history_of self.old }
         ensures sent { sent_of self.new ≡ sent_of self.old }
         ensures polled_ready { polled_ready_of self.new ≡ polled_ready_of self.old }
         ensures ok { OnOk result (is_ready self.new ≡ true) }
@@ -97,14 +95,14 @@ impl<P: Port + Drop> Bus for SerprogBus<P> {
     ghost reaches = { λ bus honest. P.reaches bus.link.port honest };
 
     fn transfer(&mut self, out: &[u8], reply: &mut [u8]) -> Result<(), Stopped>
-        ensures sends { Sends out.now (serprog_state self.old) (serprog_state self.new) }
+        ensures nature { SameNature (serprog_state self.old) (serprog_state self.new) }
         ensures stops { IsHonestFor out.now (length reply.old) (serprog_state self.old)
             → OnErr result (Stops out.now (serprog_state self.old) (serprog_state self.new)) }
         ensures unread { IsHonestFor out.now (length reply.old) (serprog_state self.old)
             → OnErr result (reply.new ≡ reply.old) }
         ensures carries { IsHonestFor out.now (length reply.old) (serprog_state self.old)
             → OnOk result (Carries out.now reply.new (serprog_state self.old) (serprog_state self.new)) }
-        ensures records_poll { RecordsPoll out.now reply.new result (serprog_state self.old) (serprog_state self.new) }
+        ensures records { Records out.now reply.new result (serprog_state self.old) (serprog_state self.new) }
         ensures silent { is_ready self.old ≡ false → link_of self.new ≡ link_of self.old }
         ensures was_ready { OnOk result (is_ready self.old ≡ true) }
         ensures ok { OnOk result (is_ready self.new ≡ true) }
@@ -113,14 +111,14 @@ impl<P: Port + Drop> Bus for SerprogBus<P> {
         ensures cause { is_ready self.old ≡ true → OnErr result (IsSome (cause_of self.new)) }
         ensures first_cause { is_ready self.old ≡ false → cause_of self.new ≡ cause_of self.old }
     {
-        self.sent.note(out);
         let was_in_step = self.link.sync() == Sync::InStep;
         match carry(&mut self.link, self.programmer.longest_read(), out, reply) {
             Ok(()) => {
-                self.polled_ready = polled_ready_after(out, reply, self.polled_ready);
+                self.history = self.history.replied(out, reply);
                 Ok(())
             }
             Err(cause) => {
+                self.history = self.history.stopped(out);
                 if was_in_step {
                     self.cause = Some(cause);
                 }

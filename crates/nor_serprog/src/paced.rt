@@ -1,9 +1,10 @@
 //! A bus that pauses between polls of a busy chip.
-ghost use Rattle.std.specs.Prelude.{◌≡◌, ◌≤◌, true, length, OnOk, OnErr};
-ghost use Rattle.nor_model.specs.Bus.{IsHonestFor, Sends, Stops, Carries, RecordsPoll};
+ghost use Rattle.std.specs.Prelude.{◌≡◌, ◌≤◌, not, true, length, OnOk, OnErr};
+ghost use Rattle.nor_model.specs.Bus.{IsHonestFor, SameNature, Stops, Carries, Records};
+ghost use Rattle.nor_model.specs.PolledReady.{polled_ready_after};
 ghost use Rattle.nor_serprog.specs.Pace.{pause_before, pauses, busy_row_after, busy_row, paced_of};
 
-use nor_model::{Bus, Stopped, polled_ready_after};
+use nor_model::{Bus, Stopped};
 use std::thread;
 use std::time::{Clock, Duration};
 
@@ -74,14 +75,14 @@ impl<B: Bus, C: Clock> Bus for Paced<B, C> {
     ghost reaches = { λ paced honest. B.reaches paced.bus honest };
 
     fn transfer(&mut self, out: &[u8], reply: &mut [u8]) -> Result<(), Stopped>
-        ensures sends { Sends out.now (B.state (paced_of self.old)) (B.state (paced_of self.new)) }
+        ensures nature { SameNature (B.state (paced_of self.old)) (B.state (paced_of self.new)) }
         ensures stops { IsHonestFor out.now (length reply.old) (B.state (paced_of self.old))
             → OnErr result (Stops out.now (B.state (paced_of self.old)) (B.state (paced_of self.new))) }
         ensures unread { IsHonestFor out.now (length reply.old) (B.state (paced_of self.old))
             → OnErr result (reply.new ≡ reply.old) }
         ensures carries { IsHonestFor out.now (length reply.old) (B.state (paced_of self.old))
             → OnOk result (Carries out.now reply.new (B.state (paced_of self.old)) (B.state (paced_of self.new))) }
-        ensures records_poll { RecordsPoll out.now reply.new result (B.state (paced_of self.old)) (B.state (paced_of self.new)) }
+        ensures records { Records out.now reply.new result (B.state (paced_of self.old)) (B.state (paced_of self.new)) }
         ensures row { OnOk result (busy_row self.new ≡ busy_row_after out.now reply.new (busy_row self.old)) }
         ensures stopped { OnErr result (busy_row self.new ≡ busy_row self.old) }
     {
@@ -90,12 +91,23 @@ impl<B: Bus, C: Clock> Bus for Paced<B, C> {
             thread::sleep(&self.clock, Duration::from_millis(millis));
         }
         self.bus.transfer(out, reply)?;
-        self.busy_polls = if polled_ready_after(out, reply, true) {
-            0
-        } else {
+        self.busy_polls = if shows_busy(out, reply) {
             self.busy_polls.saturating_add(1)
+        } else {
+            0
         };
         Ok(())
+    }
+}
+
+// Returns whether a transaction that sent `out` and received `reply` is a poll that shows BUSY: 05h, with BUSY, bit 0,
+// set in the last byte of the reply. (W25Q64FV datasheet, Read Status Register-1.)
+fn shows_busy(out: &[u8], reply: &[u8]) -> bool
+    ensures { result ≡ not (polled_ready_after out.now reply.now true) }
+{
+    match reply.last() {
+        Some(status) if matches!(out, [0x05]) => status % 2 != 0,
+        _ => false,
     }
 }
 

@@ -1,12 +1,13 @@
 //! A bus that reads data twice.
-ghost use Rattle.std.specs.Prelude.{◌≡◌, ◌≢◌, ◌≤◌, ◌⊎◌, true, false, ℕ, List, length, OnOk, OnErr};
+ghost use Rattle.std.specs.Prelude.{◌≡◌, ◌≢◌, ◌≤◌, ◌⊎◌, [], true, false, ℕ, List, length, OnOk, OnErr};
 ghost use Rattle.std.proofs.lemmas.Bool.{false≢true};
-ghost use Rattle.nor_model.specs.Bus.{IsHonestFor, Sends, Stops, Carries, RecordsPoll, unknown_bus};
+ghost use Rattle.nor_model.specs.Bus.{IsHonestFor, SameNature, Stops, Carries, Records};
+ghost use Rattle.nor_serprog.specs.ReadsAs.{RecordsInside};
 ghost use Rattle.nor_serprog.specs.Twice.{twice_of, has_differed, expected_of, Expects, begins_read};
-ghost use Rattle.nor_serprog.specs.Twice.{ReadsTwice, view_of};
+ghost use Rattle.nor_serprog.specs.Twice.{ReadsTwice, history_of, twice_state};
 
 use crate::ahead::data_address;
-use nor_model::{Bus, Stopped};
+use nor_model::{Bus, History, Stopped};
 
 // The greatest length of a read: a block of `ReadAhead`.
 const LONGEST_READ: usize = 65536;
@@ -30,6 +31,7 @@ pub struct ReadTwice<B> {
     again: [u8; LONGEST_READ],
     expected: Option<Vec<u8>>,
     differed: bool,
+    history: History,
 }
 
 impl<B: Bus + Drop> ReadTwice<B> {
@@ -37,6 +39,7 @@ impl<B: Bus + Drop> ReadTwice<B> {
     pub fn new(bus: B) -> ReadTwice<B>
         ensures bus { twice_of result ≡ bus }
         ensures differed { has_differed result ≡ false }
+        ensures history { history_of result ≡ [] }
         ensures expected { (out answer : List ℕ) → Expects result out answer → ⊥ }
     {
         ReadTwice {
@@ -44,6 +47,7 @@ impl<B: Bus + Drop> ReadTwice<B> {
             again: [0; LONGEST_READ],
             expected: None,
             differed: false,
+            history: History::new(),
         }
     }
 
@@ -52,12 +56,14 @@ impl<B: Bus + Drop> ReadTwice<B> {
     pub fn expecting(bus: B, image: Vec<u8>) -> ReadTwice<B>
         ensures bus { twice_of result ≡ bus }
         ensures differed { has_differed result ≡ false }
+        ensures history { history_of result ≡ [] }
     {
         ReadTwice {
             bus,
             again: [0; LONGEST_READ],
             expected: Some(image),
             differed: false,
+            history: History::new(),
         }
     }
 
@@ -91,23 +97,9 @@ impl<B> ReadTwice<B> {
     }
 }
 
-impl<B: Bus> Bus for ReadTwice<B> {
-    ghost state = { λ twice. view_of (B.state twice.bus) };
-
-    ghost reaches = { λ twice honest. absurd (false≢true honest) };
-
-    fn transfer(&mut self, out: &[u8], reply: &mut [u8]) -> Result<(), Stopped>
-        ensures sends { Sends out.now (view_of (B.state (twice_of self.old))) (view_of (B.state (twice_of self.new))) }
-        ensures stops { IsHonestFor out.now (length reply.old) (view_of (B.state (twice_of self.old)))
-            → OnErr result
-            (Stops out.now (view_of (B.state (twice_of self.old))) (view_of (B.state (twice_of self.new)))) }
-        ensures unread { IsHonestFor out.now (length reply.old) (view_of (B.state (twice_of self.old)))
-            → OnErr result (reply.new ≡ reply.old) }
-        ensures carries { IsHonestFor out.now (length reply.old) (view_of (B.state (twice_of self.old)))
-            → OnOk result (Carries out.now reply.new
-            (view_of (B.state (twice_of self.old))) (view_of (B.state (twice_of self.new)))) }
-        ensures records_poll { RecordsPoll out.now reply.new result
-            (view_of (B.state (twice_of self.old))) (view_of (B.state (twice_of self.new))) }
+impl<B: Bus> ReadTwice<B> {
+    // Makes one transaction, and does not add it to the history.
+    fn carry(&mut self, out: &[u8], reply: &mut [u8]) -> Result<(), Stopped>
         ensures once { IsHonestFor out.now (length reply.old) (B.state (twice_of self.old))
             → begins_read out.now ≡ false
             → OnOk result (Carries out.now reply.new (B.state (twice_of self.old)) (B.state (twice_of self.new))) }
@@ -116,6 +108,9 @@ impl<B: Bus> Bus for ReadTwice<B> {
             ⊎ ReadsTwice out.now reply.new (B.state (twice_of self.old)) (B.state (twice_of self.new))) }
         ensures no_difference { IsHonestFor out.now (length reply.old) (B.state (twice_of self.old))
             → length reply.old ≤ 65536 → OnErr result ((B.state (twice_of self.new)).left ≡ 0) }
+        ensures inside { RecordsInside out.now reply.new result
+            (B.state (twice_of self.old)) (B.state (twice_of self.new)) }
+        ensures history { history_of self.new ≡ history_of self.old }
         ensures expected { expected_of self.new ≡ expected_of self.old }
         ensures remembers { has_differed self.old ≡ true → has_differed self.new ≡ true }
     {
@@ -137,6 +132,46 @@ impl<B: Bus> Bus for ReadTwice<B> {
             return Err(Stopped);
         }
         Ok(())
+    }
+}
+
+impl<B: Bus> Bus for ReadTwice<B> {
+    ghost state = { twice_state };
+
+    ghost reaches = { λ twice honest. absurd (false≢true honest) };
+
+    fn transfer(&mut self, out: &[u8], reply: &mut [u8]) -> Result<(), Stopped>
+        ensures nature { SameNature (twice_state self.old) (twice_state self.new) }
+        ensures stops { IsHonestFor out.now (length reply.old) (twice_state self.old)
+            → OnErr result (Stops out.now (twice_state self.old) (twice_state self.new)) }
+        ensures unread { IsHonestFor out.now (length reply.old) (twice_state self.old)
+            → OnErr result (reply.new ≡ reply.old) }
+        ensures carries { IsHonestFor out.now (length reply.old) (twice_state self.old)
+            → OnOk result (Carries out.now reply.new (twice_state self.old) (twice_state self.new)) }
+        ensures records { Records out.now reply.new result (twice_state self.old) (twice_state self.new) }
+        ensures inside { RecordsInside out.now reply.new result
+            (B.state (twice_of self.old)) (B.state (twice_of self.new)) }
+        ensures once { IsHonestFor out.now (length reply.old) (B.state (twice_of self.old))
+            → begins_read out.now ≡ false
+            → OnOk result (Carries out.now reply.new (B.state (twice_of self.old)) (B.state (twice_of self.new))) }
+        ensures twice { IsHonestFor out.now (length reply.old) (B.state (twice_of self.old))
+            → begins_read out.now ≡ true → OnOk result (Expects self.old out.now reply.new
+            ⊎ ReadsTwice out.now reply.new (B.state (twice_of self.old)) (B.state (twice_of self.new))) }
+        ensures no_difference { IsHonestFor out.now (length reply.old) (B.state (twice_of self.old))
+            → length reply.old ≤ 65536 → OnErr result ((B.state (twice_of self.new)).left ≡ 0) }
+        ensures expected { expected_of self.new ≡ expected_of self.old }
+        ensures remembers { has_differed self.old ≡ true → has_differed self.new ≡ true }
+    {
+        match self.carry(out, reply) {
+            Ok(()) => {
+                self.history = self.history.replied(out, reply);
+                Ok(())
+            }
+            Err(Stopped) => {
+                self.history = self.history.stopped(out);
+                Err(Stopped)
+            }
+        }
     }
 }
 

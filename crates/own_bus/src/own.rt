@@ -2,7 +2,7 @@
 ghost use Rattle.std.proofs.lemmas.Bool.{false≢true};
 ghost use Rattle.nor_model.specs.Bus.{unknown_bus};
 
-use nor_chip::{Bus, Sent, Stopped, polled_ready_after};
+use nor_chip::{Bus, History, Stopped};
 
 /// The wires to a chip. Implement this trait for your hardware.
 pub trait Wires {
@@ -21,8 +21,7 @@ pub trait Wires {
 pub struct OwnBus<W: Wires + Drop> {
     pub wires: W,
     pub cause: Option<W::Cause>,
-    sent: Sent,
-    polled_ready: bool,
+    history: History,
 }
 
 impl<W: Wires + Drop> OwnBus<W> {
@@ -30,25 +29,24 @@ impl<W: Wires + Drop> OwnBus<W> {
         OwnBus {
             wires,
             cause: None,
-            sent: Sent::new(),
-            polled_ready: false,
+            history: History::new(),
         }
     }
 }
 
 impl<W: Wires + Drop> Bus for OwnBus<W> {
-    ghost state = { λ own. unknown_bus own.sent own.polled_ready };
+    ghost state = { λ own. unknown_bus own.history.exchanges };
 
     ghost reaches = { λ own honest. absurd (false≢true honest) };
 
     fn transfer(&mut self, out: &[u8], reply: &mut [u8]) -> Result<(), Stopped> {
-        self.sent.note(out);
         match self.wires.transact(out, reply) {
             Ok(()) => {
-                self.polled_ready = polled_ready_after(out, reply, self.polled_ready);
+                self.history = self.history.replied(out, reply);
                 Ok(())
             }
             Err(cause) => {
+                self.history = self.history.stopped(out);
                 self.cause = Some(cause);
                 Err(Stopped)
             }

@@ -1,8 +1,10 @@
 //! A bus on which one transaction fails, or the polls of one wait do, and all others succeed.
 ghost use Rattle.std.specs.Prelude.{false};
 ghost use Rattle.std.proofs.lemmas.Bool.{false≢true};
+ghost use Rattle.nor_model.specs.PolledReady.{polled_ready_in};
+ghost use Rattle.nor_model.specs.Sent.{sent_in};
 
-use nor_chip::{Bus, Meter, SimBus, Stopped, polled_ready_after};
+use nor_chip::{Bus, History, Meter, SimBus, Stopped};
 
 /// The way in which the transaction fails.
 #[derive(Clone, Copy)]
@@ -31,7 +33,7 @@ pub struct OnceBus {
     /// its first byte and three zeros. Before that transaction all four are zeros. With `Busy` the bytes are recorded
     /// even if the transaction is no poll; then nothing fails.
     pub met: [u8; 4],
-    polled_ready: bool,
+    history: History,
 }
 
 impl OnceBus {
@@ -46,7 +48,7 @@ impl OnceBus {
             allowed,
             asked: 0,
             met: [0; 4],
-            polled_ready: false,
+            history: History::new(),
         }
     }
 
@@ -76,7 +78,13 @@ impl OnceBus {
 }
 
 impl Bus for OnceBus {
-    ghost state = { λ once. record (⟦<SimBus as Bus>⟧.state once.bus) { honest = false; polled_ready = once.polled_ready } };
+    ghost state = { λ once. record (⟦<SimBus as Bus>⟧.state once.bus) {
+      honest = false;
+      history = once.history.exchanges;
+      sent = sent_in once.history.exchanges;
+      allowances = once.history.allowances;
+      polled_ready = polled_ready_in once.history.exchanges;
+    } };
 
     ghost reaches = { λ once honest. absurd (false≢true honest) };
 
@@ -85,8 +93,11 @@ impl Bus for OnceBus {
         let fails = self.fails_at(out);
         self.asked = self.asked.saturating_add(1);
         if !fails {
-            self.bus.transfer(out, reply)?;
-            self.polled_ready = polled_ready_after(out, reply, self.polled_ready);
+            if let Err(stopped) = self.bus.transfer(out, reply) {
+                self.history = self.history.stopped(out);
+                return Err(stopped);
+            }
+            self.history = self.history.replied(out, reply);
             return Ok(());
         }
         match self.fault {
@@ -96,9 +107,10 @@ impl Bus for OnceBus {
         let answer = self.bus.transfer(out, reply);
         self.bus.allow(self.allowed);
         spoil(self.fault, reply);
-        if answer.is_ok() {
-            self.polled_ready = polled_ready_after(out, reply, self.polled_ready);
-        }
+        self.history = match answer {
+            Ok(()) => self.history.replied(out, reply),
+            Err(Stopped) => self.history.stopped(out),
+        };
         answer
     }
 }
@@ -107,6 +119,7 @@ impl Meter for OnceBus {
     fn allow(&mut self, n: u64) {
         self.allowed = n;
         self.bus.allow(n);
+        self.history = self.history.allowed(n);
     }
 }
 

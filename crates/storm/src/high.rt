@@ -2,7 +2,7 @@
 ghost use Rattle.std.proofs.lemmas.Bool.{false≢true};
 ghost use Rattle.nor_model.specs.Bus.{unknown_bus};
 
-use nor_chip::{Bus, Sent, Stopped, polled_ready_after};
+use nor_chip::{Bus, History, Stopped};
 
 /// The opcode, and the bit that the bus sets in each byte of the replies to it.
 #[derive(Clone, Copy)]
@@ -17,8 +17,7 @@ pub struct High {
 pub struct HighBus<B> {
     bus: B,
     high: Option<High>,
-    sent: Sent,
-    polled_ready: bool,
+    history: History,
 }
 
 impl<B: Bus> HighBus<B> {
@@ -27,26 +26,27 @@ impl<B: Bus> HighBus<B> {
         HighBus {
             bus,
             high,
-            sent: Sent::new(),
-            polled_ready: false,
+            history: History::new(),
         }
     }
 }
 
 impl<B: Bus> Bus for HighBus<B> {
-    ghost state = { λ high. unknown_bus high.sent high.polled_ready };
+    ghost state = { λ high. unknown_bus high.history.exchanges };
 
     ghost reaches = { λ high honest. absurd (false≢true honest) };
 
     fn transfer(&mut self, out: &[u8], reply: &mut [u8]) -> Result<(), Stopped> {
-        self.sent.note(out);
-        self.bus.transfer(out, reply)?;
+        if let Err(stopped) = self.bus.transfer(out, reply) {
+            self.history = self.history.stopped(out);
+            return Err(stopped);
+        }
         if let (Some(high), [opcode, ..]) = (self.high, out)
             && high.opcode == *opcode
         {
             set_bit(reply, high.bit);
         }
-        self.polled_ready = polled_ready_after(out, reply, self.polled_ready);
+        self.history = self.history.replied(out, reply);
         Ok(())
     }
 }

@@ -2,7 +2,7 @@ use Rattle.std.proofs.Common.{◌≡◌, ◌∙◌, List, ℕ, arith, length, su
 use Rattle.std.proofs.lemmas.Grind.{common_steps}
 use Rattle.nor_model.specs.Bus.{Carries}
 use Rattle.nor_serprog.proofs.SameReply.{same_reply, fits_again}
-use Rattle.nor_serprog.proofs.twice.ReadTwiceBus.transfer.Goals as goal
+use Rattle.nor_serprog.proofs.twice.ReadTwice.carry.Goals as goal
 
 -- Both reads had the reply that is returned.
 pub returns-clause-twice : goal.returns-clause-twice
@@ -14,7 +14,7 @@ returns-clause-twice g c honest reads =
     (record {
       between = g.B.Bus.state c.transfer-2.new.self;
       first = c.in_ok-transfer.ensures.carries honest;
-      again = subst P (c.are_same.ensures.same c.if-not-are_same.false) (c.in_ok-transfer-2.ensures.carries (fits_again _ _ _ _ _ c.transfer-2.ensures.sends.nature
+      again = subst P (c.are_same.ensures.same c.if-not-are_same.false) (c.in_ok-transfer-2.ensures.carries (fits_again _ _ _ _ _ c.transfer-2.ensures.nature
           (grind (arith, common_steps, c.transfer-2.auto.reply)) honest));
     })
 
@@ -22,7 +22,7 @@ returns-clause-twice g c honest reads =
 pub returns-then-not-are_same-clause-no_difference : goal.returns-then-not-are_same-clause-no_difference
 returns-then-not-are_same-clause-no_difference g c honest short =
     let first = c.in_ok-transfer.ensures.carries honest in
-    let again = c.in_ok-transfer-2.ensures.carries (fits_again _ _ _ _ _ c.transfer-2.ensures.sends.nature
+    let again = c.in_ok-transfer-2.ensures.carries (fits_again _ _ _ _ _ c.transfer-2.ensures.nature
     (grind (arith, common_steps, c.transfer-2.auto.reply)) honest) in
     let reads = sym c.reads_data.ensures ∙ c.if-not-reads_data.false in
     let len : length c.transfer-3.new.reply ≡ length c.transfer-2.new.reply =
