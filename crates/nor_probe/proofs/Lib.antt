@@ -1,4 +1,6 @@
 pub mod SfdpLemmas
+pub mod Errors
+pub mod Replied
 pub mod Shown
 pub mod Rows
 pub mod Emulated

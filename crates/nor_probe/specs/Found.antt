@@ -16,15 +16,12 @@ use Rattle.nor_probe.specs.Table.{part_with_id}
 use Rattle.nor_driver.specs.OnlyReads.{OnlyReads, Rested, RanOut}
 use Rattle.nor_driver.specs.Waits.{latch_when_idle}
 use Rattle.nor_probe.specs.Known.{id_of, is_no_chip, shown_as, IsKnown}
+pub use Rattle.nor_probe.specs.Known.{part_in}
+use Rattle.nor_probe.specs.Replied.{IsFoundBy, ProbeEndsAt}
 
 -- the greatest number of transactions of a probe: 65,536 polls, one read of the ID and three reads of SFDP
 abbrev pub most_probe : ℕ
 most_probe = 65540
-
--- the chip type that was found
-abbrev pub part_in : Found → Part
-part_in found =
-    record { name = found.name; id = found.id; size = found.size; kinds = found.kinds; scheme = found.scheme }
 
 -- holds if no name is requested, or the chip has the requested name
 abbrev pub IsWanted : (named : Option ChipName) → ChipName → Type 0
@@ -129,6 +126,10 @@ pub record ProbeAlways (named : Option ChipName) (old new : BusState) (result : 
   pub blames : IfErr result (BlamesName named)
   -- a chip is found only if the last poll showed that it is ready
   pub polled_ready : OnOk result (new.polled_ready ≡ true)
+  -- a chip found is what the bus replied, whether the bus is well-behaved or not
+  pub replied : IfOk result (IsFoundBy new.history)
+  -- after a stop or a timeout nothing more was sent
+  pub last : IfErr result (ProbeEndsAt new.history)
 
 -- The promises of a probe on a well-behaved bus.
 pub record ProbeHonest (named : Option ChipName) (old new : BusState) (result : Result Found ProbeFault) : Type 0 where

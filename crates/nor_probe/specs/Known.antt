@@ -7,10 +7,16 @@ use Rattle.nor_probe.specs.declared.sfdp.Geometry.{Geometry}
 use Rattle.nor_probe.specs.declared.sfdp.SfdpFault.{SfdpFault}
 use Rattle.nor_probe.specs.declared.table.ChipName.TheVariants.{Sfdp}
 use Rattle.nor_probe.specs.declared.table.Part.{Part}
+use Rattle.nor_probe.specs.declared.probes.Found.{Found}
 use Rattle.nor_probe.specs.declared.probes.ProbeFault.{ProbeFault}
 use Rattle.nor_probe.specs.declared.probes.ProbeFault.TheVariants.{NoChip, UnknownChip}
 use Rattle.nor_probe.specs.Sfdp.{sfdp_says}
 use Rattle.nor_probe.specs.Table.{part_with_id, IsEmulatedPart, IsMadeOf}
+
+-- the chip type that was found
+abbrev pub part_in : Found → Part
+part_in found =
+    record { name = found.name; id = found.id; size = found.size; kinds = found.kinds; scheme = found.scheme }
 
 -- the ID is `FF FF FF` or `00 00 00`, as it reads if nothing drives the bus: the lines then rest high, or low
 abbrev pub is_no_chip : (of_id : List ℕ) → Bool

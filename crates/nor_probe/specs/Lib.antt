@@ -1,5 +1,6 @@
 pub mod Sfdp
 pub mod Table
 pub mod Known
+pub mod Replied
 pub mod Found
 pub mod Steps

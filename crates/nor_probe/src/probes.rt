@@ -1,11 +1,14 @@
 //! Finds the chip on a bus.
 
-ghost use Rattle.std.specs.Prelude.{◌≡◌, ◌<◌, ◌^◌, ◌↔◌, true, IsTrue, IfOk, IfErr, OnErr};
+ghost use Rattle.std.specs.Prelude.{◌≡◌, ◌<◌, ◌^◌, ◌↔◌, ℕ, true, List, None, IsTrue, IfOk, IfErr, OnOk, OnErr};
 ghost use Rattle.nor_model.specs.Size.{is_chip_size};
 ghost use Rattle.nor_probe.specs.declared.probes.ProbeFault.TheVariants as Faults;
-ghost use Rattle.nor_driver.specs.OnlyReads.{OnlyReads, RanOutIfHonest};
-ghost use Rattle.nor_probe.specs.Known.{id_of, pointer_in, is_no_chip, IsModelled};
+ghost use Rattle.nor_driver.specs.OnlyReads.{OnlyReads, HasStopped};
+ghost use Rattle.nor_probe.specs.Known.{id_of, pointer_in, is_no_chip, sfdp_part, IsModelled};
 ghost use Rattle.nor_probe.specs.Found.{found_in, part_in, IsConfigOf, IsCounted, IsWanted, ProbeAlways, ProbeHonest};
+ghost use Rattle.nor_model.specs.History.{KeepsReplies, begins_with};
+ghost use Rattle.nor_probe.specs.Replied.{IsTypeBySfdp, RepliedSfdp, ProbeEndsAt};
+ghost use Rattle.nor_probe.specs.Table.{part_with_id};
 ghost use Rattle.nor_probe.specs.Steps.{Identifies, IdentityErrors, IsIdentified, IsIdentityFault};
 ghost use Rattle.nor_probe.specs.Steps.{GeometryErrors, ReadsGeometry, ReadsParameters, reads_under, fault_of};
 
@@ -135,6 +138,10 @@ fn identify<B: Bus>(bus: &mut B, id: [u8; 3]) -> Result<Part, ProbeFault>
     ensures polled_ready { (B.state bus.new).polled_ready ≡ (B.state bus.old).polled_ready }
     ensures part { IfOk result (IsIdentified id) }
     ensures faults { IfErr result IsIdentityFault }
+    ensures replies { OnOk result
+        (KeepsReplies (begins_with 0x5A) (B.state bus.old).history (B.state bus.new).history) }
+    ensures by_sfdp { part_with_id id ≡ None → IfOk result (IsTypeBySfdp (B.state bus.new).history) }
+    ensures last { IfErr result (ProbeEndsAt (B.state bus.new).history) }
 
     ensures shown { (B.state bus.old).honest ≡ true → (B.state bus.old).chip.busy ≡ 0
         → id ≡ id_of (B.state bus.old).chip.config
@@ -173,6 +180,11 @@ fn read_geometry<B: Bus>(bus: &mut B) -> Result<Geometry, ProbeFault>
     ensures polled_ready { (B.state bus.new).polled_ready ≡ (B.state bus.old).polled_ready }
     ensures sized { IfOk result (λ geometry. is_chip_size geometry.size ≡ true) }
     ensures faults { IfErr result IsIdentityFault }
+    ensures replies { OnOk result
+        (KeepsReplies (begins_with 0x5A) (B.state bus.old).history (B.state bus.new).history) }
+    ensures by_sfdp { IfOk result (λ geometry. (with_id : List ℕ)
+        → IsTypeBySfdp (B.state bus.new).history (sfdp_part with_id geometry)) }
+    ensures last { IfErr result (ProbeEndsAt (B.state bus.new).history) }
 
     ensures reads { (B.state bus.old).honest ≡ true
         → IfOk result (ReadsGeometry (B.state bus.old) (B.state bus.new)) }
@@ -197,9 +209,13 @@ struct Parameters {
 fn read_parts<B: Bus>(bus: &mut B) -> Result<Parameters, Stopped>
     ensures leaves { OnlyReads 3 (B.state bus.old) (B.state bus.new) }
     ensures polled_ready { (B.state bus.new).polled_ready ≡ (B.state bus.old).polled_ready }
+    ensures replies { OnOk result
+        (KeepsReplies (begins_with 0x5A) (B.state bus.old).history (B.state bus.new).history) }
+    ensures replied { IfOk result (λ parts.
+        RepliedSfdp (B.state bus.new).history parts.header parts.first parts.table) }
     ensures reads { (B.state bus.old).honest ≡ true
         → IfOk result (ReadsParameters (B.state bus.old) (B.state bus.new)) }
-    ensures fails { OnErr result (RanOutIfHonest 3 (B.state bus.old) (B.state bus.new)) }
+    ensures fails { OnErr result (HasStopped 3 (B.state bus.old) (B.state bus.new)) }
 {
     let mut header = [0; 8];
     let mut first = [0; 8];

@@ -1,0 +1,59 @@
+-- The errors of a probe after the ID was read.
+use Rattle.std.proofs.Common.{◌≡◌, ◌+◌, ◌<◌, ◌≤◌, ◌∙◌, ◌↔◌, ℕ, Bool, true, false, true≢false, None, Some, Option, sym, ap, arith}
+use Rattle.std.specs.Prelude.{IsTrue, List, if◌then◌else◌}
+use Rattle.nor_model.specs.declared.config.Config.{Config}
+use Rattle.nor_model.specs.Bus.{BusState}
+use Rattle.nor_driver.specs.OnlyReads.{Rested}
+use Rattle.nor_driver.proofs.Readings.{rested_then}
+use Rattle.nor_probe.specs.declared.table.ChipName.{ChipName}
+use Rattle.nor_probe.specs.declared.probes.ProbeFault.{ProbeFault}
+use Rattle.nor_probe.specs.declared.probes.ProbeFault.TheVariants.{NoChip, UnknownChip, OtherName, Stopped, Timeout}
+use Rattle.nor_probe.specs.Known.{id_of, is_no_chip, shown_as}
+use Rattle.nor_probe.specs.Table.{part_with_id}
+use Rattle.nor_probe.specs.declared.table.Part.{Part}
+use Rattle.nor_probe.specs.Found.{IsWanted, BlamesName, ProbeErrors, HasProbed, reads_by, reads_of, needed}
+use Rattle.nor_probe.specs.Steps.{IdentityErrors, IsIdentityFault}
+
+-- a chip that isn't wanted has another name than the requested one
+pub blames_other : (named : Option ChipName) (name : ChipName) (wanted : Bool) → (IsTrue wanted ↔ IsWanted named name)
+    → wanted ≡ false → BlamesName named OtherName
+blames_other None name wanted same other = absurd (true≢false (sym (same.1 tt) ∙ other))
+blames_other (Some w) name wanted same other = tt
+
+reads_by_few : (part : Option Part) → reads_by part ≤ 4
+reads_by_few (Some part) = omega arith
+reads_by_few None = omega arith
+
+reads_few_if : (none : Bool) (n : ℕ) → n ≤ 4 → (if none then 1 else n) ≤ 4
+reads_few_if true n few = omega arith
+reads_few_if false n few = few
+
+reads_few : (of_id : List ℕ) → reads_of of_id ≤ 4
+reads_few of_id = reads_few_if (is_no_chip of_id) _ (reads_by_few (part_with_id of_id))
+
+-- a fault of an idle chip after its ID was read
+module _ (named : Option ChipName) (old mid : BusState) (rested : Rested old mid)
+    (count : old.left ≡ mid.left + (old.chip.busy + 2)) (busy : old.chip.busy < 65536) where
+  same : mid.chip.config ≡ old.chip.config
+  same = rested.unchanged.same.config
+
+  reads : reads_of (id_of mid.chip.config) ≡ reads_of (id_of old.chip.config)
+  reads = ap (λ (c : Config). reads_of (id_of c)) same
+
+  probed : (new : BusState) → mid.left + 1 ≡ new.left + reads_of (id_of mid.chip.config) → Rested mid new
+      → HasProbed old new
+  probed new sent rested' = record {
+    rested = rested_then old mid new rested rested';
+    count = omega (arith, count, sent, reads);
+  }
+
+  pub probe_errors : (new : BusState) (fault : ProbeFault) → IsIdentityFault fault → IdentityErrors mid new fault
+      → ProbeErrors named old new fault
+  probe_errors new NoChip possible errors = (ap shown_as (sym same) ∙ errors.0, probed new errors.1 errors.2)
+  probe_errors new (UnknownChip fault) possible errors =
+      (ap shown_as (sym same) ∙ errors.0, probed new errors.1 errors.2)
+  probe_errors new OtherName possible errors = absurd possible
+  probe_errors new Stopped possible errors =
+      let few : old.left < needed old.chip = omega (arith, count, errors.1, reads) in
+      (record { none_left = errors.0; below = few }, omega (arith, few, reads_few (id_of old.chip.config), busy))
+  probe_errors new Timeout possible errors = absurd possible

@@ -1,0 +1,48 @@
+-- The replies by which a chip was identified, on every bus.
+use Rattle.std.specs.Prelude.{◌≡◌, ℕ, None, Ok, List, [], ◌∷◌, ⊤}
+use Rattle.nor_model.specs.Exchange.{Exchange}
+use Rattle.nor_model.specs.History.{Continues, Answered, EndsStopped, EndsBusy, last_reply, begins_with, names}
+use Rattle.nor_model.specs.PolledReady.{is_poll}
+use Rattle.nor_probe.specs.declared.sfdp.Geometry.{Geometry}
+use Rattle.nor_probe.specs.declared.table.Part.{Part}
+use Rattle.nor_probe.specs.declared.probes.Found.{Found}
+use Rattle.nor_probe.specs.declared.probes.ProbeFault.{ProbeFault}
+use Rattle.nor_probe.specs.declared.probes.ProbeFault.TheVariants.{Stopped, Timeout}
+use Rattle.nor_probe.specs.Known.{part_in, pointer_in, sfdp_part}
+use Rattle.nor_probe.specs.Sfdp.{sfdp_says}
+use Rattle.nor_probe.specs.Table.{part_with_id}
+
+-- The last three transactions read these parts of the SFDP: its header, its first parameter header, and the table that
+-- this header points to.
+pub record RepliedSfdp (history : List Exchange) (header first table : List ℕ) : Type 0 where
+  pub before : List Exchange
+  pub at_header : List Exchange
+  pub at_first : List Exchange
+  pub read_header : Answered (names 0x5A 0) before at_header header
+  pub read_first : Answered (names 0x5A 8) at_header at_first first
+  pub read_table : Answered (names 0x5A (pointer_in first)) at_first history table
+
+-- The chip has no row in the table, and its type is what its SFDP says, which was read in three transactions in a row.
+pub record IsTypeBySfdp (history : List Exchange) (part : Part) : Type 0 where
+  pub read : List Exchange
+  pub later : Continues read history
+  pub header : List ℕ
+  pub first : List ℕ
+  pub table : List ℕ
+  pub replied : RepliedSfdp read header first table
+  pub geometry : Geometry
+  pub says : sfdp_says header first table ≡ Ok geometry
+  pub is : part ≡ sfdp_part part.id geometry
+
+-- The chip found is what the bus replied: the ID of the last reply to 9Fh, status 1 of the last poll and, if the ID has
+-- no row in the table, the size and erase types that the SFDP gave.
+pub record IsFoundBy (history : List Exchange) (found : Found) : Type 0 where
+  pub id : last_reply (begins_with 0x9F) history ≡ found.id
+  pub status1 : last_reply is_poll history ≡ found.status1 ∷ []
+  pub by_sfdp : part_with_id found.id ≡ None → IsTypeBySfdp history (part_in found)
+
+-- If the bus stopped or the chip stayed busy, this was the last transaction: nothing was sent after it.
+abbrev pub ProbeEndsAt : List Exchange → ProbeFault → Type 0
+ProbeEndsAt history Stopped = EndsStopped history
+ProbeEndsAt history Timeout = EndsBusy history
+ProbeEndsAt history _ = ⊤
