@@ -1,7 +1,8 @@
 -- The meaning of errors from the identification of a chip.
 use Rattle.std.specs.Prelude.{◌≡◌, ℕ, true, Option}
+use Rattle.nor_model.specs.History.{EndsBusy}
 use Rattle.nor_model.specs.Bus.{BusState}
-use Rattle.nor_driver.specs.OnlyReads.{RanOutIfHonest}
+use Rattle.nor_driver.specs.OnlyReads.{HasStopped}
 use Rattle.nor_probe.specs.declared.table.ChipName.{ChipName}
 use Rattle.nor_probe.specs.declared.probes.ProbeFault.TheVariants as Probes
 use Rattle.nor_probe.specs.Found.{ProbeErrors}
@@ -10,12 +11,13 @@ use Rattle.nor_request.specs.declared.refusal.Refusal.TheVariants.{NoChip, Unkno
 
 -- The meaning of an error from a probe or the reads that follow it, which have at most `most` transactions together. On
 -- a well-behaved bus (`honest`) `NoChip`, `UnknownChip` and `OtherName` mean the same as the probe's faults, a stop
--- occurs only with fewer than `most` transactions left, and a timeout doesn't occur. On any bus the address of a
--- timeout is 0, and no further error occurs.
+-- occurs only with fewer than `most` transactions left, and a timeout doesn't occur. On any bus nothing is sent after a
+-- stop or a timeout, the address of a timeout is 0, and no further error occurs.
 abbrev pub IdentificationErrors : (most : ℕ) → Option ChipName → (old new : BusState) → Refusal → Type 0
 IdentificationErrors most named old new NoChip = old.honest ≡ true → ProbeErrors named old new Probes.NoChip
 IdentificationErrors most named old new (UnknownChip fault) = old.honest ≡ true → ProbeErrors named old new (Probes.UnknownChip fault)
 IdentificationErrors most named old new OtherName = old.honest ≡ true → ProbeErrors named old new Probes.OtherName
-IdentificationErrors most named old new Stopped = RanOutIfHonest most old new
-IdentificationErrors most named old new (Timeout address) = (address ≡ 0) × (old.honest ≡ true → ⊥)
+IdentificationErrors most named old new Stopped = HasStopped most old new
+IdentificationErrors most named old new (Timeout address) =
+    (address ≡ 0) × EndsBusy new.history × (old.honest ≡ true → ⊥)
 IdentificationErrors most named old new _ = ⊥
