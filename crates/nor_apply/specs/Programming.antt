@@ -3,7 +3,7 @@ use Rattle.std.specs.Prelude.{◌≡◌, ◌≤◌, ◌<◌, ◌+◌, ◌*◌, �
 use Rattle.nor_model.specs.declared.bus.Stopped.{Stopped}
 use Rattle.nor_model.specs.Chip.{Chip}
 use Rattle.nor_model.specs.Bus.{BusState}
-use Rattle.nor_driver.specs.OnlyReads.{OnlyReads, RanOutIfHonest}
+use Rattle.nor_driver.specs.OnlyReads.{OnlyReads, HasStopped}
 use Rattle.nor_driver.specs.Reads.{IsSectorOf, HasRead}
 use Rattle.nor_driver.specs.Limits.{programming, SendsWithin, SendsExactly}
 use Rattle.nor_apply.specs.declared.tally.Tally.{Tally}
@@ -68,10 +68,11 @@ pub record LoadsOk (sector : ℕ) (erased : Bool) (bytes bytes' : List ℕ) (rea
   pub replied : erased ≡ false → old.honest ≡ true → old.chip.busy ≡ 0 → 4096 * (sector + 1) ≤ old.chip.config.size
       → IsSectorOf old.chip.bytes sector bytes'
 
--- Holds for the result of loading a sector. After a stop on a well-behaved bus no transaction was left for the read.
+-- Holds for the result of loading a sector. If the bus stopped, the last transaction is the one at which it stopped; on
+-- a well-behaved bus no transaction was left for the read.
 abbrev pub LoadEnds : ℕ → Bool → (bytes bytes' : List ℕ) → Result ℕ Stopped → (old new : BusState) → Type 0
 LoadEnds sector erased bytes bytes' (Ok reads) old new = LoadsOk sector erased bytes bytes' reads old new
-LoadEnds sector erased bytes bytes' (Err stopped) old new = RanOutIfHonest 1 old new
+LoadEnds sector erased bytes bytes' (Err stopped) old new = HasStopped 1 old new
 
 -- Holds at every exit of loading a sector: at most one transaction was sent, a read, and the result is as `LoadEnds`
 -- says.

@@ -15,7 +15,8 @@ use Rattle.nor_apply.specs.Spending.{Spends}
 -- held at the start, the chip changes only as `MayWriteStatus` allows.
 pub record LeavesCode (status : Status) (code : ℕ) (needed : Bool) (old new : BusState) : Type 0 where
   pub spends : Spends (if needed then most_operation else 0) old new
-  pub sends : SendsWithin (writing (λ one two. needed && is_status_with_code status code one two) (if needed then 1 else 0)) old new
+  pub sends : SendsWithin
+      (writing (λ one two. needed && is_status_with_code status code one two) (if needed then 1 else 0)) old new
   pub unsent : needed ≡ false → new ≡ old
   pub reached : needed ≡ true → old.honest ≡ true → CanWriteStatus status old.chip → MayWriteStatus code old new
 

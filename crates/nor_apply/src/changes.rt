@@ -67,7 +67,8 @@ pub struct Work {
 /// - In touched sectors that aren't raised, no bit must go from 0 to 1.
 ///
 /// Returns `Stopped` if the bus stopped. Returns `Timeout` with an address in a touched sector, or 0 for a status
-/// write, if the chip stayed busy for 65,536 polls. On a well-behaved bus there is no timeout.
+/// write, if the chip stayed busy for 65,536 polls. On a well-behaved bus there is no timeout. On any bus nothing is
+/// sent after the transaction at which the bus stopped, or after the last of these polls.
 pub fn apply<B: Bus, S: Source>(
     bus: &mut B,
     source: &S,

@@ -17,7 +17,8 @@ use nor_plan::{SectorSet, erases};
 /// has this size and these erase types, is idle, and protects none of them.
 ///
 /// The sectors must lie below `size`, which is at most 16 MiB. Returns `Stopped` if the bus stopped, and `Timeout` with
-/// an address in the set if the chip stayed busy for 65,536 polls. On a well-behaved bus there is no timeout.
+/// an address in the set if the chip stayed busy for 65,536 polls. On a well-behaved bus there is no timeout. On any
+/// bus nothing is sent after the transaction at which the bus stopped, or after the last of these polls.
 pub fn erase_all<B: Bus>(
     bus: &mut B,
     raised: &SectorSet,

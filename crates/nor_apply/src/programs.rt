@@ -19,7 +19,8 @@ use nor_plan::{SectorSet, spans};
 /// transactions.
 ///
 /// Returns `Stopped` if the bus stopped, and `Timeout` with an address in a touched sector if the chip stayed busy for
-/// 65,536 polls. On a well-behaved bus there is no timeout.
+/// 65,536 polls. On a well-behaved bus there is no timeout. On any bus nothing is sent after the transaction at which
+/// the bus stopped, or after the last of these polls.
 pub fn program_all<B: Bus, S: Source>(
     bus: &mut B,
     source: &S,

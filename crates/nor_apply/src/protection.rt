@@ -11,7 +11,8 @@ use nor_model::{Bus, Status};
 /// sent as in `status`. Returns the number of transactions, 0 if `needed` is not set.
 ///
 /// Returns `Stopped` if the bus stopped, and `Timeout` with address 0 if the chip stayed busy for 65,536 polls. On a
-/// well-behaved bus there is no timeout.
+/// well-behaved bus there is no timeout. On any bus nothing is sent after the transaction at which the bus stopped, or
+/// after the last of these polls.
 pub fn write_code<B: Bus>(
     bus: &mut B,
     status: Status,
