@@ -2,9 +2,9 @@
 use Rattle.std.proofs.Common.{◌≡◌, ◌∙◌, ◌==◌, ℕ, true, false, true≢false, arith, None, Ok, List, [], ◌∷◌, refl, sym}
 use Rattle.std.proofs.lemmas.Bool.{eqb-true}
 use Rattle.nor_model.specs.Exchange.{Exchange}
-use Rattle.nor_model.specs.History.{KeepsReplies, Answered, last_reply, begins_with, names}
+use Rattle.nor_model.specs.History.{Continues, KeepsReplies, Answered, last_reply, begins_with, names}
 use Rattle.nor_model.specs.PolledReady.{is_poll}
-use Rattle.nor_model.proofs.Histories.{answered_keeps, answered_last, keeps_replies_less, continues_refl}
+use Rattle.nor_model.proofs.Histories.{answered_keeps, answered_last, keeps_replies_less, continues_refl, continues_then}
 use Rattle.nor_probe.specs.declared.probes.Found.{Found}
 use Rattle.nor_probe.specs.declared.sfdp.Geometry.{Geometry}
 use Rattle.nor_probe.specs.Known.{part_in, sfdp_part}
@@ -13,7 +13,7 @@ use Rattle.nor_probe.specs.Table.{part_with_id}
 use Rattle.nor_probe.specs.Replied.{RepliedSfdp, IsTypeBySfdp, IsFoundBy}
 
 -- a transaction with this opcode and an address begins with the opcode
-names_begins : (opcode address : ℕ) (out : List ℕ) → names opcode address out ≡ true → begins_with opcode out ≡ true
+pub names_begins : (opcode address : ℕ) (out : List ℕ) → names opcode address out ≡ true → begins_with opcode out ≡ true
 names_begins opcode address [] is = is
 names_begins opcode address (first ∷ []) is = absurd (true≢false (sym is))
 names_begins opcode address (first ∷ x ∷ []) is = absurd (true≢false (sym is))
@@ -41,12 +41,12 @@ type_by_sfdp {history} replied says with_id = record {
 }
 
 -- An opcode begins no transaction that begins with another one.
-other_opcode : (opcode other : ℕ) → (opcode == other) ≡ false → (out : List ℕ) → begins_with opcode out ≡ true
+pub other_opcode : (opcode other : ℕ) → (opcode == other) ≡ false → (out : List ℕ) → begins_with opcode out ≡ true
     → begins_with other out ≡ false
 other_opcode opcode other differs [] is = refl
 other_opcode opcode other differs (first ∷ rest) is = rw (eqb-true first opcode is) differs
 
-no_poll : (opcode : ℕ) → (opcode == 0x05) ≡ false → (out : List ℕ) → begins_with opcode out ≡ true → is_poll out ≡ false
+pub no_poll : (opcode : ℕ) → (opcode == 0x05) ≡ false → (out : List ℕ) → begins_with opcode out ≡ true → is_poll out ≡ false
 no_poll opcode differs [] is = refl
 no_poll opcode differs (first ∷ []) is = rw (eqb-true first opcode is) differs
 no_poll opcode differs (first ∷ x ∷ rest) is = refl
@@ -60,4 +60,24 @@ found_by found status answered keeps by_sfdp = record {
   status1 = keeps.same is_poll (no_poll 0x5A refl)
       ∙ (answered_keeps answered).same is_poll (no_poll 0x9F refl) ∙ status;
   by_sfdp = by_sfdp;
+}
+
+-- The chip found is still what the bus replied, after transactions that read no ID and poll no status.
+pub found_later : {old new : List Exchange} {found : Found} → Continues old new
+    → last_reply (begins_with 0x9F) new ≡ last_reply (begins_with 0x9F) old → last_reply is_poll new ≡ last_reply is_poll old
+    → IsFoundBy old found → IsFoundBy new found
+found_later continues id status was = record {
+  id = id ∙ was.id;
+  status1 = status ∙ was.status1;
+  by_sfdp = λ unlisted. let by = was.by_sfdp unlisted in record {
+    read = by.read;
+    later = continues_then by.later continues;
+    header = by.header;
+    first = by.first;
+    table = by.table;
+    replied = by.replied;
+    geometry = by.geometry;
+    says = by.says;
+    is = by.is;
+  };
 }

@@ -1,12 +1,12 @@
 -- The records that a scan has written to a journal so far, on every bus.
-use Rattle.std.proofs.Common.{◌≡◌, ◌≤◌, ◌<◌, ◌+◌, ◌/◌, ◌∙◌, ℕ, Bool, false, List, Option, refl, ap, sym, subst, arith}
+use Rattle.std.proofs.Common.{◌≡◌, ◌≤◌, ◌<◌, ◌+◌, ◌*◌, ◌/◌, ◌∙◌, ℕ, Bool, true, false, true≢false, List, Option, None, Some, refl, ap, sym, subst, arith}
 use Rattle.std.proofs.lemmas.Bool.Decides.{nat_tests}
 use Rattle.std.specs.Prelude.{Result, Ok, Err, IfErr, IsErrAnd}
-use Rattle.std.specs.Option.{is_some}
+use Rattle.std.specs.Option.{is_some, IsSomeAnd}
 use Rattle.nor_journal.specs.declared.writer.Writer.{Writer}
 use Rattle.nor_journal.specs.Text.{Content, MayFollow, SameHeader, next_number, empty_content, with_sector}
 use Rattle.nor_journal.specs.Vault.{VaultState, Accepted}
-use Rattle.nor_journal.specs.Saved.{Saves, HasOneMore, IsWholeSector, is_saved}
+use Rattle.nor_journal.specs.Saved.{Saves, HasOneMore, IsWholeSector, is_saved, saved_in}
 use Rattle.nor_journal.specs.Writer.{vault_of, vault_seen, HasWritten, HasPutSectors}
 use Rattle.nor_journal.proofs.Saved.{saved_in-empty_content, saved_in-with_sector, next_number-empty_content}
 use Rattle.nor_journal.proofs.Saved.{next_number-with_sector}
@@ -17,33 +17,59 @@ use Rattle.nor_driver.specs.OnlyReads.{IsOpen}
 use Rattle.nor_scan.specs.Scanning.{HasBegun, HasBegunWith}
 use Rattle.nor_plan.specs.SectorSet.{none}
 
--- Holds if the writer was given the content `first`, and then records of exactly these sectors, all below `n`. If
--- `known` holds, the records have the chip's bytes.
+-- Holds if the writer was given the content `first`, and then records of exactly these sectors, all below `n`. The
+-- records have the bytes `read`, and if `known` holds, they have the chip's bytes.
 pub record HasAdded {V : Type 0} (state : V → VaultState) (writer : Writer V) (first : Content) (known : Type 0)
-    (chip : ℕ → ℕ) (saved : ℕ → Bool) (n : ℕ) : Type 0 where
+    (chip read : ℕ → ℕ) (saved : ℕ → Bool) (n : ℕ) : Type 0 where
   pub content : Content
   pub written : HasWritten state writer content
   pub same : SameHeader first content
   pub next : next_number content ≤ n
   pub set : ((s : ℕ) → is_saved first s ≡ false) → (s : ℕ) → is_saved content s ≡ saved s
   pub saves : known → Saves chip none first → Saves chip saved content
+  pub replied : Saves read none first → Saves read saved content
 
 -- Equal headers have the same size.
 size_of : (one other : Content) → SameHeader one other → one.size ≡ other.size
 size_of one other same = ap (λ (c : Content). c.size) same
 
+-- a sector that isn't saved has no bytes
+none_saved : {bytes : Option (List ℕ)} → is_some bytes ≡ false → bytes ≡ None
+none_saved {bytes = None} is = refl
+none_saved {bytes = Some b} is = absurd (true≢false is)
+
+whole_alike : (one other : ℕ → ℕ) (s : ℕ) (bytes : Option (List ℕ))
+    → ((i : ℕ) → i < 4096 → other (4096 * s + i) ≡ one (4096 * s + i)) → IsSomeAnd bytes (IsWholeSector one s)
+    → IsSomeAnd bytes (IsWholeSector other s)
+whole_alike one other s None same whole = whole
+whole_alike one other s (Some b) same whole = record {
+  whole = whole.whole;
+  same = λ i below. whole.same i below ∙ sym (same i below);
+}
+
+-- what saves bytes saves others that are the same in each saved sector
+Saves-alike : (one other : ℕ → ℕ) (saved : ℕ → Bool) (c : Content)
+    → ((s i : ℕ) → saved s ≡ true → i < 4096 → other (4096 * s + i) ≡ one (4096 * s + i))
+    → Saves one saved c → Saves other saved c
+Saves-alike one other saved c same saves = record {
+  is = saves.is;
+  sectors = λ s is. whole_alike one other s (saved_in c.saved s) (λ i below. same s i is below) (saves.sectors s is);
+  others = saves.others;
+}
+
 -- Holds if the writer has the same vault as before, which refused nothing. If the writer had only a header before, it
--- was then given records of exactly these sectors, all below `n`.
+-- was then given records of exactly these sectors, all below `n`, with the bytes `read`.
 pub record HasJournalled {V : Type 0} (state : V → VaultState) (old new : Writer V) (size : ℕ) (bus : BusState)
-    (saved : ℕ → Bool) (n : ℕ) : Type 0 where
+    (read : ℕ → ℕ) (saved : ℕ → Bool) (n : ℕ) : Type 0 where
   pub same_vault : (vault_of new).ghost_name ≡ (vault_of old).ghost_name
   pub accepted : Accepted (vault_seen state old) (vault_seen state new)
   pub added : (first : Content) → HasWritten state old first → first.size ≡ size → next_number first ≤ 0
-      → HasAdded state new first (IsOpen size bus) bus.chip.bytes saved n
+      → HasAdded state new first (IsOpen size bus) bus.chip.bytes read saved n
 
 pub journalled_none : {V : Type 0} {state : V → VaultState} {writer : Writer V} {size : ℕ} {bus : BusState}
-    {saved : ℕ → Bool} → ((s : ℕ) → saved s ≡ false) → HasJournalled state writer writer size bus saved 0
-journalled_none {bus = bus} {saved = saved} blank = record {
+    {read : ℕ → ℕ} {saved : ℕ → Bool} → ((s : ℕ) → saved s ≡ false)
+    → HasJournalled state writer writer size bus read saved 0
+journalled_none {bus = bus} {read = read} {saved = saved} blank = record {
   same_vault = refl;
   accepted = record { telling = refl; sealed = refl; failures = refl };
   added = λ first written sized next. record {
@@ -53,6 +79,7 @@ journalled_none {bus = bus} {saved = saved} blank = record {
     next = next;
     set = λ empty s. empty s ∙ sym (blank s);
     saves = λ known saves. Saves-same bus.chip.bytes none saved first blank saves;
+    replied = λ saves. Saves-same read none saved first blank saves;
   };
 }
 
@@ -72,11 +99,11 @@ with_none {id = id} {unique = unique} {status = status} {size = size} written = 
 
 -- ---- what follows from the records so far
 
-module _ {V : Type 0} {state : V → VaultState} {old new : Writer V} {size n : ℕ} {bus : BusState} {saved : ℕ → Bool}
-    (was : HasJournalled state old new size bus saved n) where
+module _ {V : Type 0} {state : V → VaultState} {old new : Writer V} {size n : ℕ} {bus : BusState} {read : ℕ → ℕ}
+    {saved : ℕ → Bool} (was : HasJournalled state old new size bus read saved n) where
   -- `HasJournalled` stays true for a higher bound, and for an equal set of sectors.
   pub journalled_later : {m : ℕ} {other : ℕ → Bool} → n ≤ m → ((s : ℕ) → other s ≡ saved s)
-      → HasJournalled state old new size bus other m
+      → HasJournalled state old new size bus read other m
   journalled_later {other = other} above same = record {
     same_vault = was.same_vault;
     accepted = was.accepted;
@@ -90,6 +117,29 @@ module _ {V : Type 0} {state : V → VaultState} {old new : Writer V} {size n : 
           set = λ empty s. before.set empty s ∙ sym (same s);
           saves = λ known saves.
               Saves-same bus.chip.bytes saved other before.content same (before.saves known saves);
+          replied = λ saves. Saves-same read saved other before.content same (before.replied saves);
+        };
+  }
+
+  -- `HasJournalled` stays true for other bytes `read`, if they are the same in each saved sector.
+  pub journalled_read : {reread : ℕ → ℕ}
+      → ((s i : ℕ) → saved s ≡ true → i < 4096 → reread (4096 * s + i) ≡ read (4096 * s + i))
+      → HasJournalled state old new size bus reread saved n
+  journalled_read {reread = reread} same = record {
+    same_vault = was.same_vault;
+    accepted = was.accepted;
+    added = λ first written sized next.
+        let before = was.added first written sized next in
+        record {
+          content = before.content;
+          written = before.written;
+          same = before.same;
+          next = before.next;
+          set = before.set;
+          saves = before.saves;
+          replied = λ saves.
+              Saves-alike read reread saved before.content same
+              (before.replied (Saves-alike reread read none first (λ s i is. absurd (true≢false (sym is))) saves));
         };
   }
 
@@ -100,8 +150,8 @@ module _ {V : Type 0} {state : V → VaultState} {old new : Writer V} {size n : 
       → ((content : Content) → HasWritten state new content → MayFollow content n
       → HasWritten state last (with_sector content n bytes))
       → HasOneMore saved n more → (IsOpen size bus → IsWholeSector bus.chip.bytes n bytes)
-      → HasJournalled state old last size bus more (n + 1)
-  journalled_more {more = more} {bytes = bytes} below same took writes one whole = record {
+      → IsWholeSector read n bytes → HasJournalled state old last size bus read more (n + 1)
+  journalled_more {more = more} {bytes = bytes} below same took writes one whole replied = record {
     same_vault = same ∙ was.same_vault;
     accepted = record { telling = cc; sealed = cc; failures = cc };
     added = λ first written sized next.
@@ -118,6 +168,8 @@ module _ {V : Type 0} {state : V → VaultState} {old new : Writer V} {size n : 
           saves = λ known saves.
               Saves-more bus.chip.bytes saved more before.content n bytes (before.saves known saves) follows
               (whole known) one;
+          replied = λ saves.
+              Saves-more read saved more before.content n bytes (before.replied saves) follows replied one;
         };
   }
 
@@ -142,6 +194,24 @@ module _ {V : Type 0} {state : V → VaultState} {old new : Writer V} {size n : 
       record {
         begun = begun_on head sized begun;
         saved = (was.added begun.content begun.written size_now begun.next).set held.saved;
+      }
+
+  -- If a journal had only its header before, its records have the bytes `read`.
+  pub replied_on : (head : Content) → head.size ≡ size → HasBegunWith state old head 0 none
+      → HasPutSectors state new head read saved n
+  replied_on head sized held =
+      let begun = held.begun in
+      let added = was.added begun.content begun.written (sym (size_of head begun.content begun.same) ∙ sized) begun.next in
+      record {
+        content = added.content;
+        written = added.written;
+        same = begun.same ∙ added.same;
+        saves = added.replied record {
+          is = begun.written.is;
+          sectors = λ s is. absurd (true≢false (sym is));
+          others = λ s free. none_saved (held.saved s);
+        };
+        next = added.next;
       }
 
   pub kept_on : {head : Content} → IsOpen size bus → head.size ≡ size

@@ -1,4 +1,5 @@
 pub mod Planned
+pub mod Replied
 pub mod Scans
 pub mod Begun
 pub mod Cuts

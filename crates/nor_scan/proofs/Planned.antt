@@ -124,6 +124,7 @@ scans_sector request size sector included part filled part' bytes old new plan a
     fills i below ∙ rw (is_included, target_sectors, (shown is_open).byte i below, may) refl in
     record {
       needed = needed;
+      answered = reads.answered;
       polled_ready = polled_ready;
       read = reads.read;
       shown = shown;

@@ -1,6 +1,8 @@
 -- The result of the identification of a chip.
 use Rattle.std.specs.Prelude.{◌≡◌, ◌≤◌, ◌+◌, ℕ, true, Option, Ok, List, [], ◌∷◌}
 use Rattle.nor_model.specs.Chip.{status1_of}
+use Rattle.nor_model.specs.Exchange.{Exchange}
+use Rattle.nor_model.specs.History.{Answered, begins_with}
 use Rattle.nor_model.specs.Bus.{BusState}
 use Rattle.nor_driver.specs.OnlyReads.{Rested}
 use Rattle.nor_driver.specs.Ready.{StaysReady}
@@ -10,6 +12,7 @@ use Rattle.nor_probe.specs.declared.probes.Probed.{Probed}
 use Rattle.nor_probe.specs.Known.{shown_as, IsModelled}
 use Rattle.nor_probe.specs.Found.{part_in, IsPart, IsWanted, IsConfigOf}
 use Rattle.nor_scan.specs.declared.identity.Identity.{Identity}
+use Rattle.nor_scan.specs.Replied.{IsIdentifiedBy}
 
 -- the greatest number of transactions of an identification: a probe, and the reads of status 2 and the unique ID
 abbrev pub most_identity : ℕ
@@ -19,10 +22,13 @@ most_identity = 65542
 abbrev pub status_read : Identity → List ℕ
 status_read identity = identity.found.status1 ∷ identity.status2 ∷ []
 
--- Holds after the reads of status 2 and the unique ID that follow the probe. On a well-behaved bus status 2 is the
+-- Holds after the reads of status 2 and the unique ID that follow the probe, with these replies. On a well-behaved bus status 2 is the
 -- chip's, and if the chip is idle, so is the unique ID.
 pub record ReadsRest (probed : Probed) (old new : BusState) (identity : Identity) : Type 0 where
   pub found : identity.found ≡ probed.found
+  pub between : List Exchange
+  pub read_status2 : Answered (begins_with 0x35) old.history between (identity.status2 ∷ [])
+  pub read_unique : Answered (begins_with 0x4B) between new.history identity.unique
   pub transactions : identity.transactions ≡ probed.transactions + 2
   pub polled_ready : StaysReady old new
   pub rested : old.honest ≡ true → Rested old new
@@ -31,11 +37,12 @@ pub record ReadsRest (probed : Probed) (old new : BusState) (identity : Identity
   pub unique : old.honest ≡ true → old.chip.busy ≡ 0 → identity.unique ≡ unique_of old.chip.config
 
 -- Holds after an identification that succeeded. On every bus the chip is a row of the table or was found by SFDP, it
--- has the requested name, and the last poll showed ready. On a well-behaved bus the contents and non-volatile status
+-- has the requested name, all values are those that the bus replied, and the last poll showed ready. On a well-behaved bus the contents and non-volatile status
 -- bits are unchanged, the chip is idle, and the values read are the chip's own. The size, erase types and block
 -- protection that were found are known to be the chip's own only on a modelled bus.
 pub record ReadsIdentity (named : Option ChipName) (old new : BusState) (identity : Identity) : Type 0 where
   pub part : IsPart identity.found
+  pub replied : IsIdentifiedBy new.history identity
   pub wanted : IsWanted named identity.found.name
   pub least : 4 ≤ identity.transactions
   pub most : identity.transactions ≤ most_identity

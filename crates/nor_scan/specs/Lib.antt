@@ -1,3 +1,4 @@
+pub mod Replied
 pub mod Scanning
 pub mod Identity
 pub mod Judging

@@ -3,7 +3,7 @@ use Rattle.std.specs.Prelude.{◌≡◌, ◌≢◌, ◌/◌, ◌&&◌, ℕ, Bool
 use Rattle.nor_journal.specs.Text.{Content, IsContent, SameHeader, front, text}
 use Rattle.nor_model.specs.Chip.{Chip}
 use Rattle.nor_model.specs.Bus.{BusState}
-use Rattle.nor_driver.specs.OnlyReads.{RanOutIfHonest}
+use Rattle.nor_driver.specs.OnlyReads.{HasStopped}
 use Rattle.nor_plan.specs.Content.{is_touched, is_raised}
 use Rattle.nor_journal.specs.Saved.{Saves, JournalSaves, IsJournalPrefix, is_saved}
 use Rattle.nor_journal.specs.Vault.{VaultState, Refused, Completed, Accepted}
@@ -77,7 +77,7 @@ JudgesChip request identity code image old refusal =
 -- needs), 11 (the vault failed), or 9 or 10 (the verdict, as `JudgesChip` says).
 abbrev pub SaveErrors : Request → Identity → ℕ → List ℕ → (old new : BusState) → Refusal → Type 0
 SaveErrors request identity code image old new Stopped =
-    RanOutIfHonest (scanned_sectors request identity.found.size) old new
+    HasStopped (scanned_sectors request identity.found.size) old new
 SaveErrors request identity code image old new Vault = ⊤
 SaveErrors request identity code image old new StatusLocked = JudgesChip request identity code image old StatusLocked
 SaveErrors request identity code image old new (Protected address) =

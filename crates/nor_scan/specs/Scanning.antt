@@ -1,7 +1,8 @@
 -- The effect of scans: which sectors are touched and raised, and what is written to the journal.
 use Rattle.std.specs.Prelude.{◌≡◌, ◌≢◌, ◌<◌, ◌≤◌, ◌+◌, ◌*◌, ◌/◌, ◌==◌, ◌&&◌, ◌||◌, ℕ, Bool, true, false, nat_lt, Result, Ok, Err, List, slice_index, if◌then◌else◌, ⊤}
+use Rattle.nor_model.specs.History.{Answered, names}
 use Rattle.nor_model.specs.Bus.{BusState}
-use Rattle.nor_driver.specs.OnlyReads.{Rested, RanOutIfHonest, IsOpen}
+use Rattle.nor_driver.specs.OnlyReads.{Rested, HasStopped, IsOpen}
 use Rattle.nor_journal.specs.declared.writer.Writer.{Writer}
 use Rattle.nor_journal.specs.Text.{Content, SameHeader, next_number}
 use Rattle.nor_journal.specs.Saved.{is_saved, IsJournalPrefix}
@@ -51,11 +52,12 @@ pub record AreRight (wanted content : ℕ → ℕ) (n : ℕ) (scanned : Scanned)
   pub touched : (s : ℕ) → has scanned.touched s ≡ (nat_lt s n && is_touched content wanted s)
   pub raised : (s : ℕ) → has scanned.raised s ≡ (nat_lt s n && is_raised content wanted s)
 
--- Holds after one sector was scanned: its bytes were read, and bytes that may not change were copied into its part of
--- the image. The bytes, the part and the plan are known only on a well-behaved bus with an idle chip of this size.
+-- Holds after one sector was scanned: its bytes are the reply to one read of it, and bytes that may not change were
+-- copied into its part of the image. What the bytes are, the part and the plan are known only on a well-behaved bus with an idle chip of this size.
 pub record ScansSector (request : Request) (size sector : ℕ) (part part' bytes : List ℕ)
     (old new : BusState) (plan : SectorPlan) : Type 0 where
   pub needed : plan.raised ≡ true → plan.touched ≡ true
+  pub answered : Answered (names 0x03 (4096 * sector)) old.history new.history bytes
   pub polled_ready : StaysReady old new
   pub read : old.honest ≡ true → HasRead old new
   pub shown : IsOpen size old → IsSectorOf old.chip.bytes sector bytes
@@ -87,7 +89,7 @@ pub record Scans (request : Request) (size : ℕ) (image image' : List ℕ) (old
 -- Holds for the errors of a scan: 12 (the bus stopped; on a well-behaved bus fewer than `most` transactions were left)
 -- and 11 (the vault failed).
 abbrev pub ScanErrors : ℕ → (old new : BusState) → Refusal → Type 0
-ScanErrors most old new Stopped = RanOutIfHonest most old new
+ScanErrors most old new Stopped = HasStopped most old new
 ScanErrors most old new Vault = ⊤
 ScanErrors most old new _ = ⊥
 

@@ -2,7 +2,7 @@
 //! ID.
 ghost use Rattle.std.specs.Prelude.{◌≡◌, ◌≤◌, IfOk, IfErr, OnErr};
 ghost use Rattle.nor_model.specs.Status.{bytes_of};
-ghost use Rattle.nor_driver.specs.OnlyReads.{OnlyReads, RanOutIfHonest};
+ghost use Rattle.nor_driver.specs.OnlyReads.{OnlyReads, HasStopped};
 ghost use Rattle.nor_probe.specs.Found.{most_probe};
 ghost use Rattle.nor_scan.specs.Identity.{ReadsIdentity, status_read, ReadsRest, most_identity};
 ghost use Rattle.nor_request.specs.Errors.{IdentificationErrors};
@@ -52,7 +52,7 @@ pub fn read_on<B: Bus>(bus: &mut B, probed: Probed) -> Result<Identity, Stopped>
     requires { probed.transactions ≤ most_probe }
     ensures leaves { OnlyReads 2 (B.state bus.old) (B.state bus.new) }
     ensures reads { IfOk result (ReadsRest probed (B.state bus.old) (B.state bus.new)) }
-    ensures stops { OnErr result (RanOutIfHonest 2 (B.state bus.old) (B.state bus.new)) }
+    ensures stops { OnErr result (HasStopped 2 (B.state bus.old) (B.state bus.new)) }
 {
     let status2 = read_status2(bus)?;
     let unique = read_unique(bus)?;

@@ -1,6 +1,9 @@
 //! Scans the chip and, before anything is changed, saves what the session will change.
-ghost use Rattle.std.specs.Prelude.{◌≡◌, ◌/◌, true, length, IfOk, IfErr, OnErr, IsTrue};
+ghost use Rattle.std.specs.Prelude.{◌≡◌, ◌/◌, true, length, IfOk, IfErr, OnOk, OnErr, IsTrue};
 ghost use Rattle.nor_model.specs.Size.{is_chip_size};
+ghost use Rattle.nor_model.specs.History.{KeepsReplies, begins_with};
+ghost use Rattle.nor_journal.specs.Saved.{JournalSaves};
+ghost use Rattle.nor_scan.specs.Replied.{bytes_read};
 ghost use Rattle.nor_driver.specs.OnlyReads.{OnlyReads};
 ghost use Rattle.nor_journal.specs.Vault.{IsFresh};
 ghost use Rattle.nor_plan.specs.SectorSet.{has};
@@ -27,7 +30,8 @@ pub struct SavedScan {
 /// `vault` must be empty and unsealed; for a write or an erase `image` must be as long as the chip. `code` is the
 /// result of `judge_identity`.
 ///
-/// No modifying command is sent. If the bus is well-behaved and shows the identified chip, idle, then success sets the
+/// No modifying command is sent. On every bus, the journal of a `telling` vault has the header that the identification
+/// gives, and in each record the bytes of the last reply to a read of that sector. If the bus is well-behaved and shows the identified chip, idle, then success sets the
 /// image's touched sectors to the target bytes, and a `telling` vault holds a journal of exactly the touched sectors.
 ///
 /// Returns error 9 or 10 (the verdict on the request, if a well-behaved bus shows the identified chip, idle, and
@@ -51,6 +55,10 @@ pub fn save<B: Bus, V: Vault>(
     ensures holds { HoldsJournal (V.state vault.new) }
     ensures saves { IfOk result (λ saved. (V.state vault.new).telling ≡ true
         → IsJournalOf (header_found identity.now) (has saved.scanned.touched) (V.state vault.new).bytes) }
+    ensures replies { OnOk result (KeepsReplies (begins_with 0x03) (B.state bus.old).history (B.state bus.new).history) }
+    ensures replied { IfOk result (λ saved. (V.state vault.new).telling ≡ true
+        → JournalSaves (header_found identity.now) (bytes_read (B.state bus.new).history)
+        (has saved.scanned.touched) (V.state vault.new).bytes) }
     ensures keeps { IfOk result
         (HasSaved request.now identity.now code image.old image.new
         (B.state bus.old) (B.state bus.new) (V.state vault.new)) }

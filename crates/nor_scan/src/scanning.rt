@@ -1,8 +1,10 @@
 //! Reads the sectors of a chip before anything is changed, finds those that a session will change, and writes these to
 //! the journal.
-ghost use Rattle.std.specs.Prelude.{◌≡◌, ◌≢◌, ◌<◌, ◌≤◌, ◌+◌, ◌*◌, ◌/◌, true, false, length, IfOk, IfErr, OnErr, IsTrue};
+ghost use Rattle.std.specs.Prelude.{◌≡◌, ◌≢◌, ◌<◌, ◌≤◌, ◌+◌, ◌*◌, ◌/◌, true, false, length, IfOk, IfErr, OnOk, OnErr, IsTrue};
 ghost use Rattle.nor_model.specs.Size.{is_chip_size};
-ghost use Rattle.nor_driver.specs.OnlyReads.{OnlyReads, RanOutIfHonest, IsOpen};
+ghost use Rattle.nor_model.specs.History.{KeepsReplies, begins_with};
+ghost use Rattle.nor_scan.specs.Replied.{bytes_read};
+ghost use Rattle.nor_driver.specs.OnlyReads.{OnlyReads, HasStopped, IsOpen};
 ghost use Rattle.nor_journal.specs.Text.{Content};
 ghost use Rattle.nor_journal.specs.Writer.{vault_of, vault_seen, HasPutSectors};
 ghost use Rattle.nor_plan.specs.SectorSet.{has, none};
@@ -78,7 +80,7 @@ fn scan_sector<B: Bus>(
     ensures leaves { OnlyReads 1 (B.state bus.old) (B.state bus.new) }
     ensures scans { IfOk result
         (ScansSector request.now size sector part.old part.new bytes.new (B.state bus.old) (B.state bus.new)) }
-    ensures stops { OnErr result (RanOutIfHonest 1 (B.state bus.old) (B.state bus.new)) }
+    ensures stops { OnErr result (HasStopped 1 (B.state bus.old) (B.state bus.new)) }
 {
     read_sector(bus, sector, &mut *bytes)?;
     if let What::Erase = request.what {
@@ -123,6 +125,10 @@ pub fn scan_all<B: Bus, V: Vault>(
         (wanted_at request.now image.old size (B.state bus.old).chip.bytes)) (size / 4096)) }
     ensures writes { (head : Content) → head.size ≡ size → HasBegun V.state writer.old head 0
         → UnlessVault result (HasBegun V.state writer.new head (size / 4096)) }
+    ensures replies { OnOk result (KeepsReplies (begins_with 0x03) (B.state bus.old).history (B.state bus.new).history) }
+    ensures replied { (head : Content) → head.size ≡ size → HasBegunWith V.state writer.old head 0 none
+        → IfOk result (λ scanned. HasPutSectors V.state writer.new head (bytes_read (B.state bus.new).history)
+        (has scanned.touched) (size / 4096)) }
     ensures saves { (head : Content) → head.size ≡ size → HasBegunWith V.state writer.old head 0 none
         → IfOk result (λ scanned. HasBegunWith V.state writer.new head (size / 4096) (has scanned.touched)) }
 {

@@ -109,3 +109,16 @@ returns-in_err-end-clause-cut g c =
     let all = all_put head c.in_ok-scanned.ensures.scans c.in_ok-scanned.ensures.keeps chip is shows in
     let holds = c.in_err-end.ensures.cut all.content all.written in
     record { content = all.content; same = all.same; saves = all.saves; begins = search rules })
+
+pub returns-clause-replied : goal.returns-clause-replied
+returns-clause-replied g c = λ telling.
+    let read : c.bytes.result ≡ kept_read c.args.identity.now = grind (arith, common_steps) in
+    let put = c.in_ok-scanned.ensures.replied _ refl
+    (with_none (rw read at (c.in_ok-header.ensures.written c.on-writer.ensures.nothing))) in
+    let done = c.in_ok-end.ensures.written put.content put.written in
+    record {
+      content = put.content;
+      same = put.same;
+      saves = put.saves;
+      is = search rules;
+    }

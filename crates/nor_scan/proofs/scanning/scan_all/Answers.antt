@@ -7,7 +7,9 @@ use Rattle.nor_request.specs.declared.refusal.Refusal.TheVariants.{Vault, Stoppe
 use Rattle.nor_scan.proofs.Scans.{is_at, nothing_scanned, skipped, scanned_more, planned_before, read_before, room}
 use Rattle.nor_scan.proofs.Scans.{marked_more, marked_none, all_scanned, none_to_scan}
 use Rattle.nor_scan.proofs.Begun.{journalled_none, journalled_later, journalled_more, begun_on, with_on, kept_on}
-use Rattle.nor_scan.proofs.Begun.{is_err}
+use Rattle.nor_scan.proofs.Begun.{journalled_read, replied_on, is_err}
+use Rattle.nor_scan.proofs.Replied.{read_others, read_whole, read_keeps}
+use Rattle.nor_model.proofs.Histories.{keeps_replies_none, keeps_replies_then}
 use Rattle.nor_scan.proofs.Cuts.{kept_touched, kept_below, cut_between, cut_in_record}
 use Rattle.nor_scan.proofs.scanning.scan_all.Goals as goal
 use Rattle.nor_scan.proofs.scanning.scan_all.Goals.{then-is_data, else-is_data, then-includes_in_sector+in_ok-plan}
@@ -23,6 +25,7 @@ loop-sector-init g c = record {
   below = omega arith;
   scanned = nothing_scanned c.args.request.now c.args.size c.args.image.now (g.B.Bus.state c.args.bus.now)
       c.none-scanned.result c.none-scanned.ensures;
+  replies = keeps_replies_none (g.B.Bus.state c.args.bus.now).history;
   journal = journalled_none c.none-scanned.ensures.touched;
 }
 
@@ -38,6 +41,9 @@ loop-sector-preserved g c =
           let image : length c.loop-sector.image ≡ c.args.size =
           c.loop-sector.auto.image ∙ c.requires.whole targets.0 in
           let width : 4096 * sector + 4096 - 4096 * sector ≡ 4096 = omega arith in
+          let answered = w.in_ok-plan.ensures.scans.answered in
+          let journal = journalled_read here.journal (λ s i saved below.
+          read_others sector answered s i (λ same. absurd (omega (arith, same, here.scanned.marks.below s saved))) below) in
           let part = w.scan_sector.auto.part ∙ part_long c.loop-sector.image (4096 * sector) _ width (omega arith) in
           record {
             targets = here.targets;
@@ -47,14 +53,16 @@ loop-sector-preserved g c =
             scanned = rw (w.image-is, w.bus-is, w.scanned-is)
                 (scanned_more here.scanned at w.in_ok-plan.ensures.scans width w.scan_sector.ensures.leaves
                 w.mark.ensures part image);
-            journal = rw (w.writer-is, w.scanned-is) (elim w.if-plan.branch [
+            replies = rw w.bus-is (keeps_replies_then here.replies (read_keeps sector answered));
+            journal = rw (w.writer-is, w.scanned-is, w.bus-is) (elim w.if-plan.branch [
               | then-plan+in_ok-add v ↦ rw v.writer-is
-                  (journalled_more here.journal at.below v.add.ensures.same_vault v.in_ok-add.ensures.vault
+                  (journalled_more journal at.below v.add.ensures.same_vault v.in_ok-add.ensures.vault
                   v.in_ok-add.ensures.written
                   (marked_more sector plan c.loop-sector.scanned w.mark.new.self v.if-plan.true w.mark.ensures)
-                  (read_before here.scanned at w.in_ok-plan.ensures.scans width (omega arith)))
+                  (read_before here.scanned at w.in_ok-plan.ensures.scans width (omega arith))
+                  (read_whole sector answered (omega arith)))
               | else-plan v ↦ rw v.writer-is
-                  (journalled_later here.journal (omega arith)
+                  (journalled_later journal (omega arith)
                   (marked_none sector plan c.loop-sector.scanned w.mark.new.self v.if-plan.false w.mark.ensures))
             ]);
           }
@@ -67,7 +75,8 @@ loop-sector-preserved g c =
             few = rw w.scanned-is here.few;
             below = rw w.scanned-is (omega (arith, here.below));
             scanned = rw (w.image-is, w.bus-is, w.scanned-is) (skipped here.scanned at none);
-            journal = rw (w.writer-is, w.scanned-is) (journalled_later here.journal (omega arith) (λ s. refl));
+            replies = rw w.bus-is here.replies;
+            journal = rw (w.writer-is, w.scanned-is, w.bus-is) (journalled_later here.journal (omega arith) (λ s. refl));
           }
     ]
 
@@ -90,6 +99,8 @@ returns-in_err-plan g c =
           (kept_below (here.scanned.right is_open) (kept_on here.journal is_open sized kept) (omega arith));
       writes = λ head sized begun other.
           begun_on (journalled_later here.journal (omega arith) (λ s. refl)) head sized begun;
+      replies = tt;
+      replied = λ head sized held. tt;
       saves = λ head sized held. tt;
     })
 
@@ -116,6 +127,8 @@ returns-in_err-add g c =
           (read_before here.scanned at scans (omega arith) (omega arith) is_open)
           (c.in_err-add.ensures.cut held.content held.written);
       writes = λ head sized begun other. absurd (other refl);
+      replies = tt;
+      replied = λ head sized held. tt;
       saves = λ head sized held. tt;
     })
 
@@ -141,3 +154,11 @@ pub returns-clause-saves : goal.returns-clause-saves
 returns-clause-saves g c = λ head sized held.
     let here = c.loop-sector.invariant in
     with_on (journalled_later here.journal (grind (arith, here.targets)) (λ s. refl)) head sized held
+
+pub returns-clause-replies : goal.returns-clause-replies
+returns-clause-replies g c = c.loop-sector.invariant.replies
+
+pub returns-clause-replied : goal.returns-clause-replied
+returns-clause-replied g c = λ head sized held.
+    let here = c.loop-sector.invariant in
+    replied_on (journalled_later here.journal (grind (arith, here.targets)) (λ s. refl)) head sized held

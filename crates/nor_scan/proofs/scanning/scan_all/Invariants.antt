@@ -1,4 +1,6 @@
 use Rattle.std.proofs.Common.{◌≡◌, ◌<◌, ◌≤◌, ◌/◌, true}
+use Rattle.nor_model.specs.History.{KeepsReplies, begins_with}
+use Rattle.nor_scan.specs.Replied.{bytes_read}
 use Rattle.nor_plan.specs.SectorSet.{has}
 use Rattle.nor_request.specs.Request.{is_data}
 use Rattle.nor_scan.proofs.Scans.{HasScanned}
@@ -13,5 +15,7 @@ invariant-loop-sector g l =
       few : l.scanned.count ≤ l.scanned.reads;
       below : l.scanned.reads ≤ l.sector;
       scanned : HasScanned l.request l.size l.sector l.fn.image l.image old (g.B.Bus.state l.bus) l.scanned;
-      journal : HasJournalled g.V.Vault.state l.fn.writer l.writer l.size old (has l.scanned.touched) l.sector;
+      replies : KeepsReplies (begins_with 0x03) old.history (g.B.Bus.state l.bus).history;
+      journal : HasJournalled g.V.Vault.state l.fn.writer l.writer l.size old
+          (bytes_read (g.B.Bus.state l.bus).history) (has l.scanned.touched) l.sector;
     }

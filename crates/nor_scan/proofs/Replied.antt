@@ -1,0 +1,73 @@
+-- Lemmas on the replies to the identification and to the scan.
+use Rattle.std.proofs.Common.{◌≡◌, ◌≢◌, ◌<◌, ◌+◌, ◌*◌, ◌/◌, ◌%◌, ◌∙◌, ◌∷◌, [], ℕ, true, false, List, length, slice_index, refl, sym, ap, arith}
+use Rattle.std.proofs.lemmas.Bool.Decides.{nat_tests}
+use Rattle.nor_model.specs.Exchange.{Exchange}
+use Rattle.nor_model.specs.History.{Continues, KeepsReplies, Answered, begins_with, names}
+use Rattle.nor_model.specs.PolledReady.{is_poll}
+use Rattle.nor_model.specs.Bus.{BusState}
+use Rattle.nor_model.proofs.Histories.{answered_keeps, answered_last, keeps_replies_less, continues_by, continues_then}
+use Rattle.nor_journal.specs.Saved.{IsWholeSector}
+use Rattle.nor_probe.specs.declared.probes.Probed.{Probed}
+use Rattle.nor_probe.specs.Replied.{IsFoundBy}
+use Rattle.nor_probe.proofs.Replied.{names_begins, other_opcode, no_poll, found_later}
+use Rattle.nor_scan.specs.declared.identity.Identity.{Identity}
+use Rattle.nor_scan.specs.Identity.{ReadsRest}
+use Rattle.nor_scan.specs.Replied.{bytes_read, IsIdentifiedBy}
+
+-- ---- sectors
+
+names_other : (opcode at other : ℕ) → at ≢ other → (out : List ℕ) → names opcode at out ≡ true
+    → names opcode other out ≡ false
+names_other opcode at other differs [] is = refl
+names_other opcode at other differs (first ∷ []) is = refl
+names_other opcode at other differs (first ∷ x ∷ []) is = refl
+names_other opcode at other differs (first ∷ x ∷ y ∷ []) is = refl
+names_other opcode at other differs (first ∷ x ∷ y ∷ z ∷ rest) is = grind (arith, nat_tests)
+
+module _ (n : ℕ) {old new : List Exchange} {bytes : List ℕ}
+    (answered : Answered (names 0x03 (4096 * n)) old new bytes) where
+  -- the reads of other sectors have the same replies
+  pub read_others : (s i : ℕ) → s ≢ n → i < 4096 → bytes_read new (4096 * s + i) ≡ bytes_read old (4096 * s + i)
+  read_others s i other below =
+      let here : (4096 * s + i) / 4096 ≡ s = omega (arith, below) in
+      ap (λ (reply : List ℕ). slice_index reply ((4096 * s + i) % 4096))
+      ((answered_keeps answered).same (names 0x03 (4096 * ((4096 * s + i) / 4096)))
+      (names_other 0x03 (4096 * n) (4096 * ((4096 * s + i) / 4096)) (λ same. other (omega (arith, same, here)))))
+
+  -- this sector has the bytes of this reply
+  pub read_whole : length bytes ≡ 4096 → IsWholeSector (bytes_read new) n bytes
+  read_whole long = record {
+    whole = long;
+    same = λ i below.
+        let here : (4096 * n + i) / 4096 ≡ n = omega (arith, below) in
+        let at : (4096 * n + i) % 4096 ≡ i = omega (arith, below) in
+        rw (here, at) (ap (λ (reply : List ℕ). slice_index reply i) (sym (answered_last answered)));
+  }
+
+  pub read_keeps : KeepsReplies (begins_with 0x03) old new
+  read_keeps = keeps_replies_less (answered_keeps answered) (names_begins 0x03 (4096 * n))
+
+-- ---- the identification
+
+pub identified_by : {probed : Probed} {old new : BusState} {identity : Identity} → IsFoundBy old.history probed.found
+    → ReadsRest probed old new identity → IsIdentifiedBy new.history identity
+identified_by found rest =
+    let first = answered_keeps rest.read_status2 in
+    let second = answered_keeps rest.read_unique in record {
+      found = rw rest.found (found_later
+          (continues_then (continues_by rest.read_status2.history) (continues_by rest.read_unique.history))
+          (second.same _ (other_opcode 0x4B 0x9F refl) ∙ first.same _ (other_opcode 0x35 0x9F refl))
+          (second.same is_poll (no_poll 0x4B refl) ∙ first.same is_poll (no_poll 0x35 refl)) found);
+      status2 = second.same _ (other_opcode 0x4B 0x35 refl) ∙ answered_last rest.read_status2;
+      unique = answered_last rest.read_unique;
+    }
+
+-- the identification is still what the bus replied, after reads of sectors
+pub identified_later : {old new : List Exchange} {identity : Identity} → Continues old new
+    → KeepsReplies (begins_with 0x03) old new → IsIdentifiedBy old identity → IsIdentifiedBy new identity
+identified_later continues keeps was = record {
+  found = found_later continues (keeps.same _ (other_opcode 0x03 0x9F refl)) (keeps.same is_poll (no_poll 0x03 refl))
+      was.found;
+  status2 = keeps.same _ (other_opcode 0x03 0x35 refl) ∙ was.status2;
+  unique = keeps.same _ (other_opcode 0x03 0x4B refl) ∙ was.unique;
+}
