@@ -1,7 +1,8 @@
 -- A bus that reads ahead, as contracts see it.
 use Rattle.std.specs.Prelude.{ℕ, List}
-use Rattle.nor_model.specs.Bus.{BusState, unknown_bus}
+use Rattle.nor_model.specs.Bus.{BusState}
 use Rattle.nor_model.specs.Exchange.{Exchange}
+use Rattle.nor_serprog.specs.ReadsAs.{view_of}
 use Rattle.nor_serprog.specs.declared.ahead.ReadAhead.{ReadAhead}
 
 -- The bus inside.
@@ -25,6 +26,6 @@ block_of ahead = ahead.block
 abbrev pub history_of : {B : Type 0} → ReadAhead B → List Exchange
 history_of ahead = ahead.history.exchanges
 
--- The state of the bus: only its history is known.
-abbrev pub ahead_state : {B : Type 0} → ReadAhead B → BusState
-ahead_state ahead = unknown_bus (history_of ahead)
+-- The state of the bus, by its history and by the state of the bus inside (`view_of`).
+abbrev pub ahead_state : {B : Type 0} → (inside : B → BusState) → ReadAhead B → BusState
+ahead_state inside ahead = view_of (inside (ahead_of ahead)) (history_of ahead)

@@ -1,8 +1,8 @@
 -- A bus that reads data twice, as contracts see it.
 use Rattle.std.specs.Prelude.{◌≡◌, ◌==◌, ℕ, Bool, false, Option, None, Some, length, List, [], ◌∷◌}
 use Rattle.std.proofs.Common.{Vec, Global}
-use Rattle.nor_serprog.specs.ReadsAs.{address_in, part}
-use Rattle.nor_model.specs.Bus.{BusState, Carries, unknown_bus}
+use Rattle.nor_serprog.specs.ReadsAs.{address_in, part, view_of}
+use Rattle.nor_model.specs.Bus.{BusState, Carries}
 use Rattle.nor_model.specs.Exchange.{Exchange}
 use Rattle.nor_serprog.specs.declared.twice.ReadTwice.{ReadTwice}
 
@@ -30,9 +30,9 @@ Expects twice out answer = elim twice.expected [
 abbrev pub history_of : {B : Type 0} → ReadTwice B → List Exchange
 history_of twice = twice.history.exchanges
 
--- The state of the bus: only its history is known.
-abbrev pub twice_state : {B : Type 0} → ReadTwice B → BusState
-twice_state twice = unknown_bus (history_of twice)
+-- The state of the bus, by its history and by the state of the bus inside (`view_of`).
+abbrev pub twice_state : {B : Type 0} → (inside : B → BusState) → ReadTwice B → BusState
+twice_state inside twice = view_of (inside (twice_of twice)) (history_of twice)
 
 -- True if a transaction begins with 03h, the opcode of a read of data.
 abbrev pub begins_read : (out : List ℕ) → Bool

@@ -1,8 +1,9 @@
 //! A bus that reads ahead.
-ghost use Rattle.std.specs.Prelude.{◌≡◌, ◌≤◌, ◌+◌, ◌-◌, [], true, false, length, OnOk, OnErr, IfSome};
+ghost use Rattle.std.specs.Prelude.{◌≡◌, ◌≤◌, ◌+◌, ◌-◌, ◌∷◌, [], true, false, length, OnOk, OnErr, IfSome};
 ghost use Rattle.std.proofs.lemmas.Bool.{false≢true};
 ghost use Rattle.nor_model.specs.Bus.{IsHonestFor, SameNature, Stops, Carries, Records};
-ghost use Rattle.nor_serprog.specs.ReadsAs.{reads_data, address_in, part, KeepsRecord, RecordsInside};
+ghost use Rattle.nor_model.specs.History.{exchange_of};
+ghost use Rattle.nor_serprog.specs.ReadsAs.{reads_data, address_in, part, view_of, KeepsRecord};
 
 use nor_geometry::SECTOR_LEN;
 use nor_model::{Bus, History, Stopped};
@@ -23,6 +24,9 @@ const READ_DATA: u8 = 0x03;
 ///
 /// A read over this bus may be no transaction over the bus inside, or a longer one, so this bus is not honest as `Bus`
 /// defines it, even if the bus inside is. Nobody else may modify the chip meanwhile.
+///
+/// The history has each transaction over this bus with its reply, even a read that was answered from memory. In
+/// contracts, what was sent and the result of the last poll are those of the bus inside.
 #[derive(Drop)]
 pub struct ReadAhead<B> {
     bus: B,
@@ -70,12 +74,13 @@ impl<B: Bus + Drop> ReadAhead<B> {
 }
 
 impl<B: Bus> ReadAhead<B> {
-    ghost use Rattle.nor_serprog.specs.Ahead.{ahead_of, begin, held, block_of, history_of};
+    ghost use Rattle.nor_serprog.specs.Ahead.{ahead_of, begin, held, block_of, history_of, ahead_state};
 
-    // Makes one transaction, and does not add it to the history.
+    // Makes one transaction, and does not add it to the history. The clause `records` is about the state after the
+    // caller has added it.
     fn carry(&mut self, out: &[u8], reply: &mut [u8]) -> Result<(), Stopped>
-        ensures inside { RecordsInside out.now reply.new result
-            (B.state (ahead_of self.old)) (B.state (ahead_of self.new)) }
+        ensures records { Records out.now reply.new result (ahead_state B.state self.old)
+            (view_of (B.state (ahead_of self.new)) (exchange_of out.now reply.new result ∷ history_of self.old)) }
         ensures history { history_of self.new ≡ history_of self.old }
         ensures forgets { reads_data out.now ≡ false → held self.new ≡ 0 }
     {
@@ -154,21 +159,20 @@ impl<B: Bus> ReadAhead<B> {
 impl<B: Bus> Bus for ReadAhead<B> {
     ghost use Rattle.nor_serprog.specs.Ahead.{ahead_of, held, ahead_state};
 
-    ghost state = { ahead_state };
+    ghost state = { ahead_state B.state };
 
     ghost reaches = { λ ahead honest. absurd (false≢true honest) };
 
     fn transfer(&mut self, out: &[u8], reply: &mut [u8]) -> Result<(), Stopped>
-        ensures nature { SameNature (ahead_state self.old) (ahead_state self.new) }
-        ensures stops { IsHonestFor out.now (length reply.old) (ahead_state self.old)
-            → OnErr result (Stops out.now (ahead_state self.old) (ahead_state self.new)) }
-        ensures unread { IsHonestFor out.now (length reply.old) (ahead_state self.old)
+        ensures nature { SameNature (ahead_state B.state self.old) (ahead_state B.state self.new) }
+        ensures stops { IsHonestFor out.now (length reply.old) (ahead_state B.state self.old)
+            → OnErr result (Stops out.now (ahead_state B.state self.old) (ahead_state B.state self.new)) }
+        ensures unread { IsHonestFor out.now (length reply.old) (ahead_state B.state self.old)
             → OnErr result (reply.new ≡ reply.old) }
-        ensures carries { IsHonestFor out.now (length reply.old) (ahead_state self.old)
-            → OnOk result (Carries out.now reply.new (ahead_state self.old) (ahead_state self.new)) }
-        ensures records { Records out.now reply.new result (ahead_state self.old) (ahead_state self.new) }
-        ensures inside { RecordsInside out.now reply.new result
-            (B.state (ahead_of self.old)) (B.state (ahead_of self.new)) }
+        ensures carries { IsHonestFor out.now (length reply.old) (ahead_state B.state self.old)
+            → OnOk result (Carries out.now reply.new (ahead_state B.state self.old) (ahead_state B.state self.new)) }
+        ensures records { Records out.now reply.new result
+            (ahead_state B.state self.old) (ahead_state B.state self.new) }
         ensures forgets { reads_data out.now ≡ false → held self.new ≡ 0 }
     {
         match self.carry(out, reply) {

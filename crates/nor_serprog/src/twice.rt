@@ -1,8 +1,9 @@
 //! A bus that reads data twice.
-ghost use Rattle.std.specs.Prelude.{◌≡◌, ◌≢◌, ◌≤◌, ◌⊎◌, [], true, false, ℕ, List, length, OnOk, OnErr};
+ghost use Rattle.std.specs.Prelude.{◌≡◌, ◌≢◌, ◌≤◌, ◌⊎◌, ◌∷◌, [], true, false, ℕ, List, length, OnOk, OnErr};
 ghost use Rattle.std.proofs.lemmas.Bool.{false≢true};
 ghost use Rattle.nor_model.specs.Bus.{IsHonestFor, SameNature, Stops, Carries, Records};
-ghost use Rattle.nor_serprog.specs.ReadsAs.{RecordsInside};
+ghost use Rattle.nor_model.specs.History.{exchange_of};
+ghost use Rattle.nor_serprog.specs.ReadsAs.{view_of};
 ghost use Rattle.nor_serprog.specs.Twice.{twice_of, has_differed, expected_of, Expects, begins_read};
 ghost use Rattle.nor_serprog.specs.Twice.{ReadsTwice, history_of, twice_state};
 
@@ -25,6 +26,9 @@ const READ_DATA: u8 = 0x03;
 /// inside, so this bus is not honest as `Bus` defines it, even if the bus inside is. If the bus inside is honest and
 /// takes a read of this length, a read that succeeds had the same reply twice, or returned the expected bytes. A read
 /// of at most 65,536 bytes then fails only if no transaction is left afterwards.
+///
+/// The history has each transaction over this bus with its reply. A read that the bus inside carried out twice is one
+/// of them. In contracts, what was sent and the result of the last poll are those of the bus inside.
 #[derive(Drop)]
 pub struct ReadTwice<B> {
     bus: B,
@@ -98,7 +102,8 @@ impl<B> ReadTwice<B> {
 }
 
 impl<B: Bus> ReadTwice<B> {
-    // Makes one transaction, and does not add it to the history.
+    // Makes one transaction, and does not add it to the history. The clause `records` is about the state after the
+    // caller has added it.
     fn carry(&mut self, out: &[u8], reply: &mut [u8]) -> Result<(), Stopped>
         ensures once { IsHonestFor out.now (length reply.old) (B.state (twice_of self.old))
             → begins_read out.now ≡ false
@@ -108,8 +113,8 @@ impl<B: Bus> ReadTwice<B> {
             ⊎ ReadsTwice out.now reply.new (B.state (twice_of self.old)) (B.state (twice_of self.new))) }
         ensures no_difference { IsHonestFor out.now (length reply.old) (B.state (twice_of self.old))
             → length reply.old ≤ 65536 → OnErr result ((B.state (twice_of self.new)).left ≡ 0) }
-        ensures inside { RecordsInside out.now reply.new result
-            (B.state (twice_of self.old)) (B.state (twice_of self.new)) }
+        ensures records { Records out.now reply.new result (twice_state B.state self.old)
+            (view_of (B.state (twice_of self.new)) (exchange_of out.now reply.new result ∷ history_of self.old)) }
         ensures history { history_of self.new ≡ history_of self.old }
         ensures expected { expected_of self.new ≡ expected_of self.old }
         ensures remembers { has_differed self.old ≡ true → has_differed self.new ≡ true }
@@ -136,21 +141,20 @@ impl<B: Bus> ReadTwice<B> {
 }
 
 impl<B: Bus> Bus for ReadTwice<B> {
-    ghost state = { twice_state };
+    ghost state = { twice_state B.state };
 
     ghost reaches = { λ twice honest. absurd (false≢true honest) };
 
     fn transfer(&mut self, out: &[u8], reply: &mut [u8]) -> Result<(), Stopped>
-        ensures nature { SameNature (twice_state self.old) (twice_state self.new) }
-        ensures stops { IsHonestFor out.now (length reply.old) (twice_state self.old)
-            → OnErr result (Stops out.now (twice_state self.old) (twice_state self.new)) }
-        ensures unread { IsHonestFor out.now (length reply.old) (twice_state self.old)
+        ensures nature { SameNature (twice_state B.state self.old) (twice_state B.state self.new) }
+        ensures stops { IsHonestFor out.now (length reply.old) (twice_state B.state self.old)
+            → OnErr result (Stops out.now (twice_state B.state self.old) (twice_state B.state self.new)) }
+        ensures unread { IsHonestFor out.now (length reply.old) (twice_state B.state self.old)
             → OnErr result (reply.new ≡ reply.old) }
-        ensures carries { IsHonestFor out.now (length reply.old) (twice_state self.old)
-            → OnOk result (Carries out.now reply.new (twice_state self.old) (twice_state self.new)) }
-        ensures records { Records out.now reply.new result (twice_state self.old) (twice_state self.new) }
-        ensures inside { RecordsInside out.now reply.new result
-            (B.state (twice_of self.old)) (B.state (twice_of self.new)) }
+        ensures carries { IsHonestFor out.now (length reply.old) (twice_state B.state self.old)
+            → OnOk result (Carries out.now reply.new (twice_state B.state self.old) (twice_state B.state self.new)) }
+        ensures records { Records out.now reply.new result
+            (twice_state B.state self.old) (twice_state B.state self.new) }
         ensures once { IsHonestFor out.now (length reply.old) (B.state (twice_of self.old))
             → begins_read out.now ≡ false
             → OnOk result (Carries out.now reply.new (B.state (twice_of self.old)) (B.state (twice_of self.new))) }

@@ -1,11 +1,12 @@
 -- The promises of nor_session over a bus to a programmer, as promises for the programmer's chip.
-use Rattle.std.proofs.Common.{◌≡◌, ◌∙◌, ◌/◌, ℕ, Bool, false, List, [], length, refl, sym, ap, subst, arith, inl, inr}
+use Rattle.std.proofs.Common.{◌≡◌, ◌∙◌, ◌/◌, ℕ, false, List, [], length, refl, sym, ap, subst, arith, inl, inr}
 use Rattle.std.specs.Prelude.{Result, Ok, Err}
 use Rattle.std.proofs.lemmas.List.{append-nil}
 use Rattle.nor_model.specs.Chip.{Chip}
 use Rattle.nor_model.specs.Power.{PowerLost}
 use Rattle.nor_model.specs.Bus.{BusState}
-use Rattle.nor_model.specs.declared.sent.Sent.{Sent}
+use Rattle.nor_model.specs.Exchange.{Exchange}
+use Rattle.nor_model.specs.Sent.{sent_in}
 use Rattle.nor_driver.specs.OnlyReads.{RanOut}
 use Rattle.nor_driver.specs.StatusWrites.{fixed_of}
 use Rattle.nor_journal.specs.Text.{Content, IsContent, text}
@@ -27,9 +28,8 @@ use Rattle.nor_serprog.specs.Bus.{over_port}
 use Rattle.nor_wire.specs.Headline.{ReachesGenuine, CanRestoreChip, CanRestoreChipFrom, HadFewCalls, SessionFails, KeepsOriginalChip, SessionResults, RestoresOriginalChip}
 
 -- A bus over an honest port to a genuine chip is modelled.
-pub modelled : (port : PortState) (sent : Sent) (polled_ready : Bool) → ReachesGenuine port
-    → IsModelled (over_port port sent polled_ready)
-modelled port sent polled_ready reaches = record { honest = reaches.honest; genuine = reaches.genuine }
+pub modelled : (port : PortState) (history : List Exchange) → ReachesGenuine port → IsModelled (over_port port history)
+modelled port history reaches = record { honest = reaches.honest; genuine = reaches.genuine }
 
 -- A journal that can restore a chip on a bus that isn't steady can restore it on every bus to that chip.
 pub on_every_bus : (journal : Content) (first : Chip) (state : BusState) → state.steady ≡ false
@@ -69,41 +69,41 @@ lost_from_chip journal first old new can lost = λ state same.
     (record { known = inl refl; lost = subst P (sym same) lost })
 
 -- A bus that ran out of transactions had a port with few calls left.
-few_calls : (transactions : ℕ) (old new : PortState) (sent sent' : Sent) (polled polled' : Bool)
-    → RanOut transactions (over_port old sent polled) (over_port new sent' polled') → HadFewCalls transactions old
-few_calls transactions old new sent sent' polled polled' ran = let below = ran.below in omega arith
+few_calls : (transactions : ℕ) (old new : PortState) (history history' : List Exchange)
+    → RanOut transactions (over_port old history) (over_port new history') → HadFewCalls transactions old
+few_calls transactions old new history history' ran = let below = ran.below in omega arith
 
 -- ---- a session
 
-pub keeps : (old new : PortState) (sent sent' : Sent) (polled polled' : Bool) (vault : VaultState)
-    → KeepsOriginal (over_port old sent polled) (over_port new sent' polled') vault
-    → KeepsOriginalChip old new sent sent' vault
-keeps old new sent sent' polled polled' vault keep = record {
+pub keeps : (old new : PortState) (history history' : List Exchange) (vault : VaultState)
+    → KeepsOriginal (over_port old history) (over_port new history') vault
+    → KeepsOriginalChip old new (sent_in history) (sent_in history') vault
+keeps old new history history' vault keep = record {
   unsent = keep.unsent;
   same = λ unsealed honest idle. keep.same unsealed honest (inr idle);
   restorable = λ sealed telling reaches.
-      let from = keep.restorable sealed telling (modelled old sent polled reaches) in
+      let from = keep.restorable sealed telling (modelled old history reaches) in
       record {
         journal = from.journal;
-        back = on_every_bus from.journal.content old.device.chip (over_port new sent' polled') refl from.back;
+        back = on_every_bus from.journal.content old.device.chip (over_port new history') refl from.back;
       };
 }
 
-fails : (request : Request) (image : List ℕ) (old new : PortState) (sent sent' : Sent) (polled polled' : Bool)
+fails : (request : Request) (image : List ℕ) (old new : PortState) (history history' : List Exchange)
     (vault vault' : VaultState) (refusal : Refusal)
-    → SessionErrors request image (over_port old sent polled) (over_port new sent' polled') vault vault' refusal
+    → SessionErrors request image (over_port old history) (over_port new history') vault vault' refusal
     → SessionFails request image old vault vault' refusal
-fails request image old new sent sent' polled polled' vault vault' Vault is = is
-fails request image old new sent sent' polled polled' vault vault' Stopped is =
-    few_calls (most_of (old.device.chip.config.size / 4096)) old new sent sent' polled polled' is
-fails request image old new sent sent' polled polled' vault vault' _ is = is
+fails request image old new history history' vault vault' Vault is = is
+fails request image old new history history' vault vault' Stopped is =
+    few_calls (most_of (old.device.chip.config.size / 4096)) old new history history' is
+fails request image old new history history' vault vault' _ is = is
 
-pub results : (request : Request) (image : List ℕ) (old new : PortState) (sent sent' : Sent) (polled polled' : Bool)
+pub results : (request : Request) (image : List ℕ) (old new : PortState) (history history' : List Exchange)
     (vault vault' : VaultState) (result : Result Report Refusal)
-    → SessionAlways request (over_port old sent polled) (over_port new sent' polled') vault vault' result
-    → SessionModelled request image (over_port old sent polled) (over_port new sent' polled') vault vault' result
+    → SessionAlways request (over_port old history) (over_port new history') vault vault' result
+    → SessionModelled request image (over_port old history) (over_port new history') vault vault' result
     → SessionResults request image old new vault vault' result
-results request image old new sent sent' polled polled' vault vault' (Ok report) always made = record {
+results request image old new history history' vault vault' (Ok report) always made = record {
   done = record {
     made = made.done.made;
     code = made.done.code;
@@ -113,37 +113,37 @@ results request image old new sent sent' polled polled' vault vault' (Ok report)
   sealed = always.ends.sealed;
   errors = tt;
 }
-results request image old new sent sent' polled polled' vault vault' (Err refusal) always made = record {
+results request image old new history history' vault vault' (Err refusal) always made = record {
   done = tt;
   sealed = tt;
-  errors = fails request image old new sent sent' polled polled' vault vault' refusal made.errors;
+  errors = fails request image old new history history' vault vault' refusal made.errors;
 }
 
 -- ---- a restore
 
-pub restores : (journal : Content) (old new : PortState) (sent sent' : Sent) (polled polled' : Bool)
+pub restores : (journal : Content) (old new : PortState) (history history' : List Exchange)
     (result : Result Report Refusal)
-    → RestoresOriginal journal (over_port old sent polled) (over_port new sent' polled') result
-    → RestoreModelled journal (over_port old sent polled) (over_port new sent' polled') result
+    → RestoresOriginal journal (over_port old history) (over_port new history') result
+    → RestoreModelled journal (over_port old history) (over_port new history') result
     → RestoresOriginalChip journal old new result
-restores journal old new sent sent' polled polled' (Ok report) back made = record {
+restores journal old new history history' (Ok report) back made = record {
   within = λ first can.
-      on_every_bus journal first (over_port new sent' polled') refl
-      (back.within first (can (over_port old sent polled) refl));
-  back = λ first can. back.back first (can (over_port old sent polled) refl);
+      on_every_bus journal first (over_port new history') refl
+      (back.within first (can (over_port old history) refl));
+  back = λ first can. back.back first (can (over_port old history) refl);
   idle = made.done.made.idle;
   only_stops = λ first can. tt;
 }
-restores journal old new sent sent' polled polled' (Err refusal) back made = record {
+restores journal old new history history' (Err refusal) back made = record {
   within = λ first can.
-      on_every_bus journal first (over_port new sent' polled') refl
-      (back.within first (can (over_port old sent polled) refl));
+      on_every_bus journal first (over_port new history') refl
+      (back.within first (can (over_port old history) refl));
   back = λ first can. tt;
   idle = tt;
   only_stops = λ first can.
-      let stopped = back.only_stops first (can (over_port old sent polled) refl) in
+      let stopped = back.only_stops first (can (over_port old history) refl) in
       let P : Refusal → Type 0 =
-      λ r. RestoreErrors journal (over_port old sent polled) (over_port new sent' polled') r in
+      λ r. RestoreErrors journal (over_port old history) (over_port new history') r in
       let ran = subst P stopped made.errors in
-      (stopped, few_calls (most_of (length journal.saved)) old new sent sent' polled polled' ran);
+      (stopped, few_calls (most_of (length journal.saved)) old new history history' ran);
 }

@@ -1,7 +1,7 @@
 -- The main promise over serprog: wherever the port fails, the original chip at the programmer can be restored.
 use Rattle.std.specs.Prelude.{◌≡◌, ◌<◌, ◌*◌, ◌/◌, ℕ, true, false, List, length, Result, IfErr, OnOk}
 use Rattle.nor_model.specs.Chip.{Chip, IsSame}
-use Rattle.nor_model.specs.declared.sent.Sent.{Sent}
+use Rattle.nor_model.specs.Sent.{Sent}
 use Rattle.nor_model.specs.Bus.{BusState}
 use Rattle.nor_driver.specs.StatusWrites.{with_code}
 use Rattle.nor_journal.specs.Text.{Content}
@@ -55,8 +55,8 @@ SessionFails request image port vault vault' Vault = CountsRefusal vault vault'
 SessionFails request image port vault vault' Stopped = HadFewCalls (most_of (port.device.chip.config.size / 4096)) port
 SessionFails request image port vault vault' refusal = IsVerdict request image port.device.chip refusal
 
--- The promise of a session at every exit, wherever the port failed. `sent` and `sent'` are the records of modifying
--- commands at its start and at its exit.
+-- The promise of a session at every exit, wherever the port failed. `sent` lists the transactions that may modify the
+-- chip and that the bus was asked to send before the session; `sent'` lists those until its exit.
 pub record KeepsOriginalChip (old new : PortState) (sent sent' : Sent) (vault : VaultState) : Type 0 where
   -- on every port: if the vault isn't sealed, no modifying command was sent
   pub unsent : vault.sealed ≡ false → sent' ≡ sent
