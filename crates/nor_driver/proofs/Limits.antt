@@ -5,7 +5,7 @@ use Rattle.std.proofs.Math.Bool.{or-false}
 use Rattle.nor_model.specs.Sent.{none_targeted, is_in_targeted, begins_erase, begins_program, begins_status_write, is_stirred, is_unknown_to_model, erases_of, programs_of, status_writes_of, counted_once}
 use Rattle.nor_model.specs.Bus.{BusState}
 use Rattle.nor_driver.proofs.Sends.{Sends}
-use Rattle.nor_driver.specs.Limits.{Limits, limits_of, SendsWithin, SendsExactly, CountsUp, Stirs}
+use Rattle.nor_driver.specs.Limits.{Limits, limits_of, SendsWithin, SendsExactly, Stirs}
 
 -- The second limits allow all that the first ones allow.
 pub record IsPartOf (less more : Limits) : Type 0 where
@@ -68,33 +68,20 @@ sends_same limits old mid new same sends = grind (arith, sends.targeted, sends.w
 pub exactly_none : (old new : BusState) → new.sent ≡ old.sent → SendsExactly 0 0 0 old new
 exactly_none old new same = grind arith
 
-up_same : {n before after after' : ℕ} → after' ≡ after → CountsUp n before after → CountsUp n before after'
-up_same same up = record { most = omega (arith, same, up.most); exact = λ fits. same ∙ up.exact fits }
-
 pub exactly_same : {e p w : ℕ} {old mid new : BusState} → new.sent ≡ mid.sent → SendsExactly e p w old mid
     → SendsExactly e p w old new
 exactly_same {e} {p} {w} {old} {mid} {new} same exactly = record {
-  erased = up_same (ap erases_of same) exactly.erased;
-  programmed = up_same (ap programs_of same) exactly.programmed;
-  wrote_status = up_same (ap status_writes_of same) exactly.wrote_status;
-}
-
-up_then : (m n all before mid after : ℕ) → m + n ≡ all → CountsUp m before mid → CountsUp n mid after
-    → CountsUp all before after
-up_then m n all before mid after sum first second = record {
-  most = omega (arith, sum, first.most, second.most);
-  exact = λ fits.
-      let reached : mid ≡ before + m = first.exact (omega (arith, sum, fits)) in
-      let ends : after ≡ mid + n = second.exact (omega (arith, sum, fits, reached)) in
-      omega (arith, sum, reached, ends);
+  erased = ap erases_of same ∙ exactly.erased;
+  programmed = ap programs_of same ∙ exactly.programmed;
+  wrote_status = ap status_writes_of same ∙ exactly.wrote_status;
 }
 
 pub exactly_then : {e p w e' p' w' e'' p'' w'' : ℕ} {old mid new : BusState} → e + e' ≡ e'' → p + p' ≡ p''
     → w + w' ≡ w'' → SendsExactly e p w old mid → SendsExactly e' p' w' mid new → SendsExactly e'' p'' w'' old new
 exactly_then erases programs status before after = record {
-  erased = up_then _ _ _ _ _ _ erases before.erased after.erased;
-  programmed = up_then _ _ _ _ _ _ programs before.programmed after.programmed;
-  wrote_status = up_then _ _ _ _ _ _ status before.wrote_status after.wrote_status;
+  erased = omega (arith, erases, before.erased, after.erased);
+  programmed = omega (arith, programs, before.programmed, after.programmed);
+  wrote_status = omega (arith, status, before.wrote_status, after.wrote_status);
 }
 
 -- limits are also kept with the exact numbers of erases, page programs and status writes that were sent
@@ -104,9 +91,9 @@ pub sends_exactly : {limits : Limits} {e p w : ℕ} {old new : BusState} → Sen
 sends_exactly sends exactly = record {
   targeted = sends.targeted;
   written = sends.written;
-  erases = exactly.erased.most;
-  programs = exactly.programmed.most;
-  status_writes = exactly.wrote_status.most;
+  erases = omega (arith, exactly.erased);
+  programs = omega (arith, exactly.programmed);
+  status_writes = omega (arith, exactly.wrote_status);
   unknown = sends.unknown;
 }
 
@@ -116,7 +103,7 @@ counts_most : (is : Bool) (before after : ℕ) → after ≡ counted_once is bef
 counts_most true before after same = grind arith
 counts_most false before after same = omega arith
 
-counts_up : (is : Bool) (before after : ℕ) → after ≡ counted_once is before → CountsUp (cond is 1 0) before after
+counts_up : (is : Bool) (before after : ℕ) → after ≡ counted_once is before → after ≡ before + cond is 1 0
 counts_up true before after same = grind arith
 counts_up false before after same = omega arith
 

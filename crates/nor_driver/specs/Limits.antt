@@ -1,5 +1,5 @@
 -- Limits on the modifying commands that a call sends, on every bus.
-use Rattle.std.specs.Prelude.{◌≡◌, ◌≤◌, ◌<◌, ◌+◌, ◌^◌, ◌⊎◌, ℕ, Bool, true, false, List, if◌then◌else◌}
+use Rattle.std.specs.Prelude.{◌≡◌, ◌≤◌, ◌+◌, ◌⊎◌, ℕ, Bool, true, false, List, if◌then◌else◌}
 use Rattle.nor_model.specs.Sent.{targets, begins_erase, begins_program, begins_status_write, writes_status, is_targeted, has_written, has_unknown, is_stirred, erases_of, programs_of, status_writes_of}
 use Rattle.nor_model.specs.Bus.{BusState, KeepsNature}
 
@@ -53,16 +53,11 @@ pub record SendsWithin (limits : Limits) (old new : BusState) : Type 0 where
   pub status_writes : status_writes_of new.sent ≤ status_writes_of old.sent + limits.status_writes
   pub unknown : has_unknown new.sent ≡ has_unknown old.sent
 
--- A count is at most `n` higher than before, and exactly `n` higher if the sum fits in a u64.
-pub record CountsUp (n before after : ℕ) : Type 0 where
-  pub most : after ≤ before + n
-  pub exact : before + n < 2 ^ 64 → after ≡ before + n
-
--- Exactly these numbers of erases, page programs and status writes were sent, if their counts fit in a u64.
+-- Exactly these numbers of erases, page programs and status writes were sent.
 pub record SendsExactly (erases programs status_writes : ℕ) (old new : BusState) : Type 0 where
-  pub erased : CountsUp erases (erases_of old.sent) (erases_of new.sent)
-  pub programmed : CountsUp programs (programs_of old.sent) (programs_of new.sent)
-  pub wrote_status : CountsUp status_writes (status_writes_of old.sent) (status_writes_of new.sent)
+  pub erased : erases_of new.sent ≡ erases_of old.sent + erases
+  pub programmed : programs_of new.sent ≡ programs_of old.sent + programs
+  pub wrote_status : status_writes_of new.sent ≡ status_writes_of old.sent + status_writes
 
 -- At every exit of an operation, on every bus: the bus was asked to send a modifying opcode, and nothing beyond these
 -- limits.

@@ -97,11 +97,11 @@ abbrev pub has_sent : (is : List ℕ → Bool) → Sent → Bool
 has_sent is [] = false
 has_sent is (out ∷ before) = has_sent is before || is out
 
--- `before`, plus one if `is` is true, but at most the greatest u64
+-- `before`, plus one if `is` is true
 abbrev pub counted_once : (is : Bool) → (before : ℕ) → ℕ
-counted_once is before = if is then min (before + 1) (2 ^ 64 - 1) else before
+counted_once is before = if is then before + 1 else before
 
--- the number of transactions that satisfy the test, but at most the greatest u64
+-- the number of transactions that satisfy the test
 abbrev pub times_sent : (is : List ℕ → Bool) → Sent → ℕ
 times_sent is [] = 0
 times_sent is (out ∷ before) = counted_once (is out) (times_sent is before)
