@@ -3,21 +3,21 @@ use Rattle.std.proofs.Common.{◌≡◌, ◌≢◌, ◌∙◌, ℕ, true, List, 
 use Rattle.std.proofs.Common.{arith}
 use Rattle.std.specs.Prelude.{◌/◌}
 use Rattle.nor_model.specs.Bus.{BusState}
-use Rattle.nor_driver.specs.OnlyReads.{OnlyReads, RanOutIfHonest}
+use Rattle.nor_driver.specs.OnlyReads.{OnlyReads, HasStopped}
 use Rattle.nor_layout.specs.declared.ranges.Span.{Span}
 use Rattle.nor_layout.specs.Sectors.{FitsInto, ReachesPast}
 use Rattle.nor_probe.specs.declared.table.ChipName.{ChipName}
 use Rattle.nor_probe.specs.declared.probes.Probed.{Probed}
 use Rattle.nor_probe.specs.Found.{most_probe}
 use Rattle.nor_request.specs.declared.refusal.Refusal.{Refusal}
-use Rattle.nor_request.specs.declared.refusal.Refusal.TheVariants.{ImageSize, RegionOutside, Stopped, Mismatch}
+use Rattle.nor_request.specs.declared.refusal.Refusal.TheVariants.{ImageSize, RegionOutside, Stopped, Timeout, Mismatch}
 use Rattle.nor_request.specs.declared.report.Report.{Report}
 use Rattle.nor_request.specs.Errors.{IdentificationErrors}
 use Rattle.nor_read.specs.declared.verifying.Compared.{Compared}
 use Rattle.nor_read.specs.Finding.{IsModelled, HasFound, ReadingErrors, most_read}
 use Rattle.nor_read.specs.Verifying.{VerifyAlways, VerifyHonest, VerifyModelled, VerifyErrors, IsVerifyRefusal}
-use Rattle.nor_read.specs.Verifying.{FindsFirst, ComparesAll}
-use Rattle.nor_read.proofs.Onward.{has_looked, same_bytes}
+use Rattle.nor_read.specs.Verifying.{FindsFirst, ComparesAll, VerifyEnds}
+use Rattle.nor_read.proofs.Onward.{has_looked, same_bytes, read_after}
 use Rattle.nor_read.proofs.Whole.{Sends, find_tells, sends_probe, sends_on, fails, report_of, reported}
 use Rattle.nor_read.proofs.Whole.{rested_on, size_of, open_after, has_name, is_taken, is_passed}
 
@@ -30,43 +30,47 @@ pub record Verified (named : Option ChipName) (included : Option (List Span)) (i
 
 module _ (named : Option ChipName) (included : Option (List Span)) (image : List ℕ) where
   refused : {old new : BusState} (refusal : Refusal) → Sends old new → IsVerifyRefusal refusal
+      → VerifyEnds old.history new.history refusal
       → (old.honest ≡ true → ReadingErrors (most_read 16777216) named old new refusal)
       → (IsModelled old → VerifyErrors named included image old new refusal)
       → Verified named included image old new (Err refusal)
-  refused refusal sends is errors own = search sends.own
+  refused refusal sends is last errors own = search sends.own
 
   -- An error of the probe is one that `verify` may return. On a modelled bus it means what `verify` promises.
   unfound_tells : (old new : BusState) (refusal : Refusal) → IdentificationErrors most_probe named old new refusal
-      → IsVerifyRefusal refusal × (IsModelled old → VerifyErrors named included image old new refusal)
-  unfound_tells old new Stopped errors = (tt, λ known. let ran = errors known.honest in omega arith)
+      → IsVerifyRefusal refusal × VerifyEnds old.history new.history refusal
+      × (IsModelled old → VerifyErrors named included image old new refusal)
+  unfound_tells old new Stopped errors =
+      (tt, errors.last, λ known. let ran = errors.ran_out known.honest in omega arith)
+  unfound_tells old new (Timeout address) errors = (errors.0, errors.1, λ known. tt)
   unfound_tells old new _ errors = search
 
   pub unfound : {old new : BusState} (refusal : Refusal) → OnlyReads most_probe old new
       → IdentificationErrors most_probe named old new refusal → Verified named included image old new (Err refusal)
   unfound {old} {new} refusal only_reads errors =
       let own = unfound_tells old new refusal errors in
-      refused refusal (sends_probe only_reads) own.0
-      (find_tells (most_read 16777216) named old new refusal (omega arith) errors) own.1
+      refused refusal (sends_probe only_reads) own.0 own.1
+      (find_tells (most_read 16777216) named old new refusal (omega arith) errors) own.2
 
   -- the exits after a chip was found
   module _ {old mid : BusState} {probed : Probed} (found : HasFound named old mid probed)
       (only_reads : OnlyReads most_probe old mid) where
     pub other_size : length image ≢ probed.found.size
         → Verified named included image old mid (Err (ImageSize probed.found.size (length image)))
-    other_size differ = refused _ (sends_probe only_reads) tt found.rested (λ known.
+    other_size differ = refused _ (sends_probe only_reads) tt tt found.rested (λ known.
         let size = size_of found only_reads known in search (has_name found only_reads, rw size at differ))
 
     pub past : length image ≡ probed.found.size → ReachesPast included probed.found.size
         → Verified named included image old mid (Err RegionOutside)
-    past whole reaches = refused RegionOutside (sends_probe only_reads) tt found.rested
+    past whole reaches = refused RegionOutside (sends_probe only_reads) tt tt found.rested
         (λ known. (is_passed found only_reads reaches known, whole ∙ size_of found only_reads known))
 
     module _ {new : BusState} (after : OnlyReads (probed.found.size / 4096) mid new) where
-      pub stopped : RanOutIfHonest (probed.found.size / 4096) mid new
+      pub stopped : HasStopped (probed.found.size / 4096) mid new
           → Verified named included image old new (Err Stopped)
       stopped out =
           let halt = fails found only_reads out in
-          refused Stopped (sends_on found only_reads after) tt halt.largest halt.own
+          refused Stopped (sends_on found only_reads after) tt halt.last halt.largest halt.own
 
       -- the exits after all sectors were compared
       module _ (whole : length image ≡ probed.found.size) (fits : FitsInto included probed.found.size)
@@ -81,8 +85,13 @@ module _ (named : Option ChipName) (included : Option (List Span)) (image : List
 
         pub mismatch : (address : ℕ) → compared.first ≡ Some address
             → Verified named included image old new (Err (Mismatch address))
-        mismatch address is = refused _ (sends_on found only_reads after) tt (rested_on found only_reads all.rested) (λ known.
-            search (is_taken found only_reads fits, whole ∙ size_of found only_reads known, first_before (Some address) is known))
+        mismatch address is = refused _ (sends_on found only_reads after) tt
+            (read_after only_reads.nature.history (rw is at all.replied)) (rested_on found only_reads all.rested)
+            (λ known. search (
+              is_taken found only_reads fits,
+              whole ∙ size_of found only_reads known,
+              first_before (Some address) is known,
+            ))
 
         pub equal : compared.first ≡ None
             → Verified named included image old new (Ok (report_of probed compared.reads))

@@ -1,10 +1,15 @@
 -- Lemmas about the first difference between a chip and an image, which is found sector by sector.
 use Rattle.std.proofs.Common.{◌≡◌, ◌≤◌, ◌<◌, ◌+◌, ◌-◌, ◌*◌, ◌∙◌, ℕ, Bool, true, false, List, length, slice_index}
-use Rattle.std.proofs.Common.{Option, Some, None, subst, sym, arith}
+use Rattle.std.proofs.Common.{Option, Some, None, [], ◌∷◌, refl, subst, sym, arith}
 use Rattle.std.specs.Prelude.{◌/◌, MatchBool, if◌then◌else◌}
 use Rattle.std.specs.Option.{option_or}
+use Rattle.std.proofs.lemmas.List.Elements.{All-nil, All-cons}
+use Rattle.nor_model.specs.Exchange.{Exchange}
+use Rattle.nor_model.specs.History.{Continues, replied}
 use Rattle.nor_model.specs.Bus.{BusState}
+use Rattle.nor_model.proofs.Histories.{continues_refl}
 use Rattle.nor_driver.specs.OnlyReads.{OnlyReads, IsOpen}
+use Rattle.nor_driver.specs.Reads.{ReadsSector}
 use Rattle.nor_layout.specs.declared.ranges.Span.{Span}
 use Rattle.nor_geometry.specs.Below.{count_below}
 use Rattle.nor_layout.specs.Sectors.{includes, has_in_sector, AreOfSector, SomeInSector, NoneInSector}
@@ -12,8 +17,9 @@ use Rattle.nor_geometry.proofs.Below.{count_below-zero, count_below-more}
 use Rattle.nor_plan.specs.Bytes.{AllAgree, IsFirstDifference}
 use Rattle.nor_driver.proofs.RestsInTurn.{HasLooked, has_looked-none, rested_none}
 use Rattle.nor_read.specs.declared.verifying.Compared.{Compared}
-use Rattle.nor_read.specs.Verifying.{AgreeIn, IsFirstOther, FindsFirst, ComparesPart}
-use Rattle.nor_read.proofs.Onward.{has_looked, looked_on, open_on, same_bytes}
+use Rattle.nor_read.specs.Verifying.{AgreeIn, IsFirstOther, FindsFirst, IsSectorRead, AddsSectorReads}
+use Rattle.nor_read.specs.Verifying.{ReadsDifference, ComparesPart}
+use Rattle.nor_read.proofs.Onward.{has_looked, looked_on, open_on, same_bytes, read_after, read_then}
 
 -- ---- one sector
 
@@ -64,6 +70,9 @@ module _ (included : Option (List Span)) (image : List ℕ) (sector : ℕ) (byte
             agree_to first (λ i low before. difference.before i before) a above (omega arith) below;
       }
 
+adds_none : (history : List Exchange) → AddsSectorReads history history
+adds_none history = record { later = []; is = refl; each = All-nil IsSectorRead }
+
 -- A sector without an included address isn't read, and counts as one without a difference.
 pub part_skipped : (included : Option (List Span)) (image : List ℕ) (sector : ℕ) (returned : Bool) (state : BusState)
     → returned ≡ false → returned ≡ has_in_sector (includes included) sector
@@ -72,6 +81,8 @@ pub part_skipped : (included : Option (List Span)) (image : List ℕ) (sector : 
 part_skipped included image sector true state out test cases = absurd (cc)
 part_skipped included image sector false state out test none = record {
   counted = rw (← test);
+  only_sectors = adds_none state.history;
+  replied = tt;
   polled_ready = λ ready. ready;
   rested = λ honest. rested_none state;
   fell = λ honest. omega arith;
@@ -79,6 +90,52 @@ part_skipped included image sector false state out test none = record {
       in_sector (λ a. includes included a ≡ true → slice_index image a ≡ state.chip.bytes a) sector
       (λ i small inside. let outside = none i small in absurd (cc));
 }
+
+-- If a sector was read, a first difference in it has an address of that sector, and a chip that was idle and has the
+-- sector holds the bytes that were compared.
+module _ (included : Option (List Span)) (image : List ℕ) {bytes : List ℕ} {sector : ℕ} {old new : BusState}
+    (reads : ReadsSector sector old new bytes) where
+  read_at : (first : Option ℕ) → ((content : ℕ → ℕ) → AreOfSector content sector bytes
+      → FindsFirst included image content (4096 * sector) (4096 * (sector + 1)) first)
+      → ReadsDifference old.history new.history first
+  read_at None finds = tt
+  read_at (Some address) finds =
+      let content : ℕ → ℕ = λ a. slice_index bytes (a - 4096 * sector) in
+      let other = finds content
+      (λ i small. let at : 4096 * sector + i - 4096 * sector ≡ i = omega arith in rw (at) refl) in
+      let above = other.above in
+      let below = other.below in
+      let start : 4096 * sector ≡ address / 4096 * 4096 = omega arith in
+      let read = reads.answered in
+      record {
+        at = new.history;
+        read = record {
+          earlier = old.history;
+          bytes = bytes;
+          read = record { out = read.out; asks = rw start at read.asks; history = read.history };
+        };
+        since = continues_refl old.history;
+        later = adds_none new.history;
+      }
+
+  pub part_read : (first : Option ℕ) → new.polled_ready ≡ old.polled_ready
+      → has_in_sector (includes included) sector ≡ true → ((content : ℕ → ℕ) → AreOfSector content sector bytes
+      → FindsFirst included image content (4096 * sector) (4096 * (sector + 1)) first)
+      → ComparesPart included image sector old new (record { first = first; reads = 1 })
+  part_read first same test finds = record {
+    counted = rw test;
+    only_sectors = let read = reads.answered in record {
+      later = replied read.out bytes ∷ [];
+      is = read.history;
+      each = All-cons IsSectorRead (replied read.out bytes) []
+          (record { sector = sector; bytes = bytes; reads = read.asks; replied = refl }) (All-nil IsSectorRead);
+    };
+    replied = read_at first finds;
+    polled_ready = λ ready. same ∙ ready;
+    rested = λ honest. (reads.read honest).rested;
+    fell = λ honest. (reads.read honest).count;
+    errors = λ honest idle inside. finds old.chip.bytes (reads.replied honest idle inside).byte;
+  }
 
 -- ---- all sectors
 
@@ -96,12 +153,20 @@ module _ (included : Option (List Span)) (image : List ℕ) (content : ℕ → �
       let before = agree_more address agree other.before in search arith
   tells_more to (Some address) second low high other more = search arith
 
+-- The first difference of two ranges of sectors lies in a sector that was read.
+others_more : {old mid new : List Exchange} (first second : Option ℕ) → Continues old mid → AddsSectorReads mid new
+    → ReadsDifference old mid first → ReadsDifference mid new second → ReadsDifference old new (option_or first second)
+others_more None None low high has more = tt
+others_more None (Some address) low high has more = read_after low more
+others_more (Some address) second low high has more = read_then has high
+
 -- Holds if the sectors below `n` were compared.
 pub record HasCompared (included : Option (List Span)) (image : List ℕ) (size n : ℕ) (old new : BusState)
     (first : Option ℕ) (reads : ℕ) : Type 0 where
   pub few : reads ≤ n
   pub counted : reads ≡ count_below n (has_in_sector (includes included))
   pub honest_reads : HasLooked reads old new
+  pub replied : ReadsDifference old.history new.history first
   pub errors : IsOpen size old → FindsFirst included image old.chip.bytes 0 (4096 * n) first
 
 pub compared_none : (included : Option (List Span)) (image : List ℕ) (size : ℕ) (state : BusState)
@@ -117,6 +182,8 @@ module _ {included : Option (List Span)} {image : List ℕ} {size n reads : ℕ}
     few = grind arith;
     counted = let next = count_below-more n (has_in_sector (includes included)) in grind arith;
     honest_reads = looked_on has.honest_reads (has_looked only_reads compares.rested compares.fell compares.polled_ready);
+    replied = others_more first part.first has.honest_reads.nature.history compares.only_sectors has.replied
+        compares.replied;
     errors = λ is_open.
         let now = open_on is_open has.honest_reads in
         let same = now.same in

@@ -7,20 +7,20 @@ use Rattle.nor_model.specs.Chip.{Chip, IsSame, KeptBits, status1_of, kept_in, is
 use Rattle.nor_model.specs.Guard.{code_of, is_undefined}
 use Rattle.nor_model.specs.Offer.{IsRangeOf}
 use Rattle.nor_model.specs.Bus.{BusState}
-use Rattle.nor_driver.specs.OnlyReads.{OnlyReads, RanOutIfHonest}
+use Rattle.nor_driver.specs.OnlyReads.{OnlyReads, HasStopped}
 use Rattle.nor_driver.specs.Reads.{ReadsStatus2}
 use Rattle.nor_probe.specs.declared.table.ChipName.{ChipName}
 use Rattle.nor_probe.specs.declared.probes.Probed.{Probed}
 use Rattle.nor_probe.specs.Found.{most_probe}
-use Rattle.nor_driver.proofs.ReadsInTurn.{looks_more}
+use Rattle.nor_driver.proofs.ReadsInTurn.{looks_more, looks_on}
 use Rattle.nor_request.specs.declared.refusal.Refusal.{Refusal}
 use Rattle.nor_request.specs.declared.refusal.Refusal.TheVariants.{NoProtection, Stopped, Timeout}
-use Rattle.nor_request.specs.Errors.{IdentificationErrors}
+use Rattle.nor_request.specs.Errors.{IdentificationErrors, EndsAtError}
 use Rattle.nor_read.specs.declared.protection.Protection.{Protection}
 use Rattle.nor_read.specs.Finding.{IsModelled, HasFound, ReadingErrors, most_status}
 use Rattle.nor_read.specs.Protecting.{IsProtectedRange, IsProtectionRefusal}
 use Rattle.nor_read.specs.Protecting.{ProtectionAlways, ProtectionHonest, ProtectionModelled, ProtectionErrors}
-use Rattle.nor_read.proofs.Whole.{find_tells, looks_on, ran_on, rested_on, has_name, size_of}
+use Rattle.nor_read.proofs.Whole.{find_tells, find_ends, ran_on, rested_on, has_name, size_of}
 
 -- Holds if the promises of `wp_status` are kept at an exit with this result.
 pub record HasReported (named : Option ChipName) (old new : BusState) (result : Result Protection Refusal) : Type 0 where
@@ -47,9 +47,9 @@ range_read chip (Some places) scheme is =
 
 module _ (named : Option ChipName) where
   refused : {old new : BusState} (refusal : Refusal) → OnlyReads most_status old new → IsProtectionRefusal refusal
-      → (old.honest ≡ true → ReadingErrors most_status named old new refusal)
+      → EndsAtError refusal new.history → (old.honest ≡ true → ReadingErrors most_status named old new refusal)
       → (IsModelled old → ProtectionErrors named old.chip refusal) → HasReported named old new (Err refusal)
-  refused refusal only_reads is errors own = search
+  refused refusal only_reads is last errors own = search
 
   -- An error of the probe is one that `wp_status` may return, and means what `wp_status` promises.
   unfound_tells : (old new : BusState) (refusal : Refusal) → IdentificationErrors most_probe named old new refusal
@@ -62,23 +62,24 @@ module _ (named : Option ChipName) where
   unfound {old} {new} refusal only_reads errors =
       let own = unfound_tells old new refusal errors in
       refused refusal (looks_more most_probe most_status old new (omega arith) only_reads) own.0
+      (find_ends most_probe named old new refusal errors)
       (find_tells most_status named old new refusal (omega arith) errors) (λ known. own.1)
 
   -- the exits after a chip was found
   module _ {old mid new : BusState} {probed : Probed} (found : HasFound named old mid probed)
       (only_reads : OnlyReads most_probe old mid) (after : OnlyReads 1 mid new) where
     looks_all : OnlyReads most_status old new
-    looks_all = looks_on found only_reads 1 most_status (omega arith) after
+    looks_all = looks_on most_status (omega arith) only_reads after
 
     -- the exit after the bus stopped at the read of status 2
-    pub stopped : RanOutIfHonest 1 mid new → HasReported named old new (Err Stopped)
+    pub stopped : HasStopped 1 mid new → HasReported named old new (Err Stopped)
     stopped out =
-        refused Stopped looks_all tt (ran_on found only_reads 1 most_status (omega arith) out) (λ known. tt)
+        refused Stopped looks_all tt out.last (ran_on found only_reads 1 most_status (omega arith) out) (λ known. tt)
 
     module _ {status2 : ℕ} (reads : ReadsStatus2 mid new status2) where
       -- the exit with error 6: the chip has no block protection
       pub plain : probed.found.scheme ≡ false → HasReported named old new (Err NoProtection)
-      plain none = refused NoProtection looks_all tt (rested_on found only_reads (λ is. (reads.read is).rested))
+      plain none = refused NoProtection looks_all tt tt (rested_on found only_reads (λ is. (reads.read is).rested))
           (λ known. (has_name found only_reads known.honest, sym (found.is.config known).scheme ∙ none))
 
       -- the exit with a report: the chip has block protection

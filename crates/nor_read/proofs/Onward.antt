@@ -1,11 +1,17 @@
 -- Lemmas about successive steps that only read. A step may send nothing.
-use Rattle.std.proofs.Common.{◌≡◌, ◌+◌, ℕ, true, arith}
+use Rattle.std.proofs.Common.{◌≡◌, ◌∙◌, ◌+◌, ◌++◌, ℕ, true, List, ap, sym, arith}
+use Rattle.std.proofs.lemmas.List.{append_assoc}
+use Rattle.std.proofs.lemmas.List.Elements.{All-append}
 use mathlib.Core.Path.{fun_ext}
+use Rattle.nor_model.specs.Exchange.{Exchange}
+use Rattle.nor_model.specs.History.{Continues}
 use Rattle.nor_model.specs.Bus.{BusState}
+use Rattle.nor_model.proofs.Histories.{continues_then}
 use Rattle.nor_model.proofs.Nature.{nature_then}
 use Rattle.nor_driver.specs.Ready.{StaysReady}
 use Rattle.nor_driver.specs.OnlyReads.{Rested, OnlyReads, IsOpen}
 use Rattle.nor_driver.proofs.RestsInTurn.{HasLooked, rested_then}
+use Rattle.nor_read.specs.Verifying.{IsSectorRead, AddsSectorReads, HasReadAt}
 
 -- `HasLooked` holds after a step that sent `more` transactions and succeeded.
 pub has_looked : {most more : ℕ} {old new : BusState} → OnlyReads most old new → (old.honest ≡ true → Rested old new)
@@ -26,3 +32,22 @@ same_bytes rested = fun_ext rested.unchanged.same.bytes
 -- On a well-behaved bus, an idle chip is still idle after reads that succeeded, and has the same size.
 pub open_on : {size reads : ℕ} {old mid : BusState} → IsOpen size old → HasLooked reads old mid → IsOpen size mid
 open_on is_open honest_reads = let was = (honest_reads.rested is_open.honest).unchanged in search arith
+
+adds_then : {old mid new : List Exchange} → AddsSectorReads old mid → AddsSectorReads mid new → AddsSectorReads old new
+adds_then {old} first second = record {
+  later = second.later ++ first.later;
+  is = second.is ∙ ap (λ (h : List Exchange). second.later ++ h) first.is
+      ∙ sym (append_assoc second.later first.later old);
+  each = All-append IsSectorRead second.later first.later second.each first.each;
+}
+
+-- A call that began earlier has read the sector too.
+pub read_after : {address : ℕ} {old mid new : List Exchange} → Continues old mid → HasReadAt address mid new
+    → HasReadAt address old new
+read_after first has =
+    record { at = has.at; read = has.read; since = continues_then first has.since; later = has.later }
+
+-- A call has read the sector even if it then reads further sectors.
+pub read_then : {address : ℕ} {old mid new : List Exchange} → HasReadAt address old mid → AddsSectorReads mid new
+    → HasReadAt address old new
+read_then has more = record { at = has.at; read = has.read; since = has.since; later = adds_then has.later more }

@@ -12,12 +12,12 @@ use Rattle.nor_probe.specs.Found.{most_probe}
 use Rattle.nor_request.specs.declared.refusal.Refusal.{Refusal}
 use Rattle.nor_request.specs.declared.refusal.Refusal.TheVariants.{RegionOutside, Stopped, Output}
 use Rattle.nor_request.specs.declared.report.Report.{Report}
-use Rattle.nor_request.specs.Errors.{IdentificationErrors}
+use Rattle.nor_request.specs.Errors.{IdentificationErrors, EndsAtError}
 use Rattle.nor_read.specs.Finding.{IsModelled, HasFound, ReadingErrors, most_read}
 use Rattle.nor_read.specs.Reading.{ReadOutAlways, ReadOutHonest, ReadOutModelled, IsReadRefusal, ReadOutErrors}
 use Rattle.nor_read.specs.Reading.{Copies, ReadsAll, CopyErrors}
 use Rattle.nor_read.proofs.Onward.{has_looked, same_bytes}
-use Rattle.nor_read.proofs.Whole.{Sends, find_tells, sends_probe, sends_on, fails, report_of, reported}
+use Rattle.nor_read.proofs.Whole.{Sends, find_tells, find_ends, sends_probe, sends_on, fails, report_of, reported}
 use Rattle.nor_read.proofs.Whole.{rested_on, size_of, open_after, is_taken, is_passed}
 
 -- Holds if the promises of `read_out` are kept at an exit with this result.
@@ -29,23 +29,24 @@ pub record HasReadOut (named : Option ChipName) (included : Option (List Span)) 
 
 module _ (named : Option ChipName) (included : Option (List Span)) (vault : VaultState) where
   refused : {old new : BusState} {vault' : VaultState} (refusal : Refusal) → Sends old new
-      → IsReadRefusal vault vault' refusal
+      → IsReadRefusal vault vault' refusal → EndsAtError refusal new.history
       → (old.honest ≡ true → ReadingErrors (most_read 16777216) named old new refusal)
       → (IsModelled old → ReadOutErrors named included old new vault vault' refusal)
       → HasReadOut named included old new vault vault' (Err refusal)
-  refused refusal sends is errors own = search sends.own
+  refused refusal sends is last errors own = search sends.own
 
   -- An error of the probe is one that `read_out` may return. On a modelled bus it means what `read_out` promises.
   unfound_tells : (old new : BusState) (refusal : Refusal) → IdentificationErrors most_probe named old new refusal
       → IsReadRefusal vault vault refusal × (IsModelled old → ReadOutErrors named included old new vault vault refusal)
-  unfound_tells old new Stopped errors = ((tt, assumption), λ known. let ran = errors known.honest in omega arith)
+  unfound_tells old new Stopped errors =
+      ((tt, assumption), λ known. let ran = errors.ran_out known.honest in omega arith)
   unfound_tells old new _ errors = search
 
   pub unfound : {old new : BusState} (refusal : Refusal) → OnlyReads most_probe old new
       → IdentificationErrors most_probe named old new refusal → HasReadOut named included old new vault vault (Err refusal)
   unfound {old} {new} refusal only_reads errors =
       let own = unfound_tells old new refusal errors in
-      refused refusal (sends_probe only_reads) own.0
+      refused refusal (sends_probe only_reads) own.0 (find_ends most_probe named old new refusal errors)
       (find_tells (most_read 16777216) named old new refusal (omega arith) errors) own.1
 
   -- the exits after a chip was found
@@ -53,7 +54,8 @@ module _ (named : Option ChipName) (included : Option (List Span)) (vault : Vaul
       (only_reads : OnlyReads most_probe old mid) where
     pub past : ReachesPast included probed.found.size
         → HasReadOut named included old mid vault vault (Err RegionOutside)
-    past reaches = refused RegionOutside (sends_probe only_reads) (assumption) found.rested (is_passed found only_reads reaches)
+    past reaches = refused RegionOutside (sends_probe only_reads) (assumption) tt found.rested
+        (is_passed found only_reads reaches)
 
     module _ {new : BusState} {vault' : VaultState} (fits : FitsInto included probed.found.size)
         (after : OnlyReads (probed.found.size / 4096) mid new) where
@@ -62,9 +64,10 @@ module _ (named : Option ChipName) (included : Option (List Span)) (vault : Vaul
           → HasReadOut named included old new vault vault' (Err refusal)
       broken Stopped errors =
           let halt = fails found only_reads errors.0 in
-          refused Stopped (sends_on found only_reads after) (tt, errors.1) halt.largest halt.own
+          refused Stopped (sends_on found only_reads after) (tt, errors.1) halt.last halt.largest halt.own
       broken (Output written) breaks =
-          refused (Output written) (sends_on found only_reads after) breaks.took (rested_on found only_reads breaks.rested)
+          refused (Output written) (sends_on found only_reads after) breaks.took tt
+          (rested_on found only_reads breaks.rested)
           (λ known. record {
             taken = is_taken found only_reads fits known;
             within = let same = size_of found only_reads known in let within = breaks.within in omega arith;

@@ -2,20 +2,21 @@
 use Rattle.std.proofs.Common.{◌≡◌, ◌≤◌, ◌+◌, ◌∙◌, ℕ, true, List, Option, Result, Ok, Err, ap, sym, arith}
 use Rattle.std.specs.Prelude.{◌/◌, IsErrAnd}
 use Rattle.nor_model.specs.Chip.{status1_of}
+use Rattle.nor_model.specs.History.{EndsStopped}
 use Rattle.nor_model.specs.Bus.{BusState}
-use Rattle.nor_driver.specs.OnlyReads.{Rested, OnlyReads, RanOut, RanOutIfHonest, IsOpen}
+use Rattle.nor_driver.specs.OnlyReads.{Rested, OnlyReads, RanOut, HasStopped, IsOpen}
 use Rattle.nor_layout.specs.declared.ranges.Span.{Span}
 use Rattle.nor_layout.specs.Sectors.{sectors_included, FitsInto, ReachesPast}
 use Rattle.nor_layout.proofs.Sectors.{sectors_included-most}
 use Rattle.nor_probe.specs.declared.table.ChipName.{ChipName}
 use Rattle.nor_probe.specs.declared.probes.Probed.{Probed}
 use Rattle.nor_probe.specs.Found.{IsConfigOf, most_probe}
-use Rattle.nor_driver.proofs.ReadsInTurn.{looks_then, looks_more}
+use Rattle.nor_driver.proofs.ReadsInTurn.{looks_more, looks_on}
 use Rattle.nor_driver.proofs.RestsInTurn.{HasLooked, rested_then}
 use Rattle.nor_request.specs.declared.refusal.Refusal.{Refusal}
 use Rattle.nor_request.specs.declared.refusal.Refusal.TheVariants.{Stopped, Timeout}
 use Rattle.nor_request.specs.declared.report.Report.{Report}
-use Rattle.nor_request.specs.Errors.{IdentificationErrors}
+use Rattle.nor_request.specs.Errors.{IdentificationErrors, EndsAtError}
 use Rattle.nor_read.specs.Finding.{IsModelled, HasFound, IsNamed, IsPassed, IsTaken}
 use Rattle.nor_read.specs.Finding.{ReportsPart, ReportsReads, ReadingErrors, most_read}
 
@@ -31,9 +32,10 @@ pub record Sends (old new : BusState) : Type 0 where
   pub largest : OnlyReads (most_read 16777216) old new
   pub own : IsModelled old → OnlyReads (most_read old.chip.config.size) old new
 
--- Holds after a stop. On a well-behaved bus fewer transactions were left than the bound for the largest chip, and on a
--- modelled bus fewer than the bound for this chip.
+-- Holds after a stop, which is the last transaction. On a well-behaved bus fewer transactions were left than the bound
+-- for the largest chip, and on a modelled bus fewer than the bound for this chip.
 pub record OperationFails (old new : BusState) : Type 0 where
+  pub last : EndsStopped new.history
   pub largest : old.honest ≡ true → RanOut (most_read 16777216) old new
   pub own : IsModelled old → RanOut (most_read old.chip.config.size) old new
 
@@ -41,9 +43,16 @@ pub record OperationFails (old new : BusState) : Type 0 where
 
 pub find_tells : (most : ℕ) (named : Option ChipName) (old new : BusState) (refusal : Refusal) → most_probe ≤ most
     → IdentificationErrors most_probe named old new refusal → old.honest ≡ true → ReadingErrors most named old new refusal
-find_tells most named old new Stopped fits errors honest = let ran = errors honest in omega arith
-find_tells most named old new (Timeout address) fits errors honest = absurd (errors.1 honest)
+find_tells most named old new Stopped fits errors honest = let ran = errors.ran_out honest in omega arith
+find_tells most named old new (Timeout address) fits errors honest = absurd (errors.2 honest)
 find_tells most named old new _ fits errors honest = search
+
+-- An error of the probe says which transaction was the last one.
+pub find_ends : (most : ℕ) (named : Option ChipName) (old new : BusState) (refusal : Refusal)
+    → IdentificationErrors most named old new refusal → EndsAtError refusal new.history
+find_ends most named old new Stopped errors = errors.last
+find_ends most named old new (Timeout address) errors = errors.1
+find_ends most named old new _ errors = search
 
 pub sends_probe : {old new : BusState} → OnlyReads most_probe old new → Sends old new
 sends_probe only_reads = search (arith, looks_more)
@@ -82,22 +91,23 @@ module _ {named : Option ChipName} {old mid : BusState} {probed : Probed}
   pub size_of : IsModelled old → probed.found.size ≡ old.chip.config.size
   size_of known = (found.is.config known).size
 
-  -- If at most `n` transactions follow the probe, the call as a whole reads only, with at most `most` transactions.
-  pub looks_on : {new : BusState} (n most : ℕ) → most_probe + n ≤ most → OnlyReads n mid new → OnlyReads most old new
-  looks_on {new} n most fits after =
-      looks_more (most_probe + n) most old new fits (looks_then most_probe n old mid new only_reads after)
-
   pub sends_on : {new : BusState} → OnlyReads (probed.found.size / 4096) mid new → Sends old new
-  sends_on after = search (arith, looks_on, size_of)
+  sends_on after =
+      let most = found.is.part.at_most in
+      record {
+        largest = looks_on (most_read 16777216) (omega arith) only_reads after;
+        own = λ known. let size = size_of known in
+            looks_on (most_read old.chip.config.size) (omega arith) only_reads after;
+      }
 
   -- If an honest bus stops after the probe, fewer transactions were left at the start than the whole call may need.
-  pub ran_on : {new : BusState} (n most : ℕ) → most_probe + n ≤ most → RanOutIfHonest n mid new → old.honest ≡ true
+  pub ran_on : {new : BusState} (n most : ℕ) → most_probe + n ≤ most → HasStopped n mid new → old.honest ≡ true
       → RanOut most old new
   ran_on n most fits out honest =
-      let ran = out (only_reads.nature.honest ∙ honest) in let fell = found.fell honest in omega arith
+      let ran = out.ran_out (only_reads.nature.honest ∙ honest) in let fell = found.fell honest in omega arith
 
-  pub fails : {new : BusState} → RanOutIfHonest (probed.found.size / 4096) mid new → OperationFails old new
-  fails out = let most = found.is.part.at_most in search (arith, ran_on, size_of)
+  pub fails : {new : BusState} → HasStopped (probed.found.size / 4096) mid new → OperationFails old new
+  fails out = let most = found.is.part.at_most in search (arith, ran_on, size_of, out.last)
 
   -- On a well-behaved bus, a probe and reads that all succeeded leave contents and non-volatile status bits as they
   -- were.

@@ -9,6 +9,7 @@ use Rattle.nor_driver.specs.OnlyReads.{OnlyReads, Rested}
 use Rattle.nor_probe.specs.declared.table.ChipName.{ChipName}
 use Rattle.nor_request.specs.declared.refusal.Refusal.{Refusal}
 use Rattle.nor_request.specs.declared.refusal.Refusal.TheVariants.{NoProtection}
+use Rattle.nor_request.specs.Errors.{EndsAtError}
 use Rattle.nor_read.specs.declared.protection.Protection.{Protection}
 use Rattle.nor_read.specs.Finding.{IsNamed, IsFindRefusal, ReadingErrors, most_status}
 
@@ -43,6 +44,8 @@ pub record ProtectionAlways (old new : BusState) (result : Result Protection Ref
   pub sized : IfOk result (λ protection. is_chip_size protection.size ≡ true)
   -- An error is one of those that `wp_status` may return.
   pub refuses : IfErr result IsProtectionRefusal
+  -- After error 12 the bus stopped at the last transaction, and after error 13 that was a poll that showed BUSY.
+  pub last : IfErr result (λ refusal. EndsAtError refusal new.history)
   -- The call succeeds only if the last poll showed ready.
   pub polled_ready : OnOk result (new.polled_ready ≡ true)
 

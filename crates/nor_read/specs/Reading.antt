@@ -2,7 +2,7 @@
 use Rattle.std.specs.Prelude.{◌≡◌, ◌≤◌, ◌<◌, ◌+◌, ◌*◌, ◌/◌, ◌++◌, ℕ, true, if◌then◌else◌, ⊤}
 use Rattle.std.specs.Prelude.{Option, Result, IfOk, IfErr, OnOk, List, length, slice_index}
 use Rattle.nor_model.specs.Bus.{BusState}
-use Rattle.nor_driver.specs.OnlyReads.{OnlyReads, Rested, RanOut, RanOutIfHonest, IsOpen}
+use Rattle.nor_driver.specs.OnlyReads.{OnlyReads, Rested, RanOut, HasStopped, IsOpen}
 use Rattle.nor_journal.specs.Vault.{VaultState, PutRefused, Refused, Accepted}
 use Rattle.nor_driver.specs.Ready.{StaysReady}
 use Rattle.nor_layout.specs.declared.ranges.Span.{Span}
@@ -13,6 +13,7 @@ use Rattle.nor_probe.specs.Found.{IsConfigOf}
 use Rattle.nor_request.specs.declared.refusal.Refusal.{Refusal}
 use Rattle.nor_request.specs.declared.refusal.Refusal.TheVariants.{RegionOutside, Stopped, Output}
 use Rattle.nor_request.specs.declared.report.Report.{Report}
+use Rattle.nor_request.specs.Errors.{EndsAtError}
 use Rattle.nor_read.specs.Finding.{IsPassed, IsTaken, ReportsPart, ReportsReads, IsFindRefusal, ReadingErrors, most_read}
 
 -- the byte at an address of the copy: the chip's if the address is included, otherwise FFh
@@ -72,6 +73,8 @@ pub record ReadOutAlways (named : Option ChipName) (included : Option (List Span
   -- An error is one of those that `read_out` may return, and error 19 has the number of bytes that a `telling` vault
   -- accepted.
   pub refuses : IfErr result (IsReadRefusal vault vault')
+  -- After error 12 the bus stopped at the last transaction, and after error 13 that was a poll that showed BUSY.
+  pub last : IfErr result (λ refusal. EndsAtError refusal new.history)
   -- The call succeeds only if the last poll showed ready.
   pub polled_ready : OnOk result (new.polled_ready ≡ true)
 
@@ -164,7 +167,7 @@ pub record BreaksCopy (included : Option (List Span)) (size written : ℕ) (old 
 
 -- The meaning of an error of the copy. After a stop the vault has refused nothing.
 abbrev pub CopyErrors : Option (List Span) → ℕ → (old new : BusState) → (vault vault' : VaultState) → Refusal → Type 0
-CopyErrors included size old new vault vault' Stopped = RanOutIfHonest (size / 4096) old new × Accepted vault vault'
+CopyErrors included size old new vault vault' Stopped = HasStopped (size / 4096) old new × Accepted vault vault'
 CopyErrors included size old new vault vault' (Output written) = BreaksCopy included size written old new vault vault'
 CopyErrors included size old new vault vault' _ = ⊥
 

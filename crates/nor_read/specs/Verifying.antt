@@ -1,8 +1,11 @@
 -- The result of a comparison of a chip with an image.
-use Rattle.std.specs.Prelude.{◌≡◌, ◌≢◌, ◌≤◌, ◌<◌, ◌+◌, ◌*◌, ℕ, true, if◌then◌else◌, ⊤}
-use Rattle.std.specs.Prelude.{Option, Result, IfOk, IfErr, OnOk, List, length, slice_index, MatchOption}
+use Rattle.std.specs.Prelude.{◌≡◌, ◌≢◌, ◌≤◌, ◌<◌, ◌+◌, ◌*◌, ◌++◌, ℕ, true, if◌then◌else◌, ⊤}
+use Rattle.std.specs.List.{All}
+use Rattle.std.specs.Prelude.{Option, Some, Result, IfOk, IfErr, OnOk, List, length, slice_index, MatchOption}
 use Rattle.nor_model.specs.declared.config.Config.{Config}
 use Rattle.nor_model.specs.Chip.{Chip}
+use Rattle.nor_model.specs.Exchange.{Exchange}
+use Rattle.nor_model.specs.History.{Continues, EndsReading, names}
 use Rattle.nor_model.specs.Bus.{BusState}
 use Rattle.nor_driver.specs.OnlyReads.{OnlyReads, Rested, RanOut, IsOpen}
 use Rattle.nor_driver.specs.Ready.{StaysReady}
@@ -13,6 +16,7 @@ use Rattle.nor_probe.specs.Found.{IsConfigOf}
 use Rattle.nor_request.specs.declared.refusal.Refusal.{Refusal}
 use Rattle.nor_request.specs.declared.refusal.Refusal.TheVariants.{ImageSize, RegionOutside, Stopped, Mismatch}
 use Rattle.nor_request.specs.declared.report.Report.{Report}
+use Rattle.nor_request.specs.Errors.{EndsAtError}
 use Rattle.nor_read.specs.declared.verifying.Compared.{Compared}
 use Rattle.nor_read.specs.Finding.{IsNamed, IsPassed, IsTaken, most_read}
 use Rattle.nor_read.specs.Finding.{ReportsPart, ReportsReads, IsFindRefusal, ReadingErrors}
@@ -57,6 +61,34 @@ IsVerifyRefusal RegionOutside = ⊤
 IsVerifyRefusal (Mismatch address) = ⊤
 IsVerifyRefusal refusal = IsFindRefusal refusal
 
+-- Holds if the transaction read a sector, and the bus did not stop at it.
+pub record IsSectorRead (exchange : Exchange) : Type 0 where
+  pub sector : ℕ
+  pub bytes : List ℕ
+  pub reads : names 0x03 (4096 * sector) exchange.out ≡ true
+  pub replied : exchange.reply ≡ Some bytes
+
+-- Holds if the history `new` continues `old` with reads of sectors and with nothing else.
+pub record AddsSectorReads (old new : List Exchange) : Type 0 where
+  pub later : List Exchange
+  pub is : new ≡ later ++ old
+  pub each : All IsSectorRead later
+
+-- Holds if a call read the sector that has this address, and sent only reads of sectors after it.
+pub record HasReadAt (address : ℕ) (old new : List Exchange) : Type 0 where
+  -- the history up to this read
+  pub at : List Exchange
+  pub read : EndsReading address at
+  pub since : Continues old read.earlier
+  pub later : AddsSectorReads at new
+
+-- The end of a call of `verify` that returned this error. `verify` reads all sectors even after a difference, so error
+-- 14 means that the sector that has its address was read, and then nothing but sectors. Any other error means what
+-- `EndsAtError` says.
+abbrev pub VerifyEnds : (old new : List Exchange) → Refusal → Type 0
+VerifyEnds old new (Mismatch address) = HasReadAt address old new
+VerifyEnds old new refusal = EndsAtError refusal new
+
 -- The promises of `verify` on every bus.
 pub record VerifyAlways (named : Option ChipName) (included : Option (List Span)) (image : List ℕ) (old new : BusState)
     (result : Result Report Refusal) : Type 0 where
@@ -71,6 +103,9 @@ pub record VerifyAlways (named : Option ChipName) (included : Option (List Span)
   pub whole : IfOk result (λ report. length image ≡ report.found.size)
   -- An error is one of those that `verify` may return.
   pub refuses : IfErr result IsVerifyRefusal
+  -- After error 12 the bus stopped at the last transaction, and after error 13 that was a poll that showed BUSY. After
+  -- error 14 the sector that has its address was read, and only reads of sectors were sent after that read.
+  pub last : IfErr result (VerifyEnds old.history new.history)
   -- The call succeeds only if the last poll showed ready.
   pub polled_ready : OnOk result (new.polled_ready ≡ true)
 
@@ -113,11 +148,17 @@ abbrev pub FindsFirst : Option (List Span) → List ℕ → (ℕ → ℕ) → (f
 FindsFirst included image content from to first =
     MatchOption first (AgreeIn included image content from to) (IsFirstOther included image content from to)
 
+-- Holds if the sector that has the first difference was read, or if there is no difference.
+abbrev pub ReadsDifference : (old new : List Exchange) → Option ℕ → Type 0
+ReadsDifference old new first = MatchOption first ⊤ (λ address. HasReadAt address old new)
+
 -- Holds after a sector was compared, with one transaction if it has an included address and with none otherwise. The
 -- result is known to be right on a well-behaved bus with an idle chip that has this sector.
 pub record ComparesPart (included : Option (List Span)) (image : List ℕ) (sector : ℕ) (old new : BusState)
     (compared : Compared) : Type 0 where
   pub counted : compared.reads ≡ (if has_in_sector (includes included) sector then 1 else 0)
+  pub only_sectors : AddsSectorReads old.history new.history
+  pub replied : ReadsDifference old.history new.history compared.first
   pub polled_ready : StaysReady old new
   pub rested : old.honest ≡ true → Rested old new
   pub fell : old.honest ≡ true → old.left ≡ new.left + compared.reads
@@ -129,6 +170,7 @@ pub record ComparesPart (included : Option (List Span)) (image : List ℕ) (sect
 pub record ComparesAll (included : Option (List Span)) (image : List ℕ) (size : ℕ) (old new : BusState)
     (compared : Compared) : Type 0 where
   pub counted : compared.reads ≡ sectors_included included size
+  pub replied : ReadsDifference old.history new.history compared.first
   pub polled_ready : StaysReady old new
   pub rested : old.honest ≡ true → Rested old new
   pub fell : old.honest ≡ true → old.left ≡ new.left + compared.reads

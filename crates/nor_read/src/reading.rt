@@ -1,7 +1,7 @@
 //! Copies a chip to a vault.
 ghost use Rattle.std.specs.Prelude.{◌≡◌, ◌<◌, ◌/◌, true, false, length, IfOk, IfErr, OnOk, OnErr, IsTrue, option_copied};
 ghost use Rattle.nor_model.specs.Size.{is_chip_size};
-ghost use Rattle.nor_driver.specs.OnlyReads.{OnlyReads, RanOutIfHonest};
+ghost use Rattle.nor_driver.specs.OnlyReads.{OnlyReads, HasStopped};
 ghost use Rattle.nor_journal.specs.Vault.{Took};
 ghost use Rattle.nor_read.specs.Finding.{IsModelled};
 ghost use Rattle.nor_read.specs.Reading.{ReadOutAlways, ReadOutHonest, ReadOutModelled};
@@ -28,7 +28,8 @@ const PIECE_LEN: usize = 65_536;
 ///
 /// Returns error 1 (no chip), 2 (unknown chip), 3 (other name), 5 (an included address isn't on the chip), 12 (the bus
 /// stopped) or 19 (the vault failed). Returns 13 (the chip stayed busy) only if the bus isn't well-behaved. Error 19
-/// has the number of bytes that a `telling` vault accepted during this call.
+/// has the number of bytes that a `telling` vault accepted during this call. On any bus, nothing is sent after the bus
+/// stopped, or after the poll for which error 13 is returned.
 pub fn read_out<B: Bus, V: Vault>(
     bus: &mut B,
     included: Option<&Ranges>,
@@ -86,7 +87,7 @@ fn read_piece<B: Bus>(
     ensures leaves { OnlyReads 16 (B.state bus.old) (B.state bus.new) }
     ensures reads { IfOk result
         (ReadsPiece (option_copied included.entry) piece bytes.new (B.state bus.old) (B.state bus.new)) }
-    ensures stops { OnErr result (RanOutIfHonest 16 (B.state bus.old) (B.state bus.new)) }
+    ensures stops { OnErr result (HasStopped 16 (B.state bus.old) (B.state bus.new)) }
 {
     let mut reads = 0;
     for k in 0..16 {
@@ -109,7 +110,7 @@ fn read_part<B: Bus>(
     ensures leaves { OnlyReads 1 (B.state bus.old) (B.state bus.new) }
     ensures reads { IfOk result
         (ReadsPart (option_copied included.entry) sector bytes.new (B.state bus.old) (B.state bus.new)) }
-    ensures stops { OnErr result (RanOutIfHonest 1 (B.state bus.old) (B.state bus.new)) }
+    ensures stops { OnErr result (HasStopped 1 (B.state bus.old) (B.state bus.new)) }
 {
     if !includes_in_sector(included, sector) {
         bytes.fill(0xFF);

@@ -1,7 +1,7 @@
 //! Compares a chip with an image.
 ghost use Rattle.std.specs.Prelude.{◌≡◌, ◌<◌, ◌≤◌, ◌+◌, ◌*◌, ◌/◌, ℕ, true, length, IfOk, OnErr, IsTrue, option_copied};
 ghost use Rattle.nor_model.specs.Size.{is_chip_size};
-ghost use Rattle.nor_driver.specs.OnlyReads.{OnlyReads, RanOutIfHonest};
+ghost use Rattle.nor_driver.specs.OnlyReads.{OnlyReads, HasStopped};
 ghost use Rattle.nor_layout.specs.Sectors.{AreOfSector};
 ghost use Rattle.nor_read.specs.Finding.{IsModelled};
 ghost use Rattle.nor_read.specs.Verifying.{VerifyAlways, VerifyHonest, VerifyModelled};
@@ -29,7 +29,8 @@ struct Compared {
 ///
 /// Returns error 1 (no chip), 2 (unknown chip), 3 (other name), 4 (the image isn't as long as the chip) or 5 (an
 /// included address isn't on the chip). Returns 12 if the bus stopped, 13 if the chip stayed busy (not on a
-/// well-behaved bus), and 14 with the first included address that differs.
+/// well-behaved bus), and 14 with the first included address that differs. On any bus, nothing is sent after the bus
+/// stopped, or after the poll for which error 13 is returned.
 pub fn verify<B: Bus>(
     bus: &mut B,
     image: &[u8],
@@ -74,7 +75,7 @@ fn compare_all<B: Bus>(
     ensures leaves { OnlyReads (size / 4096) (B.state bus.old) (B.state bus.new) }
     ensures compares { IfOk result
         (ComparesAll (option_copied included.entry) image.now size (B.state bus.old) (B.state bus.new)) }
-    ensures stops { OnErr result (RanOutIfHonest (size / 4096) (B.state bus.old) (B.state bus.new)) }
+    ensures stops { OnErr result (HasStopped (size / 4096) (B.state bus.old) (B.state bus.new)) }
 {
     let mut first = None;
     let mut reads = 0;
@@ -100,7 +101,7 @@ fn compare_part<B: Bus>(
     ensures leaves { OnlyReads 1 (B.state bus.old) (B.state bus.new) }
     ensures compares { IfOk result
         (ComparesPart (option_copied included.entry) image.now sector (B.state bus.old) (B.state bus.new)) }
-    ensures stops { OnErr result (RanOutIfHonest 1 (B.state bus.old) (B.state bus.new)) }
+    ensures stops { OnErr result (HasStopped 1 (B.state bus.old) (B.state bus.new)) }
 {
     if !includes_in_sector(included, sector) {
         return Ok(Compared {

@@ -1,13 +1,14 @@
--- The meaning of errors from the identification of a chip.
-use Rattle.std.specs.Prelude.{◌≡◌, ℕ, true, Option}
-use Rattle.nor_model.specs.History.{EndsBusy}
+-- The meaning of errors from the identification of a chip, and the last transaction before an error.
+use Rattle.std.specs.Prelude.{◌≡◌, ℕ, true, Option, List, ⊤}
+use Rattle.nor_model.specs.Exchange.{Exchange}
+use Rattle.nor_model.specs.History.{EndsStopped, EndsBusy, EndsReading}
 use Rattle.nor_model.specs.Bus.{BusState}
 use Rattle.nor_driver.specs.OnlyReads.{HasStopped}
 use Rattle.nor_probe.specs.declared.table.ChipName.{ChipName}
 use Rattle.nor_probe.specs.declared.probes.ProbeFault.TheVariants as Probes
 use Rattle.nor_probe.specs.Found.{ProbeErrors}
 use Rattle.nor_request.specs.declared.refusal.Refusal.{Refusal}
-use Rattle.nor_request.specs.declared.refusal.Refusal.TheVariants.{NoChip, UnknownChip, OtherName, Stopped, Timeout}
+use Rattle.nor_request.specs.declared.refusal.Refusal.TheVariants.{NoChip, UnknownChip, OtherName, Stopped, Timeout, Mismatch}
 
 -- The meaning of an error from a probe or the reads that follow it, which have at most `most` transactions together. On
 -- a well-behaved bus (`honest`) `NoChip`, `UnknownChip` and `OtherName` mean the same as the probe's faults, a stop
@@ -21,3 +22,12 @@ IdentificationErrors most named old new Stopped = HasStopped most old new
 IdentificationErrors most named old new (Timeout address) =
     (address ≡ 0) × EndsBusy new.history × (old.honest ≡ true → ⊥)
 IdentificationErrors most named old new _ = ⊥
+
+-- The last transaction of a call that returned this error. After error 12 the bus stopped at it, after error 13 it was
+-- a poll that showed BUSY, and after error 14 it read the sector that has the address of the error. Nothing was sent
+-- after it.
+abbrev pub EndsAtError : Refusal → List Exchange → Type 0
+EndsAtError Stopped history = EndsStopped history
+EndsAtError (Timeout address) history = EndsBusy history
+EndsAtError (Mismatch address) history = EndsReading address history
+EndsAtError _ history = ⊤

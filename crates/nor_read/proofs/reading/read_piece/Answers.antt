@@ -1,4 +1,5 @@
 use Rattle.std.proofs.Common.{◌≡◌, ◌+◌, ◌-◌, ◌*◌, ◌∙◌, arith, rules}
+use Rattle.nor_driver.proofs.RestsInTurn.{looks_after}
 use Rattle.nor_plan.proofs.Parts.{part_long}
 use Rattle.nor_read.proofs.Pieces.{pieced_none, pieced_more, pieced_all}
 use Rattle.nor_read.proofs.reading.read_piece.Goals as goal
@@ -14,6 +15,10 @@ loop-k-preserved g c =
     pieced_more width (omega arith) exact (omega arith)
     (c.read_part.auto.bytes ∙ part_long c.loop-k.bytes (4096 * k) width exact (omega arith)) c.loop-k.invariant
     c.read_part.ensures.leaves c.in_ok-reads.ensures.reads
+
+pub returns-in_err-reads-clause-leaves : goal.returns-in_err-reads-clause-leaves
+returns-in_err-reads-clause-leaves g c =
+    looks_after c.loop-k.reads 1 16 _ _ _ (omega arith) c.loop-k.invariant.honest_reads c.read_part.ensures.leaves
 
 pub returns-clause-reads : goal.returns-clause-reads
 returns-clause-reads g c = search (rules, pieced_all)
