@@ -124,8 +124,8 @@ unknown_chip = record {
   running = Unknown;
 }
 
--- The state of a bus to a chip outside the model: only its history is known. The bus isn't honest, so nothing is claimed
--- about its chip.
+-- The state of a bus to a chip outside the model: only its history is known. The bus isn't honest, so nothing is
+-- claimed about its chip.
 abbrev pub unknown_bus : List Exchange → BusState
 unknown_bus history = record {
   chip = unknown_chip;

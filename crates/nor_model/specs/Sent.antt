@@ -1,5 +1,5 @@
--- The modifying commands among the transactions over a bus. A transaction is one by the bytes that it sends, even if the
--- chip ignores it. (W25Q64FV datasheet, instruction set table.)
+-- The modifying commands among the transactions over a bus. A transaction is one by the bytes that it sends, even if
+-- the chip ignores it. (W25Q64FV datasheet, instruction set table.)
 use Rattle.std.specs.Prelude.{◌≡◌, ◌+◌, ◌*◌, ◌/◌, ◌-◌, ◌^◌, ◌==◌, ◌&&◌, ◌||◌, not, ℕ, Bool, true, false, List, [], ◌∷◌, min, nat_le, nat_lt, if◌then◌else◌}
 use Rattle.nor_model.specs.Exchange.{Exchange}
 use Rattle.nor_model.specs.Command.{begins_change, begins_quiet, is_change, is_erase_opcode}
@@ -44,7 +44,7 @@ targeted_by (opcode ∷ x ∷ y ∷ z ∷ rest) = addressed_targeted opcode ((65
 
 -- true if the sector is one of these consecutive sectors
 abbrev pub is_in_targeted : TargetedSectors → ℕ → Bool
-is_in_targeted target_sectors s = nat_le target_sectors.first s && nat_lt s (target_sectors.first + target_sectors.count)
+is_in_targeted sectors s = nat_le sectors.first s && nat_lt s (sectors.first + sectors.count)
 
 -- true if a transaction that sends `out` targets the sector
 abbrev pub targets : (out : List ℕ) → ℕ → Bool

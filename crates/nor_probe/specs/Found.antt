@@ -129,7 +129,7 @@ pub record ProbeAlways (named : Option ChipName) (old new : BusState) (result : 
   -- a chip found is what the bus replied, whether the bus is well-behaved or not
   pub replied : IfOk result (IsFoundBy new.history)
   -- after a stop or a timeout nothing more was sent
-  pub last : IfErr result (ProbeEndsAt new.history)
+  pub nothing_after : IfErr result (ProbeEndsAt new.history)
 
 -- The promises of a probe on a well-behaved bus.
 pub record ProbeHonest (named : Option ChipName) (old new : BusState) (result : Result Found ProbeFault) : Type 0 where

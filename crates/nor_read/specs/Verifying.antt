@@ -105,7 +105,7 @@ pub record VerifyAlways (named : Option ChipName) (included : Option (List Span)
   pub refuses : IfErr result IsVerifyRefusal
   -- After error 12 the bus stopped at the last transaction, and after error 13 that was a poll that showed BUSY. After
   -- error 14 the sector that has its address was read, and only reads of sectors were sent after that read.
-  pub last : IfErr result (VerifyEnds old.history new.history)
+  pub nothing_after : IfErr result (VerifyEnds old.history new.history)
   -- The call succeeds only if the last poll showed ready.
   pub polled_ready : OnOk result (new.polled_ready ≡ true)
 

@@ -53,7 +53,8 @@ pub record AreRight (wanted content : ℕ → ℕ) (n : ℕ) (scanned : Scanned)
   pub raised : (s : ℕ) → has scanned.raised s ≡ (nat_lt s n && is_raised content wanted s)
 
 -- Holds after one sector was scanned: its bytes are the reply to one read of it, and bytes that may not change were
--- copied into its part of the image. What the bytes are, the part and the plan are known only on a well-behaved bus with an idle chip of this size.
+-- copied into its part of the image. Which bytes these are, and the part and the plan, are known only on a well-behaved
+-- bus with an idle chip of this size.
 pub record ScansSector (request : Request) (size sector : ℕ) (part part' bytes : List ℕ)
     (old new : BusState) (plan : SectorPlan) : Type 0 where
   pub needed : plan.raised ≡ true → plan.touched ≡ true

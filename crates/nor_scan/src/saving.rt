@@ -31,8 +31,9 @@ pub struct SavedScan {
 /// result of `judge_identity`.
 ///
 /// No modifying command is sent. On every bus, the journal of a `telling` vault has the header that the identification
-/// gives, and in each record the bytes of the last reply to a read of that sector. If the bus is well-behaved and shows the identified chip, idle, then success sets the
-/// image's touched sectors to the target bytes, and a `telling` vault holds a journal of exactly the touched sectors.
+/// gives, and in each record the bytes of the last reply to a read of that sector. If the bus is well-behaved and shows
+/// the identified chip, idle, then success sets the image's touched sectors to the target bytes, and a `telling` vault
+/// holds a journal of exactly the touched sectors.
 ///
 /// Returns error 9 or 10 (the verdict on the request, if a well-behaved bus shows the identified chip, idle, and
 /// `judge_identity` accepted the request), 11 (the vault failed) or 12 (the bus stopped). After an error the vault is
@@ -55,7 +56,8 @@ pub fn save<B: Bus, V: Vault>(
     ensures holds { HoldsJournal (V.state vault.new) }
     ensures saves { IfOk result (λ saved. (V.state vault.new).telling ≡ true
         → IsJournalOf (header_found identity.now) (has saved.scanned.touched) (V.state vault.new).bytes) }
-    ensures replies { OnOk result (KeepsReplies (begins_with 0x03) (B.state bus.old).history (B.state bus.new).history) }
+    ensures replies { OnOk result
+        (KeepsReplies (begins_with 0x03) (B.state bus.old).history (B.state bus.new).history) }
     ensures replied { IfOk result (λ saved. (V.state vault.new).telling ≡ true
         → JournalSaves (header_found identity.now) (bytes_read (B.state bus.new).history)
         (has saved.scanned.touched) (V.state vault.new).bytes) }

@@ -125,7 +125,8 @@ pub fn scan_all<B: Bus, V: Vault>(
         (wanted_at request.now image.old size (B.state bus.old).chip.bytes)) (size / 4096)) }
     ensures writes { (head : Content) → head.size ≡ size → HasBegun V.state writer.old head 0
         → UnlessVault result (HasBegun V.state writer.new head (size / 4096)) }
-    ensures replies { OnOk result (KeepsReplies (begins_with 0x03) (B.state bus.old).history (B.state bus.new).history) }
+    ensures replies { OnOk result
+        (KeepsReplies (begins_with 0x03) (B.state bus.old).history (B.state bus.new).history) }
     ensures replied { (head : Content) → head.size ≡ size → HasBegunWith V.state writer.old head 0 none
         → IfOk result (λ scanned. HasPutSectors V.state writer.new head (bytes_read (B.state bus.new).history)
         (has scanned.touched) (size / 4096)) }
