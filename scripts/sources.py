@@ -271,12 +271,13 @@ class Code(Source):
     def take_model(self, word):
         """Gives a type that contracts see as a value of another kind that kind in place of its fields."""
         models = [item for item in self.items if item.kind == "impl" and rust.block_of(item) == (word.name, "Model")]
-        if models and word.kind != "fn":
-            line = word.code[0]
-            word.whole = self.text_of(models[0])
-            value = re.search(r" *ghost Value = [^;]*;", word.whole).group()
+        if not models or word.kind == "fn":
+            return
+        line, model = word.code[0], self.text_of(models[0])
+        if value := re.search(r" *ghost Value = [^;]*;", model):
+            word.whole = model
             fields = "{ .. }" if line.endswith("{") else "(..);"
-            word.code = [f"{line[:-1]}{fields}", word.whole.splitlines()[0], value, "}"]
+            word.code = [f"{line[:-1]}{fields}", word.whole.splitlines()[0], value.group(), "}"]
 
     def comment_above(self, item, number):
         """Returns the lines of comments right above an item, and among its attributes."""

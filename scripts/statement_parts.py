@@ -87,14 +87,14 @@ NAMES = {
         "`PutRefused old piece kept new`: the vault refused. Its refusals are one more, it is as sealed as before, and "
         "a faithful vault has accepted the first `kept` bytes of the piece.",
     "Sent":
-        "`Sent`: the record of all transactions that a bus sent, or was asked to send, and that may modify a chip. No "
-        "program can read or clear it.",
-    "Notes":
-        "`Notes out old new`: a transaction that sends nothing, or begins with 03h, 04h, 05h, 35h, 4Bh, 5Ah or 9Fh, "
-        "leaves the record as it was; any other is added to it.",
-    "RecordsPoll":
-        "`RecordsPoll out answer result old new`: the bus records in `polled_ready` whether the last poll showed that "
-        "the chip is ready. Only clauses of STATEMENT-FULL.md use this.",
+        "`Sent`: the bytes of each transaction that a bus sent, or was asked to send, and that may modify a chip; the "
+        "last one first. No program can read or clear it.",
+    "Exchange":
+        "`Exchange`: the bytes that a transaction sends, and its reply (none if the bus stopped). `replied out reply` "
+        "and `stopped out` are such transactions.",
+    "Records":
+        "`Records out answer result old new`: the bus adds the transaction to `history` and, if it may modify a chip, "
+        "to `sent`. `polled_ready` follows the replies to polls.",
     "Report": "`Report`: the chip that was found, and the numbers of sectors, erases, programs and transactions.",
     "refusal_number": "`refusal_number refusal`: the number in the comment above the case of `Refusal`.",
     "IsRestoreVerdict":
@@ -171,8 +171,11 @@ APPENDICES = {
         "If this is wrong, a modifying command may be sent before the journal is sealed, or by a refused session: "
         "`unsent` says only that this record is as it was. On a faulty bus little else is promised.",
         {
-            "Notes": "nor_model/specs/Sent.antt",
-            "RecordsPoll": "nor_model/specs/Bus.antt",
+            "Records": "nor_model/specs/Bus.antt",
+            "Continues": "nor_model/specs/History.antt",
+            "last_reply": "nor_model/specs/History.antt",
+            "IsJournalOfReplies": "nor_session/specs/Session.antt",
+            "EndsAtError": "nor_request/specs/Errors.antt",
             "Meter": "nor_model/src/bus.rt",
             "SendsSaved": "nor_session/specs/Session.antt",
             "SendsFew": "nor_session/specs/Session.antt",
@@ -254,15 +257,16 @@ SUBJECTS = {
     "Commands": "nor_model: src/command specs/Command specs/Addresses",
     "The step of a chip": "nor_model: specs/Step",
     "A loss of power": "nor_model: specs/Power",
-    "The bus, and its stops": "nor_model: specs/Bus src/bus specs/Sent src/sent specs/PolledReady",
+    "The bus, and its stops":
+        "nor_model: specs/Bus src/bus specs/Exchange specs/History src/history specs/Sent specs/PolledReady",
     "Reading, and counting transactions": "nor_driver: specs/OnlyReads nor_apply: specs/Spending",
     "IDs and status bits": "nor_model: src/status nor_driver: specs/Reads specs/StatusWrites",
     "SFDP": "nor_probe: src/sfdp specs/Sfdp",
-    "Genuine chips": "nor_probe: src/table specs/Table src/probes specs/Known specs/Found",
+    "Genuine chips": "nor_probe: src/table specs/Table src/probes specs/Known specs/Found specs/Replied",
     "The vault": "nor_journal: src/vault specs/Vault src/mem_vault specs/MemVault",
     "The journal": "nor_journal: specs/Number specs/Text src/fault src/journal specs/Saved nor_scan: specs/SavedScan",
     "The faults of a journal": "nor_journal: specs/Fault",
-    "Refusals": "nor_request: src/refusal specs/Refusal",
+    "Refusals": "nor_request: src/refusal specs/Refusal specs/Errors",
     "A chip that can be restored": "nor_apply: specs/Within nor_session: specs/Headline",
     "The most transactions":
         "nor_driver: specs/Operations specs/Limits nor_scan: specs/Identity nor_session: specs/Bounds",
@@ -270,7 +274,7 @@ SUBJECTS = {
     "Requests":
         "nor_geometry: specs/Below nor_layout: src/ranges specs/Ranges specs/Sectors nor_request: src/request specs/Request",
     "Touched and raised sectors": "nor_geometry: specs/Counts nor_plan: specs/Content",
-    "The verdict": "nor_scan: specs/Saving specs/Judging specs/Verdict",
+    "The verdict": "nor_scan: src/identity specs/Saving specs/Replied specs/Judging specs/Verdict",
     "A chip that is being changed": "nor_apply: specs/Change nor_session: specs/Changing",
     "The result of a call": "nor_request: src/report nor_session: specs/Made",
     "Sessions": "nor_session: specs/Session",

@@ -17,6 +17,8 @@ DEFINED = re.compile(r"^(?=.*\bpub\b)(?:(?:pub|abbrev|unfoldable|pattern) )+(?:(
 ALLOWED = {
     # the states of two buses of nor_serprog, which differ in what they send: each reads them from its own fields
     *"cause_of is_ready link_of polled_ready_of port_in sent_of serprog_state".split(),
+    # the history of each kind of bus
+    "history_of",
     # the same notion of the two programs, which differ in their chips, files and arguments
     *"HasPrinted IsBufferOf".split(),
 }

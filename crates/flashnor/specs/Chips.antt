@@ -3,7 +3,6 @@ use Rattle.std.specs.Prelude.{◌≡◌, ◌⊎◌, ◌/◌, ◌%◌, ◌==◌, 
 use Rattle.std.specs.Prelude.{is_none, replicate, slice_index, unwrap_or}
 use Rattle.std.specs.Borrow.{Bor}
 use Rattle.nor_model.specs.Bus.{BusState}
-use Rattle.nor_model.specs.Sent.{IsNothing}
 use Rattle.nor_model.specs.Chip.{Chip, kept_in}
 use Rattle.nor_chip.specs.Sim.{fill_of, pace_of, sim_state}
 use Rattle.nor_chip.specs.Start.{AreChipBytes}
@@ -42,7 +41,7 @@ pub record IsReady (programmer : Programmer) (bus : BusState) : Type 0 where
   pub left : bus.left ≡ allowance_of programmer
   pub honest : bus.honest ≡ true
   pub steady : bus.steady ≡ is_none programmer.power
-  pub unsent : IsNothing bus.sent
+  pub unsent : bus.sent ≡ []
 
 -- Holds for the contents of the chip's files. FFh stands for a missing or unnamed image, clear status bytes for a
 -- missing or unnamed status file.
@@ -68,7 +67,7 @@ pub record HoldsFiles (programmer : Programmer) (content : Content) (bus : BusSt
   pub config : IsConfigWith programmer.chip programmer.unique bus.chip.config
   pub idle : bus.chip.busy ≡ 0
   pub honest : bus.honest ≡ true
-  pub unsent : IsNothing bus.sent
+  pub unsent : bus.sent ≡ []
   pub bytes : (a : ℕ) → bus.chip.bytes a ≡ slice_index content.bytes.items a
   pub kept : bus.chip.kept ≡ kept_in content.status
   pub latch : bus.chip.latch ≡ (slice_index content.status 0 / 2 % 2 == 1)

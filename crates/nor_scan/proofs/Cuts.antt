@@ -44,20 +44,20 @@ put_begins : {V : Type 0} {state : V → VaultState} {writer : Writer V} {c : Co
 put_begins {c = c} written errors = rw (written.put.returned errors) (take_all (length (front c)) (front c) (omega arith))
 
 -- The records so far are those of the touched sectors below `n`, the next sector.
-module _ {V : Type 0} {state : V → VaultState} {writer : Writer V} {head : Content} {chip target_sectors : ℕ → ℕ} {n : ℕ}
-    {scanned : Scanned} (right : AreRight target_sectors chip n scanned)
+module _ {V : Type 0} {state : V → VaultState} {writer : Writer V} {head : Content} {chip target_bytes : ℕ → ℕ} {n : ℕ}
+    {scanned : Scanned} (right : AreRight target_bytes chip n scanned)
     (kept : HasPutSectors state writer head chip (has scanned.touched) n) where
-  pub kept_touched : HasPutSectors state writer head chip (λ s. nat_lt s n && is_touched chip target_sectors s) n
+  pub kept_touched : HasPutSectors state writer head chip (λ s. nat_lt s n && is_touched chip target_bytes s) n
   kept_touched = record {
     content = kept.content;
     written = kept.written;
     same = kept.same;
-    saves = Saves-same chip (has scanned.touched) (λ s. nat_lt s n && is_touched chip target_sectors s) kept.content
+    saves = Saves-same chip (has scanned.touched) (λ s. nat_lt s n && is_touched chip target_bytes s) kept.content
         (λ s. sym (right.touched s)) kept.saves;
     next = kept.next;
   }
 
-  pub kept_below : {total : ℕ} → n ≤ total → HasKeptBelow state writer head chip (is_touched chip target_sectors) total
+  pub kept_below : {total : ℕ} → n ≤ total → HasKeptBelow state writer head chip (is_touched chip target_bytes) total
   kept_below inside = record { bound = n; inside = inside; kept = kept_touched }
 
 -- A stop between two records leaves a prefix of the journal in a `telling` vault.

@@ -41,31 +41,31 @@ as_wanted a b same = not_from_true (a == b) (eq-eqb a b same)
 
 -- A plan's `touched` is whether some byte of the sector differs from the target; its `raised` is whether some bit must
 -- go from 0 to 1.
-verdicts : (here target_sectors : ℕ → ℕ) (plan : SectorPlan) → IsPlan here target_sectors 4096 plan
-    → (plan.touched ≡ any_below 4096 (λ i. is_other (here i) (target_sectors i)))
-    × (plan.raised ≡ any_below 4096 (λ i. must_rise (here i) (target_sectors i)))
-verdicts here target_sectors plan is = (
-  any_below-decided 4096 plan.touched (λ i. is_other (here i) (target_sectors i)) (λ i. here i ≡ target_sectors i → ⊥) (λ i. here i ≡ target_sectors i)
-      (λ i. other (here i) (target_sectors i)) (λ i. as_wanted (here i) (target_sectors i)) is.touched,
-  any_below-decided 4096 plan.raised (λ i. must_rise (here i) (target_sectors i)) (λ i. bit_and (target_sectors i) (here i) ≡ target_sectors i → ⊥)
-      (λ i. bit_and (target_sectors i) (here i) ≡ target_sectors i) (λ i. other (bit_and (target_sectors i) (here i)) (target_sectors i))
-      (λ i. as_wanted (bit_and (target_sectors i) (here i)) (target_sectors i)) is.raised,
+verdicts : (here target_bytes : ℕ → ℕ) (plan : SectorPlan) → IsPlan here target_bytes 4096 plan
+    → (plan.touched ≡ any_below 4096 (λ i. is_other (here i) (target_bytes i)))
+    × (plan.raised ≡ any_below 4096 (λ i. must_rise (here i) (target_bytes i)))
+verdicts here target_bytes plan is = (
+  any_below-decided 4096 plan.touched (λ i. is_other (here i) (target_bytes i)) (λ i. here i ≡ target_bytes i → ⊥) (λ i. here i ≡ target_bytes i)
+      (λ i. other (here i) (target_bytes i)) (λ i. as_wanted (here i) (target_bytes i)) is.touched,
+  any_below-decided 4096 plan.raised (λ i. must_rise (here i) (target_bytes i)) (λ i. bit_and (target_bytes i) (here i) ≡ target_bytes i → ⊥)
+      (λ i. bit_and (target_bytes i) (here i) ≡ target_bytes i) (λ i. other (bit_and (target_bytes i) (here i)) (target_bytes i))
+      (λ i. as_wanted (bit_and (target_bytes i) (here i)) (target_bytes i)) is.raised,
 )
 
-pub planned : (content target_sectors : ℕ → ℕ) (sector : ℕ) (plan : SectorPlan) → IsPlan (λ i. content (4096 * sector + i)) (λ i. target_sectors (4096 * sector + i)) 4096 plan
-    → (plan.touched ≡ is_touched content target_sectors sector) × (plan.raised ≡ is_raised content target_sectors sector)
+pub planned : (content target_bytes : ℕ → ℕ) (sector : ℕ) (plan : SectorPlan) → IsPlan (λ i. content (4096 * sector + i)) (λ i. target_bytes (4096 * sector + i)) 4096 plan
+    → (plan.touched ≡ is_touched content target_bytes sector) × (plan.raised ≡ is_raised content target_bytes sector)
 unfolding is_touched is_raised
-planned content target_sectors sector plan = verdicts (λ i. content (4096 * sector + i)) (λ i. target_sectors (4096 * sector + i)) plan
+planned content target_bytes sector plan = verdicts (λ i. content (4096 * sector + i)) (λ i. target_bytes (4096 * sector + i)) plan
 
 -- A sector whose bytes equal the target is neither touched nor raised.
-pub untouched : (content target_sectors : ℕ → ℕ) (sector : ℕ) → ((i : ℕ) → i < 4096 → target_sectors (4096 * sector + i) ≡ content (4096 * sector + i)) → is_touched content target_sectors sector ≡ false
+pub untouched : (content target_bytes : ℕ → ℕ) (sector : ℕ) → ((i : ℕ) → i < 4096 → target_bytes (4096 * sector + i) ≡ content (4096 * sector + i)) → is_touched content target_bytes sector ≡ false
 unfolding is_touched
-untouched content target_sectors sector same = any_below-all 4096 _ (λ i below. as_wanted _ _ (sym (same i below)))
+untouched content target_bytes sector same = any_below-all 4096 _ (λ i below. as_wanted _ _ (sym (same i below)))
 
-pub unraised : (content target_sectors : ℕ → ℕ) (sector : ℕ) → ((i : ℕ) → i < 4096 → target_sectors (4096 * sector + i) ≡ content (4096 * sector + i)) → is_raised content target_sectors sector ≡ false
+pub unraised : (content target_bytes : ℕ → ℕ) (sector : ℕ) → ((i : ℕ) → i < 4096 → target_bytes (4096 * sector + i) ≡ content (4096 * sector + i)) → is_raised content target_bytes sector ≡ false
 unfolding is_raised
-unraised content target_sectors sector same = any_below-all 4096 _
-    (λ i below. as_wanted _ _ (ap (bit_and (target_sectors (4096 * sector + i))) (sym (same i below)) ∙ and_self _))
+unraised content target_bytes sector same = any_below-all 4096 _
+    (λ i below. as_wanted _ _ (ap (bit_and (target_bytes (4096 * sector + i))) (sym (same i below)) ∙ and_self _))
 
 -- At addresses past the end of the chip the target byte is the present one.
 past_kept : (request : Request) (image : List ℕ) (size : ℕ) (content : ℕ → ℕ) (s : ℕ) → size % 65536 ≡ 0 → size / 4096 ≤ s
@@ -112,7 +112,7 @@ pub scans_sector : (request : Request) (size sector : ℕ) (included : Option (L
     → ((image : List ℕ) (a i : ℕ) → i < 4096 → slice_index part i ≡ slice_index image a → slice_index filled i ≡ target request.what image a)
     → ((i : ℕ) → i < 4096 → slice_index part' i ≡ (if includes included (4096 * sector + i) then slice_index filled i else slice_index bytes i))
     → ReadsSector sector old new bytes → StaysReady old new → (plan.raised ≡ true → plan.touched ≡ true)
-    → ((content target_sectors : ℕ → ℕ) → AreBytesOf content bytes → AreBytesOf target_sectors part' → IsPlan content target_sectors (length bytes) plan)
+    → ((content target_bytes : ℕ → ℕ) → AreBytesOf content bytes → AreBytesOf target_bytes part' → IsPlan content target_bytes (length bytes) plan)
     → ScansSector request size sector part part' bytes old new plan
 scans_sector request size sector included part filled part' bytes old new plan about_bytes fits is_included long long' targets fills reads polled_ready needed plans =
     let shown = λ (is_open : IsOpen size old). reads.replied is_open.honest is_open.idle (let s = is_open.same in omega arith) in
@@ -120,8 +120,8 @@ scans_sector request size sector included part filled part' bytes old new plan a
     → (i : ℕ) → i < 4096 → slice_index part' i ≡ wanted_at request image size old.chip.bytes (4096 * sector + i) =
     λ is_open image same i below.
     let may = may_change-included request size (4096 * sector + i) about_bytes (omega arith) in
-    let target_sectors = targets image (4096 * sector + i) i below (same i below) in
-    fills i below ∙ rw (is_included, target_sectors, (shown is_open).byte i below, may) refl in
+    let target_bytes = targets image (4096 * sector + i) i below (same i below) in
+    fills i below ∙ rw (is_included, target_bytes, (shown is_open).byte i below, may) refl in
     record {
       needed = needed;
       answered = reads.answered;

@@ -101,10 +101,10 @@ pub is_at : {request : Request} {size n sectors : ℕ} {included : Option (List 
     → n < sectors → included ≡ request.included → test ≡ has_in_sector (includes included) n → test ≡ verdict
     → IsAt request size n verdict
 is_at {size = size} sized targets within same is so =
-    let target_sectors = targets (omega arith) in
+    let target_bytes = targets (omega arith) in
     record {
-      about_bytes = target_sectors.0;
-      below = omega (arith, target_sectors.1);
+      about_bytes = target_bytes.0;
+      below = omega (arith, target_bytes.1);
       small = (is_chip_size-in_blocks size sized).small;
       included = rw (← same) (sym is ∙ so);
     }
@@ -146,8 +146,8 @@ module _ {request : Request} {size n : ℕ} {image image' : List ℕ} {old mid :
       → HasScanned request size (n + 1) image image' old mid scanned
   skipped at excluded =
       let content = old.chip.bytes in
-      let target_sectors = wanted_at request image size content in
-      let kept : (i : ℕ) → i < 4096 → target_sectors (4096 * n + i) ≡ content (4096 * n + i) = λ i below.
+      let target_bytes = wanted_at request image size content in
+      let kept : (i : ℕ) → i < 4096 → target_bytes (4096 * n + i) ≡ content (4096 * n + i) = λ i below.
       let within = at.below in
       wanted-kept request image size content (4096 * n + i)
       (may_change-included request size (4096 * n + i) at.about_bytes (omega arith) ∙ excluded i below) in
@@ -160,9 +160,9 @@ module _ {request : Request} {size n : ℕ} {image image' : List ℕ} {old mid :
         reads = was.reads ∙ sym (count_below-without n (has_in_sector (includes request.included)) at.included);
         honest_reads = was.honest_reads;
         right = λ is_open. record {
-          touched = λ s. tested n s (is_touched content target_sectors) (sym (untouched content target_sectors n kept))
+          touched = λ s. tested n s (is_touched content target_bytes) (sym (untouched content target_bytes n kept))
               ((was.right is_open).touched s) refl;
-          raised = λ s. tested n s (is_raised content target_sectors) (sym (unraised content target_sectors n kept))
+          raised = λ s. tested n s (is_raised content target_bytes) (sym (unraised content target_bytes n kept))
               ((was.right is_open).raised s) refl;
         };
         merged = was.merged;
@@ -205,7 +205,7 @@ module _ {request : Request} {size n : ℕ} {image image' : List ℕ} {old mid :
         let within = at.below in let small = at.small in
         let put = put_back n width image' part' exact whole (omega arith) in
         let content = old.chip.bytes in
-        let target_sectors = wanted_at request image size content in
+        let target_bytes = wanted_at request image size content in
         record {
           marks = marks_more n plan scanned next (omega arith) scans.needed was.marks marked;
           reads =
@@ -216,15 +216,15 @@ module _ {request : Request} {size n : ℕ} {image image' : List ℕ} {old mid :
               let plans = planned_before is_open in
               record {
                 touched = λ s.
-                    tested n s (is_touched content target_sectors) plans.0 ((was.right is_open).touched s) (marked.touched s);
+                    tested n s (is_touched content target_bytes) plans.0 ((was.right is_open).touched s) (marked.touched s);
                 raised = λ s.
-                    tested n s (is_raised content target_sectors) plans.1 ((was.right is_open).raised s) (marked.raised s);
+                    tested n s (is_raised content target_bytes) plans.1 ((was.right is_open).raised s) (marked.raised s);
               };
           merged = λ is_open a is. elim (cases_eq (a / 4096) n) [
             | inl here ↦
                 let place : 4096 * n + a % 4096 ≡ a = omega arith in
                 let below : a % 4096 < 4096 = omega arith in
-                subst (λ (k : ℕ). slice_index (put_mid (4096 * n) width image' part') k ≡ target_sectors k) place
+                subst (λ (k : ℕ). slice_index (put_mid (4096 * n) width image' part') k ≡ target_bytes k) place
                 (put.inside (a % 4096) below ∙ rw (same_before is_open) at
                 (scans.merged (later is_open) image of_image _ below))
             | inr other ↦
@@ -277,8 +277,8 @@ module _ {request : Request} {size n : ℕ} {image image' : List ℕ} {old mid :
       → Scans request size image image' old mid scanned
   none_to_scan other at_first few =
       let content = old.chip.bytes in
-      let target_sectors = wanted_at request image size content in
-      let kept : (a : ℕ) → target_sectors a ≡ content a = λ a. wanted-kept request image size content a
+      let target_bytes = wanted_at request image size content in
+      let kept : (a : ℕ) → target_bytes a ≡ content a = λ a. wanted-kept request image size content a
       (and_left (is_data request.what) (nat_lt a size && includes request.included a) other) in
       let free : (s : ℕ) → has scanned.touched s ≡ false = λ s. absent n scanned was.marks s (omega arith) in
       let flat : (s : ℕ) → has scanned.raised s ≡ false =
@@ -288,6 +288,6 @@ module _ {request : Request} {size n : ℕ} {image image' : List ℕ} {old mid :
         inside = was.marks.inside;
         count = was.marks.count;
       }) (rw other (rw at_first at was.reads ∙ count_below-zero _)) (λ is_open. record {
-        touched = λ s. rw (free s, untouched content target_sectors s (λ i below. kept (4096 * s + i)), and-false) refl;
-        raised = λ s. rw (flat s, unraised content target_sectors s (λ i below. kept (4096 * s + i)), and-false) refl;
+        touched = λ s. rw (free s, untouched content target_bytes s (λ i below. kept (4096 * s + i)), and-false) refl;
+        raised = λ s. rw (flat s, unraised content target_bytes s (λ i below. kept (4096 * s + i)), and-false) refl;
       })

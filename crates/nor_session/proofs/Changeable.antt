@@ -105,7 +105,7 @@ module _ {journal : Content} {identity : Identity} {scanned : Scanned} {changes 
   prepared_for sent modelled =
       let is = opening_of modelled read.opens in
       let fits = read.fits old.chip (read.small modelled.honest) is in
-      let content = old.chip.bytes in let target_sectors = restored journal content in
+      let content = old.chip.bytes in let target_bytes = restored journal content in
       let marks = marks_old read modelled in
       let touched : (s : ℕ) → has changes.touched s ≡ is_touched old.chip.bytes (restored journal old.chip.bytes) s
       = λ s. ap (λ (set : ℕ → Bool). set s) (ap has are.touched ∙ marks.0) in
@@ -147,8 +147,8 @@ module _ {journal : Content} {identity : Identity} {scanned : Scanned} {changes 
         raised = rises_touched;
         bytes = λ a hit. read.scans.bytes a (saved (a / 4096) hit);
         falls = λ a hit flat.
-            let wanted : target_sectors a ≡ saved_byte journal a = restored_saved journal content a (saved (a / 4096) hit) in
-            let falls = unraised_byte content target_sectors a (sym (raised (a / 4096)) ∙ flat) in
+            let wanted : target_bytes a ≡ saved_byte journal a = restored_saved journal content a (saved (a / 4096) hit) in
+            let falls = unraised_byte content target_bytes a (sym (raised (a / 4096)) ∙ flat) in
             let stays = same.bytes a in
             cc;
       } in

@@ -4,9 +4,10 @@ use Rattle.std.proofs.lemmas.Bool.Decides.{nat_tests}
 use Rattle.nor_geometry.specs.Below.{count_below}
 use Rattle.nor_geometry.specs.Counts.{sector_count}
 use Rattle.nor_geometry.proofs.Counting.{count_below-zero, count_below-with, count_below-without}
+use Rattle.nor_model.specs.History.{Answered, EndsReading, names}
 use Rattle.nor_model.specs.Bus.{BusState}
 use Rattle.nor_model.proofs.Nature.{nature_then}
-use Rattle.nor_driver.specs.OnlyReads.{OnlyReads, RanOutIfHonest}
+use Rattle.nor_driver.specs.OnlyReads.{OnlyReads, HasStopped}
 use Rattle.nor_driver.specs.Ready.{StaysReady}
 use Rattle.nor_driver.specs.Reads.{IsSectorOf, ReadsSector}
 use Rattle.nor_driver.proofs.RestsInTurn.{HasLooked, has_looked-none, looks_after, runs_out, rested_then}
@@ -19,9 +20,20 @@ use Rattle.nor_apply.proofs.Alone.{count_below-next, only-here, only-is, sector_
 
 -- ---- a sector
 
-pub stops : {sector : ℕ} (wanted : List ℕ) {old new : BusState} → sector < 4096 → RanOutIfHonest 1 old new
+pub stops : {sector : ℕ} (wanted : List ℕ) {old new : BusState} → sector < 4096 → HasStopped 1 old new
     → CheckErrors (only sector) (byte_of sector wanted) old new Stopped
-stops {sector} wanted below out = λ honest. rw (sector_count-only sector below) (out honest)
+stops {sector} wanted below out = rw (sector_count-only sector below) out
+
+-- the last transaction read the sector of this address
+ends_reading : (sector : ℕ) (old new : BusState) (bytes : List ℕ) (first : ℕ) → first < 4096
+    → Answered (names 0x03 (4096 * sector)) old.history new.history bytes
+    → EndsReading (4096 * sector + first) new.history
+ends_reading sector old new bytes first below answered =
+    let here : (4096 * sector + first) / 4096 * 4096 ≡ 4096 * sector = omega (arith, below) in record {
+      earlier = old.history;
+      bytes = bytes;
+      read = rw here answered;
+    }
 
 module _ {sector : ℕ} {bytes : List ℕ} {old new : BusState} (long : length bytes ≡ 4096)
     (reads : ReadsSector sector old new bytes) where
@@ -40,10 +52,13 @@ module _ {sector : ℕ} {bytes : List ℕ} {old new : BusState} (long : length b
 
   pub differs : (wanted : List ℕ) {first : ℕ} → IsFirstDifference bytes wanted first
       → CheckErrors (only sector) (byte_of sector wanted) old new (Mismatch (4096 * sector + first))
-  differs wanted {first} difference = λ honest can.
-      let within = difference.within in
-      let at : 4096 * sector + first - 4096 * sector ≡ first = omega arith in
-      grind (arith, difference.differs, difference.before, read_at honest can, nat_tests)
+  differs wanted {first} difference = (
+    ends_reading sector old new bytes first (omega (arith, difference.within, long)) reads.answered,
+    λ honest can.
+        let within = difference.within in
+        let at : 4096 * sector + first - 4096 * sector ≡ first = omega arith in
+        grind (arith, difference.differs, difference.before, read_at honest can, nat_tests),
+  )
 
 -- ---- sector by sector
 
@@ -94,11 +109,14 @@ module _ {t : ℕ → Bool} {w : ℕ → ℕ} {n sent : ℕ} {old mid : BusState
           → CheckErrors t w old new fault
       failed_tells new Stopped errors =
           runs_out sent (sector_count t) old mid new (omega (arith, fewer)) has.honest_reads
-          (λ honest. rw (sector_count-only n below) at (errors honest))
-      failed_tells new (Mismatch address) errors = λ honest can.
-          let same = (has.honest_reads.rested honest).unchanged.same in
-          let first = errors (has.honest_reads.nature.honest ∙ honest) (can_one honest can) in
-          grind (arith, same.bytes, first.differs, first.before, wanted_at, has.same honest can, nat_tests)
+          (rw (sector_count-only n below) at errors)
+      failed_tells new (Mismatch address) errors = (
+        errors.0,
+        λ honest can.
+            let same = (has.honest_reads.rested honest).unchanged.same in
+            let first = errors.1 (has.honest_reads.nature.honest ∙ honest) (can_one honest can) in
+            grind (arith, same.bytes, first.differs, first.before, wanted_at, has.same honest can, nat_tests),
+      )
 
       failed_names : (fault : CheckFault) → NamesDifference (only n) fault → NamesDifference t fault
       failed_names fault returned = grind (arith, only-is)

@@ -125,23 +125,23 @@ taken_within request image old mid mid' back journal left (inr over) again idle 
     idle_again _ old.chip mid' back
     (session_over request image old mid mid' left.vault journal left.modelled left.is left.telling left.undone left.whole left.same over).within again idle
 
-pub later_undone : (request later : Request) (image target_sectors : List ℕ) (old mid mid' new new' back : BusState) (journal other : Content) (report : Report)
-    → LeavesJournal request image old mid journal → IsTakenUp old mid mid' → LeavesJournal later target_sectors mid' new other → IsTakenUp mid' new new' ⊎ CanRestore other mid'.chip new'
+pub later_undone : (request later : Request) (image later_image : List ℕ) (old mid mid' new new' back : BusState) (journal other : Content) (report : Report)
+    → LeavesJournal request image old mid journal → IsTakenUp old mid mid' → LeavesJournal later later_image mid' new other → IsTakenUp mid' new new' ⊎ CanRestore other mid'.chip new'
     → IsRestored other new' back report → CanRestore journal old.chip back
-later_undone request later image target_sectors old mid mid' new new' back journal other report first passed second gone undone =
+later_undone request later image later_image old mid mid' new new' back journal other report first passed second gone undone =
     let can = left_back request image old mid journal first in
-    let same = led_back other mid'.chip new' back report (left_reached later target_sectors mid' new new' other second gone) undone in
+    let same = led_back other mid'.chip new' back report (left_reached later later_image mid' new new' other second gone) undone in
     record {
       known = can.known;
       saves = can.saves;
       within = taken_within request image old mid mid' back journal first passed same undone.made.idle;
     }
 
-pub both_undone : (request later : Request) (image target_sectors : List ℕ) (old mid mid' new new' back back' end : BusState) (journal other : Content) (report last : Report)
-    → LeavesJournal request image old mid journal → IsTakenUp old mid mid' → LeavesJournal later target_sectors mid' new other → IsTakenUp mid' new new' ⊎ CanRestore other mid'.chip new'
+pub both_undone : (request later : Request) (image later_image : List ℕ) (old mid mid' new new' back back' end : BusState) (journal other : Content) (report last : Report)
+    → LeavesJournal request image old mid journal → IsTakenUp old mid mid' → LeavesJournal later later_image mid' new other → IsTakenUp mid' new new' ⊎ CanRestore other mid'.chip new'
     → IsRestored other new' back report → MayLosePower back back' ⊎ CanRestore journal old.chip back' → IsRestored journal back' end last → IsSame old.chip end.chip
-both_undone request later image target_sectors old mid mid' new new' back back' end journal other report last first passed second gone undone kept again =
-    let can = later_undone request later image target_sectors old mid mid' new new' back journal other report first passed second gone undone in
+both_undone request later image later_image old mid mid' new new' back back' end journal other report last first passed second gone undone kept again =
+    let can = later_undone request later image later_image old mid mid' new new' back journal other report first passed second gone undone in
     led_back journal old.chip back' end last
     (elim kept [
       | inl may ↦ leads_kept journal old.chip back back' can may

@@ -17,6 +17,7 @@ pub mod RestoredOriginal
 pub mod Restoring
 pub mod Targeting
 pub mod OfJournal
+pub mod RepliedJournal
 pub mod RestoresOriginal
 pub mod BegunRestore
 pub mod WrittenBack

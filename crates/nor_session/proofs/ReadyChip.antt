@@ -15,11 +15,11 @@ use Rattle.nor_probe.specs.Found.{IsConfigOf, part_in}
 use Rattle.nor_scan.specs.declared.identity.Identity.{Identity}
 use Rattle.nor_request.specs.declared.request.Request.{Request}
 use Rattle.nor_request.specs.declared.refusal.Refusal.{Refusal}
-use Rattle.nor_request.specs.declared.refusal.Refusal.TheVariants.{NoChip, UnknownChip, OtherName, StatusLocked, Protected, Vault, Stopped, Timeout}
+use Rattle.nor_request.specs.declared.refusal.Refusal.TheVariants.{NoChip, UnknownChip, OtherName, StatusLocked, Protected, Vault, Stopped, Timeout, Mismatch}
 use Rattle.nor_request.specs.Refusal.{refusal_number}
 use Rattle.nor_request.specs.Request.{scanned_sectors}
 use Rattle.nor_scan.specs.Identity.{ReadsIdentity, most_identity}
-use Rattle.nor_request.specs.Errors.{IdentificationErrors}
+use Rattle.nor_request.specs.Errors.{IdentificationErrors, EndsAtError}
 use Rattle.nor_scan.specs.Saving.{IsIdentityOf, HasIdleChip}
 use Rattle.nor_scan.specs.SavedScan.{SavePuts, SaveErrors}
 use Rattle.nor_probe.specs.Known.{IsModelled}
@@ -78,7 +78,7 @@ pub save_gives_up : (request : Request) (image : List ℕ) (identity : Identity)
     → OnlyReads few mid new → SaveErrors request identity code image mid new refusal
     → HonestErrors (most_of 4096) (λ refusal. refusal_number refusal ≤ 11) old new refusal
 save_gives_up request image identity code few old mid new Stopped honest only_reads opens more errors =
-    let ran = errors (only_reads.nature.honest ∙ honest) in let count = opens.count honest in
+    let ran = errors.ran_out (only_reads.nature.honest ∙ honest) in let count = opens.count honest in
     let sectors = scanned_few request identity.found.size opens.part.at_most in
     omega arith
 save_gives_up request image identity code few old mid new (Timeout address) honest only_reads opens more errors = errors
@@ -97,7 +97,7 @@ pub save_tells : (request : Request) (image : List ℕ) (identity : Identity) (c
     → (refusal ≡ Vault → CountsRefusal vault vault') → SaveErrors request identity code image mid new refusal → SessionErrors request image old new vault vault' refusal
 save_tells request image identity code old mid new vault vault' Vault is only_reads opens accepts rose errors = rose refl
 save_tells request image identity code old mid new vault vault' Stopped is only_reads opens accepts rose errors =
-    let ran = errors (only_reads.nature.honest ∙ is.honest) in let count = opens.count is.honest in
+    let ran = errors.ran_out (only_reads.nature.honest ∙ is.honest) in let count = opens.count is.honest in
     let most = scanned_most request identity.found.size in let size = (opens.genuine is).size in
     omega arith
 save_tells request image identity code old mid new vault vault' StatusLocked is only_reads opens accepts rose errors =
@@ -106,7 +106,23 @@ save_tells request image identity code old mid new vault vault' (Protected addre
     errors old.chip (opening_of is opens) (shows request identity old mid is only_reads opens) accepts
 save_tells request image identity code old mid new vault vault' _ is only_reads opens accepts rose errors = absurd errors
 
+-- nothing was sent after a stop
+pub save_last : (request : Request) (identity : Identity) (code : ℕ) (image : List ℕ) (old new : BusState)
+    (refusal : Refusal) → SaveErrors request identity code image old new refusal → EndsAtError refusal new.history
+save_last request identity code image old new Stopped errors = errors.last
+save_last request identity code image old new (Timeout address) errors = absurd errors
+save_last request identity code image old new (Mismatch address) errors = absurd errors
+save_last request identity code image old new _ errors = tt
+
 -- ---- the errors of the identification
+
+-- nothing was sent after a stop or a timeout
+pub open_last : (most : ℕ) (named : Option ChipName) (old new : BusState) (refusal : Refusal)
+    → IdentificationErrors most named old new refusal → EndsAtError refusal new.history
+open_last most named old new Stopped errors = errors.last
+open_last most named old new (Timeout address) errors = errors.1
+open_last most named old new (Mismatch address) errors = absurd errors
+open_last most named old new _ errors = tt
 
 pub open_tells : (request : Request) (image : List ℕ) (old new : BusState) (vault vault' : VaultState) (refusal : Refusal) → IsModelled old
     → IdentificationErrors most_identity request.named old new refusal → SessionErrors request image old new vault vault' refusal
@@ -116,8 +132,8 @@ open_tells request image old new vault vault' (UnknownChip fault) is errors =
     let shown = (errors is.honest).0 in first_of (UnknownChip fault) (search (rules, arith)) shown
 open_tells request image old new vault vault' OtherName is errors =
     let other = (errors is.honest).0 in first_of OtherName (search (rules, arith)) other
-open_tells request image old new vault vault' Stopped is errors = let ran = errors is.honest in omega arith
-open_tells request image old new vault vault' (Timeout address) is errors = absurd (errors.1 is.honest)
+open_tells request image old new vault vault' Stopped is errors = let ran = errors.ran_out is.honest in omega arith
+open_tells request image old new vault vault' (Timeout address) is errors = absurd (errors.2 is.honest)
 open_tells request image old new vault vault' _ is errors = absurd errors
 
 -- the verdict of the checks after the identification is an error that `SessionErrors` allows

@@ -1,10 +1,11 @@
 -- The effect of one restore with a stop, of restores in turn, and of restores from bytes.
-use Rattle.std.proofs.Common.{◌≡◌, ◌<◌, ◌≤◌, ◌+◌, ◌∙◌, ℕ, Bool, List, length, slice_index, true, false, refl, sym, arith, inl, inr}
-use Rattle.std.specs.Prelude.{Ok, Err, Result, if◌then◌else◌}
+use Rattle.std.proofs.Common.{◌≡◌, ◌<◌, ◌≤◌, ◌+◌, ◌∙◌, ℕ, zero, suc, Bool, List, [], ◌∷◌, ◌++◌, length, drop, slice_index, true, false, refl, ap, sym, add-one, one-add, arith, inl, inr}
+use Rattle.std.specs.Prelude.{Ok, Err, Result, slice_index_or, if◌then◌else◌}
 use Rattle.std.proofs.lemmas.Bool.{cases_eq}
+use Rattle.std.proofs.lemmas.List.{get_or_past}
+use Rattle.std.proofs.lemmas.Grind.{get_or_default_zero}
 use Rattle.nor_model.specs.Chip.{Chip}
-use Rattle.nor_model.specs.Bus.{BusState, Allows}
-use Rattle.nor_model.proofs.Nature.{nature_then}
+use Rattle.nor_model.specs.Bus.{BusState, SameNature, KeepsNature, Allows}
 use Rattle.nor_journal.specs.Text.{Content, IsContent, SameHeader, text}
 use Rattle.nor_journal.specs.declared.fault.JournalFault.{JournalFault}
 use Rattle.nor_journal.specs.Saved.{Saves, JournalSaves}
@@ -21,7 +22,7 @@ use Rattle.nor_session.specs.Bounds.{most_of}
 use Rattle.nor_session.specs.Headline.{CanRestore, RestoresOriginal}
 use Rattle.nor_session.specs.Restore.{RestoreAlways, RestoreHonest, RestoreModelled}
 use Rattle.nor_session.specs.Session.{HonestErrors}
-use Rattle.nor_session.specs.Rehearsal.{IsNoBusError}
+use Rattle.nor_session.specs.Rehearsal.{IsNoBusError, AllowsStops, first_allowance, allowances_of}
 use Rattle.nor_session.specs.Rehearsing.{CanUndo, RunsSession, LeavesRestores, RunsRestore, RunsRestores, StopsRestores, Undoes, WearsSaved, SendsFromJournal, RefusesUndo}
 use Rattle.nor_session.proofs.Rescanned.{unraised_other}
 use Rattle.nor_session.specs.Session.{IsSavedCode}
@@ -29,6 +30,63 @@ use Rattle.nor_session.proofs.Targeting.{none_sent, sends_then, sends_most, none
 use Rattle.nor_session.proofs.RestoresOriginal.{can_give_back}
 use Rattle.nor_session.proofs.Naming.{saved_names}
 use Rattle.nor_session.proofs.SavedBytes.{saved_room, saved_count}
+
+-- ---- the allowances
+
+-- one more call, with the next allowance in turn
+pub allowed_then : (stops : List ℕ) (n : ℕ) (old : List ℕ) {allowance : ℕ} {now new : List ℕ}
+    → allowance ≡ slice_index_or stops n (most_of 4096) → now ≡ allowances_of stops n ++ old → new ≡ allowance ∷ now
+    → new ≡ allowances_of stops (n + 1) ++ old
+allowed_then stops n old {allowance = allowance} is before by =
+    rw add-one
+    (by ∙ ap (λ (l : List ℕ). allowance ∷ l) before ∙ ap (λ (a : ℕ). a ∷ (allowances_of stops n ++ old)) is)
+
+-- the allowance of a call that has a stop
+pub next_stop : (stops : List ℕ) (n : ℕ) → n < length stops → slice_index stops n ≡ slice_index_or stops n (most_of 4096)
+next_stop stops n inside = sym (get_or_default_zero stops n (most_of 4096) inside)
+
+-- the allowance of the call after the last stop
+pub last_bound : (stops : List ℕ) (n : ℕ) → length stops ≤ n → {allowance : ℕ} → allowance ≡ most_of 4096
+    → allowance ≡ slice_index_or stops n (most_of 4096)
+last_bound stops n past is = is ∙ sym (get_or_past stops n (most_of 4096) past)
+
+-- the first call
+pub allowed_first : (stops : List ℕ) {old new : List ℕ} → new ≡ first_allowance stops ∷ old
+    → new ≡ allowances_of stops 1 ++ old
+allowed_first [] is = is
+allowed_first (first ∷ later) is = is
+
+-- the calls after the first one have the stops after the first
+later_stop : (stops : List ℕ) (n : ℕ)
+    → slice_index_or (drop 1 stops) n (most_of 4096) ≡ slice_index_or stops (suc n) (most_of 4096)
+later_stop [] n = refl
+later_stop (first ∷ later) n = refl
+
+later_allowed : (stops : List ℕ) (n : ℕ) (old : List ℕ)
+    → allowances_of (drop 1 stops) n ++ (first_allowance stops ∷ old) ≡ allowances_of stops (suc n) ++ old
+later_allowed stops zero old = allowed_first stops refl
+later_allowed stops (suc n) old =
+    ap (λ (l : List ℕ). slice_index_or (drop 1 stops) n (most_of 4096) ∷ l) (later_allowed stops n old)
+    ∙ ap (λ (a : ℕ). a ∷ (allowances_of stops (suc n) ++ old)) (later_stop stops n)
+
+pub allowed_after : (stops : List ℕ) (n : ℕ) {old mid new : List ℕ} → mid ≡ first_allowance stops ∷ old
+    → new ≡ allowances_of (drop 1 stops) n ++ mid → new ≡ allowances_of stops (1 + n) ++ old
+allowed_after stops n {old = old} first later =
+    rw one-add (later ∙ ap (λ (l : List ℕ). allowances_of (drop 1 stops) n ++ l) first ∙ later_allowed stops n old)
+
+-- ---- the nature of the bus
+
+pub same_nature : {old new : BusState} → KeepsNature old new → SameNature old new
+same_nature keeps =
+    record { honest = keeps.honest; steady = keeps.steady; unlimited = keeps.unlimited; config = keeps.config }
+
+pub same_nature_then : {old mid new : BusState} → SameNature mid new → SameNature old mid → SameNature old new
+same_nature_then later earlier = record {
+  honest = later.honest ∙ earlier.honest;
+  steady = later.steady ∙ earlier.steady;
+  unlimited = later.unlimited ∙ earlier.unlimited;
+  config = λ honest. later.config (earlier.honest ∙ honest) ∙ earlier.config honest;
+}
 
 -- ---- one restore
 
@@ -46,7 +104,7 @@ pub restores_then : (journal : Content) (m n most : ℕ) (old mid new : BusState
 restores_then journal m n most old mid new fits before after =
     let both = sends_then (IsSavedCode journal) m n journal old mid new before.sends after.sends in
     let sends = sends_most (IsSavedCode journal) (m + n) most journal old new fits both in
-    search (arith, nature_then)
+    search (arith, same_nature_then)
 
 -- on a well-behaved bus, an error other than a stop isn't a timeout either
 pub no_halt : (most : ℕ) (IsEarly : Refusal → Type 0) (old new : BusState) (refusal : Refusal) → (refusal ≡ Stopped → ⊥)
@@ -62,7 +120,7 @@ module _ {n : ℕ} {journal : Content} {old mid new : BusState} (allows : Allows
       → LeavesRestores journal 1 old new
   under_leaves gives always promise =
       restores_then journal 0 1 1 old mid new (omega arith) (allow_leaves journal old mid allows)
-      (search (arith, modelled_at, unraised_other))
+      (search (arith, modelled_at, unraised_other, same_nature))
 
   -- the restore ended
   pub under_ends : (report : Report) → (IsModelled mid → RestoresOriginal journal mid new (Ok report))
@@ -76,16 +134,18 @@ module _ {n : ℕ} {journal : Content} {old mid new : BusState} (allows : Allows
   pub under_refuses : (refusal : Refusal) → (IsModelled mid → RestoresOriginal journal mid new (Err refusal))
       → RestoreAlways journal mid new (Err refusal)
       → (mid.honest ≡ true → RestoreHonest journal mid new (Err refusal)) → (refusal ≡ Stopped → ⊥)
-      → StopsRestores journal old refusal
+      → StopsRestores journal old new refusal
   under_refuses refusal gives always returned never =
       let leaves = allow_leaves journal old mid allows in search (arith, no_halt)
 
 -- ---- restores in turn
 
 -- Holds after the first `n` restores were stopped. On a modelled bus each of their stops is below the bound on the
--- transactions of one restore (`most_of`). If `n` is 0, the latch is set only if it was set before.
+-- transactions of one restore (`most_of`). If `n` is 0, the latch is set only if it was set before. The allowances
+-- that were set are the first `n` stops.
 pub record AreStopped (journal : Content) (stops : List ℕ) (old now : BusState) (n : ℕ) : Type 0 where
   pub leaves : LeavesRestores journal n old now
+  pub allowed : now.allowances ≡ allowances_of stops n ++ old.allowances
   pub stopped : IsModelled old → (i : ℕ) → i < n → slice_index stops i < most_of (length journal.saved)
   pub latch : n ≡ 0 → now.chip.latch ≡ true → old.chip.latch ≡ true
 
@@ -95,10 +155,22 @@ module _ {journal : Content} {stops : List ℕ} {old now : BusState} {n : ℕ} (
   pub leaves_more : {most : ℕ} → n + 1 ≤ most → LeavesRestores journal 1 now new → LeavesRestores journal most old new
   leaves_more fits leaves = restores_then journal n 1 _ old now new fits before.leaves leaves
 
-  pub stopped_more : LeavesRestores journal 1 now new → RunsRestore journal (slice_index stops n) now new false
+  -- the allowances of one more restore: the next stop or, if none is left, the bound
+  pub allowed_more : {allowance : ℕ} → allowance ≡ slice_index_or stops n (most_of 4096)
+      → new.allowances ≡ allowance ∷ now.allowances → new.allowances ≡ allowances_of stops (n + 1) ++ old.allowances
+  allowed_more is by = allowed_then stops n old.allowances is before.allowed by
+
+  -- one more restore was run, with the next allowance in turn
+  pub tried_more : n ≤ length stops → new.allowances ≡ allowances_of stops (n + 1) ++ old.allowances
+      → AllowsStops stops 1 (length stops + 1) old new
+  tried_more inside allowed = record { calls = n + 1; some = omega arith; few = omega (arith, inside); is = allowed }
+
+  pub stopped_more : n < length stops → new.allowances ≡ slice_index stops n ∷ now.allowances
+      → LeavesRestores journal 1 now new → RunsRestore journal (slice_index stops n) now new false
       → AreStopped journal stops old new (n + 1)
-  stopped_more leaves shows = record {
+  stopped_more inside by leaves shows = record {
     leaves = leaves_more (omega arith) leaves;
+    allowed = allowed_more (next_stop stops n inside) by;
     stopped = λ modelled i below. elim (cases_eq i n) [
       | inl here ↦ rw here (shows.below (before.leaves.modelled modelled).honest refl)
       | inr other ↦ before.stopped modelled i (omega arith)
@@ -108,18 +180,32 @@ module _ {journal : Content} {stops : List ℕ} {old now : BusState} {n : ℕ} (
 
   -- the next restore ended, so the restores in turn ended
   pub ended_at : (restores : ℕ) → restores ≡ n + 1 → n < length stops
+      → new.allowances ≡ slice_index stops n ∷ now.allowances
       → RunsRestore journal (slice_index stops n) now new true → RunsRestores journal stops old new restores
-  ended_at restores is inside shows = search arith
+  ended_at restores is inside by shows =
+      let allowed = rw (← is) at (allowed_more (next_stop stops n inside) by) in search arith
+
+  -- the restore after the last stop ended
+  pub ended_last : (restores : ℕ) {allowance : ℕ} → restores ≡ n + 1 → n ≡ length stops → allowance ≡ most_of 4096
+      → new.allowances ≡ allowance ∷ now.allowances → RunsRestore journal allowance now new true
+      → RunsRestores journal stops old new restores
+  ended_last restores is past bound by shows =
+      let allowed = rw (← is) at (allowed_more (last_bound stops n (omega (arith, past)) bound) by) in search arith
+
+-- a number of calls that is at least one is also at least zero
+pub tried_less : {stops : List ℕ} {most : ℕ} {old new : BusState} → AllowsStops stops 1 most old new
+    → AllowsStops stops 0 most old new
+tried_less tried = record { calls = tried.calls; some = omega arith; few = tried.few; is = tried.is }
 
 -- an error that a later restore returns is also one that `StopsRestores` allows for the first
-pub refuses_before : {journal : Content} {n : ℕ} {old mid : BusState} (refusal : Refusal)
-    → LeavesRestores journal n old mid → StopsRestores journal mid refusal → StopsRestores journal old refusal
+pub refuses_before : {journal : Content} {n : ℕ} {old mid new : BusState} (refusal : Refusal)
+    → LeavesRestores journal n old mid → StopsRestores journal mid new refusal → StopsRestores journal old new refusal
 refuses_before refusal leaves refuses = search arith
 
 -- a restore that is allowed `most_of 4096` transactions isn't stopped on a well-behaved bus: no restore sends more
 -- there
 pub last_ends : {journal : Content} {now new : BusState} {most : ℕ} → most ≡ most_of 4096
-    → RunsRestore journal most now new false → StopsRestores journal now Stopped
+    → RunsRestore journal most now new false → StopsRestores journal now new Stopped
 last_ends {journal = journal} is shows = search (arith, saved_room)
 
 -- restores were run, but no call was stopped: the session ended, and so did the only restore
@@ -148,6 +234,7 @@ module _ {bytes : List ℕ} {journal : Content} (is : IsContent journal) (same :
   undoes restores shows = record {
     some = shows.some;
     most = shows.most;
+    allowed = shows.allowed;
     latch = shows.latch;
     same = λ modelled saved first leads. shows.back modelled first (can_back saved first leads);
     are = λ modelled saved first leads.
@@ -166,9 +253,11 @@ module _ {bytes : List ℕ} {journal : Content} (is : IsContent journal) (same :
     undo_sends other =
         rw (is_read bytes (Ok journal) other.content (is, same) tt other.is other.same) at leaves.sends
 
-  pub undo_refuses : (refusal : Refusal) → StopsRestores journal old refusal → RefusesUndo bytes old refusal
-  undo_refuses refusal refuses = record {
+  pub undo_refuses : (new : BusState) (refusal : Refusal) → StopsRestores journal old new refusal
+      → RefusesUndo bytes old new refusal
+  undo_refuses new refusal refuses = record {
     answers = λ whole. refuses.answers;
+    nothing_after = refuses.nothing_after;
     names = saved_names journal bytes refusal is same refuses.names;
     fails = refuses.fails (saved_room journal is);
     never = λ modelled saved first leads. refuses.never modelled first (can_back saved first leads);
@@ -183,6 +272,6 @@ latch_alone {ended = ended} restores shows undoes modelled unsent few set =
     let (done, one) = unstopped restores ended undoes.some few in shows.latch modelled done (undoes.latch unsent one set)
 
 -- bytes that aren't a journal can't restore a chip, so the error of reading them is one that `RefusesUndo` allows
-pub unread : (bytes : List ℕ) (old : BusState) (fault : JournalFault) → ((content : Content) → IsContent content → bytes ≡ text content → ⊥)
-    → RefusesUndo bytes old (BadJournal fault)
-unread bytes old fault never = search arith
+pub unread : (bytes : List ℕ) (old new : BusState) (fault : JournalFault) → ((content : Content) → IsContent content → bytes ≡ text content → ⊥)
+    → RefusesUndo bytes old new (BadJournal fault)
+unread bytes old new fault never = search arith

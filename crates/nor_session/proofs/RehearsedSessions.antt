@@ -1,10 +1,9 @@
 -- The effect of a session with a stop, and of the restores after it.
-use Rattle.std.proofs.Common.{◌≡◌, ◌≤◌, ◌+◌, ◌*◌, ◌∙◌, ℕ, List, [], ◌∷◌, length, drop, true, false, refl, ap, sym, arith, inl, inr}
+use Rattle.std.proofs.Common.{◌≡◌, ◌≤◌, ◌+◌, ◌*◌, ◌++◌, ◌∙◌, ℕ, List, [], ◌∷◌, length, drop, true, false, refl, ap, sym, arith, inl, inr}
 use Rattle.std.specs.Prelude.{max, Ok, Err, Result}
 use Rattle.std.proofs.lemmas.Bool.{true≢false, cases_Bool}
 use Rattle.nor_model.specs.Chip.{Chip, IsChip, IsSame}
 use Rattle.nor_model.specs.Bus.{BusState, Allows}
-use Rattle.nor_model.proofs.Nature.{nature_then}
 use Rattle.nor_plan.specs.Content.{is_touched}
 use Rattle.nor_journal.specs.Vault.{VaultState}
 use Rattle.nor_request.specs.declared.request.Request.{Request}
@@ -21,12 +20,12 @@ use Rattle.nor_session.specs.Made.{AreFewestErases}
 use Rattle.nor_scan.specs.Verdict.{IsAccepted}
 use Rattle.nor_session.specs.Headline.{KeepsOriginal}
 use Rattle.nor_session.specs.Session.{SessionAlways, SessionHonest, SessionModelled, SessionErrors, HonestErrors, IsDone, NamesAddress, IsSavedCode, IsWrittenCode, most_status_writes, SendsSaved, WritesStatusAtMost}
-use Rattle.nor_session.specs.Rehearsal.{IsRehearsedCode, CanEnd, IsRehearsalRefusal, RehearsalErrors, first_allowance, least_needed}
+use Rattle.nor_session.specs.Rehearsal.{IsRehearsedCode, CanEnd, IsRehearsalRefusal, RehearsalErrors, first_allowance, least_needed, allowances_of, AllowsStops}
 use Rattle.nor_session.specs.Rehearsing.{HasWantedBits, CanUndo, LeavesSession, RunsSession, RefusesSession, LeavesUndo, RefusesUndo}
 use Rattle.nor_session.proofs.RestoredBytes.{untouched_unraised}
 use Rattle.nor_session.proofs.RestoresOriginal.{restorable}
 use Rattle.nor_session.proofs.Targeting.{none_sent, sends_then, sends_most, sends_wider}
-use Rattle.nor_session.proofs.RehearsedRestores.{modelled_at, no_halt}
+use Rattle.nor_session.proofs.RehearsedRestores.{modelled_at, no_halt, allowed_first, allowed_after, same_nature, same_nature_then}
 
 -- ---- the session
 
@@ -63,7 +62,7 @@ module _ {n : ℕ} {old mid : BusState} (allows : Allows n old mid) where
         → (IsModelled mid → SessionModelled request image mid new before after result)
         → LeavesSession request image old new after
     session_leaves telling reaches keeps always promise = record {
-      nature = nature_then old mid new always.spends.nature allows.nature;
+      nature = same_nature_then (same_nature always.spends.nature) allows.nature;
       same = λ modelled steady_or_idle unsealed. let is = modelled_mid modelled in search (arith, allows.chip, allows.nature.steady);
       back = λ modelled sealed. let is = modelled_mid modelled in search (arith, ← allows.chip, restorable);
       accepted = λ modelled sealed. let is = modelled_mid modelled in search (arith, allows.chip);
@@ -154,6 +153,11 @@ session_sends {request = request} {old = old} {new = new} stops leaves sealed =
           (sends_wider (IsWrittenCode request.what c) (IsRehearsedCode request.what c) 1 c old new (λ code is. inl is) sent),
     )
 
+-- a session without restores set the first allowance
+pub session_tried : (stops : List ℕ) (old new : BusState) → new.allowances ≡ first_allowance stops ∷ old.allowances
+    → AllowsStops stops 1 (1 + max 1 (length stops)) old new
+session_tried stops old new first = record { calls = 1; some = omega arith; few = omega arith; is = allowed_first stops first }
+
 -- a session that sealed its vault, and the restores from its bytes
 module _ {request : Request} {image text later : List ℕ} {old mid new : BusState} {vault : VaultState}
     {result : Result ℕ Refusal} (session : LeavesSession request image old mid vault) (sealed : vault.sealed ≡ true)
@@ -193,8 +197,25 @@ module _ {request : Request} {image text later : List ℕ} {old mid new : BusSta
       let before = session.writes in let after = undone.writes in
       omega (arith, count, one, before, after)
 
+  -- the session and the restores set the allowances of a rehearsal
+  module _ (stops : List ℕ) (behind : later ≡ drop 1 stops)
+      (first : mid.allowances ≡ first_allowance stops ∷ old.allowances) where
+    pub both_allowed : (n : ℕ) → new.allowances ≡ allowances_of later n ++ mid.allowances
+        → new.allowances ≡ allowances_of stops (1 + n) ++ old.allowances
+    both_allowed n is = allowed_after stops n first (rw behind at is)
+
+    pub both_tried : AllowsStops later 0 (length later + 1) mid new → AllowsStops stops 1 (1 + max 1 (length stops)) old new
+    both_tried tried =
+        let count = ap (λ (l : List ℕ). length l) behind in let one = behind_first stops in let few = tried.few in
+        record {
+          calls = 1 + tried.calls;
+          some = omega arith;
+          few = omega (arith, count, one, few);
+          is = both_allowed tried.calls tried.is;
+        }
+
   -- an error of these restores is one of `restore`, and names an address that `NamesAddress` allows
-  pub undo_refused : (had : VaultState) (refusal : Refusal) → RefusesUndo text mid refusal
+  pub undo_refused : (had : VaultState) (refusal : Refusal) → RefusesUndo text mid new refusal
       → IsRehearsalRefusal had vault refusal × NamesAddress vault refusal
   undo_refused had refusal refuses = (
     inr (sealed, refuses.answers (rw is (session.sends sealed).0)),

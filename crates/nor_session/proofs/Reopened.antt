@@ -11,6 +11,7 @@ use Rattle.nor_probe.specs.declared.probes.ProbeFault.{ProbeFault}
 use Rattle.nor_probe.specs.declared.probes.ProbeFault.TheVariants as Probes
 use Rattle.nor_probe.specs.declared.probes.Found.{Found}
 use Rattle.nor_probe.specs.Known.{shown_as, IsKnown, IsModelled}
+use Rattle.nor_probe.specs.Replied.{ProbeEndsAt}
 use Rattle.nor_probe.specs.Found.{BlamesName, ProbeErrors, IsConfigOf}
 use Rattle.nor_request.specs.declared.refusal.Refusal.{Refusal}
 use Rattle.nor_request.specs.declared.refusal.Refusal.TheVariants.{OtherUnit, StatusDiffers}
@@ -46,11 +47,15 @@ same_unit journal config unique is same other = (rw is at other) same
 -- ---- errors
 
 -- an error of the probe means what the preparation of a restore promises
-pub probe_tells : (journal : Content) (old new : BusState) (fault : ProbeFault) → BlamesName None fault → (old.honest ≡ true → ProbeErrors None old new fault) → PrepareErrors journal most_identity old new (of_probe fault)
-probe_tells journal old new Probes.OtherName blames errors = absurd blames
-probe_tells journal old new Probes.Stopped blames errors = search arith
-probe_tells journal old new Probes.Timeout blames errors = (refl, errors)
-probe_tells journal old new _ blames errors = search arith
+pub probe_tells : (journal : Content) (old new : BusState) (fault : ProbeFault) → BlamesName None fault → ProbeEndsAt new.history fault
+    → (old.honest ≡ true → ProbeErrors None old new fault) → PrepareErrors journal most_identity old new (of_probe fault)
+probe_tells journal old new Probes.OtherName blames last errors = absurd blames
+probe_tells journal old new Probes.Stopped blames last errors = record {
+  last = last;
+  ran_out = λ honest. let out = errors honest in record { none_left = out.0.none_left; below = omega (arith, out.1) };
+}
+probe_tells journal old new Probes.Timeout blames last errors = (refl, last, errors)
+probe_tells journal old new _ blames last errors = search arith
 
 -- error 20 (another device) or 17 (other status bits) means what the preparation of a restore promises
 pub unit_tells : (journal : Content) (most : ℕ) (old new : BusState) (refusal : Refusal) → IsDeviceRefusal refusal → (old.honest ≡ true → IsSame old.chip new.chip)

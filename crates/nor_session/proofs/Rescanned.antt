@@ -85,9 +85,9 @@ planned_from journal s saved bytes old mid new plan i is place whole is_open hon
     let same = (honest_reads.rested is_open.honest).unchanged.same.bytes in
     let shown = plans.read.replied later.honest later.idle (let size = later.same in omega arith) in
     let content = old.chip.bytes in
-    let target_sectors = restored journal content in
-    planned content target_sectors s plan
-    (plans.planned (λ k. content (4096 * s + k)) (λ k. target_sectors (4096 * s + k))
+    let target_bytes = restored journal content in
+    planned content target_bytes s plan
+    (plans.planned (λ k. content (4096 * s + k)) (λ k. target_bytes (4096 * s + k))
     (λ k below. shown.byte k (omega arith) ∙ same (4096 * s + k))
     (λ k below. restored_at journal content s saved k is (omega arith)))
 

@@ -20,24 +20,24 @@ none_at test a none =
     rw place at (any_below-false 4096 (λ i. test (4096 * (a / 4096) + i)) none (a % 4096) (omega arith))
 
 -- a sector that isn't touched has its target bytes
-pub untouched_byte : (content target_sectors : ℕ → ℕ) (a : ℕ) → is_touched content target_sectors (a / 4096) ≡ false → content a ≡ target_sectors a
+pub untouched_byte : (content target_bytes : ℕ → ℕ) (a : ℕ) → is_touched content target_bytes (a / 4096) ≡ false → content a ≡ target_bytes a
 unfolding is_touched
-untouched_byte content target_sectors a none = eqb-true _ _ (not-false _ (none_at (λ b. is_other (content b) (target_sectors b)) a none))
+untouched_byte content target_bytes a none = eqb-true _ _ (not-false _ (none_at (λ b. is_other (content b) (target_bytes b)) a none))
 
 -- in a sector that isn't raised no bit must go from 0 to 1
-pub unraised_byte : (content target_sectors : ℕ → ℕ) (a : ℕ) → is_raised content target_sectors (a / 4096) ≡ false → bit_and (target_sectors a) (content a) ≡ target_sectors a
+pub unraised_byte : (content target_bytes : ℕ → ℕ) (a : ℕ) → is_raised content target_bytes (a / 4096) ≡ false → bit_and (target_bytes a) (content a) ≡ target_bytes a
 unfolding is_raised
-unraised_byte content target_sectors a none = eqb-true _ _ (not-false _ (none_at (λ b. must_rise (content b) (target_sectors b)) a none))
+unraised_byte content target_bytes a none = eqb-true _ _ (not-false _ (none_at (λ b. must_rise (content b) (target_bytes b)) a none))
 
 -- a sector that isn't touched isn't raised
-pub untouched_unraised : (content target_sectors : ℕ → ℕ) (s : ℕ) → is_touched content target_sectors s ≡ false → is_raised content target_sectors s ≡ false
-untouched_unraised content target_sectors s none =
-    unraised content target_sectors s (λ i below. sym (untouched_byte content target_sectors (4096 * s + i) (rw (sector_at s i below) none)))
+pub untouched_unraised : (content target_bytes : ℕ → ℕ) (s : ℕ) → is_touched content target_bytes s ≡ false → is_raised content target_bytes s ≡ false
+untouched_unraised content target_bytes s none =
+    unraised content target_bytes s (λ i below. sym (untouched_byte content target_bytes (4096 * s + i) (rw (sector_at s i below) none)))
 
 -- a touched sector has a byte that differs from its target byte
-pub touched_byte : (content target_sectors : ℕ → ℕ) (s : ℕ) → is_touched content target_sectors s ≡ true → (k : ℕ) × (k < 4096) × ¬ (content (4096 * s + k) ≡ target_sectors (4096 * s + k))
+pub touched_byte : (content target_bytes : ℕ → ℕ) (s : ℕ) → is_touched content target_bytes s ≡ true → (k : ℕ) × (k < 4096) × ¬ (content (4096 * s + k) ≡ target_bytes (4096 * s + k))
 unfolding is_touched
-touched_byte content target_sectors s some = search (arith, any_below-found, both_ways, eq-eqb, not_from_true)
+touched_byte content target_bytes s some = search (arith, any_below-found, both_ways, eq-eqb, not_from_true)
 
 -- a sector that a restore touches is saved
 pub touched_saved : (journal : Content) (content : ℕ → ℕ) (s : ℕ) → is_touched content (restored journal content) s ≡ true → is_saved journal s ≡ true
@@ -54,7 +54,7 @@ and_same : (b x y : Bool) → (b ≡ true → x ≡ y) → (b && x) ≡ (b && y)
 and_same b x y same = grind arith
 
 -- of the target bytes, only those in touched sectors affect the number of pages to program
-pub pages_same : (touched : ℕ → Bool) (old target_sectors target_sectors' : ℕ → ℕ) → ((a : ℕ) → touched (a / 4096) ≡ true → target_sectors a ≡ target_sectors' a)
-    → count_below 65536 (is_programmed touched old target_sectors) ≡ count_below 65536 (is_programmed touched old target_sectors')
+pub pages_same : (touched : ℕ → Bool) (old target_bytes target_bytes' : ℕ → ℕ) → ((a : ℕ) → touched (a / 4096) ≡ true → target_bytes a ≡ target_bytes' a)
+    → count_below 65536 (is_programmed touched old target_bytes) ≡ count_below 65536 (is_programmed touched old target_bytes')
 unfolding is_page_other
-pages_same touched old target_sectors target_sectors' same = search (arith, and_same, any_below-same, count_below-same)
+pages_same touched old target_bytes target_bytes' same = search (arith, and_same, any_below-same, count_below-same)

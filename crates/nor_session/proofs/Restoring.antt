@@ -20,6 +20,7 @@ use Rattle.nor_request.specs.Request.{wanted}
 use Rattle.nor_apply.proofs.Kept.{fixed_coded, told_coded}
 use Rattle.nor_apply.proofs.Changing.{narrower}
 use Rattle.nor_request.specs.declared.report.Report.{Report}
+use Rattle.nor_request.specs.Errors.{EndsAtError}
 use Rattle.nor_request.specs.declared.refusal.Refusal.{Refusal}
 use Rattle.nor_request.specs.declared.refusal.Refusal.TheVariants.{Stopped, Timeout, Mismatch}
 use Rattle.nor_session.specs.declared.prepare_restore.PreparedRestore.{PreparedRestore}
@@ -52,15 +53,23 @@ module _ (journal : Content) (most : ℕ) (old new : BusState) where
   pub prepare_gives_up : (refusal : Refusal) → most ≤ most_of (length journal.saved) → old.honest ≡ true
       → PrepareErrors journal most old new refusal
       → HonestErrors (most_of (length journal.saved)) IsCheckedFirst old new refusal
-  prepare_gives_up Stopped fits honest errors = let out = errors honest in omega arith
-  prepare_gives_up (Timeout address) fits honest errors = errors.1 honest
+  prepare_gives_up Stopped fits honest errors = let out = errors.ran_out honest in omega arith
+  prepare_gives_up (Timeout address) fits honest errors = errors.2 honest
   prepare_gives_up _ fits honest errors = λ first. errors.same honest
 
   pub prepare_tells : (refusal : Refusal) → most ≤ most_of (length journal.saved) → IsModelled old
       → PrepareErrors journal most old new refusal → RestoreErrors journal old new refusal
-  prepare_tells Stopped fits modelled errors = let out = errors modelled.honest in omega arith
-  prepare_tells (Timeout address) fits modelled errors = absurd (errors.1 modelled.honest)
+  prepare_tells Stopped fits modelled errors = let out = errors.ran_out modelled.honest in omega arith
+  prepare_tells (Timeout address) fits modelled errors = absurd (errors.2 modelled.honest)
   prepare_tells refusal fits modelled errors = judged_verdict journal old.chip refusal (errors.verdict modelled)
+
+  -- nothing was sent after a stop or a timeout
+  pub prepare_last : (refusal : Refusal) → PrepareErrors journal most old new refusal
+      → EndsAtError refusal new.history
+  prepare_last Stopped errors = errors.last
+  prepare_last (Timeout address) errors = errors.1
+  prepare_last (Mismatch address) errors = absurd (true≢false (sym errors.judged))
+  prepare_last _ errors = tt
 
   pub looks_leave : OnlyReadsHonest most old new → LeavesRestore journal old new
   looks_leave honest_reads =
@@ -103,17 +112,18 @@ module _ (journal : Content) (prepared : PreparedRestore) (old mid new : BusStat
   pub change_gives_up : (refusal : Refusal) → AreChanged journal prepared old mid new → old.honest ≡ true
       → ChangeErrors prepared.changes (saved_byte journal) mid new refusal
       → HonestErrors (most_of (length journal.saved)) IsCheckedFirst old new refusal
-  change_gives_up Stopped are honest errors = search arith
-  change_gives_up (Timeout address) are honest errors = errors (are.only_reads.nature.honest ∙ honest)
+  change_gives_up Stopped are honest errors =
+      let ran = errors.ran_out (are.only_reads.nature.honest ∙ honest) in search arith
+  change_gives_up (Timeout address) are honest errors = errors.1 (are.only_reads.nature.honest ∙ honest)
   change_gives_up (Mismatch address) are honest errors = λ first. absurd (true≢false (sym first))
   change_gives_up _ are honest errors = absurd errors
 
   pub change_tells : (refusal : Refusal) → AreChanged journal prepared old mid new → IsModelled old
       → ChangeErrors prepared.changes (saved_byte journal) mid new refusal → RestoreErrors journal old new refusal
   change_tells Stopped are modelled errors = change_gives_up Stopped are modelled.honest errors
-  change_tells (Timeout address) are modelled errors = absurd (errors (are.only_reads.nature.honest ∙ modelled.honest))
+  change_tells (Timeout address) are modelled errors = absurd (errors.1 (are.only_reads.nature.honest ∙ modelled.honest))
   change_tells (Mismatch address) are modelled errors =
-      absurd (errors (are.only_reads.nature.honest ∙ modelled.honest) (are.is.modelled modelled).can)
+      absurd (errors.1 (are.only_reads.nature.honest ∙ modelled.honest) (are.is.modelled modelled).can)
   change_tells _ are modelled errors = absurd errors
 
 pub change_answers : (changes : Changes) (wanted : ℕ → ℕ) (old new : BusState) (refusal : Refusal) → ChangeErrors changes wanted old new refusal → IsRestoreRefusal refusal
@@ -127,6 +137,14 @@ change_not_judged changes wanted old new Stopped errors judged = true≢false (s
 change_not_judged changes wanted old new (Timeout address) errors judged = true≢false (sym judged)
 change_not_judged changes wanted old new (Mismatch address) errors judged = true≢false (sym judged)
 change_not_judged changes wanted old new _ errors judged = errors
+
+-- nothing was sent after a stop, a timeout or a mismatch
+pub change_last : (changes : Changes) (wanted : ℕ → ℕ) (old new : BusState) (refusal : Refusal)
+    → ChangeErrors changes wanted old new refusal → EndsAtError refusal new.history
+change_last changes wanted old new Stopped errors = errors.last
+change_last changes wanted old new (Timeout address) errors = errors.0
+change_last changes wanted old new (Mismatch address) errors = errors.0
+change_last changes wanted old new _ errors = absurd errors
 
 -- ---- the changes were finished
 

@@ -86,7 +86,7 @@ module _ (request : Request) (image image' : List ℕ) (identity : Identity) (st
       let blocks = is.part.in_blocks in let size = of.is.config.size in
       let fixed = ap fixed_of applied.kept ∙ fixed_coded code mid.chip.kept ∙ ap fixed_of same.kept in
       let made : IsTargetChip (wanted request image old.chip) old.chip new.chip = search (arith, untouched_byte) in
-      let target_sectors = wanted request image old.chip in
+      let target_bytes = wanted request image old.chip in
       let touched : has kept.scanned.touched ≡ is_touched old.chip.bytes (wanted request image old.chip) = fun_ext of.touched in
       let raised : has kept.scanned.raised ≡ is_raised old.chip.bytes (wanted request image old.chip) = fun_ext of.raised in
       let bytes : mid.chip.bytes ≡ old.chip.bytes = fun_ext same.bytes in
@@ -104,7 +104,7 @@ module _ (request : Request) (image image' : List ℕ) (identity : Identity) (st
               (let erases = does.erases in let kinds = of.is.config.kinds in let size = of.is.config.size in cc);
           programs = (let programs = does.programs honest can in
               let merged = pages_same (has kept.scanned.touched)
-              (once_erased (has kept.scanned.raised) mid.chip.bytes) (λ a. slice_index image' a) target_sectors of.merged in
+              (once_erased (has kept.scanned.raised) mid.chip.bytes) (λ a. slice_index image' a) target_bytes of.merged in
               cc);
         };
         code = code;
@@ -132,13 +132,13 @@ module _ (request : Request) (image image' : List ℕ) (identity : Identity) (st
         idle = opens.idle honest;
         same = ap (λ (config : Config). config.size) same.config ∙ sized;
       } in
-      let target_sectors = wanted_at request image identity.found.size old.chip.bytes in
-      let hit : is_touched old.chip.bytes target_sectors (a / 4096) ≡ true =
+      let target_bytes = wanted_at request image identity.found.size old.chip.bytes in
+      let hit : is_touched old.chip.bytes target_bytes (a / 4096) ≡ true =
       subst (λ (n : ℕ). is_touched old.chip.bytes (wanted_at request image n old.chip.bytes) (a / 4096) ≡ true) sized hit in
       let past = touched_past request image identity.found.size old.chip.bytes (a / 4096) is.part.in_blocks in
       let marked : has kept.scanned.touched (a / 4096) ≡ true =
       rw bytes at ((scans.right is_open).touched (a / 4096))
-      ∙ only_inside (is_touched old.chip.bytes target_sectors) (identity.found.size / 4096) (a / 4096) past ∙ hit in
+      ∙ only_inside (is_touched old.chip.bytes target_bytes) (identity.found.size / 4096) (a / 4096) past ∙ hit in
       let can : CanCheck (has kept.scanned.touched) mid.chip = record {
         idle =
             let rested = scans.rested (only_reads.nature.honest ∙ honest) in
@@ -147,19 +147,19 @@ module _ (request : Request) (image image' : List ℕ) (identity : Identity) (st
             let below = is.marks.below s is_touched in
             let config = ap (λ (config : Config). config.size) (is.honest_reads.nature.config honest) in omega arith;
       } in
-      let wanted_byte : slice_index image' a ≡ target_sectors a = rw bytes at (scans.merged is_open a marked) in
+      let wanted_byte : slice_index image' a ≡ target_bytes a = rw bytes at (scans.merged is_open a marked) in
       let read = does.checked verifies (is.honest_reads.nature.honest ∙ honest) can a marked in
       read ∙ wanted_byte ∙ sym (ap (λ (n : ℕ). wanted_at request image n old.chip.bytes a) sized)
 
   -- if the request needs no status write, the bound on the report's transactions includes none
-  pub spared : (new : BusState) (target_sectors : ℕ → ℕ) (verify : Bool) (work : Work) (sent : ℕ) → sent ≡ kept.scanned.reads
+  pub spared : (new : BusState) (target_bytes : ℕ → ℕ) (verify : Bool) (work : Work) (sent : ℕ) → sent ≡ kept.scanned.reads
       → Ready request identity status code kept old mid → ReadyChip request image image' identity code kept old mid
       → ¬ NeedsStatusWrite request image old.chip
-      → DoesChange (changes_of identity kept status code) target_sectors verify mid new work
+      → DoesChange (changes_of identity kept status code) target_bytes verify mid new work
       → IsWithinBound (scanned_sectors request old.chip.config.size) 0 verify
       (record { found = identity.found; touched = kept.scanned.count; erases = work.erases; programs = work.programs; transactions = identity.transactions + sent + work.transactions })
-  spared new target_sectors verify work sent is_sent is of none does =
+  spared new target_bytes verify work sent is_sent is of none does =
       let never = no_write (changes_of identity kept status code) (λ writes. none (code, of.accepts.is_wanted, needs request image image' identity status code kept old mid is of writes)) in
       subst (λ (n : ℕ). IsWithinBound (scanned_sectors request n) 0 verify (record { found = identity.found; touched = kept.scanned.count; erases = work.erases; programs = work.programs; transactions = identity.transactions + sent + work.transactions }))
       of.is.config.size
-      (bounded_by request identity status code kept old mid new target_sectors verify work sent 0 is_sent is never does)
+      (bounded_by request identity status code kept old mid new target_bytes verify work sent 0 is_sent is never does)

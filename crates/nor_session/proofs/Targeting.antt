@@ -3,12 +3,11 @@ use Rattle.std.proofs.Common.{◌≡◌, ◌≤◌, ◌<◌, ◌+◌, ◌-◌, �
 use Rattle.std.specs.Prelude.{◌&&◌, ◌||◌}
 use Rattle.std.proofs.Math.Nat.{add-mul}
 use Rattle.std.proofs.lemmas.Bool.Decides.{nat_tests}
-use Rattle.nor_model.specs.declared.sent.Sent.{Sent}
 use Rattle.nor_model.specs.declared.status.Status.{Status}
 use Rattle.nor_model.specs.Chip.{kept_in}
 use Rattle.nor_model.specs.Guard.{code_of}
 use Rattle.nor_model.specs.Status.{bytes_of}
-use Rattle.nor_model.specs.Sent.{is_targeted, has_written, has_unknown, erases_of, programs_of, status_writes_of}
+use Rattle.nor_model.specs.Sent.{Sent, is_targeted, has_written, has_unknown, erases_of, programs_of, status_writes_of}
 use Rattle.nor_model.specs.Bus.{BusState}
 use Rattle.nor_driver.specs.StatusWrites.{fixed_of, is_status_with_code}
 use Rattle.nor_geometry.specs.Counts.{sector_count}

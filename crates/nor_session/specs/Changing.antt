@@ -1,9 +1,10 @@
 -- The effect of the changes of a session or restore, and of the check of their result.
 use Rattle.std.specs.Prelude.{◌≡◌, ◌≤◌, ◌+◌, ◌*◌, ◌/◌, ◌⊎◌, ℕ, Bool, true, if◌then◌else◌, ⊤}
 use Rattle.nor_model.specs.Chip.{Chip}
+use Rattle.nor_model.specs.History.{EndsBusy, EndsReading}
 use Rattle.nor_model.specs.Bus.{BusState}
 use Rattle.nor_driver.specs.Ready.{StaysReady}
-use Rattle.nor_driver.specs.OnlyReads.{Rested, RanOut, RanOutIfHonest}
+use Rattle.nor_driver.specs.OnlyReads.{Rested, HasStopped}
 use Rattle.nor_driver.specs.Limits.{SendsWithin, SendsExactly}
 use Rattle.nor_driver.specs.Operations.{most_operation}
 use Rattle.nor_geometry.specs.Below.{count_below}
@@ -49,14 +50,15 @@ pub record DoesCheck (changes : Changes) (wanted : ℕ → ℕ) (verify : Bool) 
   pub same : verify ≡ true → old.honest ≡ true → CanCheck (touched_in changes) old.chip
       → (a : ℕ) → touched_in changes (a / 4096) ≡ true → old.chip.bytes a ≡ wanted a
 
--- The meaning of an error of the check on a well-behaved bus. `Stopped` means that fewer transactions were left than
--- there are touched sectors. If the chip can be checked (`CanCheck`), the address of `Mismatch` is that of the first
--- difference in the touched sectors. No other error occurs, on any bus.
+-- The meaning of an error of the check. On every bus nothing was sent after the transaction at which the bus stopped,
+-- or that read the sector of a mismatch, and no other error occurs. On a well-behaved bus `Stopped` means that fewer
+-- transactions were left than there are touched sectors. If the chip can be checked (`CanCheck`), the address of
+-- `Mismatch` is that of the first difference in the touched sectors.
 abbrev pub CheckRefuses : Changes → (ℕ → ℕ) → (old new : BusState) → Refusal → Type 0
-CheckRefuses changes wanted old new Stopped = RanOutIfHonest (touched_count changes) old new
-CheckRefuses changes wanted old new (Mismatch address) =
-    old.honest ≡ true → CanCheck (touched_in changes) old.chip
-    → IsFirstMismatch (touched_in changes) wanted old.chip.bytes address
+CheckRefuses changes wanted old new Stopped = HasStopped (touched_count changes) old new
+CheckRefuses changes wanted old new (Mismatch address) = EndsReading address new.history
+    × (old.honest ≡ true → CanCheck (touched_in changes) old.chip
+    → IsFirstMismatch (touched_in changes) wanted old.chip.bytes address)
 CheckRefuses changes wanted old new _ = ⊥
 
 -- ---- the changes and their check
@@ -98,13 +100,15 @@ pub record DoesChange (changes : Changes) (wanted : ℕ → ℕ) (verify : Bool)
   pub checked : verify ≡ true → old.honest ≡ true → CanCheck (touched_in changes) old.chip
       → HasBytes (touched_in changes) wanted new.chip
 
--- Holds if the changes and their check may fail with this error. On a well-behaved bus `Stopped` means that fewer
--- transactions were left than their bound (`most_changed`), `Timeout` does not occur, and `Mismatch` does not occur if
--- `CanApply` held at the start.
+-- Holds if the changes and their check may fail with this error. On every bus nothing was sent after the transaction at
+-- which the bus stopped, after a poll that showed BUSY, or after the read of the sector of a mismatch. On a
+-- well-behaved bus `Stopped` means that fewer transactions were left than their bound (`most_changed`), `Timeout` does
+-- not occur, and `Mismatch` does not occur if `CanApply` held at the start.
 abbrev pub ChangeErrors : Changes → (ℕ → ℕ) → (old new : BusState) → Refusal → Type 0
-ChangeErrors changes wanted old new Stopped = old.honest ≡ true → RanOut (most_changed changes) old new
-ChangeErrors changes wanted old new (Timeout address) = old.honest ≡ true → ⊥
-ChangeErrors changes wanted old new (Mismatch address) = old.honest ≡ true → CanApply changes wanted old.chip → ⊥
+ChangeErrors changes wanted old new Stopped = HasStopped (most_changed changes) old new
+ChangeErrors changes wanted old new (Timeout address) = EndsBusy new.history × (old.honest ≡ true → ⊥)
+ChangeErrors changes wanted old new (Mismatch address) =
+    EndsReading address new.history × (old.honest ≡ true → CanApply changes wanted old.chip → ⊥)
 ChangeErrors changes wanted old new _ = ⊥
 
 -- Holds on every bus: a timeout names an address in a touched sector, or 0 if a status write is needed; a mismatch

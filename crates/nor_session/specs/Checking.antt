@@ -1,8 +1,9 @@
 -- The results of a verification of touched sectors.
 use Rattle.std.specs.Prelude.{◌≡◌, ◌≢◌, ◌≤◌, ◌<◌, ◌+◌, ◌*◌, ◌/◌, ℕ, Bool, true, ⊤}
 use Rattle.nor_model.specs.Chip.{Chip}
+use Rattle.nor_model.specs.History.{EndsReading}
 use Rattle.nor_model.specs.Bus.{BusState}
-use Rattle.nor_driver.specs.OnlyReads.{Rested, RanOutIfHonest}
+use Rattle.nor_driver.specs.OnlyReads.{Rested, HasStopped}
 use Rattle.nor_driver.specs.Ready.{StaysReady}
 use Rattle.nor_request.specs.declared.refusal.Refusal.{Refusal}
 use Rattle.nor_request.specs.declared.refusal.Refusal.TheVariants as Refusals
@@ -32,13 +33,14 @@ pub record DoesChecks (sectors : ℕ → Bool) (wanted : ℕ → ℕ) (old new :
   pub same : old.honest ≡ true → CanCheck sectors old.chip
       → (a : ℕ) → sectors (a / 4096) ≡ true → old.chip.bytes a ≡ wanted a
 
--- The meaning of an error on a well-behaved bus. `Stopped` means that fewer transactions were left than there are
+-- The meaning of an error. On every bus nothing was sent after the transaction at which the bus stopped, or that read
+-- the sector of a mismatch. On a well-behaved bus `Stopped` means that fewer transactions were left than there are
 -- sectors in the set, and that all of them were used. If `CanCheck` holds, the address of `Mismatch` is the first one
 -- in these sectors at which the chip differs from the target.
 abbrev pub CheckErrors : (ℕ → Bool) → (ℕ → ℕ) → (old new : BusState) → CheckFault → Type 0
-CheckErrors sectors wanted old new Stopped = RanOutIfHonest (sector_count sectors) old new
-CheckErrors sectors wanted old new (Mismatch address) =
-    old.honest ≡ true → CanCheck sectors old.chip → IsFirstMismatch sectors wanted old.chip.bytes address
+CheckErrors sectors wanted old new Stopped = HasStopped (sector_count sectors) old new
+CheckErrors sectors wanted old new (Mismatch address) = EndsReading address new.history
+    × (old.honest ≡ true → CanCheck sectors old.chip → IsFirstMismatch sectors wanted old.chip.bytes address)
 
 -- Holds on every bus: the address of a mismatch is in one of these sectors.
 abbrev pub NamesDifference : (ℕ → Bool) → CheckFault → Type 0

@@ -3,9 +3,10 @@ use Rattle.std.specs.Prelude.{◌≡◌, ◌≢◌, ◌<◌, ◌≤◌, ◌+◌,
 use Rattle.nor_model.specs.Guard.{code_of}
 use Rattle.nor_model.specs.Chip.{Chip, IsSame, is_locked, status1_of, kept_in}
 use Rattle.nor_model.specs.Status.{bytes_of}
+use Rattle.nor_model.specs.History.{EndsBusy}
 use Rattle.nor_model.specs.Bus.{BusState}
 use Rattle.nor_scan.specs.Identity.{status_read}
-use Rattle.nor_driver.specs.OnlyReads.{Rested, RanOutIfHonest, IsOpen}
+use Rattle.nor_driver.specs.OnlyReads.{Rested, HasStopped, IsOpen}
 use Rattle.nor_driver.specs.Ready.{StaysReady}
 use Rattle.nor_driver.specs.StatusWrites.{fixed_of}
 use Rattle.nor_driver.specs.Reads.{ReadsSector}
@@ -113,8 +114,9 @@ pub record IsRefusedFor (journal : Content) (old new : BusState) (refusal : Refu
 -- transactions were left at the start. A timeout names address 0, and does not occur on a well-behaved bus. Any other
 -- error is that of a failed check.
 abbrev pub PrepareErrors : Content → ℕ → (old new : BusState) → Refusal → Type 0
-PrepareErrors journal most old new Stopped = RanOutIfHonest most old new
-PrepareErrors journal most old new (Timeout address) = (address ≡ 0) × (old.honest ≡ true → ⊥)
+PrepareErrors journal most old new Stopped = HasStopped most old new
+PrepareErrors journal most old new (Timeout address) =
+    (address ≡ 0) × EndsBusy new.history × (old.honest ≡ true → ⊥)
 PrepareErrors journal most old new refusal = IsRefusedFor journal old new refusal
 
 -- ---- the scan

@@ -1,8 +1,8 @@
 -- The promises of a rehearsal.
-use Rattle.std.specs.Prelude.{◌≡◌, ◌≤◌, ◌<◌, ◌+◌, ◌-◌, ◌*◌, ◌/◌, ◌==◌, ◌⊎◌, max, ℕ, Bool, true, false, List, [], ◌∷◌, Result, IfOk, IfErr, OnErr, drop, length, slice_index, if◌then◌else◌}
+use Rattle.std.specs.Prelude.{◌≡◌, ◌≤◌, ◌<◌, ◌+◌, ◌-◌, ◌*◌, ◌/◌, ◌==◌, ◌++◌, ◌⊎◌, max, ℕ, zero, suc, Bool, true, false, List, [], ◌∷◌, Result, IfOk, IfErr, OnErr, drop, length, slice_index, slice_index_or, if◌then◌else◌}
 use Rattle.std.specs.List.{list_any}
 use Rattle.nor_model.specs.Chip.{Chip, IsSame}
-use Rattle.nor_model.specs.Bus.{BusState, KeepsNature}
+use Rattle.nor_model.specs.Bus.{BusState, SameNature}
 use Rattle.nor_journal.specs.Vault.{VaultState, CountsRefusal}
 use Rattle.nor_journal.specs.Saved.{JournalSaves}
 use Rattle.nor_geometry.specs.Counts.{sector_count}
@@ -13,6 +13,7 @@ use Rattle.nor_request.specs.declared.request.What.{What}
 use Rattle.nor_request.specs.declared.refusal.Refusal.{Refusal}
 use Rattle.nor_request.specs.declared.refusal.Refusal.TheVariants.{Vault}
 use Rattle.nor_request.specs.Refusal.{refusal_number}
+use Rattle.nor_request.specs.Errors.{EndsAtError}
 use Rattle.nor_request.specs.Request.{wanted, scanned_sectors}
 use Rattle.nor_scan.specs.Saving.{header_of}
 use Rattle.nor_scan.specs.SavedScan.{IsJournal}
@@ -28,6 +29,20 @@ use Rattle.nor_session.specs.Restore.{IsRestoreRefusal}
 abbrev pub first_allowance : List ℕ → ℕ
 first_allowance [] = most_of 4096
 first_allowance (first ∷ later) = first
+
+-- the allowances of the first `n` calls of a rehearsal, the last one first: its stops in turn and, after these, the
+-- bound for a session on a chip of 16 MiB
+abbrev pub allowances_of : (stops : List ℕ) → (n : ℕ) → List ℕ
+allowances_of stops zero = []
+allowances_of stops (suc n) = slice_index_or stops n (most_of 4096) ∷ allowances_of stops n
+
+-- Holds if the allowances that were set are those of the first `calls` calls of a rehearsal (`allowances_of`). This
+-- number of calls is at least `least` and at most `most`.
+pub record AllowsStops (stops : List ℕ) (least most : ℕ) (old new : BusState) : Type 0 where
+  pub calls : ℕ
+  pub some : least ≤ calls
+  pub few : calls ≤ most
+  pub is : new.allowances ≡ allowances_of stops calls ++ old.allowances
 
 -- Describes the result of a rehearsal with this number of stops, on every bus. Restores were run if and only if the
 -- vault was sealed: at least one, and at most as many as there are stops, or one without stops. The session ended only
@@ -105,7 +120,13 @@ IsRehearsedCode what journal code = IsWrittenCode what journal code ⊎ IsSavedC
 pub record RehearsalAlways (request : Request) (stops : List ℕ) (old new : BusState) (vault vault' : VaultState)
     (result : Result Rehearsal Refusal) : Type 0 where
   -- whether the bus is well-behaved, steady and unlimited is as before
-  pub nature : KeepsNature old new
+  pub nature : SameNature old new
+  -- after success the allowances that were set are one for the session and one for each restore: exactly the stops in
+  -- turn and, for a call without a stop, the bound for a session on a chip of 16 MiB
+  pub allowed : IfOk result (λ r. new.allowances ≡ allowances_of stops (1 + r.restores) ++ old.allowances)
+  -- after an error the same holds for the session and the restores that were run; there were at most as many restores
+  -- as there are stops, or one without stops
+  pub tried : OnErr result (AllowsStops stops 1 (1 + max 1 (length stops)) old new)
   -- a successful result fits the vault and the stops
   pub counts : IfOk result (IsRehearsal (length stops) vault')
   -- an error is one of the session's, or after the seal one of a restore's
@@ -114,6 +135,8 @@ pub record RehearsalAlways (request : Request) (stops : List ℕ) (old new : Bus
   pub names : IfErr result (NamesAddress vault')
   -- if the vault was sealed, the rehearsal succeeds only if the last poll showed that the chip is ready
   pub polled_ready : IfOk result (λ rehearsal. rehearsal.sealed ≡ true → new.polled_ready ≡ true)
+  -- after a stop, a timeout or a mismatch nothing more was sent
+  pub nothing_after : IfErr result (λ refusal. EndsAtError refusal new.history)
   -- if the vault isn't sealed, no modifying command was sent
   pub unsent : vault'.sealed ≡ false → new.sent ≡ old.sent
   -- after the seal, all that was sent fits the journal in the vault (`SendsSaved`)

@@ -1,7 +1,8 @@
 -- The states that the parts of a rehearsal leave: its session, and the restores in turn.
-use Rattle.std.specs.Prelude.{◌≡◌, ◌≤◌, ◌<◌, ◌+◌, ◌*◌, ◌/◌, ℕ, Bool, true, false, List, Result, IfOk, IfErr, OnOk, length}
+use Rattle.std.specs.Prelude.{◌≡◌, ◌≤◌, ◌<◌, ◌+◌, ◌*◌, ◌/◌, ◌++◌, ℕ, Bool, true, false, List, Result, IfOk, IfErr, OnOk, OnErr, length}
 use Rattle.nor_model.specs.Chip.{Chip, IsChip, IsSame, is_locked}
-use Rattle.nor_model.specs.Bus.{BusState, KeepsNature}
+use Rattle.nor_model.specs.History.{EndsStopped}
+use Rattle.nor_model.specs.Bus.{BusState, SameNature}
 use Rattle.nor_driver.specs.OnlyReads.{IsSteadyOrIdle}
 use Rattle.nor_driver.specs.StatusWrites.{with_code}
 use Rattle.nor_journal.specs.Text.{Content}
@@ -15,6 +16,7 @@ use Rattle.nor_request.specs.declared.request.Request.{Request}
 use Rattle.nor_request.specs.declared.request.What.{What}
 use Rattle.nor_request.specs.declared.refusal.Refusal.{Refusal}
 use Rattle.nor_request.specs.Request.{wanted, IsWantedCode}
+use Rattle.nor_request.specs.Errors.{EndsAtError}
 use Rattle.nor_scan.specs.Saving.{header_of, NoneProtected}
 use Rattle.nor_scan.specs.SavedScan.{IsJournal}
 use Rattle.nor_session.specs.Bounds.{most_of}
@@ -22,7 +24,7 @@ use Rattle.nor_scan.specs.Verdict.{IsAccepted}
 use Rattle.nor_session.specs.Session.{SessionReturns, SavesSector, NamesSector, NamesAddress, IsSavedCode, IsWrittenCode, most_status_writes, SendsSaved, WritesStatusAtMost}
 use Rattle.nor_session.specs.Headline.{CanRestore}
 use Rattle.nor_session.specs.Restore.{IsRestoreRefusal}
-use Rattle.nor_session.specs.Rehearsal.{CanEnd, SealFits, AreRestores, FitsLastStop, LeavesRefused, IsNoBusError, RehearsalErrors}
+use Rattle.nor_session.specs.Rehearsal.{CanEnd, SealFits, AreRestores, FitsLastStop, LeavesRefused, IsNoBusError, RehearsalErrors, allowances_of, AllowsStops}
 
 -- ---- the session
 
@@ -45,7 +47,7 @@ pub record CanUndo (saved : ℕ → Bool) (first : Chip) (text : List ℕ) (stat
 -- the latch is set only if it was set before; if this bus is steady or its chip was idle, bytes and non-volatile bits
 -- are as they were.
 pub record LeavesSession (request : Request) (image : List ℕ) (old new : BusState) (vault : VaultState) : Type 0 where
-  pub nature : KeepsNature old new
+  pub nature : SameNature old new
   pub same : IsModelled old → IsSteadyOrIdle old → vault.sealed ≡ false → IsSame old.chip new.chip
   pub back : IsModelled old → vault.sealed ≡ true
       → CanUndo (is_touched old.chip.bytes (wanted request image old.chip)) old.chip vault.bytes new
@@ -80,12 +82,13 @@ pub record RunsSession (request : Request) (image : List ℕ) (allowance : ℕ) 
   pub seal : IsModelled old → SealFits request allowance old.chip vault.sealed
 
 -- Holds if the session returned this error. On a modelled bus it is the verdict, or the vault failed. On a well-behaved
--- bus it is neither a stop nor a timeout.
+-- bus it is neither a stop nor a timeout. On every bus nothing was sent after a stop, a timeout or a mismatch.
 pub record RefusesSession (request : Request) (image : List ℕ) (old new : BusState) (before after : VaultState)
     (refusal : Refusal) : Type 0 where
   pub answers : SessionReturns before after refusal
   pub names : NamesAddress after refusal
   pub fails : old.honest ≡ true → IsNoBusError refusal
+  pub nothing_after : EndsAtError refusal new.history
   pub errors : IsModelled old → RehearsalErrors request image old.chip before after refusal
   pub leaves : IsModelled old → LeavesRefused old new after
 
@@ -95,7 +98,7 @@ pub record RefusesSession (request : Request) (image : List ℕ) (old new : BusS
 -- each chip that it could restore before, and only saved sectors were erased. On every bus: only saved sectors were
 -- targeted, or sectors past the end of a chip saved whole, and each restore wrote the status at most twice.
 pub record LeavesRestores (journal : Content) (restores : ℕ) (old new : BusState) : Type 0 where
-  pub nature : KeepsNature old new
+  pub nature : SameNature old new
   pub modelled : IsModelled old → IsModelled new
   pub can : IsModelled old → (first : Chip) → CanRestore journal first old → CanRestore journal first new
   pub worn : IsModelled old → (s : ℕ) → is_saved journal s ≡ false → new.worn s ≡ old.worn s
@@ -105,19 +108,22 @@ pub record LeavesRestores (journal : Content) (restores : ℕ) (old new : BusSta
 -- One restore was allowed `allowance` transactions. On a modelled bus, if it ended, it restored each chip that the
 -- journal could restore, and the latch is set only if it was set before. The allowance was then enough for the shortest
 -- identification, the scan and the transactions that are left. On a well-behaved bus, if it was stopped, the allowance
--- was below the bound, and no transaction is left.
+-- was below the bound, and no transaction is left. On every bus, if it was stopped, nothing was sent after that.
 pub record RunsRestore (journal : Content) (allowance : ℕ) (old new : BusState) (ended : Bool) : Type 0 where
   pub back : IsModelled old → ended ≡ true → (first : Chip) → CanRestore journal first old → IsSame first new.chip
   pub latch : IsModelled old → ended ≡ true → new.chip.latch ≡ true → old.chip.latch ≡ true
   pub enough : IsModelled old → ended ≡ true → new.left + (4 + length journal.saved) ≤ allowance
   pub none_left : old.honest ≡ true → ended ≡ false → new.left ≡ 0
   pub below : old.honest ≡ true → ended ≡ false → allowance < most_of (length journal.saved)
+  pub nothing_after : ended ≡ false → EndsStopped new.history
 
--- Restores were run in turn until one ended. On a modelled bus they restored each chip that the journal could restore,
--- and if none was stopped, the latch is set only if it was set before.
+-- Restores were run in turn until one ended, each with its own allowance (`allowances_of`). On a modelled bus they
+-- restored each chip that the journal could restore, and if none was stopped, the latch is set only if it was set
+-- before.
 pub record RunsRestores (journal : Content) (stops : List ℕ) (old new : BusState) (restores : ℕ) : Type 0 where
   pub some : 1 ≤ restores
   pub most : restores ≤ length stops + 1
+  pub allowed : new.allowances ≡ allowances_of stops restores ++ old.allowances
   pub latch : IsModelled old → restores ≡ 1 → new.chip.latch ≡ true → old.chip.latch ≡ true
   pub are : IsModelled old → AreRestores (length journal.saved) stops restores
   pub last : IsModelled old → FitsLastStop (length journal.saved) stops new.left restores
@@ -125,20 +131,23 @@ pub record RunsRestores (journal : Content) (stops : List ℕ) (old new : BusSta
 
 -- Holds if a restore returned this error. On a modelled bus that never occurs for a chip that the journal can restore.
 -- On a well-behaved bus the error is neither a stop nor a timeout, since a journal has no more sectors than the largest
--- chip.
-pub record StopsRestores (journal : Content) (old : BusState) (refusal : Refusal) : Type 0 where
+-- chip. On every bus nothing was sent after a stop, a timeout or a mismatch.
+pub record StopsRestores (journal : Content) (old new : BusState) (refusal : Refusal) : Type 0 where
   pub answers : IsRestoreRefusal refusal
+  pub nothing_after : EndsAtError refusal new.history
   pub names : NamesSector (λ sector. is_saved journal sector ≡ true) refusal
   pub fails : length journal.saved ≤ 4096 → old.honest ≡ true → IsNoBusError refusal
   pub never : IsModelled old → (first : Chip) → CanRestore journal first old → ⊥
 
 -- ---- restores from bytes
 
--- Restores were run in turn until one ended. On a modelled bus they restored the original chip, if the bytes could
--- restore it; and if none was stopped, the latch is set only if it was set before.
+-- Restores were run in turn until one ended, each with its own allowance (`allowances_of`). On a modelled bus they
+-- restored the original chip, if the bytes could restore it; and if none was stopped, the latch is set only if it was
+-- set before.
 pub record Undoes (text : List ℕ) (stops : List ℕ) (old new : BusState) (restores : ℕ) : Type 0 where
   pub some : 1 ≤ restores
   pub most : restores ≤ length stops + 1
+  pub allowed : new.allowances ≡ allowances_of stops restores ++ old.allowances
   pub latch : IsModelled old → restores ≡ 1 → new.chip.latch ≡ true → old.chip.latch ≡ true
   pub same : IsModelled old → (saved : ℕ → Bool) (first : Chip) → CanUndo saved first text old → IsSame first new.chip
   pub are : IsModelled old → (saved : ℕ → Bool) (first : Chip) → CanUndo saved first text old
@@ -158,9 +167,10 @@ SendsFromJournal text restores old new =
 
 -- Holds if the restores returned this error. If the bytes are a journal, it is an error of a restore. On a well-behaved
 -- bus it is neither a stop nor a timeout. If the bytes can restore the original chip on a modelled bus, no error is
--- returned.
-pub record RefusesUndo (text : List ℕ) (old : BusState) (refusal : Refusal) : Type 0 where
+-- returned. On every bus nothing was sent after a stop, a timeout or a mismatch.
+pub record RefusesUndo (text : List ℕ) (old new : BusState) (refusal : Refusal) : Type 0 where
   pub answers : IsJournal text → IsRestoreRefusal refusal
+  pub nothing_after : EndsAtError refusal new.history
   pub names : NamesSector (λ sector. SavesSector sector text) refusal
   pub fails : old.honest ≡ true → IsNoBusError refusal
   pub never : IsModelled old → (saved : ℕ → Bool) (first : Chip) → CanUndo saved first text old → ⊥
@@ -168,7 +178,7 @@ pub record RefusesUndo (text : List ℕ) (old : BusState) (refusal : Refusal) : 
 -- The effect of restores from these bytes with these stops, at every exit.
 pub record LeavesUndo (text stops : List ℕ) (old new : BusState) (result : Result ℕ Refusal) : Type 0 where
   -- whether the bus is well-behaved, steady and unlimited is as before
-  pub nature : KeepsNature old new
+  pub nature : SameNature old new
   -- at every exit on a modelled bus, if the bytes can restore the original chip, only sectors that they save were
   -- erased
   pub wears : WearsSaved text old new
@@ -181,4 +191,6 @@ pub record LeavesUndo (text stops : List ℕ) (old new : BusState) (result : Res
   -- the restores succeed only if the last poll showed that the chip is ready
   pub polled_ready : OnOk result (new.polled_ready ≡ true)
   -- an error means what `RefusesUndo` says
-  pub refuses : IfErr result (RefusesUndo text old)
+  pub refuses : IfErr result (RefusesUndo text old new)
+  -- after an error, the allowances that were set are those of the restores that were run (`AllowsStops`)
+  pub tried : OnErr result (AllowsStops stops 0 (length stops + 1) old new)

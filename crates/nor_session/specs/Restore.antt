@@ -18,6 +18,7 @@ use Rattle.nor_request.specs.declared.report.Report.{Report}
 use Rattle.nor_request.specs.declared.refusal.Refusal.{Refusal}
 use Rattle.nor_request.specs.declared.refusal.Refusal.TheVariants.{NoChip, UnknownChip, StatusLocked, Stopped, OtherChip, OtherUnit, StatusDiffers}
 use Rattle.nor_request.specs.Refusal.{refusal_number}
+use Rattle.nor_request.specs.Errors.{EndsAtError}
 use Rattle.nor_scan.specs.Saving.{SomeProtected}
 use Rattle.nor_session.specs.Bounds.{most_reads, most_of}
 use Rattle.nor_session.specs.Made.{IsTargetChip, IsReported}
@@ -139,6 +140,8 @@ pub record RestoreAlways (journal : Content) (old new : BusState) (result : Resu
   pub reported : IfOk result (λ report. SendsCounted report.erases report.programs old new)
   -- a restore succeeds only if the last poll showed that the chip is ready
   pub polled_ready : OnOk result (new.polled_ready ≡ true)
+  -- after a stop, a timeout or a mismatch nothing more was sent
+  pub nothing_after : IfErr result (λ refusal. EndsAtError refusal new.history)
 
 -- The promises of a restore on a well-behaved bus.
 pub record RestoreHonest (journal : Content) (old new : BusState) (result : Result Report Refusal) : Type 0 where

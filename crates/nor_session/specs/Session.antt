@@ -4,10 +4,11 @@ use Rattle.nor_model.specs.Chip.{Chip, IsSame, kept_in}
 use Rattle.nor_model.specs.Guard.{code_of}
 use Rattle.nor_model.specs.Offer.{IsLeastCode}
 use Rattle.nor_model.specs.Sent.{is_targeted, has_written, has_unknown, erases_of, programs_of, status_writes_of}
+use Rattle.nor_model.specs.Exchange.{Exchange}
+use Rattle.nor_model.specs.History.{Continues}
 use Rattle.nor_model.specs.Bus.{BusState}
 use Rattle.nor_driver.specs.OnlyReads.{OnlyReads, Falls, RanOut}
 use Rattle.nor_driver.specs.StatusWrites.{fixed_of, with_code}
-use Rattle.nor_driver.specs.Limits.{CountsUp}
 use Rattle.nor_geometry.specs.Counts.{sector_count}
 use Rattle.nor_driver.specs.Operations.{most_operation}
 use Rattle.nor_plan.specs.Content.{is_touched, is_raised}
@@ -24,7 +25,10 @@ use Rattle.nor_request.specs.declared.refusal.Refusal.{Refusal}
 use Rattle.nor_request.specs.declared.refusal.Refusal.TheVariants.{Vault, Stopped, Timeout, Mismatch}
 use Rattle.nor_request.specs.Refusal.{refusal_number}
 use Rattle.nor_request.specs.Request.{wanted, scanned_sectors, IsWantedCode}
-use Rattle.nor_scan.specs.Saving.{header_of}
+use Rattle.nor_request.specs.Errors.{EndsAtError}
+use Rattle.nor_scan.specs.declared.identity.Identity.{Identity}
+use Rattle.nor_scan.specs.Replied.{IsIdentifiedBy, bytes_read}
+use Rattle.nor_scan.specs.Saving.{header_of, header_found}
 use Rattle.nor_scan.specs.SavedScan.{IsJournal, HasWholeRecords, HoldsJournal}
 use Rattle.nor_session.specs.Bounds.{most_reads, most_of}
 use Rattle.nor_session.specs.Made.{IsTargetChip, IsReported}
@@ -111,10 +115,10 @@ pub record SendsFew (old new : BusState) : Type 0 where
   pub programs : programs_of new.sent ≤ programs_of old.sent + 65536
   pub unknown : has_unknown new.sent ≡ has_unknown old.sent
 
--- Holds if these numbers of erases and page programs were sent, as far as their counts fit in a u64.
+-- Holds if exactly these numbers of erases and page programs were sent.
 pub record SendsCounted (erases programs : ℕ) (old new : BusState) : Type 0 where
-  pub erased : CountsUp erases (erases_of old.sent) (erases_of new.sent)
-  pub programmed : CountsUp programs (programs_of old.sent) (programs_of new.sent)
+  pub erased : erases_of new.sent ≡ erases_of old.sent + erases
+  pub programmed : programs_of new.sent ≡ programs_of old.sent + programs
 
 -- Holds if at most this number of status writes was sent.
 abbrev pub WritesStatusAtMost : ℕ → (old new : BusState) → Type 0
@@ -194,6 +198,18 @@ HoldsBegun request image chip bytes = (bytes ≡ [])
     ⊎ (IsNamed request.named chip.config
     × IsJournalPrefix (header_of chip) chip.bytes (is_touched chip.bytes (wanted request image chip)) bytes)
 
+-- Holds if a journal has what the bus replied to this session before the seal. Its header has the ID, unique ID, status
+-- bits and size that the identification replied, and each record has the bytes of the last reply to a read of that
+-- sector. `at_seal` is the history of the bus when the vault was sealed.
+pub record IsJournalOfReplies (old new : BusState) (bytes : List ℕ) : Type 0 where
+  pub at_seal : List Exchange
+  pub before : Continues old.history at_seal
+  pub after : Continues at_seal new.history
+  pub identity : Identity
+  pub replied : IsIdentifiedBy at_seal identity
+  pub sectors : ℕ → Bool
+  pub saves : JournalSaves (header_found identity) (bytes_read at_seal) sectors bytes
+
 -- ---- the promises of a session
 
 -- The promises of a session on every bus and with every vault.
@@ -215,6 +231,8 @@ pub record SessionAlways (request : Request) (old new : BusState) (vault vault' 
       × SendsSaved (IsWrittenCode request.what journal.content) 1 journal.content old new
   -- if a faithful vault is sealed, it holds a journal
   pub holds : HoldsJournal vault'
+  -- if a faithful vault is sealed, its journal has what the bus replied, whether the bus is well-behaved or not
+  pub replied : vault'.sealed ≡ true → vault'.telling ≡ true → IsJournalOfReplies old new vault'.bytes
   -- an error is one that `SessionReturns` allows
   pub answers : IfErr result (SessionReturns vault vault')
   -- a timeout or mismatch names an address that `NamesAddress` allows
@@ -223,6 +241,8 @@ pub record SessionAlways (request : Request) (old new : BusState) (vault vault' 
   pub ends : IfOk result (EndsSealed request old new vault vault')
   -- a session succeeds only if the last poll showed that the chip is ready
   pub polled_ready : OnOk result (new.polled_ready ≡ true)
+  -- after a stop, a timeout or a mismatch nothing more was sent
+  pub nothing_after : IfErr result (λ refusal. EndsAtError refusal new.history)
 
 -- The promises of a session on a well-behaved bus.
 pub record SessionHonest (request : Request) (image : List ℕ) (old new : BusState)

@@ -35,10 +35,10 @@ pub fn power_lost_restores_original()
 /// stopped before: then that journal can still restore its chip. Between two runs a chip may lose its power, or be in
 /// files that were not overwritten to their end.
 pub fn undone_is_restorable()
-    ensures { (request later : Request) (image target_sectors : List ℕ) (old mid mid' new new' back : BusState)
+    ensures { (request later : Request) (image later_image : List ℕ) (old mid mid' new new' back : BusState)
         (journal other : Content) (report : Report)
         → LeavesJournal request image old mid journal → IsTakenUp old mid mid'
-        → LeavesJournal later target_sectors mid' new other
+        → LeavesJournal later later_image mid' new other
         → IsTakenUp mid' new new' ⊎ CanRestore other mid'.chip new'
         → IsRestored other new' back report → CanRestore journal old.chip back }
 {}
@@ -48,10 +48,10 @@ pub fn undone_is_restorable()
 /// journal can still restore its chip. Between two runs a chip may lose its power, or, after a session, be in files
 /// that were not overwritten to their end.
 pub fn undone_in_turn()
-    ensures { (request later : Request) (image target_sectors : List ℕ) (old mid mid' new new' back back' end : BusState)
+    ensures { (request later : Request) (image later_image : List ℕ) (old mid mid' new new' back back' end : BusState)
         (journal other : Content) (report last : Report)
         → LeavesJournal request image old mid journal → IsTakenUp old mid mid'
-        → LeavesJournal later target_sectors mid' new other
+        → LeavesJournal later later_image mid' new other
         → IsTakenUp mid' new new' ⊎ CanRestore other mid'.chip new'
         → IsRestored other new' back report
         → MayLosePower back back' ⊎ CanRestore journal old.chip back'

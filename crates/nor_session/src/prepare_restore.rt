@@ -2,7 +2,7 @@
 //! saved sectors, and finds out which changes are needed.
 ghost use Rattle.std.specs.Prelude.{◌≡◌, ◌<◌, ◌≤◌, ◌/◌, true, None, length, IfOk, IfErr, OnOk, OnErr, MatchBool, IsTrue};
 ghost use Rattle.nor_model.specs.Size.{is_chip_size};
-ghost use Rattle.nor_driver.specs.OnlyReads.{OnlyReads, RanOutIfHonest};
+ghost use Rattle.nor_driver.specs.OnlyReads.{OnlyReads, HasStopped};
 ghost use Rattle.nor_plan.specs.SectorSet.{has, LiesBelow};
 ghost use Rattle.nor_scan.specs.Identity.{ReadsIdentity, most_identity};
 ghost use Rattle.nor_request.specs.declared.refusal.Refusal.TheVariants as Refusals;
@@ -126,7 +126,7 @@ fn has_fixed(journal: &Journal<'_>, identity: &Identity) -> bool
 fn scan_saved<B: Bus>(bus: &mut B, journal: &Journal<'_>) -> Result<Scanned, Stopped>
     ensures leaves { OnlyReads (length journal.now.saved) (B.state bus.old) (B.state bus.new) }
     ensures scans { IfOk result (ScansSaved journal.now (B.state bus.old) (B.state bus.new)) }
-    ensures stops { OnErr result (RanOutIfHonest (length journal.now.saved) (B.state bus.old) (B.state bus.new)) }
+    ensures stops { OnErr result (HasStopped (length journal.now.saved) (B.state bus.old) (B.state bus.new)) }
 {
     let mut scanned = Scanned::none();
     let mut bytes = [0; SECTOR_LEN as usize];
@@ -149,7 +149,7 @@ fn plan_saved<B: Bus>(
     requires whole { length saved.now ≡ 4096 }
     ensures leaves { OnlyReads 1 (B.state bus.old) (B.state bus.new) }
     ensures plans { IfOk result (PlansSaved sector saved.now bytes.new (B.state bus.old) (B.state bus.new)) }
-    ensures stops { OnErr result (RanOutIfHonest 1 (B.state bus.old) (B.state bus.new)) }
+    ensures stops { OnErr result (HasStopped 1 (B.state bus.old) (B.state bus.new)) }
 {
     read_sector(bus, sector, &mut *bytes)?;
     Ok(Plan::of(&*bytes, saved))

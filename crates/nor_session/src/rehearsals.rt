@@ -1,5 +1,5 @@
 //! A rehearsal: runs a session that may be stopped on purpose, and restores from its journal.
-ghost use Rattle.std.specs.Prelude.{◌≡◌, ◌≤◌, ◌+◌, true, length, drop, IfOk, IfErr, OnOk};
+ghost use Rattle.std.specs.Prelude.{◌≡◌, ◌≤◌, ◌+◌, ◌∷◌, true, length, drop, IfOk, IfErr, OnOk, OnErr};
 ghost use Rattle.nor_model.specs.Chip.{IsSame};
 ghost use Rattle.nor_driver.specs.OnlyReads.{IsSteadyOrIdle};
 ghost use Rattle.nor_journal.specs.Vault.{IsFresh};
@@ -8,7 +8,7 @@ ghost use Rattle.nor_probe.specs.Known.{IsModelled};
 ghost use Rattle.nor_session.specs.Bounds.{most_of};
 ghost use Rattle.nor_session.specs.Rehearsing.{LeavesSession, RunsSession, RefusesSession, LeavesRestores, RunsRestore, RunsRestores};
 ghost use Rattle.nor_session.specs.Rehearsing.{LeavesUndo, StopsRestores};
-ghost use Rattle.nor_session.specs.Rehearsal.{RehearsalAlways, RehearsalModelled, IsNoBusError, first_allowance};
+ghost use Rattle.nor_session.specs.Rehearsal.{RehearsalAlways, RehearsalModelled, IsNoBusError, AllowsStops, first_allowance};
 
 use crate::restores::restore;
 use crate::sessions::session;
@@ -28,7 +28,8 @@ pub struct Rehearsal {
 
 /// Runs a session that may send at most the number of transactions given by the first of `stops`. If the session sealed
 /// the vault, runs restores, each with the next number of `stops`, until one ends. If no stop is left, a call may send
-/// a number of transactions that is enough for every session and restore.
+/// a number of transactions that is enough for every session and restore. The allowances that are set are exactly the
+/// stops in turn and, for each call without a stop, this number.
 ///
 /// There are at most 64 stops, and `vault` must be empty and unsealed. `image` and `request` are as for `session`.
 ///
@@ -109,6 +110,7 @@ fn stopped_session<B: Meter>(
 ) -> Result<bool, Refusal>
     requires { IsFresh (held_by vault.old) }
     ensures leaves { LeavesSession request.now image.old (B.state bus.old) (B.state bus.new) (held_by vault.new) }
+    ensures allowed { (B.state bus.new).allowances ≡ first_allowance stops.now ∷ (B.state bus.old).allowances }
     ensures whole { length stops.now ≡ 0 → IfOk result (λ ended. ended ≡ true) }
     ensures shows { IfOk result
         (RunsSession request.now image.old (first_allowance stops.now) (B.state bus.old) (B.state bus.new)
@@ -147,7 +149,8 @@ fn restore_in_turn<B: Meter>(
     ensures leaves { LeavesRestores journal.now (length stops.now + 1) (B.state bus.old) (B.state bus.new) }
     ensures shows { IfOk result (RunsRestores journal.now stops.now (B.state bus.old) (B.state bus.new)) }
     ensures polled_ready { OnOk result ((B.state bus.new).polled_ready ≡ true) }
-    ensures refuses { IfErr result (StopsRestores journal.now (B.state bus.old)) }
+    ensures refuses { IfErr result (StopsRestores journal.now (B.state bus.old) (B.state bus.new)) }
+    ensures tried { OnErr result (AllowsStops stops.now 1 (length stops.now + 1) (B.state bus.old) (B.state bus.new)) }
 {
     let mut restores = 0;
     for stop in stops {
@@ -165,9 +168,10 @@ fn restore_in_turn<B: Meter>(
 // Allows the given number of transactions, and restores. Returns whether the restore ended; if not, the bus stopped.
 fn ends_under<B: Meter>(bus: &mut B, journal: &Journal<'_>, allowance: u64) -> Result<bool, Refusal>
     ensures leaves { LeavesRestores journal.now 1 (B.state bus.old) (B.state bus.new) }
+    ensures allowed { (B.state bus.new).allowances ≡ allowance ∷ (B.state bus.old).allowances }
     ensures shows { IfOk result (RunsRestore journal.now allowance (B.state bus.old) (B.state bus.new)) }
     ensures polled_ready { IfOk result (λ ended. ended ≡ true → (B.state bus.new).polled_ready ≡ true) }
-    ensures refuses { IfErr result (StopsRestores journal.now (B.state bus.old)) }
+    ensures refuses { IfErr result (StopsRestores journal.now (B.state bus.old) (B.state bus.new)) }
 {
     bus.allow(allowance);
     match restore(bus, journal) {

@@ -2,16 +2,18 @@ use Rattle.std.proofs.Common.{rules, arith, ◌∙◌, refl, sym}
 use Rattle.std.proofs.lemmas.Bool.{true≢false}
 use Rattle.std.proofs.lemmas.Result.{err_from_is_err_and}
 use Rattle.nor_journal.specs.MemVault.{held_by}
-use Rattle.nor_model.proofs.Nature.{nature_then}
 use Rattle.nor_probe.specs.Known.{IsModelled}
-use Rattle.nor_session.proofs.RehearsedRestores.{latch_alone}
-use Rattle.nor_session.proofs.RehearsedSessions.{session_sends, led, both_wear, both_send, both_write, undo_refused}
+use Rattle.nor_session.proofs.RehearsedRestores.{same_nature_then, latch_alone}
+use Rattle.nor_session.proofs.RehearsedSessions.{session_sends, session_tried, led, both_wear, both_send, both_write, both_allowed, both_tried, undo_refused}
 use Rattle.nor_session.proofs.rehearsals.rehearse.Goals as goal
 
 -- the exit at which the session returned an error
 pub returns-in_err-ended-clause-always : goal.returns-in_err-ended-clause-always
 returns-in_err-ended-clause-always g c =
     let sends = session_sends c.args.stops.now c.stopped_session.ensures.leaves in
+    let tried = session_tried c.args.stops.now (g.B.Bus.state c.args.bus.now) (g.B.Bus.state c.stopped_session.new.bus)
+    c.stopped_session.ensures.allowed in
+    let nothing_after = c.in_err-ended.ensures.refuses.nothing_after in
     let p = err_from_is_err_and c.from_residual.result c.from_residual.ensures.1 in
     rw (p.1, p.2) (search (rules, arith))
 
@@ -24,7 +26,10 @@ returns-in_err-restores g c =
     let never = λ (modelled : IsModelled (g.B.Bus.state c.args.bus.now)).
     let (unsent, leads) = led session sealed is undone modelled in refuses.never unsent _ _ leads in
     let returned = undo_refused session sealed is undone (held_by c.args.vault.now) _ refuses in
-    let nature = nature_then _ _ _ undone.nature session.nature in
+    let nature = same_nature_then undone.nature session.nature in
+    let tried = both_tried session sealed is undone c.args.stops.now c.later.ensures c.stopped_session.ensures.allowed
+    c.in_err-restores.ensures.tried in
+    let nothing_after = refuses.nothing_after in
     let sends = both_send session sealed is undone c.args.stops.now c.later.ensures in
     let writes = both_write session sealed is undone c.args.stops.now c.later.ensures in
     let p = err_from_is_err_and c.from_residual-in_err-restores.result c.from_residual-in_err-restores.ensures.1 in
@@ -45,7 +50,11 @@ returns g c =
     record {
       restores_original = λ modelled steady_or_idle. let (unsent, leads) = led modelled in undoes.same unsent _ _ leads;
       always = record {
-        nature = nature_then _ _ _ undone.nature session.nature;
+        nature = same_nature_then undone.nature session.nature;
+        allowed = both_allowed session sealed is undone c.args.stops.now c.later.ensures
+            c.stopped_session.ensures.allowed _ undoes.allowed;
+        tried = search rules;
+        nothing_after = search rules;
         counts = record {
           seal = sym sealed;
           ended = λ ended. refl;

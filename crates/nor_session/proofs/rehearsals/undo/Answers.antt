@@ -1,6 +1,6 @@
 use Rattle.std.proofs.Common.{rules}
-use Rattle.std.proofs.lemmas.Result.{IfOk-weaker, IfErr-weaker}
-use Rattle.nor_session.proofs.RehearsedRestores.{undoes, undo_wears, undo_sends, undo_refuses, unread}
+use Rattle.std.proofs.lemmas.Result.{IfOk-weaker, IfErr-weaker, on_err_weaker}
+use Rattle.nor_session.proofs.RehearsedRestores.{undoes, undo_wears, undo_sends, undo_refuses, tried_less, unread}
 use Rattle.nor_session.proofs.rehearsals.undo.Goals as goal
 
 pub returns-in-Ok : goal.returns-in-Ok
@@ -13,7 +13,8 @@ returns-in-Ok g c =
       writes = search rules;
       undoes = IfOk-weaker c.restore_in_turn.result _ _ (undoes is same kept _) ends.shows;
       polled_ready = search rules;
-      refuses = IfErr-weaker c.restore_in_turn.result _ _ (undo_refuses is same kept _) ends.refuses;
+      refuses = IfErr-weaker c.restore_in_turn.result _ _ (undo_refuses is same kept _ _) ends.refuses;
+      tried = on_err_weaker c.restore_in_turn.result tried_less ends.tried;
     }
 
 pub returns-in-Err : goal.returns-in-Err

@@ -1,9 +1,10 @@
 use Rattle.std.proofs.Common.{◌+◌, length, rules, arith}
-use Rattle.std.proofs.lemmas.Bool.{false_from_ne_true}
 use Rattle.std.proofs.lemmas.Result.{err_from_is_err_and}
 use Rattle.nor_scan.specs.Identity.{most_identity}
+use Rattle.nor_driver.specs.OnlyReads.{OnlyReads}
+use Rattle.nor_session.specs.Restore.{IsCheckedFirst}
 use Rattle.nor_session.specs.Bounds.{most_reads, most_of}
-use Rattle.nor_session.proofs.Restoring.{AreChanged, looks_most, looks_spend, prepare_answers, prepare_gives_up, prepare_tells, looks_leave, looks_back, changed_spends, changed_leaves, changed_back, change_answers, change_not_judged, change_gives_up, change_tells, sum_fits, restored_bounded, restored_counted, restored_checked, restored_sparing, restored_done, restored_back}
+use Rattle.nor_session.proofs.Restoring.{AreChanged, looks_most, looks_spend, prepare_answers, prepare_gives_up, prepare_tells, prepare_last, change_last, looks_leave, looks_back, changed_spends, changed_leaves, changed_back, change_answers, change_not_judged, change_gives_up, change_tells, sum_fits, restored_bounded, restored_counted, restored_checked, restored_sparing, restored_done, restored_back}
 use Rattle.nor_session.proofs.Changed.{two_writes, no_write}
 use Rattle.nor_session.proofs.RestoredOriginal.{only_stopped}
 use Rattle.nor_session.proofs.Naming.{prepare_names, change_names}
@@ -26,6 +27,7 @@ returns-in_err-prepared g c =
       always =
           let spends = looks_spend most (most_of (length journal.saved)) old new (omega arith) only_reads in
           let only_reads = looks_most most (most_reads 4096) old new (omega arith) only_reads in
+          let last = prepare_last journal most old new refusal errors in
           search (rules, arith, none_sent, none_written, prepare_answers, prepare_names);
       honest = λ honest.
           let honest_errors = prepare_gives_up journal most old new refusal (omega arith) honest errors in search rules;
@@ -52,7 +54,9 @@ returns-in_err-work g c =
           let writes = change_writes old are.only_reads.sent are.leaves (two_writes prepared.changes) in
           let answers = change_answers prepared.changes _ mid new refusal errors in
           let names = change_names prepared.changes refusal are.is.saved c.in_err-work.ensures.names in
-          let late = false_from_ne_true _ (change_not_judged prepared.changes _ mid new refusal errors) in
+          let last = change_last prepared.changes _ mid new refusal errors in
+          let only_reads : IsCheckedFirst refusal → OnlyReads (most_reads 4096) old new =
+          λ first. absurd (change_not_judged prepared.changes _ mid new refusal errors first) in
           search (rules, changed_spends);
       honest = λ honest.
           let honest_errors = change_gives_up journal prepared old mid new refusal are honest errors in search rules;

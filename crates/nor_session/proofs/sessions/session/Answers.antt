@@ -2,7 +2,7 @@ use Rattle.std.proofs.Common.{refl, rules}
 use Rattle.std.proofs.lemmas.Result.{err_from_is_err_and}
 use Rattle.nor_session.proofs.Naming.{judged_names}
 use Rattle.nor_session.proofs.Targeting.{none_written, few_none}
-use Rattle.nor_session.proofs.ReadyChip.{opening_of, named, open_tells, judge_tells}
+use Rattle.nor_session.proofs.ReadyChip.{opening_of, named, open_tells, open_last, judge_tells}
 use Rattle.nor_session.proofs.RestoresOriginal.{keeps_first}
 use Rattle.nor_session.proofs.sessions.session.Goals as goal
 
@@ -36,3 +36,9 @@ returns-in_err-code-clause-modelled g c = λ modelled.
     (named request c.in_ok-identity.identity old new modelled opens) refl) in
     let p = err_from_is_err_and c.from_residual-in_err-code.result c.from_residual-in_err-code.ensures.1 in
     rw (p.1, p.2) (search (rules, none_written))
+
+pub returns-in_err-identity-clause-always : goal.returns-in_err-identity-clause-always
+returns-in_err-identity-clause-always g c =
+    let last = open_last _ _ (g.B.Bus.state c.args.bus.now) (g.B.Bus.state c.identify.new.bus) c.in_err-identity.field-0.0 c.in_err-identity.ensures.errors in
+    let p = err_from_is_err_and c.from_residual.result c.from_residual.ensures.1 in
+    rw (p.1, p.2) (search (rules, none_written, few_none))

@@ -9,9 +9,11 @@ use Rattle.nor_session.specs.Bounds.{most_reads, most_of}
 use Rattle.nor_session.specs.Session.{most_status_writes}
 use Rattle.nor_scan.specs.Verdict.{NeedsStatusWrite}
 use Rattle.nor_session.proofs.Ready.{changes_of, has_opened, ready, scanned_few, spends_looks, spends_more, spends_ready, writes_few, bounded_by, touched_data}
-use Rattle.nor_session.proofs.ReadyChip.{small_first, opening_of, shows, named, most_sized, refused_puts, save_gives_up, save_tells}
+use Rattle.nor_session.proofs.ReadyChip.{small_first, opening_of, shows, named, most_sized, refused_puts, save_gives_up, save_tells, save_last}
 use Rattle.nor_session.proofs.SessionChanges.{never_written, change_gives_up, change_tells}
 use Rattle.nor_session.proofs.SessionEnds.{ready_chip, can_be_undone, done, session_checked, spared}
+use Rattle.nor_session.proofs.Restoring.{change_last}
+use Rattle.nor_session.proofs.RepliedJournal.{replied_saved}
 use Rattle.nor_session.proofs.Naming.{save_names, save_number, work_names}
 use Rattle.nor_scan.specs.Saving.{header_found}
 use Rattle.nor_session.proofs.Targeting.{none_written, few_none, change_writes, change_few}
@@ -56,6 +58,7 @@ returns-in_err-saved g c = λ first only_reads opens.
             telling = puts.0;
             sends = λ on telling. absurd (never on);
             holds = λ on telling. absurd (never on);
+            replied = λ on telling. absurd (never on);
             answers = record {
               own = omega (arith, number.1);
               vault = search rules;
@@ -65,6 +68,7 @@ returns-in_err-saved g c = λ first only_reads opens.
             names = record { early = λ off. names; late = λ on telling. absurd (never on) };
             ends = tt;
             polled_ready = tt;
+            nothing_after = save_last _ _ _ _ _ _ refusal returned.errors;
           };
       honest = λ honest.
           let errors = save_gives_up _ _ _ _ _ _ _ _ refusal honest only_reads opens leaves returned.errors in search rules;
@@ -96,6 +100,10 @@ returns-in_err-work g c = λ first only_reads opens.
           let sends = λ (telling : vault'.telling ≡ true).
           session_sends is c.requires.judged.six_bits c.requires.judged.found_code is.honest_reads.same_sent leaves
           (c.in_ok-saved.ensures.saves telling) in
+          let replied = λ (telling : vault'.telling ≡ true).
+          replied_saved only_reads opens c.save.ensures.leaves c.in_ok-saved.ensures.replies
+          (c.in_ok-saved.ensures.replied telling) leaves.spends.nature in
+          let last = change_last _ _ _ _ refusal returned.errors in
           let names = work_names (changes_of c.args.self.identity c.in_ok-saved.saved c.status.result c.args.self.code)
           (header_found c.args.self.identity) vault' refusal (search rules) c.in_ok-saved.ensures.saves returned.names in
           search rules;
@@ -129,6 +137,9 @@ returns g c = λ first only_reads opens.
           let sends = λ (telling : vault'.telling ≡ true).
           session_sends is c.requires.judged.six_bits c.requires.judged.found_code is.honest_reads.same_sent leaves
           (c.in_ok-saved.ensures.saves telling) in
+          let replied = λ (telling : vault'.telling ≡ true).
+          replied_saved only_reads opens c.save.ensures.leaves c.in_ok-saved.ensures.replies
+          (c.in_ok-saved.ensures.replied telling) leaves.spends.nature in
           let bounded = bounded_by _ _ _ _ _ _ _ _ _ _ _ c.from.result _ c.from.ensures is (writes_few is) does in
           let polled_ready = does.polled_ready (keeps.scans.polled_ready opens.polled_ready) in
           let counts = counted first is.honest_reads.same_sent does in
