@@ -140,8 +140,8 @@ PLANTS = {
         PATHS, "docs/GLOSSARY.md", r"`CanRestore`", "`CanGiveBacks`",
         r"docs/GLOSSARY.md:\d+: there is no CanGiveBacks"),
     "a test that isn't there, for what only tests show": (
-        ROWS, "docs/TESTING.md", r"`a_stop_ends_each_call`", "`a_stop_ends_every_call`",
-        r"docs/TESTING.md:\d+: there is no test `a_stop_ends_every_call`"),
+        ROWS, "docs/TESTING.md", r"`a_spoilt_reply_is_taken_as_it_is`", "`a_spoilt_reply_is_taken_anyway`",
+        r"docs/TESTING.md:\d+: there is no test `a_spoilt_reply_is_taken_anyway`"),
     "a suite's goal that isn't there": (
         ROWS, "docs/TESTING.md", r"\| `make storm` \|", "| `make storms` |", "the Makefile has no goal `storms`"),
     "a mutant of the random test that isn't there": (

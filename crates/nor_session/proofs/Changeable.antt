@@ -29,7 +29,8 @@ use Rattle.nor_plan.specs.Content.{is_touched, is_raised}
 use Rattle.nor_probe.specs.Known.{IsModelled}
 use Rattle.nor_session.specs.Changing.{touched_count}
 use Rattle.nor_session.specs.Restore.{restored, NeedsStatusFrom}
-use Rattle.nor_session.specs.PrepareRestore.{NeedsStatusWith, FitsJournal, IsOfTypeFound, FitsIdentity, HasFixedRead, PrepareErrors, ScansSaved, AreChanges, MayChangeStatus, IsShut, IsPreparedFor, IsPreparedRestore}
+use Rattle.nor_session.specs.PrepareRestore.{NeedsStatusWith, FitsJournal, FitsIdentity, PrepareErrors, ScansSaved, AreChanges, MayChangeStatus, IsShut, IsPreparedFor, IsPreparedRestore}
+use Rattle.nor_session.specs.Restore.{IsOfTypeFound, HasFixedRead}
 use Rattle.nor_scan.proofs.Held.{code_same}
 use Rattle.nor_session.proofs.Changed.{writes_other}
 use Rattle.nor_session.proofs.JudgedStatus.{held_scheme, free_place, writable_for}

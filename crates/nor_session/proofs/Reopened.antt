@@ -20,7 +20,8 @@ use Rattle.nor_scan.specs.Identity.{most_identity}
 use Rattle.nor_scan.specs.Verdict.{IsNamed}
 use Rattle.nor_session.specs.Headline.{IsOfType}
 use Rattle.nor_session.specs.Restore.{IsOfOtherDevice}
-use Rattle.nor_session.specs.PrepareRestore.{RestoreJudges, IsOfTypeFound, IsDeviceRefusal, PrepareErrors}
+use Rattle.nor_session.specs.PrepareRestore.{RestoreJudges, IsDeviceRefusal, PrepareErrors}
+use Rattle.nor_session.specs.Restore.{IsOfTypeFound}
 
 -- ---- the chip is named
 

@@ -2,8 +2,9 @@
 use Rattle.std.proofs.Common.{◌≡◌, ◌<◌, ◌≤◌, ◌^◌, ◌+◌, ◌/◌, ◌∙◌, ℕ, true, length, ap, sym, refl, arith, true≢false}
 use mathlib.Core.Path.{fun_ext}
 use Rattle.nor_model.specs.Chip.{Chip, IsSame}
-use Rattle.nor_model.specs.Bus.{BusState}
+use Rattle.nor_model.specs.Bus.{BusState, KeepsNature}
 use Rattle.nor_model.proofs.Nature.{nature_then}
+use Rattle.nor_model.proofs.Histories.{continues_then}
 use Rattle.nor_driver.specs.OnlyReads.{OnlyReadsHonest, OnlyReads, IsSteadyOrIdle}
 pub use Rattle.nor_driver.proofs.ReadsInTurn.{looks_more as looks_most}
 use Rattle.nor_journal.specs.Text.{Content}
@@ -30,7 +31,7 @@ use Rattle.nor_session.specs.Bounds.{most_of}
 use Rattle.nor_session.specs.Session.{HonestErrors, IsWithinBound}
 use Rattle.nor_session.specs.Changing.{HasBytes, LeavesChange, DoesChange, ChangeErrors}
 use Rattle.nor_session.specs.Headline.{CanRestore}
-use Rattle.nor_session.specs.Restore.{restored, NeedsStatusFrom, IsCheckedFirst, IsRestoreRefusal, RestoreErrors, LeavesRestore, IsRestored}
+use Rattle.nor_session.specs.Restore.{restored, NeedsStatusFrom, IsCheckedFirst, IsRestoreRefusal, RestoreErrors, LeavesRestore, IsRestored, FitsReplies}
 use Rattle.nor_session.specs.PrepareRestore.{PrepareErrors, IsPreparedRestore}
 use Rattle.nor_session.proofs.OneRestoreVerdict.{judged_verdict, accepted_restorable}
 use Rattle.nor_session.proofs.Changed.{two_writes, no_write, fewest_at}
@@ -81,6 +82,20 @@ looks_back journal first most old new honest only_reads can =
     assumption (looked_within _ first most old new only_reads.nature.steady (only_reads.honest_reads honest) can.within)
 
 -- ---- the changes after the preparation
+
+-- a journal that fits what the bus replied still fits it after the changes
+pub changed_fits : {journal : Content} {old mid new : BusState} → FitsReplies journal old mid → KeepsNature mid new
+    → FitsReplies journal old new
+changed_fits fits later = record {
+  read = fits.read;
+  before = fits.before;
+  after = continues_then fits.after later.history;
+  identity = fits.identity;
+  replied = fits.replied;
+  kind = fits.kind;
+  device = fits.device;
+  fixed = fits.fixed;
+}
 
 -- The results of a restore's preparation, and the state that its changes left.
 pub record AreChanged (journal : Content) (prepared : PreparedRestore) (old mid new : BusState) : Type 0 where

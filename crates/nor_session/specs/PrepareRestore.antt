@@ -5,7 +5,6 @@ use Rattle.nor_model.specs.Chip.{Chip, IsSame, is_locked, status1_of, kept_in}
 use Rattle.nor_model.specs.Status.{bytes_of}
 use Rattle.nor_model.specs.History.{EndsBusy}
 use Rattle.nor_model.specs.Bus.{BusState}
-use Rattle.nor_scan.specs.Identity.{status_read}
 use Rattle.nor_driver.specs.OnlyReads.{Rested, HasStopped, IsOpen}
 use Rattle.nor_driver.specs.Ready.{StaysReady}
 use Rattle.nor_driver.specs.StatusWrites.{fixed_of}
@@ -16,7 +15,6 @@ use Rattle.nor_journal.specs.Saved.{is_saved, saved_byte}
 use Rattle.nor_plan.specs.declared.plan.SectorPlan.{SectorPlan}
 use Rattle.nor_plan.specs.Plan.{AreBytesOf, IsPlan}
 use Rattle.nor_plan.specs.SectorSet.{has, LiesBelow}
-use Rattle.nor_probe.specs.declared.probes.Found.{Found}
 use Rattle.nor_probe.specs.declared.probes.ProbeFault.TheVariants as Probes
 use Rattle.nor_probe.specs.Known.{shown_as, IsModelled}
 use Rattle.nor_probe.specs.Found.{part_in}
@@ -64,15 +62,6 @@ pub record RestoreAccepts (journal : Content) (chip : Chip) : Type 0 where
   pub not_locked : is_locked chip.kept ≡ true → ¬ NeedsStatusFrom journal chip
 
 -- ---- the identification
-
--- Holds if the chip that was found has the journal's ID and size.
-pub record IsOfTypeFound (journal : Content) (found : Found) : Type 0 where
-  pub id : journal.id ≡ found.id
-  pub size : journal.size ≡ found.size
-
--- Holds if the status bits that flashnor never changes were read as the journal has them.
-abbrev pub HasFixedRead : Content → Identity → Type 0
-HasFixedRead journal identity = fixed_of (kept_in (status_read identity)) ≡ fixed_of (kept_in journal.status)
 
 -- Holds for the errors of the checks of the unique ID (20) and of the status bits that a restore can't write (17).
 abbrev pub IsDeviceRefusal : Refusal → Type 0

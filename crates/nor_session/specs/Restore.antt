@@ -1,9 +1,11 @@
 -- The checks of a chip by a restore, and the promises of a restore.
-use Rattle.std.specs.Prelude.{◌≡◌, ◌≢◌, ◌<◌, ◌+◌, ◌/◌, ◌==◌, ◌⊎◌, ℕ, true, false, List, [], ◌∷◌, length, Result, IfOk, IfErr, IsSomeAnd, OnOk, Err, if◌then◌else◌}
+use Rattle.std.specs.Prelude.{◌≡◌, ◌≢◌, ◌<◌, ◌+◌, ◌/◌, ◌==◌, ◌⊎◌, ℕ, true, false, List, [], ◌∷◌, length, None, Some, Result, IfOk, IfErr, IsSomeAnd, OnOk, Err, if◌then◌else◌}
 use Rattle.std.specs.List.{list_any}
 use Rattle.nor_model.specs.declared.config.Config.{Config}
 use Rattle.nor_model.specs.Chip.{Chip, is_locked, kept_in}
 use Rattle.nor_model.specs.Guard.{code_of}
+use Rattle.nor_model.specs.Exchange.{Exchange}
+use Rattle.nor_model.specs.History.{Continues}
 use Rattle.nor_model.specs.Bus.{BusState}
 use Rattle.nor_driver.specs.OnlyReads.{IsSteadyOrIdle, OnlyReads, RanOut}
 use Rattle.nor_driver.specs.Reads.{unique_of}
@@ -19,6 +21,10 @@ use Rattle.nor_request.specs.declared.refusal.Refusal.{Refusal}
 use Rattle.nor_request.specs.declared.refusal.Refusal.TheVariants.{NoChip, UnknownChip, StatusLocked, Stopped, OtherChip, OtherUnit, StatusDiffers}
 use Rattle.nor_request.specs.Refusal.{refusal_number}
 use Rattle.nor_request.specs.Errors.{EndsAtError}
+use Rattle.nor_probe.specs.declared.probes.Found.{Found}
+use Rattle.nor_scan.specs.declared.identity.Identity.{Identity}
+use Rattle.nor_scan.specs.Identity.{status_read}
+use Rattle.nor_scan.specs.Replied.{IsIdentifiedBy}
 use Rattle.nor_scan.specs.Saving.{SomeProtected}
 use Rattle.nor_session.specs.Bounds.{most_reads, most_of}
 use Rattle.nor_session.specs.Made.{IsTargetChip, IsReported}
@@ -86,6 +92,32 @@ IsRestorable journal chip = (refusal : Refusal) → ¬ RestoreHolds journal chip
 
 -- ---- on every bus
 
+-- Holds if the chip that was found has the journal's ID and size.
+pub record IsOfTypeFound (journal : Content) (found : Found) : Type 0 where
+  pub id : journal.id ≡ found.id
+  pub size : journal.size ≡ found.size
+
+-- Holds if the status bits that flashnor never changes were read as the journal has them.
+abbrev pub HasFixedRead : Content → Identity → Type 0
+HasFixedRead journal identity = fixed_of (kept_in (status_read identity)) ≡ fixed_of (kept_in journal.status)
+
+-- Holds if the journal has no unique ID, or the one that was read.
+abbrev pub HasUniqueRead : Content → Identity → Type 0
+HasUniqueRead journal identity = (journal.unique ≡ None) ⊎ (journal.unique ≡ Some identity.unique)
+
+-- Holds if the journal fits what the bus replied to a restore's identification: the ID and size, the unique ID (a journal
+-- of format 1 has none), and the status bits that flashnor never changes. `read` is the history of the bus after the
+-- identification.
+pub record FitsReplies (journal : Content) (old new : BusState) : Type 0 where
+  pub read : List Exchange
+  pub before : Continues old.history read
+  pub after : Continues read new.history
+  pub identity : Identity
+  pub replied : IsIdentifiedBy read identity
+  pub kind : IsOfTypeFound journal identity.found
+  pub device : HasUniqueRead journal identity
+  pub fixed : HasFixedRead journal identity
+
 -- Holds for the errors that a restore may return: those that it checks first, and 12 (stop), 13 (timeout) and 14
 -- (mismatch).
 abbrev pub IsRestoreRefusal : Refusal → Type 0
@@ -126,6 +158,8 @@ pub record RestoreAlways (journal : Content) (old new : BusState) (result : Resu
   pub spends : Spends (most_of (length journal.saved)) old new
   -- at every exit all that was sent fits the journal (`SendsSaved`)
   pub sends : SendsSaved (IsSavedCode journal) 1 journal old new
+  -- at every exit no modifying command was sent, or the journal fits what the bus replied to the identification
+  pub fits : (new.sent ≡ old.sent) ⊎ FitsReplies journal old new
   -- at every exit the status was written at most twice
   pub writes : WritesStatusAtMost 2 old new
   -- an error is one that `IsRestoreRefusal` allows

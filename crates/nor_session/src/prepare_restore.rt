@@ -7,7 +7,8 @@ ghost use Rattle.nor_plan.specs.SectorSet.{has, LiesBelow};
 ghost use Rattle.nor_scan.specs.Identity.{ReadsIdentity, most_identity};
 ghost use Rattle.nor_request.specs.declared.refusal.Refusal.TheVariants as Refusals;
 ghost use Rattle.nor_session.specs.Bounds.{most_reads};
-ghost use Rattle.nor_session.specs.PrepareRestore.{IsOfTypeFound, IsDeviceRefusal, FitsIdentity, HasFixedRead, ShowsFixed};
+ghost use Rattle.nor_session.specs.Restore.{IsOfTypeFound, HasUniqueRead, HasFixedRead, FitsReplies};
+ghost use Rattle.nor_session.specs.PrepareRestore.{IsDeviceRefusal, FitsIdentity, ShowsFixed};
 ghost use Rattle.nor_session.specs.PrepareRestore.{AcceptsDevice, RefusesDevice, PlansSaved, ScansSaved};
 ghost use Rattle.nor_session.specs.PrepareRestore.{AreChanges, MakesChanges, RefusesShut, IsPreparedRestore, PrepareErrors};
 
@@ -41,6 +42,7 @@ pub(crate) fn prepare_restore<B: Bus>(
     ensures room { length journal.now.saved ≤ 4096 }
     ensures leaves { OnlyReads (most_reads (length journal.now.saved)) (B.state bus.old) (B.state bus.new) }
     ensures prepares { IfOk result (IsPreparedRestore journal.now (B.state bus.old) (B.state bus.new)) }
+    ensures replies { OnOk result (FitsReplies journal.now (B.state bus.old) (B.state bus.new)) }
     ensures errors { IfErr result
         (PrepareErrors journal.now (most_reads (length journal.now.saved)) (B.state bus.old) (B.state bus.new)) }
 {
@@ -62,6 +64,7 @@ fn identify_saved<B: Bus>(bus: &mut B, journal: &Journal<'_>) -> Result<Identity
     ensures identifies { IfOk result (ReadsIdentity None (B.state bus.old) (B.state bus.new)) }
     ensures kind { IfOk result (λ identity. IsOfTypeFound journal.now identity.found) }
     ensures fits { IfOk result (FitsIdentity journal.now) }
+    ensures device { IfOk result (HasUniqueRead journal.now) }
     ensures fixed { IfOk result (HasFixedRead journal.now) }
     ensures errors { IfErr result (PrepareErrors journal.now most_identity (B.state bus.old) (B.state bus.new)) }
 {
@@ -96,6 +99,7 @@ fn is_of_type(journal: &Journal<'_>, found: &Found) -> bool
 fn judge_device(journal: &Journal<'_>, identity: &Identity) -> Result<(), Refusal>
     ensures faults { IfErr result IsDeviceRefusal }
     ensures fits { AcceptsDevice journal.now identity.now result }
+    ensures device { OnOk result (HasUniqueRead journal.now identity.now) }
     ensures fixed { OnOk result (HasFixedRead journal.now identity.now) }
     ensures errors { RefusesDevice journal.now identity.now result }
 {

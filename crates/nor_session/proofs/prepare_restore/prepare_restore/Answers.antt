@@ -35,3 +35,15 @@ returns-in_err-changes-clause-leaves g c = search (rules, looks_then)
 
 pub returns-in_err-scanned-clause-leaves : goal.returns-in_err-scanned-clause-leaves
 returns-in_err-scanned-clause-leaves g c = search (rules, looks_then)
+
+pub returns-clause-replies : goal.returns-clause-replies
+returns-clause-replies g c = record {
+  read = (g.B.Bus.state c.identify_saved.new.bus).history;
+  before = c.identify_saved.ensures.leaves.nature.history;
+  after = c.scan_saved.ensures.leaves.nature.history;
+  identity = c.in_ok-identity.identity;
+  replied = c.in_ok-identity.ensures.identifies.replied;
+  kind = c.in_ok-identity.ensures.kind;
+  device = c.in_ok-identity.ensures.device;
+  fixed = c.in_ok-identity.ensures.fixed;
+}

@@ -1,10 +1,10 @@
-use Rattle.std.proofs.Common.{◌+◌, length, rules, arith}
+use Rattle.std.proofs.Common.{◌≡◌, ◌⊎◌, ◌+◌, inl, inr, length, rules, arith}
 use Rattle.std.proofs.lemmas.Result.{err_from_is_err_and}
 use Rattle.nor_scan.specs.Identity.{most_identity}
 use Rattle.nor_driver.specs.OnlyReads.{OnlyReads}
-use Rattle.nor_session.specs.Restore.{IsCheckedFirst}
+use Rattle.nor_session.specs.Restore.{IsCheckedFirst, FitsReplies}
 use Rattle.nor_session.specs.Bounds.{most_reads, most_of}
-use Rattle.nor_session.proofs.Restoring.{AreChanged, looks_most, looks_spend, prepare_answers, prepare_gives_up, prepare_tells, prepare_last, change_last, looks_leave, looks_back, changed_spends, changed_leaves, changed_back, change_answers, change_not_judged, change_gives_up, change_tells, sum_fits, restored_bounded, restored_counted, restored_checked, restored_sparing, restored_done, restored_back}
+use Rattle.nor_session.proofs.Restoring.{AreChanged, looks_most, looks_spend, prepare_answers, prepare_gives_up, prepare_tells, prepare_last, change_last, looks_leave, looks_back, changed_spends, changed_fits, changed_leaves, changed_back, change_answers, change_not_judged, change_gives_up, change_tells, sum_fits, restored_bounded, restored_counted, restored_checked, restored_sparing, restored_done, restored_back}
 use Rattle.nor_session.proofs.Changed.{two_writes, no_write}
 use Rattle.nor_session.proofs.RestoredOriginal.{only_stopped}
 use Rattle.nor_session.proofs.Naming.{prepare_names, change_names}
@@ -25,6 +25,7 @@ returns-in_err-prepared g c =
       restores_original = λ modelled.
           let returned = returned modelled errors in let honest = modelled.honest in search (rules, looks_back, only_stopped);
       always =
+          let fits : (new.sent ≡ old.sent) ⊎ FitsReplies journal old new = inl only_reads.sent in
           let spends = looks_spend most (most_of (length journal.saved)) old new (omega arith) only_reads in
           let only_reads = looks_most most (most_reads 4096) old new (omega arith) only_reads in
           let last = prepare_last journal most old new refusal errors in
@@ -50,6 +51,8 @@ returns-in_err-work g c =
           let returned = change_tells journal prepared old mid new refusal are modelled errors in
           search (rules, changed_back, only_stopped);
       always =
+          let fits : (new.sent ≡ old.sent) ⊎ FitsReplies journal old new =
+          inr (changed_fits c.in_ok-prepared.ensures.replies are.leaves.spends.nature) in
           let sends = change_sends old are.only_reads.sent are.leaves _ journal (restore_of_journal are.is) in
           let writes = change_writes old are.only_reads.sent are.leaves (two_writes prepared.changes) in
           let answers = change_answers prepared.changes _ mid new refusal errors in
@@ -90,6 +93,8 @@ returns g c =
           let done = restored_done journal prepared old mid new work sent are does modelled in
           search (rules, changed_back, restored_back);
       always =
+          let fits : (new.sent ≡ old.sent) ⊎ FitsReplies journal old new =
+          inr (changed_fits c.in_ok-prepared.ensures.replies are.leaves.spends.nature) in
           let sends = change_sends old are.only_reads.sent are.leaves _ journal (restore_of_journal are.is) in
           let writes = change_writes old are.only_reads.sent are.leaves (two_writes prepared.changes) in
           let bounded = restored_bounded journal prepared old mid new work sent are does (omega arith) in
