@@ -165,7 +165,7 @@ command_exactly out old ready new enables sends =
     exactly_then (omega arith) (omega arith) (omega arith) (exactly_one (6 ∷ []) old ready enables)
     (exactly_one out ready new sends)
 
--- a modifying opcode that was sent stays noted
+-- a modifying opcode that was sent still counts as sent after another transaction
 pub still_stirred : (out : List ℕ) (old new : BusState) → is_stirred old.sent ≡ true → Sends out old new
     → is_stirred new.sent ≡ true
 still_stirred out old new is sends = grind (arith, sends.sent.stirred)

@@ -9,7 +9,7 @@ use Rattle.nor_driver.proofs.ReadsInTurn.{looks_then, looks_more}
 use Rattle.nor_driver.proofs.Readings.{looked_by}
 pub use Rattle.nor_driver.proofs.Readings.{rested_none, rested_then}
 
--- `reads` transactions that only read succeeded. On every bus they leave the record of modifying commands as it was.
+-- `reads` transactions that only read succeeded. On every bus they add nothing to what was sent.
 pub record HasLooked (reads : ℕ) (old new : BusState) : Type 0 where
   pub nature : KeepsNature old new
   pub same_sent : new.sent ≡ old.sent
@@ -30,8 +30,8 @@ pub looks_after : (reads more most : ℕ) (old mid new : BusState) → reads + m
 looks_after reads more most old mid new few has only_reads =
     looks_more (reads + more) most old new few (looks_then reads more old mid new (has_looked-only_reads reads old mid has) only_reads)
 
--- if the read after `reads` successful ones stops, an honest bus ran out of transactions for a call that needs at most
--- `most`, if that is more than `reads`
+-- if the bus stops at the read after `reads` successful ones, the call has stopped (`HasStopped`), for each `most` that
+-- is more than `reads`
 pub runs_out : (reads most : ℕ) (old mid new : BusState) → reads < most → HasLooked reads old mid → HasStopped 1 mid new → HasStopped most old new
 runs_out reads most old mid new few has out = grind (arith, has.sent, has.nature.honest, out)
 

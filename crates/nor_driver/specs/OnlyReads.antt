@@ -48,8 +48,9 @@ pub record OnlyReadsHonest (most : ℕ) (old new : BusState) : Type 0 where
   pub idle_latch : old.steady ≡ true → old.chip.busy ≡ 0 → new.chip.latch ≡ old.chip.latch
   pub falls : Falls most old new
 
--- On every bus, at every exit: the record of modifying commands is as it was. On an honest bus at most `most`
--- transactions were carried out.
+-- On every bus, at every exit: the bus was asked to send no transaction that may modify a chip, its history continues
+-- the earlier one, and no allowance was set. On an honest bus `OnlyReadsHonest` holds, so at most `most` transactions
+-- were carried out.
 pub record OnlyReads (most : ℕ) (old new : BusState) : Type 0 where
   pub nature : KeepsNature old new
   pub sent : new.sent ≡ old.sent
@@ -61,8 +62,8 @@ pub record RanOut (needed : ℕ) (old new : BusState) : Type 0 where
   pub none_left : new.left ≡ 0
   pub below : old.left < needed
 
--- The bus stopped at the last transaction of a call that needs at most `needed`, and nothing was sent after it. On an
--- honest bus the call ran out of transactions.
+-- The bus stopped at the last transaction of a call, so nothing was sent after the stop. On an honest bus the call,
+-- which needs at most `needed` transactions, ran out of them (`RanOut`).
 pub record HasStopped (needed : ℕ) (old new : BusState) : Type 0 where
   pub last : EndsStopped new.history
   pub ran_out : old.honest ≡ true → RanOut needed old new

@@ -36,7 +36,8 @@ pub record HasRead (old new : BusState) : Type 0 where
   pub latch : new.chip.latch ≡ old.chip.latch
   pub count : old.left ≡ new.left + 1
 
--- A transaction that reads succeeded. On an honest bus the reply is the chip's.
+-- A transaction that reads succeeded: on every bus it was added to the history with this reply. On an honest bus it
+-- left the chip as it was, and the reply is the chip's.
 pub record Replies (out : List ℕ) (old new : BusState) (reply : List ℕ) : Type 0 where
   pub history : new.history ≡ replied out reply ∷ old.history
   pub read : old.honest ≡ true → HasRead old new

@@ -1,4 +1,4 @@
--- The effect of a call on `polled_ready`, the record of the last poll.
+-- The effect of a call on `polled_ready`, the result of the last poll.
 use Rattle.std.specs.Prelude.{◌≡◌, true}
 use Rattle.nor_model.specs.Bus.{BusState}
 

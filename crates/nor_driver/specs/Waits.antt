@@ -19,7 +19,7 @@ pub record HasPolled (old new : BusState) (status : ℕ) : Type 0 where
   pub latch : new.chip.latch ≡ (if old.chip.busy == 1 then false else old.chip.latch)
   pub count : old.left ≡ new.left + 1
 
--- A poll succeeded: on every bus this status is its reply.
+-- A poll succeeded: on every bus this status is its reply. On an honest bus its effect is `HasPolled`.
 pub record Polls (old new : BusState) (status : ℕ) : Type 0 where
   pub history : new.history ≡ replied (0x05 ∷ []) (status ∷ []) ∷ old.history
   pub done : old.honest ≡ true → HasPolled old new status
@@ -37,8 +37,9 @@ pub record HasWaited (old new : BusState) (waited : Waited) : Type 0 where
   pub polls : waited.polls ≡ old.chip.busy + 1
   pub count : old.left ≡ new.left + waited.polls
 
--- A wait succeeded. On every bus it only polled, and its last poll received this status, which shows that the chip is
--- ready.
+-- A wait succeeded. On every bus its last poll received this status, which shows that the chip is ready, and the last
+-- replies to transactions other than polls are as before (`KeepsReplies`). On an honest bus the effect of the wait is
+-- `HasWaited`.
 pub record Waits (old new : BusState) (waited : Waited) : Type 0 where
   pub only_polls : KeepsReplies is_poll old.history new.history
   pub status : last_reply is_poll new.history ≡ waited.status1 ∷ []
@@ -59,8 +60,9 @@ abbrev pub EndsAt : OperationError → List Exchange → Type 0
 EndsAt Stopped history = EndsStopped history
 EndsAt (Timeout address) history = EndsBusy history
 
--- A call that waits returned an error. On an honest bus that is a stop: fewer than `needed` transactions were left, and
--- all of these were carried out.
+-- A call that waits returned an error. On every bus nothing was sent after the transaction that caused the error
+-- (`EndsAt`). On an honest bus the error is a stop: fewer than `needed` transactions were left, and all of these were
+-- carried out.
 pub record OperationFails (needed : ℕ) (old new : BusState) (halt : OperationError) : Type 0 where
   pub last : EndsAt halt new.history
   pub stopped : old.honest ≡ true → halt ≡ Stopped

@@ -37,7 +37,7 @@ keeps_replies_by {may} {exchange} {old} {new} by passes = record {
       ∙ ap (λ (b : Bool). if b then bytes_or_none exchange.reply else last_reply is old) (others exchange.out passes);
 }
 
--- a test that passes less
+-- `may` can be replaced by a test `might` that more transactions pass
 pub keeps_replies_less : {may might : List ℕ → Bool} {old new : List Exchange} → KeepsReplies may old new
     → ((out : List ℕ) → may out ≡ true → might out ≡ true) → KeepsReplies might old new
 keeps_replies_less keeps less = record { same = λ is others. keeps.same is (λ out passes. others out (less out passes)) }
@@ -48,7 +48,7 @@ pub answered_keeps : {is : List ℕ → Bool} {old new : List Exchange} {reply :
     → KeepsReplies is old new
 answered_keeps answered = keeps_replies_by answered.history answered.asks
 
--- its reply is the last one
+-- the reply to this transaction is the last reply to those that satisfy the test
 pub answered_last : {is : List ℕ → Bool} {old new : List Exchange} {reply : List ℕ} → Answered is old new reply
     → last_reply is new ≡ reply
 answered_last {is} {old} {new} {reply} answered =

@@ -20,7 +20,7 @@ pub record BusState : Type 0 where
   pub honest : Bool
   -- the transactions that the bus was asked to carry out, each with its reply, the last one first
   pub history : List Exchange
-  -- those of them that may modify a chip, by the bytes that they send
+  -- the bytes of the transactions that may modify a chip and that the bus was asked to send, the last one first
   pub sent : Sent
   -- the allowances that were set, the last one first
   pub allowances : List ℕ
@@ -41,8 +41,8 @@ pub record SameNature (old new : BusState) : Type 0 where
   pub unlimited : new.unlimited ≡ old.unlimited
   pub config : old.honest ≡ true → new.chip.config ≡ old.chip.config
 
--- What any number of transactions keeps on every bus: its nature is the same (`SameNature`), its history continues the
--- earlier one, and no allowance was set.
+-- On every bus, after any number of transactions: the bus has the same nature as before (`SameNature`), its history
+-- continues the earlier one, and no allowance was set.
 pub record KeepsNature (old new : BusState) : Type 0 where
   pub honest : new.honest ≡ old.honest
   pub steady : new.steady ≡ old.steady
@@ -57,8 +57,9 @@ pub record IsHonestFor (out : List ℕ) (replies : ℕ) (bus : BusState) : Type 
   pub honest : bus.honest ≡ true
   pub fits : (bus.unlimited ≡ true) ⊎ ((length out ≤ 260) × (replies ≤ 4096))
 
--- The effect of a transaction on every bus, in all that the bus records: its history, what was sent, and the last poll.
--- If the bus stopped, `polled_ready` stays as it was.
+-- The effect of a transaction on what every bus records. The transaction is added to the history with its reply and, if
+-- it may modify a chip, to what was sent. The allowances stay as they were. If the transaction succeeded,
+-- `polled_ready` follows its reply; if the bus stopped, `polled_ready` stays as it was.
 pub record Records (out answer : List ℕ) (outcome : Result Unit Stopped) (old new : BusState) : Type 0 where
   pub history : new.history ≡ exchange_of out answer outcome ∷ old.history
   pub sent : new.sent ≡ with_sent out old.sent

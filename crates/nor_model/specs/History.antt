@@ -56,7 +56,8 @@ abbrev pub names : (opcode address : ℕ) → (out : List ℕ) → Bool
 names opcode address (first ∷ x ∷ y ∷ z ∷ rest) = first == opcode && 65536 * x + 256 * y + z == address
 names opcode address _ = false
 
--- The last replies to all transactions that fail the test `may` are the same in both histories.
+-- If no transaction that satisfies `may` satisfies a test `is`, the last reply to a transaction that satisfies `is` is
+-- the same in both histories.
 pub record KeepsReplies (may : List ℕ → Bool) (old new : List Exchange) : Type 0 where
   pub same : (is : List ℕ → Bool) → ((out : List ℕ) → may out ≡ true → is out ≡ false)
       → last_reply is new ≡ last_reply is old
@@ -82,7 +83,8 @@ pub record EndsBusy (history : List Exchange) : Type 0 where
   pub is : history ≡ replied (0x05 ∷ []) (status ∷ []) ∷ earlier
   pub busy : status % 2 ≡ 1
 
--- The last transaction read the sector that has this address.
+-- The last transaction was a read of data (03h) that succeeded, from the first address of the sector that contains
+-- this address. The number of bytes read is not stated.
 pub record EndsReading (address : ℕ) (history : List Exchange) : Type 0 where
   pub earlier : List Exchange
   pub bytes : List ℕ

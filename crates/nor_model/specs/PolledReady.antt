@@ -17,7 +17,8 @@ shows_ready answer = slice_index answer (length answer - 1) % 2 == 0
 abbrev pub polled_ready_after : (out answer : List ℕ) → (before : Bool) → Bool
 polled_ready_after out answer before = if is_poll out && nat_lt 0 (length answer) then shows_ready answer else before
 
--- the same, given the reply or that the bus stopped, which keeps the result
+-- true if the last poll showed that the chip is ready, after a transaction that sent `out` and received this reply; if
+-- the bus stopped (`None`), the result is `before`
 abbrev pub polled_ready_by : (out : List ℕ) → (reply : Option (List ℕ)) → (before : Bool) → Bool
 polled_ready_by out (Some answer) before = polled_ready_after out answer before
 polled_ready_by out None before = before

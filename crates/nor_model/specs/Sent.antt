@@ -1,5 +1,6 @@
--- The modifying commands among the transactions over a bus. A transaction is one by the bytes that it sends, even if
--- the chip ignores it. (W25Q64FV datasheet, instruction set table.)
+-- The transactions over a bus that may modify a chip: modifying commands, and transactions that the model does not
+-- know. The bytes that a transaction sends decide this, even if the chip ignores the transaction. (W25Q64FV datasheet,
+-- instruction set table.)
 use Rattle.std.specs.Prelude.{◌≡◌, ◌+◌, ◌*◌, ◌/◌, ◌-◌, ◌^◌, ◌==◌, ◌&&◌, ◌||◌, not, ℕ, Bool, true, false, List, [], ◌∷◌, min, nat_le, nat_lt, if◌then◌else◌}
 use Rattle.nor_model.specs.Exchange.{Exchange}
 use Rattle.nor_model.specs.Command.{begins_change, begins_quiet, is_change, is_erase_opcode}
@@ -134,7 +135,8 @@ programs_of sent = times_sent begins_program sent
 abbrev pub status_writes_of : Sent → ℕ
 status_writes_of sent = times_sent begins_status_write sent
 
--- The effect of a transaction that the bus sent, or was asked to send, on what was sent.
+-- The effect of one transaction on each property of what was sent, even if the bus was only asked to send it. A
+-- transaction that is empty or begins with a quiet opcode changes nothing.
 pub record Notes (out : List ℕ) (old new : Sent) : Type 0 where
   pub quiet : begins_quiet out ≡ true → new ≡ old
   pub stirred : is_stirred new ≡ (is_stirred old || begins_change out)

@@ -11,8 +11,9 @@
 //! ```
 //!
 //! `specs/` defines what the chip does at each transaction (`Chip`, `Guard`, `Command`, `Step`) and when its power
-//! fails (`Power`), the history of a bus (`History`, `Sent`), and the contract of a bus (`Bus`). The crates that depend
-//! on this one describe chips only by these definitions.
+//! fails (`Power`), the history of a bus (`Exchange`, `History`) and what contracts compute from it (`Sent`,
+//! `PolledReady`), and the contract of a bus (`Bus`). The crates that depend on this one describe chips only by these
+//! definitions.
 //!
 //! - `bus.rt`: the traits `Bus` and `Meter`, and the error `Stopped`
 //! - `config.rt`: the properties of a chip that never change; the three emulated chips
@@ -21,7 +22,7 @@
 //! - `guard.rt`: the ranges that block protection protects
 //! - `guard/walk.rt`: an iterator over the ranges that can be protected
 //! - `running.rt`: the operation that a busy chip carries out
-//! - `history.rt`: the transactions over a bus and their replies, which only contracts see
+//! - `history.rt`: the transactions over a bus with their replies, and the allowances, which only contracts can read
 #![tactic(auto)]
 
 mod bus;

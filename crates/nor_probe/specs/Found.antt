@@ -126,7 +126,7 @@ pub record ProbeAlways (named : Option ChipName) (old new : BusState) (result : 
   pub blames : IfErr result (BlamesName named)
   -- a chip is found only if the last poll showed that it is ready
   pub polled_ready : OnOk result (new.polled_ready ≡ true)
-  -- a chip found is what the bus replied, whether the bus is well-behaved or not
+  -- a chip found is what the bus replied (`IsFoundBy`): its ID, its status 1 and, without a row of the table, its SFDP
   pub replied : IfOk result (IsFoundBy new.history)
   -- after a stop or a timeout nothing more was sent
   pub nothing_after : IfErr result (ProbeEndsAt new.history)

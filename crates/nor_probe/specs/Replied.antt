@@ -12,8 +12,8 @@ use Rattle.nor_probe.specs.Known.{part_in, pointer_in, sfdp_part}
 use Rattle.nor_probe.specs.Sfdp.{sfdp_says}
 use Rattle.nor_probe.specs.Table.{part_with_id}
 
--- The last three transactions read these parts of the SFDP: its header, its first parameter header, and the table that
--- this header points to.
+-- The last three transactions read these parts of the SFDP: its header, its first parameter header, and the table to
+-- which the parameter header points.
 pub record RepliedSfdp (history : List Exchange) (header first table : List ℕ) : Type 0 where
   pub before : List Exchange
   pub at_header : List Exchange
@@ -22,7 +22,8 @@ pub record RepliedSfdp (history : List Exchange) (header first table : List ℕ)
   pub read_first : Answered (names 0x5A 8) at_header at_first first
   pub read_table : Answered (names 0x5A (pointer_in first)) at_first history table
 
--- The chip has no row in the table, and its type is what its SFDP says, which was read in three transactions in a row.
+-- The type is the one that these SFDP bytes give (`sfdp_says`). Three transactions in a row read the bytes; other
+-- transactions may have followed.
 pub record IsTypeBySfdp (history : List Exchange) (part : Part) : Type 0 where
   pub read : List Exchange
   pub later : Continues read history
@@ -41,7 +42,8 @@ pub record IsFoundBy (history : List Exchange) (found : Found) : Type 0 where
   pub status1 : last_reply is_poll history ≡ found.status1 ∷ []
   pub by_sfdp : part_with_id found.id ≡ None → IsTypeBySfdp history (part_in found)
 
--- If the bus stopped or the chip stayed busy, this was the last transaction: nothing was sent after it.
+-- The end of a probe that returned this fault. After `Stopped`, the last transaction is the one at which the bus
+-- stopped; after `Timeout`, the last transaction is a poll that showed BUSY. Nothing is stated for other faults.
 abbrev pub ProbeEndsAt : List Exchange → ProbeFault → Type 0
 ProbeEndsAt history Stopped = EndsStopped history
 ProbeEndsAt history Timeout = EndsBusy history

@@ -65,13 +65,14 @@ pub struct Probed {
 /// Identifies the chip on the bus. Waits until it is idle, with at most 65,536 polls (05h), reads its ID (9Fh) and, if
 /// the ID isn't in the table, its SFDP with three reads (5Ah). If `named` is given, the chip must have this name.
 ///
-/// On any bus a returned chip has the given name, if one is given, and the last poll showed that it is ready. It is a
-/// row of the table, or was identified by SFDP and has a supported size. On a well-behaved bus (`honest`) it is what
-/// the chip shows about itself, the chip is idle, and its bytes and non-volatile status bits are unchanged. On a
-/// modelled bus the returned ID, size, erase types and block protection are those of the chip's configuration.
+/// On any bus a returned chip has the given name, if one is given, and the last poll showed that it is ready. Its ID
+/// and status 1 are the last replies of the bus to 9Fh and 05h. It is a row of the table, or was identified by the SFDP
+/// that the bus replied and has a supported size. On a well-behaved bus (`honest`) it is what the chip shows about
+/// itself, the chip is idle, and its bytes and non-volatile status bits are unchanged. On a modelled bus the returned
+/// ID, size, erase types and block protection are those of the chip's configuration.
 ///
 /// Returns `NoChip`, `UnknownChip` or `OtherName`, checked in this order; `Stopped` if the bus stopped; and `Timeout`
-/// if 65,536 polls showed BUSY, which doesn't occur on a well-behaved bus.
+/// if 65,536 polls showed BUSY, which doesn't occur on a well-behaved bus. Nothing is sent after a stop or a timeout.
 pub fn probe<B: Bus>(bus: &mut B, named: Option<ChipName>) -> Result<Found, ProbeFault>
     ensures always { ProbeAlways named (B.state bus.old) (B.state bus.new) result }
     ensures honest { (B.state bus.old).honest ≡ true

@@ -30,7 +30,7 @@ history_of batching = batching.history.exchanges
 abbrev pub sent_of : {P C : Type 0} {over : Ghosts P C} → BatchingBus P C over → Sent
 sent_of batching = sent_in (history_of batching)
 
--- The reply to the last poll showed that the chip is ready. False before the first poll.
+-- The last poll that received a reply showed that the chip is ready. False before the first such poll.
 abbrev pub polled_ready_of : {P C : Type 0} {over : Ghosts P C} → BatchingBus P C over → Bool
 polled_ready_of batching = polled_ready_in (history_of batching)
 
@@ -43,6 +43,7 @@ cause_of batching = batching.cause
 abbrev pub is_ready : {P C : Type 0} {over : Ghosts P C} → BatchingBus P C over → Bool
 is_ready batching = is_in_step batching.batch.link
 
--- The state of the bus: only its history is known. A command that waits is already in the history, with an empty reply.
+-- The state of the bus: only its history is known. A command that waits is already in the history, with an empty reply,
+-- and stays there even if it is dropped.
 abbrev pub serprog_state : {P C : Type 0} {over : Ghosts P C} → BatchingBus P C over → BusState
 serprog_state batching = unknown_bus (history_of batching)

@@ -45,7 +45,7 @@ history_of bus = bus.history.exchanges
 abbrev pub sent_of : {P C : Type 0} {over : Ghosts P C} → SerprogBus P C over → Sent
 sent_of bus = sent_in (history_of bus)
 
--- The reply to the last poll showed that the chip is ready. False before the first poll.
+-- The last poll that received a reply showed that the chip is ready. False before the first such poll.
 abbrev pub polled_ready_of : {P C : Type 0} {over : Ghosts P C} → SerprogBus P C over → Bool
 polled_ready_of bus = polled_ready_in (history_of bus)
 

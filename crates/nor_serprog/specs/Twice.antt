@@ -26,7 +26,7 @@ Expects twice out answer = elim twice.expected [
 ]
 
 -- The transactions that the bus was asked to carry out, each with its reply, the last one first. A read that the bus
--- inside carried out twice is one of them.
+-- inside carried out twice is in the history once.
 abbrev pub history_of : {B : Type 0} → ReadTwice B → List Exchange
 history_of twice = twice.history.exchanges
 

@@ -22,9 +22,11 @@ use nor_model::{Bus, History, Stopped};
 ///   programmer does not report the size of that buffer.
 ///
 /// Over any port the history has each transaction with its reply; a transaction that failed or was rejected has none. A
-/// modifying command that waits is already in the history, with an empty reply. A transaction that sends more than 260
-/// bytes, or reads more than the programmer can, is rejected: nothing is sent, and what waits still waits. After any
-/// other transaction that failed, what waited is dropped, and nothing more is sent until `synchronize` returns `Ok`.
+/// modifying command that waits is already in the history, with an empty reply, and stays there even if it is dropped.
+///
+/// A transaction that sends more than 260 bytes, or reads more than the programmer can, is rejected: nothing is sent,
+/// and what waits still waits. After any other transaction that failed, what waited is dropped, and nothing more is
+/// sent until `synchronize` returns `Ok`.
 ///
 /// The bus is not honest as `Bus` defines it, even over an honest port: a command that waits has not reached the chip.
 #[derive(Drop)]
@@ -76,7 +78,8 @@ impl<P: Port + Drop> BatchingBus<P> {
         self.cause.as_ref()
     }
 
-    /// Sends what waits, and reads its acknowledgements. Returns `Stopped` if an exchange failed.
+    /// Sends what waits, and reads its acknowledgements. Adds nothing to the history, even if an exchange failed; then
+    /// returns `Stopped`.
     pub fn flush(&mut self) -> Result<(), Stopped>
         ensures history { history_of self.new ≡ history_of self.old }
         ensures sent { sent_of self.new ≡ sent_of self.old }

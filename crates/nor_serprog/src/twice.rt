@@ -27,8 +27,8 @@ const READ_DATA: u8 = 0x03;
 /// takes a read of this length, a read that succeeds had the same reply twice, or returned the expected bytes. A read
 /// of at most 65,536 bytes then fails only if no transaction is left afterwards.
 ///
-/// The history has each transaction over this bus with its reply. A read that the bus inside carried out twice is one
-/// of them. In contracts, what was sent and the result of the last poll are those of the bus inside.
+/// The history has each transaction over this bus with its reply. A read that the bus inside carried out twice is in
+/// the history once. In contracts, what was sent and the result of the last poll are those of the bus inside.
 #[derive(Drop)]
 pub struct ReadTwice<B> {
     bus: B,

@@ -16,7 +16,8 @@ pub trait Wires {
 }
 
 /// A bus over `wires`, about which no contract assumes anything. The bus keeps the cause of the last transaction that
-/// failed, since error 12 contains no cause.
+/// failed, since error 12 contains no cause. The bus adds each transaction to its history, which only contracts can
+/// read.
 #[derive(Drop)]
 pub struct OwnBus<W: Wires + Drop> {
     pub wires: W,
