@@ -106,7 +106,9 @@ NAMES = {
     "IsRestorable": "`IsRestorable journal chip`: no refusal is the verdict.",
     "first_allowance":
         "`first_allowance stops`: the first stop, or without stops the bound of a session on a chip of 16 MiB.",
-    "Meter": "`Meter`: a `Bus` with a call `allow`, which on an honest bus sets `left`, and nothing else.",
+    "Meter":
+        "`Meter`: a `Bus` with a call `allow`, which adds the allowance to `allowances` and, on an honest bus, sets "
+        "`left`. Nothing else changes.",
 }
 
 # The appendices of STATEMENT-FULL.md: the title of each, what breaks if it is wrong, and the definitions and contracts
@@ -167,9 +169,9 @@ APPENDICES = {
             "is_touched": "nor_plan/specs/Content.antt",
         },
     ),
-    "The record of modifying commands": (
+    "The history of a bus": (
         "If this is wrong, a modifying command may be sent before the journal is sealed, or by a refused session: "
-        "`unsent` says only that this record is as it was. On a faulty bus little else is promised.",
+        "`unsent` says only that `sent` is as it was. On a faulty bus little else is promised.",
         {
             "Records": "nor_model/specs/Bus.antt",
             "Continues": "nor_model/specs/History.antt",

@@ -129,7 +129,7 @@ pub record ProbeAlways (named : Option ChipName) (old new : BusState) (result : 
   -- a chip found is what the bus replied (`IsFoundBy`): its ID, its status 1 and, without a row of the table, its SFDP
   pub replied : IfOk result (IsFoundBy new.history)
   -- after a stop or a timeout nothing more was sent
-  pub nothing_after : IfErr result (ProbeEndsAt new.history)
+  pub last_transaction : IfErr result (ProbeEndsAt new.history)
 
 -- The promises of a probe on a well-behaved bus.
 pub record ProbeHonest (named : Option ChipName) (old new : BusState) (result : Result Found ProbeFault) : Type 0 where

@@ -91,8 +91,8 @@ part_skipped included image sector false state out test none = record {
       (λ i small inside. let outside = none i small in absurd (cc));
 }
 
--- If a sector was read, a first difference in it has an address of that sector, and a chip that was idle and has the
--- sector holds the bytes that were compared.
+-- Lemmas on a sector that was read and compared. Its first difference, if there is one, has an address in it. If the
+-- chip of a well-behaved bus was idle and has the sector, the bytes that were compared are the chip's.
 module _ (included : Option (List Span)) (image : List ℕ) {bytes : List ℕ} {sector : ℕ} {old new : BusState}
     (reads : ReadsSector sector old new bytes) where
   read_at : (first : Option ℕ) → ((content : ℕ → ℕ) → AreOfSector content sector bytes

@@ -32,8 +32,8 @@ pub record Sends (old new : BusState) : Type 0 where
   pub largest : OnlyReads (most_read 16777216) old new
   pub own : IsModelled old → OnlyReads (most_read old.chip.config.size) old new
 
--- Holds after a stop, which is the last transaction. On a well-behaved bus fewer transactions were left than the bound
--- for the largest chip, and on a modelled bus fewer than the bound for this chip.
+-- Holds after a call was stopped: the bus stopped at the last transaction. On a well-behaved bus fewer transactions
+-- were left than the bound for the largest chip, and on a modelled bus fewer than the bound for this chip.
 pub record OperationFails (old new : BusState) : Type 0 where
   pub last : EndsStopped new.history
   pub largest : old.honest ≡ true → RanOut (most_read 16777216) old new

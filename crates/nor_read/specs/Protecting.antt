@@ -45,7 +45,7 @@ pub record ProtectionAlways (old new : BusState) (result : Result Protection Ref
   -- An error is one of those that `wp_status` may return.
   pub refuses : IfErr result IsProtectionRefusal
   -- After error 12 the bus stopped at the last transaction, and after error 13 that was a poll that showed BUSY.
-  pub nothing_after : IfErr result (λ refusal. EndsAtError refusal new.history)
+  pub last_transaction : IfErr result (λ refusal. EndsAtError refusal new.history)
   -- The call succeeds only if the last poll showed ready.
   pub polled_ready : OnOk result (new.polled_ready ≡ true)
 

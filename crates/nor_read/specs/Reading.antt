@@ -74,7 +74,7 @@ pub record ReadOutAlways (named : Option ChipName) (included : Option (List Span
   -- accepted.
   pub refuses : IfErr result (IsReadRefusal vault vault')
   -- After error 12 the bus stopped at the last transaction, and after error 13 that was a poll that showed BUSY.
-  pub nothing_after : IfErr result (λ refusal. EndsAtError refusal new.history)
+  pub last_transaction : IfErr result (λ refusal. EndsAtError refusal new.history)
   -- The call succeeds only if the last poll showed ready.
   pub polled_ready : OnOk result (new.polled_ready ≡ true)
 

@@ -82,9 +82,9 @@ pub record HasReadAt (address : ℕ) (old new : List Exchange) : Type 0 where
   pub since : Continues old read.earlier
   pub later : AddsSectorReads at new
 
--- The end of a call of `verify` that returned this error. `verify` reads all sectors even after a difference, so error
--- 14 means that the sector that has its address was read, and then nothing but sectors. Any other error means what
--- `EndsAtError` says.
+-- The end of a call of `verify` that returned this error. `verify` reads on after a difference. So after error 14 the
+-- sector that has its address was read, and only reads of sectors were sent after that read. For any other error the
+-- last transaction is as `EndsAtError` says.
 abbrev pub VerifyEnds : (old new : List Exchange) → Refusal → Type 0
 VerifyEnds old new (Mismatch address) = HasReadAt address old new
 VerifyEnds old new refusal = EndsAtError refusal new
@@ -105,7 +105,7 @@ pub record VerifyAlways (named : Option ChipName) (included : Option (List Span)
   pub refuses : IfErr result IsVerifyRefusal
   -- After error 12 the bus stopped at the last transaction, and after error 13 that was a poll that showed BUSY. After
   -- error 14 the sector that has its address was read, and only reads of sectors were sent after that read.
-  pub nothing_after : IfErr result (VerifyEnds old.history new.history)
+  pub last_transaction : IfErr result (VerifyEnds old.history new.history)
   -- The call succeeds only if the last poll showed ready.
   pub polled_ready : OnOk result (new.polled_ready ≡ true)
 
@@ -148,7 +148,8 @@ abbrev pub FindsFirst : Option (List Span) → List ℕ → (ℕ → ℕ) → (f
 FindsFirst included image content from to first =
     MatchOption first (AgreeIn included image content from to) (IsFirstOther included image content from to)
 
--- Holds if the sector that has the first difference was read, or if there is no difference.
+-- Holds if no difference is given, or if the sector that has the address of the first one was read, and only reads of
+-- sectors were sent after it (`HasReadAt`).
 abbrev pub ReadsDifference : (old new : List Exchange) → Option ℕ → Type 0
 ReadsDifference old new first = MatchOption first ⊤ (λ address. HasReadAt address old new)
 

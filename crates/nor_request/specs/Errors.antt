@@ -23,9 +23,9 @@ IdentificationErrors most named old new (Timeout address) =
     (address ≡ 0) × EndsBusy new.history × (old.honest ≡ true → ⊥)
 IdentificationErrors most named old new _ = ⊥
 
--- The last transaction of a call that returned this error. After error 12 the bus stopped at it, after error 13 it was
--- a poll that showed BUSY, and after error 14 it read the sector that has the address of the error. Nothing was sent
--- after it.
+-- Holds for the history of a bus after a call that returned this error. The last transaction is, after error 12, one at
+-- which the bus stopped; after error 13, a poll that showed BUSY; and after error 14, a read of the sector that has the
+-- address of the error. For any other error nothing is said.
 abbrev pub EndsAtError : Refusal → List Exchange → Type 0
 EndsAtError Stopped history = EndsStopped history
 EndsAtError (Timeout address) history = EndsBusy history

@@ -47,7 +47,7 @@ whole_alike one other s (Some b) same whole = record {
   same = λ i below. whole.same i below ∙ sym (same i below);
 }
 
--- what saves bytes saves others that are the same in each saved sector
+-- a content that saves the bytes `one` also saves `other`, if both are the same in each saved sector
 Saves-alike : (one other : ℕ → ℕ) (saved : ℕ → Bool) (c : Content)
     → ((s i : ℕ) → saved s ≡ true → i < 4096 → other (4096 * s + i) ≡ one (4096 * s + i))
     → Saves one saved c → Saves other saved c

@@ -1,4 +1,4 @@
--- What the bus replied to the identification and to the scan, on every bus.
+-- The replies to the identification and to the scan, on every bus.
 use Rattle.std.specs.Prelude.{◌≡◌, ◌*◌, ◌/◌, ◌%◌, ℕ, List, [], ◌∷◌, slice_index}
 use Rattle.nor_model.specs.Exchange.{Exchange}
 use Rattle.nor_model.specs.History.{last_reply, begins_with, names}

@@ -52,9 +52,9 @@ pub record AreRight (wanted content : ℕ → ℕ) (n : ℕ) (scanned : Scanned)
   pub touched : (s : ℕ) → has scanned.touched s ≡ (nat_lt s n && is_touched content wanted s)
   pub raised : (s : ℕ) → has scanned.raised s ≡ (nat_lt s n && is_raised content wanted s)
 
--- Holds after one sector was scanned: its bytes are the reply to one read of it, and bytes that may not change were
--- copied into its part of the image. Which bytes these are, and the part and the plan, are known only on a well-behaved
--- bus with an idle chip of this size.
+-- Holds after one sector was scanned: `bytes` is the reply to the only transaction, a read of this sector, and bytes
+-- that may not change were copied into its part of the image. That `bytes` are the chip's, and what the part and the
+-- plan are, is known only on a well-behaved bus with an idle chip of this size.
 pub record ScansSector (request : Request) (size sector : ℕ) (part part' bytes : List ℕ)
     (old new : BusState) (plan : SectorPlan) : Type 0 where
   pub needed : plan.raised ≡ true → plan.touched ≡ true
@@ -87,8 +87,8 @@ pub record Scans (request : Request) (size : ℕ) (image image' : List ℕ) (old
   pub merged : IsOpen size old → (a : ℕ) → has scanned.touched (a / 4096) ≡ true
       → slice_index image' a ≡ wanted_at request image size old.chip.bytes a
 
--- Holds for the errors of a scan: 12 (the bus stopped; on a well-behaved bus fewer than `most` transactions were left)
--- and 11 (the vault failed).
+-- Holds for the errors of a scan: 12 (the bus stopped at the last transaction; on a well-behaved bus fewer than `most`
+-- transactions were left) and 11 (the vault failed).
 abbrev pub ScanErrors : ℕ → (old new : BusState) → Refusal → Type 0
 ScanErrors most old new Stopped = HasStopped most old new
 ScanErrors most old new Vault = ⊤

@@ -30,10 +30,10 @@ pub struct SavedScan {
 /// `vault` must be empty and unsealed; for a write or an erase `image` must be as long as the chip. `code` is the
 /// result of `judge_identity`.
 ///
-/// No modifying command is sent. On every bus, the journal of a `telling` vault has the header that the identification
-/// gives, and in each record the bytes of the last reply to a read of that sector. If the bus is well-behaved and shows
-/// the identified chip, idle, then success sets the image's touched sectors to the target bytes, and a `telling` vault
-/// holds a journal of exactly the touched sectors.
+/// No modifying command is sent. After success on any bus, a `telling` vault holds a journal of exactly the sectors in
+/// `touched`. Its header is the one that `identity` gives, and each record has the bytes of the last reply to a read of
+/// its sector. If the bus is well-behaved and shows the identified chip, idle, then these are the touched sectors of
+/// the chip, and success sets the image's touched sectors to the target bytes.
 ///
 /// Returns error 9 or 10 (the verdict on the request, if a well-behaved bus shows the identified chip, idle, and
 /// `judge_identity` accepted the request), 11 (the vault failed) or 12 (the bus stopped). After an error the vault is

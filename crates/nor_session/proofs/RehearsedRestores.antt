@@ -257,7 +257,7 @@ module _ {bytes : List ℕ} {journal : Content} (is : IsContent journal) (same :
       → RefusesUndo bytes old new refusal
   undo_refuses new refusal refuses = record {
     answers = λ whole. refuses.answers;
-    nothing_after = refuses.nothing_after;
+    last_transaction = refuses.last_transaction;
     names = saved_names journal bytes refusal is same refuses.names;
     fails = refuses.fails (saved_room journal is);
     never = λ modelled saved first leads. refuses.never modelled first (can_back saved first leads);

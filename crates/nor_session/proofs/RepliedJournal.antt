@@ -25,6 +25,7 @@ replied_saved {identity = identity} {at_seal = at_seal} {sectors = sectors} iden
   before = continues_then identifies.nature.history scans.nature.history;
   after = later.history;
   identity = identity;
+  part = opens.part;
   replied = identified_later scans.nature.history keeps opens.replied;
   sectors = sectors;
   saves = saves;

@@ -91,6 +91,7 @@ changed_fits fits later = record {
   before = fits.before;
   after = continues_then fits.after later.history;
   identity = fits.identity;
+  part = fits.part;
   replied = fits.replied;
   kind = fits.kind;
   device = fits.device;

@@ -50,9 +50,9 @@ pub record DoesCheck (changes : Changes) (wanted : ℕ → ℕ) (verify : Bool) 
   pub same : verify ≡ true → old.honest ≡ true → CanCheck (touched_in changes) old.chip
       → (a : ℕ) → touched_in changes (a / 4096) ≡ true → old.chip.bytes a ≡ wanted a
 
--- The meaning of an error of the check. On every bus nothing was sent after the transaction at which the bus stopped,
--- or that read the sector of a mismatch, and no other error occurs. On a well-behaved bus `Stopped` means that fewer
--- transactions were left than there are touched sectors. If the chip can be checked (`CanCheck`), the address of
+-- The meaning of an error of the check. On every bus the last transaction is the one at which the bus stopped, or the
+-- read of the sector of the mismatch, and no other error occurs. On a well-behaved bus `Stopped` means that fewer
+-- transactions were left than there are touched sectors. If the chip can be checked there (`CanCheck`), the address of
 -- `Mismatch` is that of the first difference in the touched sectors.
 abbrev pub CheckRefuses : Changes → (ℕ → ℕ) → (old new : BusState) → Refusal → Type 0
 CheckRefuses changes wanted old new Stopped = HasStopped (touched_count changes) old new
@@ -100,10 +100,10 @@ pub record DoesChange (changes : Changes) (wanted : ℕ → ℕ) (verify : Bool)
   pub checked : verify ≡ true → old.honest ≡ true → CanCheck (touched_in changes) old.chip
       → HasBytes (touched_in changes) wanted new.chip
 
--- Holds if the changes and their check may fail with this error. On every bus nothing was sent after the transaction at
--- which the bus stopped, after a poll that showed BUSY, or after the read of the sector of a mismatch. On a
--- well-behaved bus `Stopped` means that fewer transactions were left than their bound (`most_changed`), `Timeout` does
--- not occur, and `Mismatch` does not occur if `CanApply` held at the start.
+-- Holds if the changes and their check may fail with this error. On every bus the last transaction is the one at which
+-- the bus stopped, a poll that showed BUSY (`Timeout`), or a read of the sector of the mismatch. On a well-behaved bus
+-- `Stopped` means that fewer transactions were left than their bound (`most_changed`), `Timeout` does not occur, and
+-- `Mismatch` does not occur if `CanApply` held at the start.
 abbrev pub ChangeErrors : Changes → (ℕ → ℕ) → (old new : BusState) → Refusal → Type 0
 ChangeErrors changes wanted old new Stopped = HasStopped (most_changed changes) old new
 ChangeErrors changes wanted old new (Timeout address) = EndsBusy new.history × (old.honest ≡ true → ⊥)

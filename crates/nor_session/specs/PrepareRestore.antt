@@ -99,9 +99,10 @@ pub record IsRefusedFor (journal : Content) (old new : BusState) (refusal : Refu
   pub same : old.honest ≡ true → IsSame old.chip new.chip
   pub verdict : IsModelled old → RestoreJudges journal old.chip refusal
 
--- The meaning of an error before the first change. If the bus stopped and is well-behaved, fewer than `most`
--- transactions were left at the start. A timeout names address 0, and does not occur on a well-behaved bus. Any other
--- error is that of a failed check.
+-- The meaning of an error before the first change. After a stop, the last transaction is the one at which the bus
+-- stopped; on a well-behaved bus fewer than `most` transactions were left at the start. After a timeout, the last
+-- transaction is a poll that showed BUSY; a timeout names address 0, and does not occur on a well-behaved bus. Any
+-- other error is that of a failed check.
 abbrev pub PrepareErrors : Content → ℕ → (old new : BusState) → Refusal → Type 0
 PrepareErrors journal most old new Stopped = HasStopped most old new
 PrepareErrors journal most old new (Timeout address) =

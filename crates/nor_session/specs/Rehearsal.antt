@@ -135,8 +135,9 @@ pub record RehearsalAlways (request : Request) (stops : List ℕ) (old new : Bus
   pub names : IfErr result (NamesAddress vault')
   -- if the vault was sealed, the rehearsal succeeds only if the last poll showed that the chip is ready
   pub polled_ready : IfOk result (λ rehearsal. rehearsal.sealed ≡ true → new.polled_ready ≡ true)
-  -- after a stop, a timeout or a mismatch nothing more was sent
-  pub nothing_after : IfErr result (λ refusal. EndsAtError refusal new.history)
+  -- if the rehearsal returns error 12, 13 or 14, the last transaction is as `EndsAtError` says (a call that is stopped
+  -- by its entry in `stops` is no error of the rehearsal)
+  pub last_transaction : IfErr result (λ refusal. EndsAtError refusal new.history)
   -- if the vault isn't sealed, no modifying command was sent
   pub unsent : vault'.sealed ≡ false → new.sent ≡ old.sent
   -- after the seal, all that was sent fits the journal in the vault (`SendsSaved`)

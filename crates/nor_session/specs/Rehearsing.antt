@@ -82,13 +82,13 @@ pub record RunsSession (request : Request) (image : List ℕ) (allowance : ℕ) 
   pub seal : IsModelled old → SealFits request allowance old.chip vault.sealed
 
 -- Holds if the session returned this error. On a modelled bus it is the verdict, or the vault failed. On a well-behaved
--- bus it is neither a stop nor a timeout. On every bus nothing was sent after a stop, a timeout or a mismatch.
+-- bus it is neither a stop nor a timeout. On every bus the last transaction is as `EndsAtError` says.
 pub record RefusesSession (request : Request) (image : List ℕ) (old new : BusState) (before after : VaultState)
     (refusal : Refusal) : Type 0 where
   pub answers : SessionReturns before after refusal
   pub names : NamesAddress after refusal
   pub fails : old.honest ≡ true → IsNoBusError refusal
-  pub nothing_after : EndsAtError refusal new.history
+  pub last_transaction : EndsAtError refusal new.history
   pub errors : IsModelled old → RehearsalErrors request image old.chip before after refusal
   pub leaves : IsModelled old → LeavesRefused old new after
 
@@ -115,7 +115,7 @@ pub record RunsRestore (journal : Content) (allowance : ℕ) (old new : BusState
   pub enough : IsModelled old → ended ≡ true → new.left + (4 + length journal.saved) ≤ allowance
   pub none_left : old.honest ≡ true → ended ≡ false → new.left ≡ 0
   pub below : old.honest ≡ true → ended ≡ false → allowance < most_of (length journal.saved)
-  pub nothing_after : ended ≡ false → EndsStopped new.history
+  pub last_transaction : ended ≡ false → EndsStopped new.history
 
 -- Restores were run in turn until one ended, each with its own allowance (`allowances_of`). On a modelled bus they
 -- restored each chip that the journal could restore, and if none was stopped, the latch is set only if it was set
@@ -131,10 +131,10 @@ pub record RunsRestores (journal : Content) (stops : List ℕ) (old new : BusSta
 
 -- Holds if a restore returned this error. On a modelled bus that never occurs for a chip that the journal can restore.
 -- On a well-behaved bus the error is neither a stop nor a timeout, since a journal has no more sectors than the largest
--- chip. On every bus nothing was sent after a stop, a timeout or a mismatch.
+-- chip. On every bus the last transaction is as `EndsAtError` says.
 pub record StopsRestores (journal : Content) (old new : BusState) (refusal : Refusal) : Type 0 where
   pub answers : IsRestoreRefusal refusal
-  pub nothing_after : EndsAtError refusal new.history
+  pub last_transaction : EndsAtError refusal new.history
   pub names : NamesSector (λ sector. is_saved journal sector ≡ true) refusal
   pub fails : length journal.saved ≤ 4096 → old.honest ≡ true → IsNoBusError refusal
   pub never : IsModelled old → (first : Chip) → CanRestore journal first old → ⊥
@@ -167,10 +167,10 @@ SendsFromJournal text restores old new =
 
 -- Holds if the restores returned this error. If the bytes are a journal, it is an error of a restore. On a well-behaved
 -- bus it is neither a stop nor a timeout. If the bytes can restore the original chip on a modelled bus, no error is
--- returned. On every bus nothing was sent after a stop, a timeout or a mismatch.
+-- returned. On every bus the last transaction is as `EndsAtError` says.
 pub record RefusesUndo (text : List ℕ) (old new : BusState) (refusal : Refusal) : Type 0 where
   pub answers : IsJournal text → IsRestoreRefusal refusal
-  pub nothing_after : EndsAtError refusal new.history
+  pub last_transaction : EndsAtError refusal new.history
   pub names : NamesSector (λ sector. SavesSector sector text) refusal
   pub fails : old.honest ≡ true → IsNoBusError refusal
   pub never : IsModelled old → (saved : ℕ → Bool) (first : Chip) → CanUndo saved first text old → ⊥

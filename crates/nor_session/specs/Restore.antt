@@ -24,6 +24,7 @@ use Rattle.nor_request.specs.Errors.{EndsAtError}
 use Rattle.nor_probe.specs.declared.probes.Found.{Found}
 use Rattle.nor_scan.specs.declared.identity.Identity.{Identity}
 use Rattle.nor_scan.specs.Identity.{status_read}
+use Rattle.nor_probe.specs.Found.{IsPart}
 use Rattle.nor_scan.specs.Replied.{IsIdentifiedBy}
 use Rattle.nor_scan.specs.Saving.{SomeProtected}
 use Rattle.nor_session.specs.Bounds.{most_reads, most_of}
@@ -105,14 +106,15 @@ HasFixedRead journal identity = fixed_of (kept_in (status_read identity)) ≡ fi
 abbrev pub HasUniqueRead : Content → Identity → Type 0
 HasUniqueRead journal identity = (journal.unique ≡ None) ⊎ (journal.unique ≡ Some identity.unique)
 
--- Holds if the journal fits what the bus replied to a restore's identification: the ID and size, the unique ID (a journal
--- of format 1 has none), and the status bits that flashnor never changes. `read` is the history of the bus after the
--- identification.
+-- Holds if the journal fits what the bus replied to a restore's identification: the ID, the size (of the table's row of
+-- that ID or, without a row, of the SFDP replies), the unique ID (a journal of format 1 has none), and the status bits
+-- that flashnor never changes. `read` is the history of the bus after the identification.
 pub record FitsReplies (journal : Content) (old new : BusState) : Type 0 where
   pub read : List Exchange
   pub before : Continues old.history read
   pub after : Continues read new.history
   pub identity : Identity
+  pub part : IsPart identity.found
   pub replied : IsIdentifiedBy read identity
   pub kind : IsOfTypeFound journal identity.found
   pub device : HasUniqueRead journal identity
@@ -158,7 +160,7 @@ pub record RestoreAlways (journal : Content) (old new : BusState) (result : Resu
   pub spends : Spends (most_of (length journal.saved)) old new
   -- at every exit all that was sent fits the journal (`SendsSaved`)
   pub sends : SendsSaved (IsSavedCode journal) 1 journal old new
-  -- at every exit no modifying command was sent, or the journal fits what the bus replied to the identification
+  -- at every exit, no modifying command was sent, or the journal fits what the bus replied to the identification
   pub fits : (new.sent ≡ old.sent) ⊎ FitsReplies journal old new
   -- at every exit the status was written at most twice
   pub writes : WritesStatusAtMost 2 old new
@@ -174,8 +176,9 @@ pub record RestoreAlways (journal : Content) (old new : BusState) (result : Resu
   pub reported : IfOk result (λ report. SendsCounted report.erases report.programs old new)
   -- a restore succeeds only if the last poll showed that the chip is ready
   pub polled_ready : OnOk result (new.polled_ready ≡ true)
-  -- after a stop, a timeout or a mismatch nothing more was sent
-  pub nothing_after : IfErr result (λ refusal. EndsAtError refusal new.history)
+  -- after error 12, 13 or 14 the last transaction is the one at which the bus stopped, a poll that showed BUSY, or a
+  -- read of the sector of the mismatch (`EndsAtError`)
+  pub last_transaction : IfErr result (λ refusal. EndsAtError refusal new.history)
 
 -- The promises of a restore on a well-behaved bus.
 pub record RestoreHonest (journal : Content) (old new : BusState) (result : Result Report Refusal) : Type 0 where

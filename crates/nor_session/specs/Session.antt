@@ -27,6 +27,7 @@ use Rattle.nor_request.specs.Refusal.{refusal_number}
 use Rattle.nor_request.specs.Request.{wanted, scanned_sectors, IsWantedCode}
 use Rattle.nor_request.specs.Errors.{EndsAtError}
 use Rattle.nor_scan.specs.declared.identity.Identity.{Identity}
+use Rattle.nor_probe.specs.Found.{IsPart}
 use Rattle.nor_scan.specs.Replied.{IsIdentifiedBy, bytes_read}
 use Rattle.nor_scan.specs.Saving.{header_of, header_found}
 use Rattle.nor_scan.specs.SavedScan.{IsJournal, HasWholeRecords, HoldsJournal}
@@ -198,14 +199,16 @@ HoldsBegun request image chip bytes = (bytes ≡ [])
     ⊎ (IsNamed request.named chip.config
     × IsJournalPrefix (header_of chip) chip.bytes (is_touched chip.bytes (wanted request image chip)) bytes)
 
--- Holds if a journal has what the bus replied to this session before the seal. Its header has the ID, unique ID, status
--- bits and size that the identification replied, and each record has the bytes of the last reply to a read of that
--- sector. `at_seal` is the history of the bus when the vault was sealed.
+-- Holds if a journal has the last replies of the bus before the seal. Its header has the ID, the unique ID and the
+-- non-volatile status bits that the bus replied, and the size in the table's row of that ID or, without a row, the one
+-- that the SFDP replies give. Each record has the bytes of the last reply to a read of its sector. `at_seal` is the
+-- history of the bus at some point of the session; the proof gives the history at the seal.
 pub record IsJournalOfReplies (old new : BusState) (bytes : List ℕ) : Type 0 where
   pub at_seal : List Exchange
   pub before : Continues old.history at_seal
   pub after : Continues at_seal new.history
   pub identity : Identity
+  pub part : IsPart identity.found
   pub replied : IsIdentifiedBy at_seal identity
   pub sectors : ℕ → Bool
   pub saves : JournalSaves (header_found identity) (bytes_read at_seal) sectors bytes
@@ -241,8 +244,9 @@ pub record SessionAlways (request : Request) (old new : BusState) (vault vault' 
   pub ends : IfOk result (EndsSealed request old new vault vault')
   -- a session succeeds only if the last poll showed that the chip is ready
   pub polled_ready : OnOk result (new.polled_ready ≡ true)
-  -- after a stop, a timeout or a mismatch nothing more was sent
-  pub nothing_after : IfErr result (λ refusal. EndsAtError refusal new.history)
+  -- after error 12, 13 or 14 the last transaction is the one at which the bus stopped, a poll that showed BUSY, or a
+  -- read of the sector of the mismatch (`EndsAtError`)
+  pub last_transaction : IfErr result (λ refusal. EndsAtError refusal new.history)
 
 -- The promises of a session on a well-behaved bus.
 pub record SessionHonest (request : Request) (image : List ℕ) (old new : BusState)

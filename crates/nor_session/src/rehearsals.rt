@@ -28,8 +28,8 @@ pub struct Rehearsal {
 
 /// Runs a session that may send at most the number of transactions given by the first of `stops`. If the session sealed
 /// the vault, runs restores, each with the next number of `stops`, until one ends. If no stop is left, a call may send
-/// a number of transactions that is enough for every session and restore. The allowances that are set are exactly the
-/// stops in turn and, for each call without a stop, this number.
+/// a number of transactions that is enough for every session and restore. Exactly one allowance is set for each of
+/// these calls: its stop or, without one, this number.
 ///
 /// There are at most 64 stops, and `vault` must be empty and unsealed. `image` and `request` are as for `session`.
 ///

@@ -22,7 +22,8 @@ use nor_request::{Refusal, Report};
 ///
 /// Returns error 1 (no chip), 2 (unknown chip), 16 (another ID or size), 20 (another device), 17 (other status bits) or
 /// 9 (status locked), checked in this order before anything is modified. Also returns 12 (the bus stopped), 13 (the
-/// chip stayed busy; not on a well-behaved bus) or 14 (the bytes that were read back differ).
+/// chip stayed busy; not on a well-behaved bus) or 14 (the bytes that were read back differ). On any bus nothing is
+/// sent after the transaction that error 12, 13 or 14 reports.
 pub fn restore<B: Bus>(bus: &mut B, journal: &Journal<'_>) -> Result<Report, Refusal>
     ensures restores_original { IsModelled (B.state bus.old)
         → RestoresOriginal journal.now (B.state bus.old) (B.state bus.new) result }

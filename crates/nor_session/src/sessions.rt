@@ -22,14 +22,15 @@ use nor_scan::{identify, judge_identity};
 /// bytes, and all bytes for an erase, may have any value. For a protection range it is not used. Its contents
 /// afterwards are unspecified.
 ///
-/// On every bus no modifying command is sent before the vault is sealed. On a modelled bus the journal of a sealed
-/// `telling` vault can restore the original chip at every exit, even if the bus stopped inside a transaction. On a
-/// well-behaved bus that is steady, or whose chip was idle at the start, an exit before the seal leaves the contents
-/// and the non-volatile status bits as they were.
+/// On every bus no modifying command is sent before the vault is sealed, and the journal of a sealed `telling` vault
+/// has what the bus replied. On a modelled bus that journal can restore the original chip at every exit, even if the
+/// bus stopped inside a transaction. On a well-behaved bus that is steady, or whose chip was idle at the start, an exit
+/// before the seal leaves the contents and the non-volatile status bits as they were.
 ///
 /// Returns an error from 1 to 8 before it uses the vault, and one from 9 to 11 before the vault is sealed (`Refusal`
 /// has their meanings). Returns 14 (the bytes that were read back differ) only after the seal, and 12 (the bus stopped)
-/// or 13 (the chip stayed busy) before or after it. On a well-behaved bus 13 does not occur.
+/// or 13 (the chip stayed busy) before or after it. On a well-behaved bus 13 does not occur. On any bus nothing is sent
+/// after the transaction that error 12, 13 or 14 reports.
 pub fn session<B: Bus, V: Vault>(
     bus: &mut B,
     vault: &mut V,

@@ -29,7 +29,7 @@ returns-then-not-is_wanted-clause-always g c =
           c.if-not-is_wanted.true;
       polled_ready = tt;
       replied = tt;
-      nothing_after = tt;
+      last_transaction = tt;
     }
 
 pub returns-clause-always : goal.returns-clause-always
@@ -42,7 +42,7 @@ returns-clause-always g c =
       polled_ready = grind (arith, common_steps);
       replied = found_by {polled = (g.B.Bus.state c.wait.new.bus).history} c.found.result (grind (arith, common_steps)) (grind (arith, common_steps))
           c.in_ok-part.ensures.replies (grind (arith, common_steps));
-      nothing_after = tt;
+      last_transaction = tt;
     }
 
 pub returns-in_err-part-clause-honest : goal.returns-in_err-part-clause-honest

@@ -42,6 +42,7 @@ returns-clause-replies g c = record {
   before = c.identify_saved.ensures.leaves.nature.history;
   after = c.scan_saved.ensures.leaves.nature.history;
   identity = c.in_ok-identity.identity;
+  part = c.in_ok-identity.ensures.identifies.part;
   replied = c.in_ok-identity.ensures.identifies.replied;
   kind = c.in_ok-identity.ensures.kind;
   device = c.in_ok-identity.ensures.device;

@@ -13,7 +13,7 @@ returns-in_err-ended-clause-always g c =
     let sends = session_sends c.args.stops.now c.stopped_session.ensures.leaves in
     let tried = session_tried c.args.stops.now (g.B.Bus.state c.args.bus.now) (g.B.Bus.state c.stopped_session.new.bus)
     c.stopped_session.ensures.allowed in
-    let nothing_after = c.in_err-ended.ensures.refuses.nothing_after in
+    let last_transaction = c.in_err-ended.ensures.refuses.last_transaction in
     let p = err_from_is_err_and c.from_residual.result c.from_residual.ensures.1 in
     rw (p.1, p.2) (search (rules, arith))
 
@@ -29,7 +29,7 @@ returns-in_err-restores g c =
     let nature = same_nature_then undone.nature session.nature in
     let tried = both_tried session sealed is undone c.args.stops.now c.later.ensures c.stopped_session.ensures.allowed
     c.in_err-restores.ensures.tried in
-    let nothing_after = refuses.nothing_after in
+    let last_transaction = refuses.last_transaction in
     let sends = both_send session sealed is undone c.args.stops.now c.later.ensures in
     let writes = both_write session sealed is undone c.args.stops.now c.later.ensures in
     let p = err_from_is_err_and c.from_residual-in_err-restores.result c.from_residual-in_err-restores.ensures.1 in
@@ -54,7 +54,7 @@ returns g c =
         allowed = both_allowed session sealed is undone c.args.stops.now c.later.ensures
             c.stopped_session.ensures.allowed _ undoes.allowed;
         tried = search rules;
-        nothing_after = search rules;
+        last_transaction = search rules;
         counts = record {
           seal = sym sealed;
           ended = λ ended. refl;

@@ -68,7 +68,7 @@ returns-in_err-saved g c = λ first only_reads opens.
             names = record { early = λ off. names; late = λ on telling. absurd (never on) };
             ends = tt;
             polled_ready = tt;
-            nothing_after = save_last _ _ _ _ _ _ refusal returned.errors;
+            last_transaction = save_last _ _ _ _ _ _ refusal returned.errors;
           };
       honest = λ honest.
           let errors = save_gives_up _ _ _ _ _ _ _ _ refusal honest only_reads opens leaves returned.errors in search rules;
