@@ -50,7 +50,8 @@ pub record HasPrinted (outcome : Result Answer Fault) (unwritten : Unwritten) (o
   -- the status is 0 or 1, and 0 if and only if the answer or the help was printed and every file was written
   pub few : ending.status ≤ 1
   pub exact : (ending.status ≡ 0) ↔ ((ending.printed ≡ true) × (unwritten ≡ all_written))
-  -- if printing succeeded, the lines of the answer, and those of the faults, were appended
+  -- If the answer was printed, its lines were appended to standard output; the text of help isn't known. If each line
+  -- of a fault was printed, these lines were appended to standard error, unless one of them isn't known (`line_of`).
   pub printed : ending.printed ≡ true → PrintsAnswer outcome out out'
   pub returned : ending.returned ≡ true → IfSome (lines_printed outcome unwritten) (Appends err err')
   -- a run without an answer or help prints nothing to standard output, and one without a fault nothing to standard

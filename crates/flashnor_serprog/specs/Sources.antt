@@ -61,8 +61,8 @@ abbrev pub IsImage : View → Wanted → List ℕ → Type 0
 IsImage view (wanted.Write image) bytes = IsRead view image.now 16777217 bytes
 IsImage view _ bytes = bytes ≡ []
 
--- The ranges of the job's regions, and the bytes of its image or journal. At most one byte more is read than the
--- largest chip or the longest journal has.
+-- Holds if `ranges` are those of the job's regions, and `bytes` those of its image or of the journal that it restores
+-- from, for a job that has them. At most one byte more is read than the largest chip or the longest journal has.
 abbrev pub AreSources : View → Task → Option (List Span) → List ℕ → Type 0
 AreSources view (task.Read file regions) ranges bytes = AreRangesOf view regions ranges
 AreSources view (task.Verify file regions) ranges bytes =
