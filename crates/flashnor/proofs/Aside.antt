@@ -74,8 +74,8 @@ pick (Some one) (Some other) was found left len mid new same rest unsent is whol
 pick None (Some other) was found left len mid new same rest unsent is whole long can fits = absurd same
 pick (Some one) None was found left len mid new same rest unsent is whole long can fits = absurd same
 
--- An idle chip with the original chip's configuration is restorable if each of its bytes is that of a restorable chip
--- or of the original chip, and its non-volatile status bits are those of one of the two.
+-- An idle chip with the original chip's configuration is restorable, if each byte and the non-volatile status bits are
+-- those of a restorable chip or of the original chip.
 pub mixed_back : (journal : Journal) (first : Chip) (state later : BusState) → CanRestore journal first state
     → later.chip.config ≡ first.config
     → ((a : ℕ) → (later.chip.bytes a ≡ state.chip.bytes a) ⊎ (later.chip.bytes a ≡ first.bytes a))

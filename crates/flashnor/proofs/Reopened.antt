@@ -67,8 +67,8 @@ found_either had bytes missing (Some name) there files was' left stood unnamed m
   | inr aside ↦ inl (rw (aside.1, moved aside.0) refl)
 ]
 
--- why a file of the chip that existed keeps its length: it is overwritten in place with as many bytes as it had, and a
--- mix of the old and the new bytes has that length
+-- A file of the chip that existed keeps its length. It is overwritten in place with as many bytes as it had, and a mix
+-- of the old and the new bytes has that length.
 pub as_long : (name : Option (Bor Text)) (there : Bool) (had put : List ℕ) (s0 s1 s3 : FilesState) → AllStay s0 s1
     → MakesDurable name (was there had) s1 → length had ≡ length put → LeavesAmid name there had put s3
     → LeavesAsLong name s0 s3

@@ -28,7 +28,8 @@ view_apart trace old mid nature others = record {
   stays = λ any not known. let stays = others known.lawful any not in (stays.out, stays.seen);
 }
 
--- if a first step keeps all known files, and a second one all except the trace, both together keep all except the trace
+-- If a first step keeps all known files, and a second one each known file whose name is apart from the trace's, both
+-- together keep each known file whose name is apart from the trace's.
 pub view_before : (trace : Option (Bor Text)) (old mid : FilesState) (amid : View) → mid.view.nature ≡ old.view.nature
     → KnownStay old mid → IsViewBut trace mid.view amid → IsViewBut trace old.view amid
 view_before trace old mid amid nature stay but = record {

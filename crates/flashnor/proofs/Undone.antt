@@ -130,7 +130,7 @@ module _ (programmer : Programmer) (file : Text) (start : FilesState) (first : O
     back = λ i s opened can_i can_s from. leads.back i s opened (image i can_i) (status s can_s) from;
   }
 
-  -- if the image was missing at first, the original chip has the bytes that stand for a missing image
+  -- if no image was found at first, the original chip has the bytes that stand for a missing image
   first_byte : first.read.bytes.found ≡ None → (a : ℕ)
       → slice_index (replicate first.bus.chip.config.size 255) a ≡ first.bus.chip.bytes a
   first_byte none a =

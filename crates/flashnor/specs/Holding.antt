@@ -78,8 +78,8 @@ pub record AreReady (programmer : Programmer) (image_there status_there : Bool) 
   pub image : (put : List ℕ) → AreChipBytes new put → IsReadyIfNamed programmer.image image_there bytes put files
   pub status : IsReadyIfNamed programmer.status status_there bits (status_of new) files
 
--- Holds if a host crash may leave of each file of the chip that is named only contents that `IsAmid` allows, if it is
--- overwritten or created with the bytes or the status bytes of the chip `new`.
+-- Holds if a host crash may leave only contents that `IsAmid` allows, of each file of the chip that is named. The file
+-- is overwritten or created with the bytes or the status bytes of the chip `new`.
 pub record AreAmid (programmer : Programmer) (image_there status_there : Bool) (had bits : List ℕ) (new : Chip)
     (files : FilesState) : Type 0 where
   pub put : List ℕ

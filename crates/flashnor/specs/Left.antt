@@ -17,8 +17,8 @@ use Rattle.nor_lines.specs.Stored.{IsNot, IsRead, LeavesNoMoreOf}
 use Rattle.flashnor.specs.declared.chips.Content.{Content}
 
 -- Holds if a later run may find `found` of the named file: a host crash may leave `found`; or the file was missing at
--- first (`was`), and `found` is `None` because you may have moved the file aside. If no file is named, `found` must be
--- `None`.
+-- first (`was`), and `found` is `None`. In the second case you may have moved the file aside. If no file is named,
+-- `found` must be `None`.
 abbrev pub MayFind : Option (Bor Text) → (was found : Found) → FilesState → Type 0
 MayFind None was found files = found ≡ None
 MayFind (Some name) was found files = files.may_leave name.now found ⊎ ((was ≡ None) × (found ≡ None))
@@ -47,7 +47,8 @@ pub record Opened (programmer : Programmer) (files : FilesState) : Type 0 where
   pub opens : OpensChip programmer content bus
 
 -- Holds if `Is` holds for each bus whose chip a later run may open. That chip has the configuration of the chip of
--- `first`, and is opened from any contents that the later run may find of the chip's files (`MayFind`).
+-- `first`. It is opened (`IsOpenedFrom`) from some contents that the later run may find of the chip's files
+-- (`MayFind`).
 abbrev pub LeavesOnly : {programmer : Programmer} {old : FilesState} → Opened programmer old → (BusState → Type 0)
     → FilesState → Type 0
 LeavesOnly {programmer} first Is files = (image status : Found) (opened : BusState)
@@ -55,8 +56,8 @@ LeavesOnly {programmer} first Is files = (image status : Found) (opened : BusSta
     → MayFind programmer.status first.read.status.found status files
     → IsOpenedFrom image status first.bus.chip.config opened.chip → Is opened
 
--- Holds if a host crash may leave only one valid journal in the file of that name, and that journal can restore the
--- original chip (that of `first`) from each chip that a later run may open (`LeavesOnly`).
+-- Holds if a host crash may leave only one valid journal in the file of that name. That journal can restore the
+-- original chip (the chip of `first`) from each chip that a later run may open (`LeavesOnly`).
 pub record IsRestorableFrom {programmer : Programmer} {old : FilesState} (file : Text) (first : Opened programmer old)
     (files : FilesState) : Type 0 where
   pub journal : Journal
@@ -102,9 +103,9 @@ pub record LeavesAll (programmer : Programmer) (file : Text) (old new : FilesSta
       → LeavesNoMore name old new
   pub empty : LeavesOrEmpty file old new
 
--- Holds after a change with its journal in the file of this name, in one of two cases. Either, except for the trace, a
--- host crash can leave only what it could leave before, or an empty file for the journal (`LeavesAll`). Or the original
--- chip is not lost (`LeavesOriginalRestorable`).
+-- Holds in one of two cases after a change with its journal in the file of this name. First case (`LeavesAll`): a host
+-- crash can leave only what it could leave before, except for the trace and an empty file for the journal. Second case
+-- (`LeavesOriginalRestorable`): the original chip is not lost.
 abbrev pub KeepsOriginalFiles : Programmer → (file : Text) → (old new : FilesState) → Type 0
 KeepsOriginalFiles programmer file old new =
     LeavesAll programmer file old new ⊎ LeavesOriginalRestorable programmer file old new
@@ -133,9 +134,9 @@ pub record LeavesRestorable (programmer : Programmer) (file : Text) (old new : F
   pub stays : KeepsFile file old new
   pub back : (first : Chip) → CanRestore journal first found.bus → LeavesOnly found (CanRestore journal first) new
 
--- Holds after a restore from the journal in the file of this name, in one of two cases. Either, except for the trace, a
--- host crash can leave only what it could leave before (`LeavesSources`). Or the journal can still restore each chip
--- that it could restore (`LeavesRestorable`).
+-- Holds in one of two cases after a restore from the journal in the file of this name. First case (`LeavesSources`): a
+-- host crash can leave only what it could leave before, except for the trace. Second case (`LeavesRestorable`): the
+-- journal can still restore each chip that it could restore.
 abbrev pub KeepsRestorable : Programmer → (file : Text) → (old new : FilesState) → Type 0
 KeepsRestorable programmer file old new =
     LeavesSources programmer file old new ⊎ LeavesRestorable programmer file old new

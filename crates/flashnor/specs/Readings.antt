@@ -12,8 +12,8 @@ use Rattle.flashnor.specs.Found.{HasName, IsEmulatedFound, emulated_part}
 use Rattle.nor_lines.specs.declared.answers.Answer.{Answer}
 use Rattle.nor_lines.specs.declared.answers.Answer.TheVariants as answer
 
--- Holds for the errors that the identification of an emulated chip may return on a ready bus (`IsReady`): error 3 only
--- if the chip's name isn't the given one, and error 12 only if the bus carries out fewer than `most_probe`
+-- Holds for the errors that the identification of an emulated chip may return on a ready bus (`IsReady`). Error 3
+-- occurs only if the chip's name isn't the given one, and error 12 only if the bus carries out fewer than `most_probe`
 -- transactions. No other error occurs.
 abbrev pub FindRefuses : Programmer → Option ChipName → Refusal → Type 0
 FindRefuses programmer named OtherName = HasName named programmer.chip → ⊥

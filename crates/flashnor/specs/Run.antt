@@ -185,7 +185,7 @@ FailsTask view (task.Change change) fault =
 FailsTask view (task.Restore journal) fault = FailsToRestore view journal.now fault
 FailsTask view _ fault = ⊥
 
--- Holds for the faults of opening the chip's files. If the task changes the chip, the files are locked too.
+-- Holds for the faults of opening the chip's files and, if the task writes the chip back (`true`), of locking them.
 abbrev pub FailsToStart : Bool → View → Programmer → Fault → Type 0
 FailsToStart true view programmer fault = FailsToHold view programmer fault
 FailsToStart false view programmer fault = FailsToOpen view programmer fault
@@ -314,8 +314,9 @@ AnswersArguments files after words (Err (end.Usage fault)) unwritten =
 AnswersArguments files after words outcome unwritten =
     (asked : Job) × IsJob words asked × AnswersJob files after asked unwritten outcome
 
--- Holds for a run without a fault: the arguments ask for help; or their job was done, each file was written, and
--- exactly the lines of the answer were appended to standard output, as far as its contents are known.
+-- Holds for a run without a fault, in one of two cases: the arguments ask for help, or their job was done. If the job
+-- was done, each file was written, and exactly the lines of the answer were appended to standard output, as far as its
+-- contents are known.
 abbrev pub RunSucceeds : (files after : FilesState) → List Text → (out out' : Option (List ℕ)) → Type 0
 RunSucceeds files after words out out' = IsAmong kind.DisplayHelp (refusals_of words)
     ⊎ ((found : Answer) × AnswersArguments files after words (Ok found) all_written × Prints (AreLines found) out out')

@@ -114,8 +114,8 @@ pub fn start(programmer: &Programmer<'_>, content: Content) -> SimBus
     bus
 }
 
-// Returns a bus to the emulated chip with these contents. It carries out no transaction yet, and a stop keeps the
-// chip's power.
+// Returns a bus to the emulated chip with these contents, idle. The bus carries out no transaction yet, and a stop
+// keeps the chip's power.
 fn hold(programmer: &Programmer<'_>, content: Content) -> SimBus
     requires { vec_len content.bytes ≡ (emulated_part programmer.now.chip).size }
     ensures held { HoldsFiles programmer.now content (⟦<SimBus as Bus>⟧.state result) }

@@ -60,7 +60,8 @@ pub fn fault_before<'a, R: Store>(rt: &mut R, job: &ChipJob<'a>, journal: &'a st
     }
 }
 
-// Reads what a session reads before it creates its journal, and creates or truncates the trace, in the same order.
+// Reads what a session reads before it creates its journal, and creates or truncates the trace, in the order of a
+// session.
 fn read_all<'a, R: Store>(rt: &mut R, job: &ChipJob<'a>) -> Result<(), Fault<'a>>
     requires { IsSome (journal_by job.now.task) }
     ensures fails { IfErr result (FailsJob (R.state rt.old).view job.now) }

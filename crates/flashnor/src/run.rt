@@ -67,7 +67,7 @@ pub fn end_without_streams<O: Write, E: Write>(output: &mut O, errors: &mut E) -
     ending.status
 }
 
-// Performs the job of the program's arguments over any store of files.
+// Performs the job of the program's arguments over any store of files, and prints its result.
 #[tactic(auto, using(crate::proofs::Ended::is_without_memory))]
 fn run_given<R: Store, O: Write, E: Write>(
     rt: &mut R,

@@ -73,8 +73,8 @@ abbrev pub FailsToFind : Option ChipName → (old new : BusState) → Fault → 
 FailsToFind named old new fault =
     (refusal : Refusal) × HasIdentified named old new (Err refusal) × (fault ≡ end.Refused refusal)
 
--- after the identification, and before anything else was sent, the file of this name could not be created or truncated,
--- existed but must be new, is a journal, or was locked by another process; or memory ran out
+-- The identification found a chip, and nothing else was sent. Then the file of this name could not be created or
+-- truncated, existed but must be new, is a journal, or was locked by another process; or memory ran out.
 abbrev pub FailsToMake : Option ChipName → Text → View → (old new : BusState) → Fault → Type 0
 FailsToMake named file view old new fault =
     (chip : Found) × HasIdentified named old new (Ok chip) × IsMaking view file fault
@@ -152,7 +152,7 @@ abbrev pub IsNamedFirst : Option ChipName → (old new : BusState) → Type 0
 IsNamedFirst None old new = new ≡ old
 IsNamedFirst (Some name) old new = (chip : Found) × HasIdentified (Some name) old new (Ok chip)
 
--- The bytes are a journal, and a restore from it was run, after the chip's name was checked if one is given.
+-- The bytes are a journal. A restore from that journal was run, after the chip's name was checked if a name is given.
 pub record HasRestored (named : Option ChipName) (bytes : List ℕ) (old new : BusState)
     (outcome : Result Answer Refusal) : Type 0 where
   pub journal : Journal

@@ -115,8 +115,8 @@ fn is_terminal(rt: &HostRuntime) -> bool {
 }
 
 impl<B> Shown<'_, B> {
-    // Prints a line before the first modifying command, and one if this transaction is number 1, 257, 513, .. of its
-    // step.
+    // If `visible` is set, prints a line before the first modifying command, and one if this transaction is number 1,
+    // 257, 513, .. of its step.
     fn show(&mut self, out: &[u8])
         ensures { self.new.bus ≡ self.old.bus }
     {
