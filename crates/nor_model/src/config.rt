@@ -35,8 +35,7 @@ pub const ALL_KINDS: Kinds = Kinds {
 };
 
 /// The properties of a chip that never change: the ID (9Fh), the size in bytes, the erase types, whether the chip has
-/// block protection (`scheme`), the unique ID (4Bh), and the SFDP bytes. Past the end of these bytes, the SFDP reads as
-/// FFh.
+/// block protection (`scheme`), the unique ID (4Bh), and the SFDP bytes. Past these 256 bytes, the SFDP reads as FFh.
 #[derive(Clone, Copy)]
 pub struct Config {
     pub id: [u8; 3],
