@@ -5,12 +5,12 @@ use Rattle.nor_model.specs.Power.{is_in_work, KeptCut}
 use Rattle.nor_model.specs.History.{EndsStopped}
 use Rattle.nor_model.specs.Bus.{BusState, KeepsNature}
 
--- The bus is steady or the chip is idle, so a stop can't interrupt an operation from before the call.
+-- The bus is steady or the chip is idle, so on an honest bus a stop can't interrupt an operation from before the call.
 abbrev pub IsSteadyOrIdle : BusState → Type 0
 IsSteadyOrIdle state = (state.steady ≡ true) ⊎ (state.chip.busy ≡ 0)
 
--- On an honest bus, if no operation was interrupted: bytes, non-volatile bits, erased sectors and the operation in
--- progress are as they were, and the chip is busy for no longer than before.
+-- On an honest bus, after a call that neither began nor interrupted an operation: bytes, non-volatile bits, erased
+-- sectors and the operation in progress are as they were, and no more polls will show BUSY than before.
 pub record Unchanged (old new : BusState) : Type 0 where
   pub same : IsSame old.chip new.chip
   pub running : new.chip.running ≡ old.chip.running
