@@ -60,7 +60,7 @@ module _ (at : ℕ) (sent : List ℕ) (skipped : ℕ) (front back old mid new : 
     ])
   ]
 
--- a program makes no byte of the page greater (`lowered-le`), and so no byte of the list (`IsProgrammed-le`)
+-- after a program each byte of the list is at most its old value
 lowered-le : (here : Bool) (old : ℕ) (sent : Option ℕ) → (if here then lowered old sent else old) ≤ old
 lowered-le true old (Some byte) = and_le_l old byte
 lowered-le _ old _ = omega arith

@@ -38,8 +38,8 @@ spoilt_state state bus = record (state bus.bus) {
   polled_ready = polled_ready_in (history_of bus);
 }
 
--- If the bus drops the next transaction after `sent` that succeeded, the value of each of its reply bytes; otherwise
--- `None`.
+-- After `sent` transactions that succeeded: the value of each reply byte of the next transaction if the bus drops it,
+-- otherwise `None`.
 abbrev pub withheld : Spoil → ℕ → Option ℕ
 withheld (Fill byte) sent = Some byte
 withheld (BusyFrom first) sent = None
@@ -50,8 +50,8 @@ withheld (Low bit) sent = None
 abbrev pub withheld_of : {B : Type 0} → SpoiltBus B → Option ℕ
 withheld_of bus = withheld (spoil_of bus) (succeeded_of bus)
 
--- the reply byte that the bus returns in place of `byte`, in the next transaction after `sent` that succeeded, if it is
--- passed on
+-- after `sent` transactions that succeeded: the reply byte that the bus returns in place of `byte` in the next
+-- transaction, if it passes this transaction on
 abbrev pub spoilt_byte : Spoil → ℕ → List ℕ → ℕ → ℕ
 spoilt_byte (Fill fill) sent out byte = byte
 spoilt_byte (BusyFrom first) sent out byte = if nat_le first (sent + 1) && is_poll out then bit_or byte 1 else byte

@@ -17,8 +17,8 @@ log_of traced = traced.log
 abbrev pub has_lost : {B L : Type 0} → TraceBus B L → Bool
 has_lost traced = traced.lost
 
--- the end of a line, for the bytes received: nothing if there are none, otherwise ` > ` and their hexadecimal digits
--- or, for more than three bytes, ` > `, their number and ` bytes`
+-- The end of a line: empty if no byte was received, otherwise ` > ` and the hexadecimal digits of the bytes received.
+-- If these are more than three, their number and ` bytes` replace the digits.
 abbrev pub reply_digits : List ℕ → List ℕ
 reply_digits answer =
     if length answer == 0 then []

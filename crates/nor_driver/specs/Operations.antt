@@ -71,10 +71,10 @@ pub record EndsWaiting (old new : BusState) (sent : ℕ) : Type 0 where
 abbrev pub operation_of : Chip → List ℕ → Command
 operation_of chip out = done_of (record chip { latch = true }) out 0
 
--- On an honest bus, at every exit of an operation of an idle chip. On a steady bus each byte is as before or as after
--- the operation; on any other bus each byte on which the operation works may have any value. The non-volatile bits are
--- those from before or after it. A chip that is still busy executes this operation. Only sectors that the operation
--- erases may be newly recorded as erased.
+-- The effect, on an honest bus and at every exit, of an operation of an idle chip. On a steady bus each byte is as
+-- before or as after the operation; on any other bus each byte on which the operation works may have any value. The
+-- non-volatile bits are those from before or after it. A chip that is still busy executes this operation. Only sectors
+-- that the operation erases may be newly recorded as erased.
 pub record MayOperate (command : Command) (sent : List ℕ) (old new : BusState) : Type 0 where
   pub config : new.chip.config ≡ old.chip.config
   pub bytes : ChangesOnly old.steady (is_in_work (running_after old.chip command))

@@ -20,8 +20,8 @@ fixed_of kept = (kept.one / 32, kept.two % 64)
 abbrev pub with_code : (code : ℕ) → KeptBits → KeptBits
 with_code code kept = record { one = 32 * (kept.one / 32) + code % 32; two = 64 * (code / 32) + kept.two % 64 }
 
--- true if the bytes `one` and `two` of a status write are `status` with the protection bits of `code`: the bits that
--- flashnor never changes are as in `status`, and BUSY, WEL and (for a code below 64) SUS are clear
+-- True if the bytes `one` and `two` of a status write are `status` with the protection bits of `code`. The bits that
+-- flashnor never changes are as in `status`. BUSY, WEL and (for a code below 64) SUS are clear.
 abbrev pub is_status_with_code : Status → (code one two : ℕ) → Bool
 is_status_with_code status code one two =
     one == 128 * (status.one.0 / 128) + 4 * (code % 32) && two == status.two.0 % 64 + 64 * (code / 32)

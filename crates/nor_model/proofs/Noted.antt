@@ -35,7 +35,7 @@ quiet_is opcode quiet P p3 p4 p5 p35 p4b p5a p9f =
 in_none : (s : ℕ) → is_in_targeted none_targeted s ≡ false
 in_none s = grind (arith, nat_tests)
 
--- a transaction targets no sector if its opcode targets none, with an address or without one
+-- if an opcode targets no sector with or without an address, neither does a transaction that begins with it
 targets_none : (opcode : ℕ) (rest : List ℕ) → bare_targeted opcode ≡ none_targeted
     → ((sector : ℕ) → addressed_targeted opcode sector ≡ none_targeted) → (s : ℕ) → targets (opcode ∷ rest) s ≡ false
 targets_none opcode [] bare at s = rw bare (in_none s)
@@ -50,8 +50,7 @@ writes_none opcode (x ∷ []) other one two = refl
 writes_none opcode (x ∷ y ∷ []) other one two = rw other refl
 writes_none opcode (x ∷ y ∷ z ∷ rest) other one two = refl
 
--- A transaction leaves what was sent as it was if its opcode is quiet, targets no sector, and is no opcode of a
--- modifying command.
+-- A transaction leaves what was sent as it was if its opcode is quiet, isn't modifying, and targets no sector.
 silent : (opcode : ℕ) (rest : List ℕ) (old : Sent) → bare_targeted opcode ≡ none_targeted
     → ((sector : ℕ) → addressed_targeted opcode sector ≡ none_targeted) → is_quiet_opcode opcode ≡ true
     → is_changing_opcode opcode ≡ false → (opcode == 0x01) ≡ false → (opcode == 0x02) ≡ false

@@ -15,8 +15,8 @@ pub record IsPart (size n : ℕ) : Type 0 where
   pub whole : n % 1024 ≡ 0
   pub sectors : size % 262144 ≡ 0 → n % 4096 ≡ 0
 
--- The length that `named_length` returns satisfies `IsPart`. The first two equations match `bp` 7, so that the third
--- one is checked for each value from 0 to 6.
+-- For a size that is a multiple of 64 KiB and at least that, the length that `named_length` returns satisfies `IsPart`.
+-- The first two equations are for `bp` 7, the third one is for all lesser values.
 part_of : (size : ℕ) (sectors : Bool) (bp : ℕ) → 65536 ≤ size → size % 65536 ≡ 0 → bp < 8
     → IsPart size (if bp == 0 then 0 else if bp == 7 then size else if not sectors then size / 2 ^ (7 - bp)
     else if bp == 1 then 4096 else if bp == 2 then 8192 else if bp == 3 then 16384 else 32768)

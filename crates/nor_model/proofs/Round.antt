@@ -20,7 +20,8 @@ run_round at done from n place within =
     let split : at + (done + (n - from)) ≡ 0 + n * ((at + done) / n + 1) = omega (arith, mod-add-div (at + done) n) in
     rw (split, add-mul-mod_self_left) (mod-eq_of_lt (omega arith))
 
--- `ys` is written to the list `xs` at index `a`: the items before `a` are as they were, and those from `a` on are `ys`.
+-- `ys` is written to the list `xs` at index `a`: the items before `a` are as they were, and the next ones are those of
+-- `ys`.
 pub written_before : (a : ℕ) (xs ys zs : List ℕ) (i : ℕ) → a ≤ length xs → i < a
     → slice_index (take a xs ++ (ys ++ zs)) i ≡ slice_index xs i
 written_before a xs ys zs i fits before =

@@ -21,7 +21,7 @@ carried-agrees x y _ same = cc
 pub done-agrees : (x y : Chip) (out : List ℕ) (replies : ℕ) → Agrees x y → done_of y out replies ≡ done_of x out replies
 done-agrees x y out replies same = cc (carried-agrees x y (command_of y.config out replies) same)
 
--- If no byte is sent and none is received, a chip that stays as it was has made one step. A bus that stops before the
--- first byte satisfies `AtStop` by this.
+-- If no byte is sent or received, a chip that stays as it was has made one step. A bus that stops before the first byte
+-- satisfies `AtStop` by this.
 pub nothing_sent : (chip : Chip) → Step chip [] [] chip
 nothing_sent chip = search arith

@@ -29,9 +29,9 @@ impl std::error::Error for Stopped {}
 /// sent the first bytes of the transaction (none, some or all) and have read bytes of the reply, which are lost. The
 /// chip may then have lost its power.
 ///
-/// A faulty bus, which isn't honest, may do anything else, but `nature` and `records` hold for every bus. No call
-/// changes whether a bus is honest, steady or unlimited. Every bus records each transaction with its reply, and
-/// `polled_ready` follows the replies to its polls.
+/// A faulty bus, which isn't honest, may do anything else, but `nature` and `records` hold for every bus. Neither
+/// `transfer` nor `allow` changes whether a bus is honest, steady or unlimited. Every bus records each transaction with
+/// its reply, and `polled_ready` follows the replies to its polls.
 pub trait Bus {
     ghost state: { Self → BusState };
 

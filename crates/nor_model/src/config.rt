@@ -51,7 +51,7 @@ impl Config {
     ghost use Rattle.nor_model.specs.Makers.{HasParts, IsEmulatedWith, IsTiny64, IsW25q64fv, IsW25q128fv};
 
     /// Returns a configuration with these properties and a unique ID of zeros; `sfdp` has the SFDP bytes from address
-    /// 0. It allocates no memory.
+    /// 0. The function allocates no memory.
     ///
     /// Returns `None` if the size is not a power of two from 65,536 to 16,777,216, or if there are more than 256 SFDP
     /// bytes.
@@ -139,7 +139,7 @@ fn sfdp_of(size: u32) -> [u8; 52]
     bytes
 }
 
-// Returns the SFDP bytes, padded with FFh to 256 bytes.
+// Returns the SFDP bytes, of which there must be at most 256, padded with FFh to 256 bytes.
 fn padded(sfdp: &[u8]) -> [u8; 256]
     requires { length sfdp.now ≤ 256 }
     ensures { result ≡ sfdp.now ++ replicate (256 - length sfdp.now) 255 }
