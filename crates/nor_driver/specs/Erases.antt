@@ -71,9 +71,9 @@ pub record HasErased (erase : Erase) (old new : BusState) : Type 0 where
   pub worn : (s : ℕ) → new.worn s ≡ (old.worn s || is_sector_in_block erase old.chip s)
   pub latch : new.chip.latch ≡ false
 
--- The effect of an erase at every exit. On an honest bus: if `CanErase` holds, the chip takes the erase, and `MayErase`
--- holds; if the block lies on the chip and `takes_erase` is false, the chip ignores the erase, and `KeepsChip` holds.
--- In all other cases nothing is stated about the chip.
+-- The effect of an erase at every exit. On an honest bus: if `CanErase` holds, the chip can carry the erase out, and
+-- `MayErase` holds; if the block lies on the chip and `takes_erase` is false, the chip would ignore the erase, and
+-- `KeepsChip` holds. In all other cases only the number of transactions is limited.
 pub record LeavesErase (erase : Erase) (old new : BusState) : Type 0 where
   pub stirs : Stirs (erasing (is_sector_named erase) 1) old new
   pub falls : old.honest ≡ true → Falls most_operation old new

@@ -93,7 +93,7 @@ pub record HasOperated (command : Command) (sent : List ℕ) (old new : BusState
   pub latch : new.chip.latch ≡ false
 
 -- The state that an operation leaves at every exit: `Stirs` on every bus. On an honest bus at most 65,538 transactions
--- were carried out; `MayOperate` holds if the chip carries the operation out, and `KeepsChip` if it ignores the
+-- were carried out; `MayOperate` holds if the chip can carry the operation out, and `KeepsChip` if it would ignore the
 -- operation.
 pub record LeavesOperation (out : List ℕ) (old new : BusState) : Type 0 where
   pub stirs : Stirs (limits_of out) old new

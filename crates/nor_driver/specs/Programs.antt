@@ -53,9 +53,9 @@ pub record HasProgrammed (at : ℕ) (sent : List ℕ) (old new : BusState) : Typ
   pub worn : (s : ℕ) → new.worn s ≡ old.worn s
   pub latch : new.chip.latch ≡ false
 
--- The effect of a program at every exit. On an honest bus: if `CanProgram` holds, the chip takes the program, and
--- `MayProgram` holds; if `at` is on the chip and `takes_program` is false, the chip ignores the program, and
--- `KeepsChip` holds. In all other cases nothing is stated about the chip.
+-- The effect of a program at every exit. On an honest bus: if `CanProgram` holds, the chip can carry the program out,
+-- and `MayProgram` holds; if `at` is on the chip and `takes_program` is false, the chip would ignore the program, and
+-- `KeepsChip` holds. In all other cases only the number of transactions is limited.
 pub record LeavesProgram (at : ℕ) (sent : List ℕ) (old new : BusState) : Type 0 where
   pub stirs : Stirs (programming (is_sector_of at) 1) old new
   pub falls : old.honest ≡ true → Falls most_operation old new
