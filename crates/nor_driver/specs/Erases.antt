@@ -71,9 +71,9 @@ pub record HasErased (erase : Erase) (old new : BusState) : Type 0 where
   pub worn : (s : ℕ) → new.worn s ≡ (old.worn s || is_sector_in_block erase old.chip s)
   pub latch : new.chip.latch ≡ false
 
--- The effect of an erase at every exit. On an honest bus: if `CanErase` holds, the chip can carry the erase out, and
--- `MayErase` holds; if the block lies on the chip and `takes_erase` is false, the chip would ignore the erase, and
--- `KeepsChip` holds. In all other cases only the number of transactions is limited.
+-- The effect of an erase at every exit: `Stirs` on every bus, and `Falls` on an honest one. On an honest bus, if
+-- `CanErase` holds, the chip can carry the erase out, and `MayErase` holds. On an honest bus, if the block lies on the
+-- chip and `takes_erase` is false, the chip would ignore the erase, and `KeepsChip` holds.
 pub record LeavesErase (erase : Erase) (old new : BusState) : Type 0 where
   pub stirs : Stirs (erasing (is_sector_named erase) 1) old new
   pub falls : old.honest ≡ true → Falls most_operation old new

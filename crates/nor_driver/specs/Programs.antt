@@ -53,9 +53,9 @@ pub record HasProgrammed (at : ℕ) (sent : List ℕ) (old new : BusState) : Typ
   pub worn : (s : ℕ) → new.worn s ≡ old.worn s
   pub latch : new.chip.latch ≡ false
 
--- The effect of a program at every exit. On an honest bus: if `CanProgram` holds, the chip can carry the program out,
--- and `MayProgram` holds; if `at` is on the chip and `takes_program` is false, the chip would ignore the program, and
--- `KeepsChip` holds. In all other cases only the number of transactions is limited.
+-- The effect of a program at every exit: `Stirs` on every bus, and `Falls` on an honest one. On an honest bus, if
+-- `CanProgram` holds, the chip can carry the program out, and `MayProgram` holds. On an honest bus, if `at` is on the
+-- chip and `takes_program` is false, the chip would ignore the program, and `KeepsChip` holds.
 pub record LeavesProgram (at : ℕ) (sent : List ℕ) (old new : BusState) : Type 0 where
   pub stirs : Stirs (programming (is_sector_of at) 1) old new
   pub falls : old.honest ≡ true → Falls most_operation old new

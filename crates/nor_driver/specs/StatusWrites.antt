@@ -55,9 +55,9 @@ pub record HasWrittenStatus (code : ℕ) (old new : BusState) : Type 0 where
   pub worn : (s : ℕ) → new.worn s ≡ old.worn s
   pub latch : new.chip.latch ≡ false
 
--- The effect of a status write at every exit. On an honest bus: if `CanWriteStatus` holds, the chip can carry the write
--- out, and `MayWriteStatus` holds; if `takes_status` is false, the chip would ignore the write, and `KeepsChip` holds.
--- In all other cases only the number of transactions is limited.
+-- The effect of a status write at every exit: `Stirs` on every bus, and `Falls` on an honest one. On an honest bus, if
+-- `CanWriteStatus` holds, the chip can carry the write out, and `MayWriteStatus` holds. On an honest bus, if
+-- `takes_status` is false, the chip would ignore the write, and `KeepsChip` holds.
 pub record LeavesStatusWrite (status : Status) (code : ℕ) (old new : BusState) : Type 0 where
   pub stirs : Stirs (writing (is_status_with_code status code) 1) old new
   pub falls : old.honest ≡ true → Falls most_operation old new
