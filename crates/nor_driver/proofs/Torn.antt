@@ -82,7 +82,7 @@ enable_stays old new stops = elim (still_or_torn _ old new stops.at_stop) [
 
 -- ---- a reading
 
--- a command that begins no operation and does not set the write enable latch
+-- true if the command begins no operation and does not set the write enable latch
 abbrev pub is_quiet : Command → Bool
 is_quiet WriteEnable = false
 is_quiet (WriteStatus one two) = false
