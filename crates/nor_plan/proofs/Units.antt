@@ -56,8 +56,8 @@ first_of-holds total Block64 s below = (omega arith, omega arith)
 first_of-holds total Chip s below = (omega arith, omega arith)
 
 module _ (whole : Bool) (kinds : Kinds) (set : ℕ → Bool) where
-  -- the erase block that holds the sector is fit: the chip has it, and it lies in the set; the block of 4 KiB is always
-  -- fit
+  -- the erase block that holds the sector is fit. A block of 32 or 64 KiB is fit if the chip has its erase type and it
+  -- lies in the set, the chip if `whole` is set, and the block of 4 KiB always.
   abbrev pub is_fit : ℕ → EraseBlock → Bool
   is_fit s Sector = true
   is_fit s Block32 = kinds.k32 && holds_block set 8 s
@@ -98,7 +98,7 @@ module _ (whole : Bool) (kinds : Kinds) (set : ℕ → Bool) where
       rw (largest.0, wide, largest.1, same, largest.2)
   planned_block-first s Sector largest = rw (largest.0, largest.1, largest.2)
 
-  -- a fit block begins at the sector, if the largest fit one may begin there
+  -- each fit block that holds a sector begins there, if the largest fit one may begin there
   pub larger_begins : (s : ℕ) (unit largest : EraseBlock) → is_fit s unit ≡ true → IsLargest s largest
       → is_aligned largest s ≡ true → first_of unit s ≡ s
   larger_begins s Sector _ fit is aligned = refl

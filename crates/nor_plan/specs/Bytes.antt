@@ -9,7 +9,7 @@ AllAgree a b = EachIndex a (λ k. slice_index a k ≡ slice_index b k)
 abbrev pub AgreeWithin : (a b : List ℕ) → (from to : ℕ) → Type 0
 AgreeWithin a b from to = (k : ℕ) → from ≤ k → k < to → slice_index a k ≡ slice_index b k
 
--- the bytes at this position differ
+-- the position is in the slices, and their bytes at it differ
 abbrev pub DifferAt : (a b : List ℕ) → ℕ → Type 0
 DifferAt a b k = (k < length a) × (slice_index a k ≢ slice_index b k)
 
