@@ -22,8 +22,8 @@ pub record RepliedSfdp (history : List Exchange) (header first table : List ℕ)
   pub read_first : Answered (names 0x5A 8) at_header at_first first
   pub read_table : Answered (names 0x5A (pointer_in first)) at_first history table
 
--- The type is the one that these SFDP bytes give (`sfdp_says`). Three transactions in a row read the bytes; other
--- transactions may have followed.
+-- The type is the one that SFDP bytes of this history give (`sfdp_says`). Three transactions in a row read these bytes;
+-- other transactions may have followed.
 pub record IsTypeBySfdp (history : List Exchange) (part : Part) : Type 0 where
   pub read : List Exchange
   pub later : Continues read history

@@ -39,7 +39,7 @@ abbrev pub name_or : (unlisted : ChipName) → Option Part → ChipName
 name_or unlisted (Some part) = part.name
 name_or unlisted None = unlisted
 
--- the name that a text spells
+-- the name that a text spells: that of a row of the table, or `Sfdp` for "SFDP"; `Other` for any other text
 abbrev pub name_of : List ℕ → ChipName
 name_of text = name_or (if bytes_eq text (codes "SFDP") then Sfdp else Other) (part_with_name text)
 
