@@ -10,7 +10,8 @@ use Rattle.nor_layout.specs.Ranges.{is_in_span, contains, AreDisjoint}
 use Rattle.nor_layout.specs.Sectors.{includes, sectors_included, has_in_sector, ReachesPast}
 use Rattle.nor_geometry.proofs.Below.{same_tests, any_below-some, any_below-found, count_below-most}
 
--- if each span that passes the test has an address of the kind, and some span passes, the set has such an address
+-- if each span that passes the test has an address for which `Kind` holds, and some span of the set passes, the set has
+-- an address for which `Kind` holds
 any_span : (test : Span → Bool) (Kind : ℕ → Type 0)
     → ((span : Span) → span.first ≤ span.last → test span ≡ true → (a : ℕ) × Kind a × (is_in_span span a ≡ true))
     → (spans : List Span) → AreDisjoint spans → list_any test spans ≡ true → (a : ℕ) × Kind a × (contains spans a ≡ true)

@@ -31,7 +31,7 @@ further : (low span : Span) (spans : List Span) → low.first ≤ low.last → l
     → AreDisjoint (span ∷ spans) → AreDisjoint (low ∷ spans)
 further low span spans forward lt apart = grind arith
 
--- adding a span above `low` keeps the spans apart from `low`
+-- if the spans after `low` are apart from it, they are still so after a span that is apart above `low` is added
 apart_behind : (low new : Span) (spans : List Span) → low.last + 1 < new.first → new.first ≤ new.last
     → AreDisjoint (low ∷ spans) → AreDisjoint (low ∷ merged new spans)
 unfolding merged

@@ -36,6 +36,7 @@ pub record IsSetOf (spans set : List Span) : Type 0 where
   pub ranges : AreRanges set
   pub same : (address : ℕ) → contains set address ≡ contains spans address
 
--- True if no set can be made: a span ends before it begins, or no set of at most 64 spans has exactly the addresses.
+-- True if no set can be made of the spans: one of them ends before it begins, or no valid set (`AreRanges`) has exactly
+-- their addresses.
 abbrev pub MakeNoSet : List Span → Type 0
 MakeNoSet spans = (has_backwards spans ≡ true) ⊎ ((set : List Span) → ¬ IsSetOf spans set)
