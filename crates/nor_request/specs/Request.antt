@@ -37,8 +37,8 @@ wanted request image chip a =
 abbrev pub scanned_sectors : Request → (size : ℕ) → ℕ
 scanned_sectors request size = if is_data request.what then sectors_included request.included size else 0
 
--- The target protection bits: for a protection range the least value that protects exactly this range, else the chip's
--- own.
+-- The target protection bits: for a protection range the least defined value that protects exactly this range, else the
+-- chip's own.
 abbrev pub IsWantedCode : What → Chip → (code : ℕ) → Type 0
 IsWantedCode (WpRange start len) chip code = IsLeastCode chip.config.size start len code
 IsWantedCode _ chip code = code ≡ code_of chip.kept
