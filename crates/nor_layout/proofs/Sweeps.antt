@@ -1,4 +1,5 @@
--- Spans with at least one address between each two (`AreDisjoint`) are the fewest such spans with their addresses.
+-- A list of disjoint spans (`AreDisjoint`) that has exactly the addresses of another such list within a range isn't
+-- longer than the other list.
 use Rattle.std.proofs.Common.{◌≡◌, ℕ, ◌+◌, ◌<◌, ◌≤◌, true, ◌&&◌, ltb, List, [], ◌∷◌, length, inl, inr, arith}
 use Rattle.std.proofs.lemmas.Bool.{false≢true, or_cases}
 use Rattle.std.proofs.lemmas.Bool.Decides.{nat_tests}

@@ -133,7 +133,7 @@ reads_taken text result reads regions is =
 pub length-lines_of : (text : List ℕ) → length (lines_of text) ≤ length text + 1
 length-lines_of text = omega (arith, length-slice_split (λ b. eqb b 10) text, count_by-le-length (λ b. eqb b 10) text)
 
--- after these n lines, without a fault, the regions are `regions`, and reading continues with line n + 1 for all lines
+-- the first n lines, `lines`, have no fault and define `regions`, and reading continues with line n + 1, for all lines
 -- that may follow
 abbrev pub Gives : List (List ℕ) → ℕ → List Region → Type 0
 Gives lines n regions = (after : List (List ℕ)) → lines_say [] 1 (lines ++ after) ≡ lines_say regions (n + 1) after

@@ -22,7 +22,8 @@ abbrev pub AreDisjoint : List Span → Type 0
 AreDisjoint [] = ⊤
 AreDisjoint (span ∷ spans) = (span.first ≤ span.last) × IsApartFrom span spans × AreDisjoint spans
 
--- the invariant of `Ranges`: at most 64 spans, in ascending order, with at least one address between each two
+-- the invariant of `Ranges`: at most 64 spans, none of which ends before it begins, in ascending order, with at least
+-- one address between each two
 pub record AreRanges (spans : List Span) : Type 0 where
   pub few : length spans ≤ 64
   pub apart : AreDisjoint spans

@@ -69,7 +69,7 @@ pub record IsCounted (old : BusState) (probed : Probed) : Type 0 where
 
 -- On a well-behaved bus (`honest`): the chip found is what the chip shows about itself, the chip is idle, and the
 -- status is the chip's. The chip's bytes, non-volatile status bits and erased sectors are unchanged. The probe sent the
--- transactions that the chip needs, and the write enable latch is as the end of the operation in progress leaves it.
+-- transactions that the chip needs. The write enable latch is unchanged if the chip was idle, and otherwise clear.
 pub record Finds (old new : BusState) (found : Found) : Type 0 where
   pub rested : Rested old new
   pub part : shown_as old.chip.config ≡ Ok (part_in found)

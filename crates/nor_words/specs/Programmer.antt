@@ -9,7 +9,7 @@ use Rattle.nor_words.specs.declared.programmer.Programmer.{Programmer}
 use Rattle.nor_words.specs.Numbers.{byte_number, decimal_number, polls_of, unique_number}
 use Rattle.nor_words.specs.Text.{Text, pieces_of, key_of, value_of, reads}
 
--- Holds for the configuration of this emulated chip.
+-- Holds for the configuration of this emulated chip with a unique ID of zeros.
 abbrev pub IsConfigOfEmulated : Emulated → Config → Type 0
 IsConfigOfEmulated chip = IsMadeOf chip.part
 
