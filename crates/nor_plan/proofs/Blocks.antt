@@ -103,8 +103,8 @@ module _ (a b : List ℕ) where
       → AgreeWithin a b at (at + count)
   ShowsDifferences-none at count xs errors none = errors.none (λ i lane. omega (arith, none, lane_le 0 xs i))
 
-  -- for a vector that shows the differences of at least the first `end` bytes: if the OR of its lanes isn't 0, some
-  -- byte of the slices differs; if the OR is 0, none of the first `end` bytes differs
+  -- The vector shows the differences of at least the first `end` bytes. If the OR of its lanes isn't 0, some byte of
+  -- the slices differs; if the OR is 0, none of the first `end` bytes differs.
   pub ShowsDifferences-tested : (count end : ℕ) (xs : List ℕ) → ShowsDifferences a b 0 count xs → end ≤ count
       → MatchBool (not (nat_eq (fold_l bit_or 0 xs) 0)) (SomeDiffer a b) (AgreeWithin a b 0 end)
   ShowsDifferences-tested count end xs errors within =

@@ -8,7 +8,8 @@ use Rattle.nor_request.specs.declared.request.Request.{Request}
 use Rattle.nor_request.specs.declared.request.What.{What}
 use Rattle.nor_request.specs.declared.request.What.TheVariants.{Write, WpRange}
 
--- the request without any further condition: the whole chip, of any name, without unlock, and nothing read back
+-- the request for this change on a chip of any name: each address is included, and the session neither lifts protection
+-- nor reads anything back
 abbrev pub plain : What → Request
 plain wish = record { what = wish; named = None; included = None; unlock = false; verify = false }
 

@@ -42,7 +42,7 @@ not-there : {T : Type 0} (f : Text → Option T) (text : Option Text) → is_no 
 not-there f None sound none = refl
 not-there f (Some x) sound none = let bad = rw none at sound in cc
 
--- if `Sound` holds, options that have no `-w`, no `-E` and no parsed range ask for no change
+-- if `Sound` holds, the options ask for a change only if they have `-w`, `-E` or a parsed range
 pub no_change-wanted : (given : Texts) → Sound given → is_new_content given ≡ false
     → option_and_then range_of given.wp_range ≡ None → asks_change given ≡ false
 no_change-wanted given sound same none = rw (same, not-there range_of given.wp_range sound.range none) refl
@@ -51,7 +51,7 @@ no-use : (change : Bool) → not (nat_eq 0 (cond change 1 0)) ≡ false → chan
 no-use true h = cc
 no-use false h = refl
 
--- if `Sound` holds, options that have no journal and no parsed stops ask for no change
+-- if `Sound` holds, the options ask for a change only if they have a journal or parsed stops
 no_change-kept : (given : Texts) → Sound given → given.journal ≡ None → option_and_then stops_of given.rehearse ≡ None
     → asks_change given ≡ false
 no_change-kept given sound journal none =

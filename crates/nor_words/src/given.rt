@@ -292,7 +292,7 @@ impl<'a> Given<'a> {
         })
     }
 
-    // Returns the target of a change, or `None` if the options have no `-w`, no `-E` and no range.
+    // Returns the target of a change, or `None` if the options have neither `-w` nor `-E`, and `range` is `None`.
     fn wanted(&self, range: Option<(u32, u32)>) -> Option<Wanted<'a>>
         requires { option_and_then range_of (texts_of self.now).wp_range ≡ range }
         ensures { MatchOption result ((is_new_content (texts_of self.now) ≡ false) × (range ≡ None))

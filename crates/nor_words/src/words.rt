@@ -25,8 +25,8 @@ pub enum UsageFault {
     TwoOperations,
     /// 5: the value of `--wp-range` isn't a start and a length.
     Range,
-    /// 6: `-w`, `-E` or `--wp-range` without exactly one of `--journal` and `--rehearse`, or one of these two without
-    /// such an operation.
+    /// 6: `-w`, `-E` or `--wp-range` without exactly one of `--journal` and `--rehearse`, or any other arguments with
+    /// `--journal` or `--rehearse`.
     Journal,
     /// 7: `-l` or `-i` without the other, or with an operation that takes no regions.
     Layout,
