@@ -20,7 +20,8 @@ abbrev pub ends : List ℕ → Option PageSpan
 ends [] = None
 ends (k ∷ ks) = Some (record { first = k; last = last_of k ks })
 
--- the span of a page: its first and its last differing byte; the last page may be shorter than 256 bytes
+-- the span of a page: its first and its last differing byte, or `None` if no byte differs; the last page may be shorter
+-- than 256 bytes
 abbrev pub page_span : (old target : List ℕ) → ℕ → Option PageSpan
 page_span old target page = ends (differences old target (page * 256) (min 256 (length old - page * 256)))
 
@@ -41,7 +42,7 @@ abbrev pub spans_of : (old target : List ℕ) → List PageSpan
 spans_of old target = spans_from old target 0
 
 -- `head` is the first span of page `page` or a later one, and the page at or after which the other spans lie; `None` if
--- there are none
+-- these pages have no span
 abbrev pub HeadsSpans : (old target : List ℕ) → ℕ → Option (PageSpan × ℕ) → Type 0
 HeadsSpans old target page head =
     MatchOption head (spans_from old target page ≡ [])

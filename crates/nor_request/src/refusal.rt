@@ -28,7 +28,7 @@ pub enum Refusal {
     NoProtection,
     /// 7: the datasheets don't define which range the chip's protection bits select.
     UndefinedProtection,
-    /// 8: no setting of the protection bits protects exactly the requested range.
+    /// 8: no setting of the protection bits that the datasheets define protects exactly the requested range.
     RangeNotOffered,
     /// 9: the status registers must be written, and they are locked (SRP0 or SRP1 is set).
     StatusLocked,

@@ -17,14 +17,14 @@ pub enum What {
     WpRange { start: u32, len: u32 },
 }
 
-/// A request for a session. `write`, `erase` and `protect` construct one, and the other methods add conditions:
-/// `Request::write().named(ChipName::W25Q64FV).verified()`.
+/// A request for a session. `write`, `erase` and `protect` construct one; `named`, `included`, `unlocked` and
+/// `verified` add conditions. An example is `Request::write().named(ChipName::W25Q64FV).verified()`.
 #[derive(Clone, Debug, Drop)]
 pub struct Request {
     pub what: What,
     /// The name that the chip must have, or `None` for any chip.
     pub named: Option<ChipName>,
-    /// The addresses that may change, or `None` for the whole chip. It is ignored for a protection range.
+    /// The addresses whose bytes may change, or `None` for the whole chip. A protection range ignores this field.
     pub included: Option<Ranges>,
     /// Whether protection that is in the way of a change is lifted, and set again at the end.
     pub unlock: bool,
