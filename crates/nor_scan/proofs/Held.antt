@@ -1,4 +1,5 @@
--- The protection bits that an identification read are those of each chip with this identification.
+-- Each chip with an identification has the protection bits that the identification read. Its status is locked if and
+-- only if the status that was read is.
 use Rattle.std.proofs.Common.{◌≡◌, ◌∷◌, [], ℕ, ◌/◌, arith}
 use Rattle.std.proofs.lemmas.Bool.Decides.{nat_tests}
 use Rattle.nor_model.specs.Chip.{Chip, KeptBits, is_locked, kept_in}
