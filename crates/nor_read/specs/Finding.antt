@@ -24,16 +24,17 @@ abbrev pub most_status : ℕ
 most_status = 65541
 
 -- Describes the chip that was found. On every bus it is a row of the table or was found by SFDP, and has the requested
--- name. On a well-behaved bus it is what the chip's replies show; on a modelled bus it has the chip's configuration.
+-- name, if any. On a well-behaved bus it is what the chip's replies show; on a modelled bus it has the chip's
+-- configuration.
 pub record IsFound (named : Option ChipName) (old : BusState) (found : Found) : Type 0 where
   pub part : IsPart found
   pub has_name : IsWanted named found.name
   pub shown : old.honest ≡ true → shown_as old.chip.config ≡ Ok (part_in found)
   pub config : IsModelled old → IsConfigOf old.chip.config found
 
--- Holds after the probe found a chip: its last poll showed ready, and it counted at most 65,540 transactions. On a
--- well-behaved bus contents and non-volatile status bits are as before (`Rested`), the chip is idle, status 1 is the
--- chip's own, and the transactions sent were counted exactly.
+-- Holds after the probe found a chip (`IsFound`): its last poll showed ready, and it counted at most 65,540
+-- transactions. On a well-behaved bus contents and non-volatile status bits are as before (`Rested`), the chip is idle,
+-- status 1 is the chip's own, and the transactions sent were counted exactly.
 pub record HasFound (named : Option ChipName) (old new : BusState) (probed : Probed) : Type 0 where
   pub is : IsFound named old probed.found
   pub most : probed.transactions ≤ most_probe
@@ -46,12 +47,12 @@ pub record HasFound (named : Option ChipName) (old new : BusState) (probed : Pro
 
 -- ---- checks of the chip that was found
 
--- Holds if the chip has the requested name, and some included address is past its end.
+-- Holds if the chip has the requested name, if any, and some included address is past its end.
 pub record IsPassed (named : Option ChipName) (included : Option (List Span)) (config : Config) : Type 0 where
   pub is : IsNamed named config
   pub past : ReachesPast included config.size
 
--- Holds if the chip has the requested name and all included addresses.
+-- Holds if the chip has the requested name, if any, and all included addresses.
 pub record IsTaken (named : Option ChipName) (included : Option (List Span)) (config : Config) : Type 0 where
   pub is : IsNamed named config
   pub fits : FitsInto included config.size
@@ -64,7 +65,7 @@ most_read size = most_probe + size / 4096
 
 -- ---- the report
 
--- Describes the report of a call on every bus: it has a chip with the requested name, and counts no change.
+-- Describes the report of a call on every bus: it has a chip with the requested name, if any, and counts no change.
 pub record ReportsPart (named : Option ChipName) (report : Report) : Type 0 where
   -- The chip is a row of the table or was found by SFDP.
   pub part : IsPart report.found
