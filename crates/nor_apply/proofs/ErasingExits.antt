@@ -31,8 +31,8 @@ use Rattle.nor_apply.proofs.InTurn.{Listed, listed_none, listed_halted, listed_m
 use Rattle.nor_apply.proofs.Changing.{can_after, change_then, HasMade, changed_of, made_may, made_none, made_same, made_then}
 use Rattle.nor_apply.proofs.Targeting.{unit_aims}
 
--- Holds for an erase of the plan: it lies in the set of sectors and covers at least one of them, on a chip of `total`
--- sectors.
+-- Holds for an erase of the plan on a chip of `total` sectors: it is one that the chip offers (`IsErase`), erases at
+-- least one sector, and erases only sectors of the set.
 record IsOfPlan (kinds : Kinds) (total : ℕ) (set : ℕ → Bool) (unit : Erase) : Type 0 where
   pub is : IsErase kinds total unit
   pub some : 1 ≤ sectors_in total unit.unit

@@ -93,7 +93,7 @@ module _ {sector : ℕ} {old wanted : List ℕ} {span : PageSpan} (spanned : Spa
 
   module _ (spans : List PageSpan) {first now : BusState} (can : CanProgramSpans sector old wanted first.chip)
       (filled : HasFilled sector wanted spans first now) where
-    -- the chip can program the span
+    -- After the programs of other spans the chip can program this span, if `CanProgramSpans` held at the start.
     can_span : CanProgram (4096 * sector + span.first) (length (part wanted span)) now.chip
     can_span =
         let able = can_after now.chip (λ s is. is) can.can filled.config filled.kept filled.idle in

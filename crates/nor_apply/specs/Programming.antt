@@ -104,7 +104,8 @@ pub record DoesSector (sector : ℕ) (wanted : List ℕ) (erased : Bool) (old ne
 
 -- ---- all touched sectors
 
--- Holds if the touched sectors can be changed, those that were erased are blank, and no bit must go from 0 to 1.
+-- Holds if the touched sectors can be changed, the raised ones among them are blank, since they were erased, and no bit
+-- of a touched sector must go from 0 to 1.
 pub record CanProgramAll (touched raised : ℕ → Bool) (wanted : ℕ → ℕ) (chip : Chip) : Type 0 where
   pub can : CanChange touched chip
   pub blank : (a : ℕ) → touched (a / 4096) ≡ true → raised (a / 4096) ≡ true → chip.bytes a ≡ 255

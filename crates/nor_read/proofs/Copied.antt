@@ -50,8 +50,8 @@ copied_none included size state vault = record {
   };
 }
 
--- `CopiesIf` holds for `k` more bytes after the vault accepted them. If `known` holds, they are the next bytes of the
--- copy.
+-- `CopiesIf` holds for `k` more bytes after the vault accepted them, provided that they are the next bytes of the copy
+-- if `known` holds.
 module _ {known : Type 0} {included : Option (List Span)} {content : ℕ → ℕ} {m : ℕ} {vault mid new : VaultState} where
   copies_more : (k count : ℕ) (part : List ℕ) → m + k ≡ count → CopiesIf known included content m vault mid
       → length part ≡ k → new.bytes ≡ mid.bytes ++ part

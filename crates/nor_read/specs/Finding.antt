@@ -81,7 +81,7 @@ pub record ReportsPart (named : Option ChipName) (report : Report) : Type 0 wher
 -- Describes, on a well-behaved bus, the report of a call that read `reads` sectors: it has what the chip's replies
 -- show, and contents and non-volatile status bits are as before the call.
 pub record ReportsReads (reads : ℕ) (old new : BusState) (report : Report) : Type 0 where
-  -- The chip is the one that its replies show.
+  -- The reported chip type is the one that the chip shows (`shown_as`).
   pub shown : shown_as old.chip.config ≡ Ok (part_in report.found)
   -- Contents and non-volatile status bits are as before.
   pub rested : Rested old new

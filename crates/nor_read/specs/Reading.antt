@@ -167,14 +167,15 @@ pub record BreaksCopy (included : Option (List Span)) (size written : ℕ) (old 
   pub took : TakesPart written vault vault'
   pub copy : IsOpen size old → vault.telling ≡ true → Copies included old.chip.bytes written vault vault'
 
--- The meaning of an error of the copy. After a stop the vault has refused nothing.
+-- The meaning of an error of the copy. After a stop the vault has refused nothing, and on a well-behaved bus fewer
+-- transactions were left than the chip has sectors. After error 19 `BreaksCopy` holds.
 abbrev pub CopyErrors : Option (List Span) → ℕ → (old new : BusState) → (vault vault' : VaultState) → Refusal → Type 0
 CopyErrors included size old new vault vault' Stopped = HasStopped (size / 4096) old new × Accepted vault vault'
 CopyErrors included size old new vault vault' (Output written) = BreaksCopy included size written old new vault vault'
 CopyErrors included size old new vault vault' _ = ⊥
 
--- The meaning of an error when a piece is appended. `written` counts the bytes of the earlier pieces and those that the
--- vault accepted of this one.
+-- The meaning of an error when a piece is appended. `written` counts the bytes of the earlier pieces, 65,536 each, and
+-- those that the vault accepted of this piece.
 abbrev pub PutErrors : ℕ → List ℕ → (old new : VaultState) → Refusal → Type 0
 PutErrors piece bytes old new (Output written) =
     (kept : ℕ) × (written ≡ 65536 * piece + kept) × PutRefused old bytes kept new

@@ -65,8 +65,8 @@ ScanJudges request code touched chip (Protected address) =
     (request.unlock ≡ false) × (sector : ℕ) × (address ≡ 4096 * sector) × IsLeastProtected touched chip sector
 ScanJudges request code touched chip _ = ⊥
 
--- Holds if no error of the check after the scan applies, and protection is lifted only if the request allows it and a
--- touched sector is protected.
+-- Holds if the status isn't locked or needs no write, and protection is lifted only if the request allows it and a
+-- touched sector is protected. If protection isn't lifted, no touched sector is protected.
 pub record ScanPasses (request : Request) (code : ℕ) (touched : ℕ → Bool) (chip : Chip) (unlock : Bool) : Type 0 where
   pub lifts : unlock ≡ true → (request.unlock ≡ true) × SomeProtected touched chip
   pub free : unlock ≡ false → NoneProtected touched chip

@@ -31,7 +31,9 @@ use Rattle.nor_model.proofs.Sizes.{is_chip_size-in_blocks}
 use Rattle.nor_layout.specs.declared.ranges.Span.{Span}
 use borrow.Rule.Slice.PartMut.{put_mid}
 
--- Holds if the sectors below `n` were scanned, and no byte of the image from sector `n` on was changed.
+-- Holds if the sectors below `n` were scanned, and no byte of the image from sector `n` on was changed. On a
+-- well-behaved bus whose chip was idle at the start and has this size, the marks are right, and the image's touched
+-- sectors have the target bytes.
 pub record HasScanned (request : Request) (size n : ℕ) (image image' : List ℕ) (old new : BusState)
     (scanned : Scanned) : Type 0 where
   pub marks : AreMarks n scanned
