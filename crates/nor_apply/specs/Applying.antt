@@ -108,7 +108,7 @@ pub record LeavesApply (changes : Changes) (wanted : ℕ → ℕ) (old new : Bus
       → MayChange (touched_in changes) (raised_in changes) wanted old new
 
 -- Holds if `apply` returned the counts `work`. On every bus it sent exactly these numbers of erases and page programs,
--- and the status writes that the changes need; if no sector is touched and no status write is needed, it sent no
+-- and the status writes that the changes need. If the changes touch no sector and need no status write, it sent no
 -- modifying command. The number of erases is that of the plan. On a well-behaved bus, if `CanApply` held at the start,
 -- the changes are complete, and one program was sent for each page of a touched sector that differed from the target
 -- after the erases.

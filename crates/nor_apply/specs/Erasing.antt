@@ -18,7 +18,7 @@ pub record CanEraseAll (sectors : ℕ → Bool) (kinds : Kinds) (size : ℕ) (ch
 
 -- Holds at every exit of the erases. On every bus they are at most one per sector, and target only these sectors, or if
 -- these are the whole chip, also sectors past its end. On a well-behaved bus at most 65,538 transactions per sector are
--- carried out, and if `CanEraseAll` held at the start, the chip changes only as `MayChange` allows: the bytes of these
+-- carried out. If also `CanEraseAll` held at the start, the chip changes only as `MayChange` allows: the bytes of these
 -- sectors may have any value.
 pub record LeavesErases (sectors : ℕ → Bool) (kinds : Kinds) (size : ℕ) (old new : BusState) : Type 0 where
   pub spends : Spends (most_operation * sector_count sectors) old new

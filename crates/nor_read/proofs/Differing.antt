@@ -73,7 +73,7 @@ module _ (included : Option (List Span)) (image : List ℕ) (sector : ℕ) (byte
 adds_none : (history : List Exchange) → AddsSectorReads history history
 adds_none history = record { later = []; is = refl; each = All-nil IsSectorRead }
 
--- A sector without an included address isn't read, and counts as one without a difference.
+-- For a sector without an included address, `ComparesPart` holds although nothing was sent.
 pub part_skipped : (included : Option (List Span)) (image : List ℕ) (sector : ℕ) (returned : Bool) (state : BusState)
     → returned ≡ false → returned ≡ has_in_sector (includes included) sector
     → MatchBool returned (SomeInSector (includes included) sector) (NoneInSector (includes included) sector)

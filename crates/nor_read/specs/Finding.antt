@@ -1,5 +1,5 @@
--- What the calls share that only read: the chip that was found, the checks of it, the bounds on the transactions, the
--- report of `read_out` and `verify`, and the errors.
+-- The parts that the calls of this crate share: the chip that was found, the checks of it, the bounds on the
+-- transactions, the report of `read_out` and `verify`, and the errors.
 use Rattle.std.specs.Prelude.{◌≡◌, ◌≤◌, ◌+◌, ◌/◌, ℕ, true, Option, Ok, List, ⊤}
 use Rattle.nor_model.specs.declared.config.Config.{Config}
 use Rattle.nor_model.specs.Chip.{status1_of}
@@ -105,8 +105,8 @@ IsFindRefusal Stopped = ⊤
 IsFindRefusal (Timeout address) = address ≡ 0
 IsFindRefusal _ = ⊥
 
--- The meaning of errors on a well-behaved bus. Errors 1 to 3 mean what `ProbeErrors` says about the chip; a stop means
--- that fewer than `most` transactions were left; there is no timeout. After any error except a stop, contents and
+-- The meaning of errors on a well-behaved bus. Errors 1 to 3 mean what `ProbeErrors` says about the chip. A stop means
+-- that fewer than `most` transactions were left, and there is no timeout. After any error except a stop, contents and
 -- non-volatile status bits are as before.
 abbrev pub ReadingErrors : ℕ → Option ChipName → (old new : BusState) → Refusal → Type 0
 ReadingErrors most named old new NoChip = ProbeErrors named old new Probes.NoChip

@@ -20,8 +20,8 @@ pub record IsProtectedRange (chip : Chip) (start len : ℕ) : Type 0 where
   pub exactly : (a : ℕ) → (is_protected chip a ≡ true) ↔ ((start ≤ a) × (a < start + len))
   pub plain : len ≡ 0 → start ≡ 0
 
--- Holds if the report matches a chip with block protection: its protected range, or `None` if its protection bits are
--- undefined; whether its status is locked; and its size.
+-- Holds if the report matches a chip with block protection. It has the chip's protected range (`None` if the chip's
+-- protection bits are undefined), whether the status is locked, and the chip's size.
 pub record IsProtection (chip : Chip) (protection : Protection) : Type 0 where
   pub scheme : chip.config.scheme ≡ true
   pub guarded : MatchOption protection.range (is_undefined (code_of chip.kept) ≡ true)

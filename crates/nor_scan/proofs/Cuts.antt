@@ -1,4 +1,4 @@
--- What a writer was given for a chip's journal (the header and records), and the prefix of the journal that a `telling`
+-- The header and records that a writer was given for a chip's journal, and the prefix of the journal that a `telling`
 -- vault has after an error.
 use Rattle.std.proofs.Common.{◌≡◌, ◌∙◌, ℕ, true, ◌*◌, ◌/◌, ◌%◌, ◌<◌, List, [], refl, ap, sym, arith, ◌≤◌, ◌+◌}
 use Rattle.std.proofs.Common.{◌&&◌, Bool, length, subst}

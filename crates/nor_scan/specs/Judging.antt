@@ -76,8 +76,8 @@ FindsNeed request identity is_touched_protected code needed = (chip : Chip) (tou
     → MatchBool needed (NeedsStatus request.what request.unlock code touched chip)
     (¬ NeedsStatus request.what request.unlock code touched chip)
 
--- Holds if the promise is true for each chip and image with three properties: the chip has this identification, the
--- request touches exactly these sectors of it, and `IdentityAccepts` holds for the request with these protection bits.
+-- Holds if the promise is true for each chip and image with three properties. The chip has this identification,
+-- `IdentityAccepts` holds with these protection bits, and the request touches exactly these sectors of the chip.
 abbrev pub OfTouched : Request → Identity → ℕ → (ℕ → Bool) → (List ℕ → Chip → Type 0) → Type 0
 OfTouched request identity code touched promise = (chip : Chip) (image : List ℕ) → IsIdentityOf chip identity
     → IdentityAccepts request image chip code

@@ -20,13 +20,13 @@ use Rattle.nor_request.specs.declared.request.Request.{Request}
 use Rattle.nor_scan.specs.declared.scanning.Scanned.{Scanned}
 use Rattle.nor_request.specs.Request.{target, is_requested, scanned_sectors}
 
--- the target byte at an address of a chip with this size and content: the image's byte (for a write) or FFh (for an
--- erase) at an address that the request may change, else the byte of `content`
+-- The target byte at an address of a chip with this size and content. At an address that the request may change it is
+-- the image's byte (for a write) or FFh (for an erase), at any other the byte of `content`.
 abbrev pub wanted_at : Request → (image : List ℕ) → (size : ℕ) → (content : ℕ → ℕ) → (a : ℕ) → ℕ
 wanted_at request image size content a = if is_requested request size a then target request.what image a else content a
 
--- Holds if the sector was added to the touched and the raised sectors as its plan says, and both counts follow: the
--- number of reads is one higher, and that of touched sectors one higher if the plan is touched.
+-- Holds if the sector was added to the touched and the raised sectors as its plan says. The number of reads is one
+-- higher, and so is the number of touched sectors if the plan is touched.
 pub record HasMarked (sector : ℕ) (plan : SectorPlan) (old new : Scanned) : Type 0 where
   pub touched : (s : ℕ) → has new.touched s ≡ ((plan.touched && (s == sector)) || has old.touched s)
   pub raised : (s : ℕ) → has new.raised s ≡ ((plan.raised && (s == sector)) || has old.raised s)

@@ -23,7 +23,7 @@ use nor_request::{Refusal, Request, What};
 /// Returns the error with the lowest number that applies:
 ///
 /// - For a write or an erase: 4 (the image isn't as long as the chip), 5 (an included address isn't on the chip) or 7
-///   (the chip has block protection, and its protection bits are undefined).
+///   (undefined protection bits on a chip with block protection).
 /// - For a protection range: 6 (the chip has no block protection), 7, or 8 (no defined protection bits select exactly
 ///   this range).
 #[tactic(auto, using(crate::proofs::Held::code_same, crate::proofs::OneVerdict::opening_judged, crate::proofs::OneVerdict::opening_accepted))]
@@ -91,9 +91,9 @@ pub fn first_protected(touched: &SectorSet, identity: &Identity) -> Option<u32>
     None
 }
 
-// Returns true if the status registers must be written: for a protection range, if the target protection bits `code`
-// differ from those that were read; for a write or an erase, if `unlock` is set and a touched sector is protected
-// (`is_touched_protected`).
+// Returns true if the status registers must be written. For a protection range they must be if the target protection
+// bits `code` differ from those that were read. For a write or an erase they must be if `unlock` is set and a touched
+// sector is protected (`is_touched_protected`).
 fn needs_status(
     request: &Request,
     identity: &Identity,

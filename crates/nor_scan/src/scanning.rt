@@ -22,8 +22,8 @@ use nor_model::{Bus, Stopped};
 use nor_plan::{Plan, SectorPlan, SectorSet};
 use nor_request::{Refusal, Request, What};
 
-/// The result of a scan: the touched sectors, in which some byte differs from the target; the raised sectors, which
-/// must be erased; how many sectors are touched; and how many were read.
+/// The result of a scan: the touched sectors, in which some byte differs from the target, and the raised sectors, which
+/// must be erased. `count` is the number of touched sectors, `reads` that of sectors that were read.
 #[derive(Clone, Copy)]
 pub struct Scanned {
     pub touched: SectorSet,
