@@ -145,8 +145,8 @@ made_same {w = w} {old = old} same spared has =
     let worn = λ (s : ℕ). has.worn s ∙ ap (λ (b : Bool). old.worn s || b) (spared s) in
     assumption
 
--- `HasMade` holds for two successive parts together if the target bytes of the second, `v`, equal those of the whole,
--- `w`, at the second part's addresses.
+-- `HasMade` holds for two successive parts together, with the addresses and the erased sectors of both. The target
+-- bytes of the second, `v`, must equal those of the whole, `w`, at the second part's addresses.
 pub made_then : {p q t e f g : ℕ → Bool} {v w : ℕ → ℕ} {old mid new : BusState} → ((a : ℕ) → t a ≡ (p a || q a))
     → ((s : ℕ) → g s ≡ (e s || f s)) → ((a : ℕ) → q a ≡ true → v a ≡ w a)
     → HasMade p w e old mid → HasMade q v f mid new → HasMade t w g old new

@@ -123,7 +123,7 @@ module _ {sector : ℕ} {old wanted : List ℕ} {span : PageSpan} (spanned : Spa
         (can.falls (a - 4096 * sector) (omega arith)) in
         rw sent (fallen (either_byte (in_spans sector spans a) (filled.bytes a)) falls)
 
-    -- the program gives the span's addresses the target bytes
+    -- The program gives the span's addresses the target bytes, and leaves all other bytes as they were.
     span_bytes : (a : ℕ) → programmed (4096 * sector + span.first) (part wanted span) now.chip.bytes a
         ≡ (if in_spans sector (span ∷ []) a then byte_of sector wanted a else now.chip.bytes a)
     span_bytes a = rw (sent_places a) (elim (cases_Bool (in_spans sector (span ∷ []) a)) [

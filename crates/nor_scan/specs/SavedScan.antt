@@ -41,7 +41,8 @@ pub record IsJournalOf (head : Content) (sectors : ℕ → Bool) (bytes : List �
   pub head_same : SameHeader head content
   pub saved : (s : ℕ) → is_saved content s ≡ sectors s
 
--- Holds if a vault that is sealed and `telling` has the encoding of a journal. `save` promises this on every bus.
+-- Holds if the vault has the encoding of a journal, provided that it is sealed and `telling`. `save` promises this on
+-- every bus.
 abbrev pub HoldsJournal : VaultState → Type 0
 HoldsJournal vault = vault.sealed ≡ true → vault.telling ≡ true → IsJournal vault.bytes
 
