@@ -69,7 +69,9 @@ pub record SoFar (changes : Changes) (wanted bytes : ℕ → ℕ) (worn : ℕ �
       → MayChange (touched_in changes) (raised_in changes) wanted old now
   pub stands : old.honest ≡ true → CanApply changes wanted old.chip → Stands bytes worn code old now
 
--- Holds at every exit of one part of the changes, which led from `mid` to `new`. All changes began at `old`.
+-- Holds at every exit of one part of the changes, which led from `mid` to `new`, if all changes began at `old`. The
+-- part spends at most `most` transactions and sends only what `limits` allow. On a well-behaved bus, if `CanApply` held
+-- at the start of all changes, the part changed the chip only as `MayChange` allows.
 pub record Leaves (changes : Changes) (wanted : ℕ → ℕ) (most : ℕ) (limits : Limits) (old mid new : BusState) : Type 0
   where
     pub spends : Spends most mid new
@@ -77,7 +79,8 @@ pub record Leaves (changes : Changes) (wanted : ℕ → ℕ) (most : ℕ) (limit
     pub may : old.honest ≡ true → CanApply changes wanted old.chip
         → MayChange (touched_in changes) (raised_in changes) wanted mid new
 
--- Holds if all changes end with this error because one part returned it.
+-- Holds if what `apply` ensures for this error is true: what it leaves, how many transactions it took, and the address
+-- that the error names.
 abbrev pub Halted : (changes : Changes) (wanted : ℕ → ℕ) (old new : BusState) → OperationError → Type 0
 Halted changes wanted old new halt =
     LeavesApply changes wanted old new × OperationFails (most_applied (sector_count (touched_in changes))) old new halt
@@ -124,7 +127,7 @@ module _ {changes : Changes} {wanted bytes : ℕ → ℕ} {worn : ℕ → Bool} 
           stands = stands;
         }
 
-  -- the part is a status write
+  -- For a part that is a status write.
   module _ {needed : Bool} {code' : ℕ} {new : BusState}
       (writable : needed ≡ true → CanApply changes wanted old.chip → is_writable old.chip ≡ true)
       (leaves : LeavesCode changes.status code' needed mid new) where
@@ -157,7 +160,8 @@ module _ {changes : Changes} {wanted bytes : ℕ → ℕ} {worn : ℕ → Bool} 
         (λ honest can.
         stands_code can (λ writes. writable writes can) (so.stands honest can) (now_honest honest) leaves does)
 
--- a timeout names 0 for a status write, or an address in a touched sector
+-- For a status write, `NamesChange` follows from `FailsWriting`, if the changes need a status write whenever this part
+-- sends one.
 pub names_writing : (changes : Changes) (needed : Bool) (halt : OperationError) → (needed ≡ true → 1 ≤ status_writes changes)
     → FailsWriting needed halt → NamesChange changes halt
 names_writing changes needed halt counts returned = grind arith

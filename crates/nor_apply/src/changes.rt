@@ -59,7 +59,8 @@ pub struct Work {
 /// `source` must have every touched sector, and `changes.code` must be below 64. On any bus, erases and programs target
 /// only touched sectors; if these are the whole chip, they may target addresses past its end, too.
 ///
-/// On a well-behaved bus, after success the changes are complete if `CanApply` held for the chip at the start:
+/// On a well-behaved bus, after success the changes are complete if `CanApply` held at the start. Besides the
+/// conditions above and target bytes below 256, `CanApply` requires:
 ///
 /// - The chip is idle, and has the size, the erase types and the status that `changes` names.
 /// - If a status write is needed, the chip has block protection and its status isn't locked.

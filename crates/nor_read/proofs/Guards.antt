@@ -32,7 +32,7 @@ lock_read : (one two : ℕ) (kept : KeptBits) → one / 4 ≡ kept.one → two �
     → is_locked (kept_in (one ∷ two ∷ [])) ≡ is_locked kept
 lock_read one two kept low high = grind (arith, nat_tests)
 
--- Status 1 of an idle chip, without its two lowest bits BUSY and WEL, has the chip's non-volatile bits.
+-- Status 1 of an idle chip, without its two lowest bits BUSY and WEL, has the chip's non-volatile bits of status 1.
 kept1_read : (old mid : Chip) (one : ℕ) → one ≡ status1_of mid → IsSame old mid → mid.busy ≡ 0 → one / 4 ≡ old.kept.one
 kept1_read old mid one is same idle = let kept = ap (λ (bits : KeptBits). bits.one) same.kept in grind (arith, nat_tests)
 

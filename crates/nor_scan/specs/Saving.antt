@@ -11,7 +11,8 @@ use Rattle.nor_scan.specs.declared.identity.Identity.{Identity}
 use Rattle.nor_request.specs.declared.request.What.{What}
 use Rattle.nor_request.specs.declared.request.What.TheVariants.{WpRange}
 
--- Holds if the identification has the configuration, the non-volatile status bits and the unique ID of the chip.
+-- Holds if the chip is known (`IsKnown`), and the identification has its ID, size, erase types, block protection,
+-- non-volatile status bits and unique ID.
 pub record IsIdentityOf (chip : Chip) (identity : Identity) : Type 0 where
   pub config : IsConfigOf chip.config identity.found
   pub one : identity.found.status1 / 4 ≡ chip.kept.one
