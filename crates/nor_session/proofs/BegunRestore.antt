@@ -15,7 +15,6 @@ use Rattle.nor_session.specs.Headline.{CanRestore, open_addresses}
 use Rattle.nor_session.specs.Session.{HoldsBegun}
 use Rattle.nor_session.proofs.RestoresOriginal.{saves_chip}
 
--- the proof of the law `begun_restores_original`
 pub begun_back : (request : Request) (image : List ℕ) (old new : BusState) (bytes : List ℕ) (journal : Content) → IsModelled old → IsChip old.chip → HoldsBegun request image old.chip bytes
     → IsContent journal → bytes ≡ text journal → IsSame old.chip new.chip → new.chip.busy ≡ 0 → CanRestore journal old.chip new
 begun_back request image old new bytes journal modelled chip (inl none) is read same idle = absurd (never_empty journal (sym read ∙ none))

@@ -29,7 +29,7 @@ use Rattle.nor_session.proofs.RehearsedRestores.{modelled_at, no_halt, allowed_f
 
 -- ---- the session
 
--- an error of the session other than a stop is an error that `RehearsalErrors` allows
+-- on a modelled bus, an error of the session other than a stop is an error that `RehearsalErrors` allows
 returned : (request : Request) (image : List ℕ) (old new : BusState) (before after : VaultState) (refusal : Refusal) → (refusal ≡ Stopped → ⊥)
     → SessionErrors request image old new before after refusal → RehearsalErrors request image old.chip before after refusal
 returned request image old new before after Vault never errors = errors

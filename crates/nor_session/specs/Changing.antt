@@ -78,8 +78,8 @@ pub record LeavesChange (changes : Changes) (wanted : ℕ → ℕ) (old new : Bu
 
 -- Holds after the changes and their check succeeded, with the counts of `work`. If there was nothing to change, no
 -- modifying command was sent. On a well-behaved bus, if `CanApply` held at the start, all changes were made
--- (`HasApplied`). If `verify` is set, and the chip of a well-behaved bus was idle with the touched sectors on it
--- (`CanCheck`), each byte of a touched sector is the target one, even if the chip ignored commands.
+-- (`HasApplied`). If `verify` is set there, and the chip was idle with the touched sectors on it (`CanCheck`), each
+-- byte of a touched sector is the target one, even if the chip ignored commands.
 pub record DoesChange (changes : Changes) (wanted : ℕ → ℕ) (verify : Bool) (old new : BusState)
     (work : Work) : Type 0 where
   pub erases : work.erases ≡ fewest_erases changes.kinds (changes.size / 4096) (raised_in changes)

@@ -80,8 +80,8 @@ abbrev pub ShowsFixed : Content → Identity → Bool → Type 0
 ShowsFixed journal identity shown = (chip : Chip) → chip.kept.two < 128 → IsIdentityOf chip identity
     → MatchBool shown (FitsStatus journal chip) (¬ FitsStatus journal chip)
 
--- Holds if acceptance is right: if the check accepts the unique ID and status bits, the journal fits each chip that has
--- this identification and the journal's ID and size, and whose status 2 bits are in range.
+-- Holds if acceptance is right: if the check accepts the unique ID and status bits, the journal fits the chip. This
+-- holds for each chip that has this identification and the journal's ID and size, and whose status 2 bits are in range.
 abbrev pub AcceptsDevice : Content → Identity → Result Unit Refusal → Type 0
 AcceptsDevice journal identity judged = (chip : Chip) → chip.kept.two < 128 → IsIdentityOf chip identity
     → IsOfType journal chip.config → OnOk judged (FitsJournal journal chip)
@@ -123,9 +123,9 @@ pub record PlansSaved (sector : ℕ) (saved bytes : List ℕ) (old new : BusStat
   pub planned : (content wanted : ℕ → ℕ) → AreBytesOf content bytes → AreBytesOf wanted saved
       → IsPlan content wanted 4096 plan
 
--- Holds after each saved sector was read once. Only saved sectors are marked. On a well-behaved bus with an idle chip
--- of the journal's size, a sector is marked as touched if a byte differs from the saved one, and as raised if a bit
--- must go from 0 to 1.
+-- Holds after each saved sector was read once. Only saved sectors are marked. The marks are right on a well-behaved bus
+-- with an idle chip of the journal's size: touched if a byte differs from the saved one, raised if a bit must go from 0
+-- to 1.
 pub record ScansSaved (journal : Content) (old new : BusState) (scanned : Scanned) : Type 0 where
   pub marks : AreMarks (journal.size / 4096) scanned
   pub saved : (s : ℕ) → has scanned.touched s ≡ true → is_saved journal s ≡ true

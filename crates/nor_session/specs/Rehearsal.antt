@@ -122,8 +122,8 @@ pub record RehearsalAlways (request : Request) (stops : List ℕ) (old new : Bus
   -- whether the bus is well-behaved, steady and unlimited is as before; on a well-behaved bus, so is the configuration
   -- of its chip
   pub nature : SameNature old new
-  -- after success the allowances that were set are one for the session and one for each restore: exactly the stops in
-  -- turn and, for a call without a stop, the bound for a session on a chip of 16 MiB
+  -- after success one allowance was set for the session, and one for each restore; they are the stops in turn and, for
+  -- a call without a stop, the bound for a session on a chip of 16 MiB (`allowances_of`)
   pub allowed : IfOk result (λ r. new.allowances ≡ allowances_of stops (1 + r.restores) ++ old.allowances)
   -- after an error the allowances that were set are those of the session and of the restores that were run
   -- (`AllowsStops`); there were at most as many restores as there are stops, or one without stops

@@ -106,10 +106,10 @@ HasFixedRead journal identity = fixed_of (kept_in (status_read identity)) ≡ fi
 abbrev pub HasUniqueRead : Content → Identity → Type 0
 HasUniqueRead journal identity = (journal.unique ≡ None) ⊎ (journal.unique ≡ Some identity.unique)
 
--- Holds if the journal fits what the bus replied to a restore's identification. The values compared are the ID, the
--- size (of the table's row of that ID or, without a row, of the SFDP replies), the unique ID (a journal of format 1 has
--- none), and the status bits that flashnor never changes. `read` is the history of the bus at some point of the
--- restore; the proof gives the history after the identification.
+-- Holds if the journal fits what the bus replied to a restore's identification: the ID, the size, the unique ID (a
+-- journal of format 1 has none), and the status bits that flashnor never changes. The size is that of the table's row
+-- of the ID or, without a row, of the SFDP replies. `read` is the history of the bus at some point of the restore; the
+-- proof gives the history after the identification.
 pub record FitsReplies (journal : Content) (old new : BusState) : Type 0 where
   pub read : List Exchange
   pub before : Continues old.history read

@@ -200,9 +200,9 @@ HoldsBegun request image chip bytes = (bytes ≡ [])
     × IsJournalPrefix (header_of chip) chip.bytes (is_touched chip.bytes (wanted request image chip)) bytes)
 
 -- Holds if a journal has the last replies of the bus before the seal. Its header has the ID, the unique ID and the
--- non-volatile status bits that the bus replied, and the size in the table's row of that ID or, without a row, the one
--- that the SFDP replies give. Each record has the bytes of the last reply to a read of its sector. `at_seal` is the
--- history of the bus at some point of the session; the proof gives the history at the seal.
+-- non-volatile status bits that the bus replied. The size in the header is that of the table's row of the ID or,
+-- without a row, of the SFDP replies. Each record has the bytes of the last reply to a read of its sector. `at_seal` is
+-- the history of the bus at some point of the session; the proof gives the history at the seal.
 pub record IsJournalOfReplies (old new : BusState) (bytes : List ℕ) : Type 0 where
   pub at_seal : List Exchange
   pub before : Continues old.history at_seal
@@ -223,8 +223,8 @@ pub record SessionAlways (request : Request) (old new : BusState) (vault vault' 
   pub only_reads : vault'.sealed ≡ false → OnlyReads (most_reads 4096) old new
   -- at every exit on a well-behaved bus, the transactions that were sent are within the bound for the largest chip
   pub spends : Spends (most_of 4096) old new
-  -- at every exit on every bus, no more erases and page programs were sent than the largest chip has sectors and pages,
-  -- and a transaction that is unknown to the model only if one had been sent before (`SendsFew`)
+  -- at every exit on every bus, no more erases and page programs were sent than the largest chip has sectors and pages;
+  -- `SendsFew` also limits unknown transactions
   pub few : SendsFew old new
   -- at every exit the status was written no more often than the request may need
   pub writes : WritesStatusAtMost (most_status_writes request.what request.unlock) old new
