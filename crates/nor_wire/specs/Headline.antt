@@ -34,8 +34,8 @@ pub record CanRestoreChipFrom (bytes : List ℕ) (first chip : Chip) : Type 0 wh
   pub journal : IsJournal bytes
   pub back : CanRestoreChip journal.content first chip
 
--- Holds if fewer than three calls of the port were left for each of this number of transactions. A transaction takes
--- three calls.
+-- Holds if fewer calls of the port were left than three for each of the given number of transactions. A transaction
+-- takes three calls.
 abbrev pub HadFewCalls : (transactions : ℕ) → PortState → Type 0
 HadFewCalls transactions port = port.left < 3 * transactions
 
