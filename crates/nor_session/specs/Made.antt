@@ -22,8 +22,9 @@ abbrev pub pages_of : (old wanted : ℕ → ℕ) → ℕ
 pages_of old wanted =
     count_below 65536 (is_programmed (is_touched old wanted) (once_erased (is_raised old wanted) old) wanted)
 
--- Holds if the chip has the target bytes, the status bits that flashnor never changes are as they were, and the chip is
--- idle. The write enable latch is set only if it was set before.
+-- Holds if the chip has the target bytes and is idle, and its configuration and the status bits that flashnor never
+-- changes are as they were. The write enable latch is set only if it was set before. Nothing is said about the
+-- protection bits.
 pub record IsTargetChip (wanted : ℕ → ℕ) (old new : Chip) : Type 0 where
   pub config : new.config ≡ old.config
   pub bytes : (a : ℕ) → new.bytes a ≡ wanted a

@@ -119,13 +119,14 @@ IsRehearsedCode what journal code = IsWrittenCode what journal code ⊎ IsSavedC
 -- The promises of a rehearsal on every bus.
 pub record RehearsalAlways (request : Request) (stops : List ℕ) (old new : BusState) (vault vault' : VaultState)
     (result : Result Rehearsal Refusal) : Type 0 where
-  -- whether the bus is well-behaved, steady and unlimited is as before
+  -- whether the bus is well-behaved, steady and unlimited is as before; on a well-behaved bus, so is the configuration
+  -- of its chip
   pub nature : SameNature old new
-  -- after success the allowances that were set are one for the session and one for each restore: exactly the stops in
-  -- turn and, for a call without a stop, the bound for a session on a chip of 16 MiB
+  -- after success one allowance was set for the session, and one for each restore; they are the stops in turn and, for
+  -- a call without a stop, the bound for a session on a chip of 16 MiB (`allowances_of`)
   pub allowed : IfOk result (λ r. new.allowances ≡ allowances_of stops (1 + r.restores) ++ old.allowances)
-  -- after an error the same holds for the session and the restores that were run; there were at most as many restores
-  -- as there are stops, or one without stops
+  -- after an error the allowances that were set are those of the session and of the restores that were run
+  -- (`AllowsStops`); there were at most as many restores as there are stops, or one without stops
   pub tried : OnErr result (AllowsStops stops 1 (1 + max 1 (length stops)) old new)
   -- a successful result fits the vault and the stops
   pub counts : IfOk result (IsRehearsal (length stops) vault')
@@ -176,7 +177,8 @@ pub record RehearsalModelled (request : Request) (image stops : List ℕ) (old n
   pub restores : IfOk result (λ rehearsal. rehearsal.sealed ≡ true
       → AreRestores (sector_count (is_touched old.chip.bytes (wanted request image old.chip))) (drop 1 stops)
       rehearsal.restores)
-  -- at the end, if no restore was run, or if session and first restore ended, the latch is set only if it was before
+  -- after success, if no restore was run, or if the session and the first restore ended, the write enable latch is set
+  -- only if it was set before
   pub latch : IfOk result (λ r. r.restores ≤ (if r.ended then 1 else 0) → new.chip.latch ≡ true → old.chip.latch ≡ true)
   -- the stop of the last restore, if it had one, fits the transactions that are left (`FitsLastStop`)
   pub last : IfOk result (λ rehearsal. rehearsal.sealed ≡ true

@@ -40,9 +40,9 @@ pub record CanUndo (saved : ℕ → Bool) (first : Chip) (text : List ℕ) (stat
   pub free : is_locked first.kept ≡ true → NoneProtected saved first
   pub within : IsWithin (addresses_of saved) first state
 
--- Holds at every exit of the session. On every bus, no modifying command was sent if the vault isn't sealed, and a
--- sealed vault holds a journal that all that was sent fits (`SendsSaved`). The status was written no more often than
--- the request may need. On a modelled bus, only touched sectors were erased. On a modelled bus with a sealed vault, the
+-- Holds at every exit of the session. On every bus, no modifying command was sent if the vault isn't sealed, and all
+-- that was sent fits the journal in a sealed vault (`SendsSaved`). The status was written no more often than the
+-- request may need. On a modelled bus, only touched sectors were erased. On a modelled bus with a sealed vault, the
 -- request is accepted, and the vault's bytes can restore the original chip. On a modelled bus with an unsealed vault,
 -- the latch is set only if it was set before; if this bus is steady or its chip was idle, bytes and non-volatile bits
 -- are as they were.
@@ -95,8 +95,8 @@ pub record RefusesSession (request : Request) (image : List ℕ) (old new : BusS
 -- ---- the restores
 
 -- Holds at every exit of `restores` restores. On a modelled bus: the bus stays modelled, the journal can still restore
--- each chip that it could restore before, and only saved sectors were erased. On every bus: only saved sectors were
--- targeted, or sectors past the end of a chip saved whole, and each restore wrote the status at most twice.
+-- each chip that it could restore before, and only saved sectors were erased. On every bus: all that was sent fits the
+-- journal (`SendsSaved`), and at most `2 * restores` status writes were sent.
 pub record LeavesRestores (journal : Content) (restores : ℕ) (old new : BusState) : Type 0 where
   pub nature : SameNature old new
   pub modelled : IsModelled old → IsModelled new
@@ -130,8 +130,8 @@ pub record RunsRestores (journal : Content) (stops : List ℕ) (old new : BusSta
   pub back : IsModelled old → (first : Chip) → CanRestore journal first old → IsSame first new.chip
 
 -- Holds if a restore returned this error. On a modelled bus that never occurs for a chip that the journal can restore.
--- On a well-behaved bus the error is neither a stop nor a timeout, since a journal has no more sectors than the largest
--- chip. On every bus the last transaction is as `EndsAtError` says.
+-- On a well-behaved bus, if the journal has at most 4,096 sectors, the error is neither a stop nor a timeout. On every
+-- bus the last transaction is as `EndsAtError` says.
 pub record StopsRestores (journal : Content) (old new : BusState) (refusal : Refusal) : Type 0 where
   pub answers : IsRestoreRefusal refusal
   pub last_transaction : EndsAtError refusal new.history
@@ -155,7 +155,8 @@ pub record Undoes (text : List ℕ) (stops : List ℕ) (old new : BusState) (res
   pub last : IsModelled old → (saved : ℕ → Bool) (first : Chip) → CanUndo saved first text old
       → FitsLastStop (sector_count saved) stops new.left restores
 
--- Holds if, on a modelled bus and if the bytes can restore the original chip, only sectors that they save were erased.
+-- Holds if only sectors that the bytes save were erased, on a modelled bus and if the bytes can restore the original
+-- chip (`CanUndo`).
 abbrev pub WearsSaved : List ℕ → (old new : BusState) → Type 0
 WearsSaved text old new = IsModelled old → (saved : ℕ → Bool) (first : Chip) → CanUndo saved first text old
     → (s : ℕ) → saved s ≡ false → new.worn s ≡ old.worn s
@@ -177,14 +178,15 @@ pub record RefusesUndo (text : List ℕ) (old new : BusState) (refusal : Refusal
 
 -- The effect of restores from these bytes with these stops, at every exit.
 pub record LeavesUndo (text stops : List ℕ) (old new : BusState) (result : Result ℕ Refusal) : Type 0 where
-  -- whether the bus is well-behaved, steady and unlimited is as before
+  -- whether the bus is well-behaved, steady and unlimited is as before; on a well-behaved bus, so is the configuration
+  -- of its chip
   pub nature : SameNature old new
   -- at every exit on a modelled bus, if the bytes can restore the original chip, only sectors that they save were
   -- erased
   pub wears : WearsSaved text old new
   -- if the bytes are a journal, all that was sent fits it (`SendsSaved`)
   pub sends : SendsFromJournal text (length stops + 1) old new
-  -- each restore wrote the status at most twice, and at most one ran without a stop
+  -- at every exit at most two status writes were sent for each stop, and two more for a restore without a stop
   pub writes : WritesStatusAtMost (2 * (length stops + 1)) old new
   -- if the restores ended on a modelled bus, and the bytes could restore the original chip, they restored it
   pub undoes : IfOk result (Undoes text stops old new)

@@ -80,7 +80,7 @@ abbrev pub index_in : List ℕ → ℕ → ℕ
 index_in [] n = 0
 index_in (first ∷ later) n = if first == n then 0 else 1 + index_in later n
 
--- Holds if the error is the verdict: it applies, and none that is checked before it does.
+-- Holds if the error is the verdict: it applies, and no error that is checked before it does.
 pub record IsRestoreVerdict (journal : Content) (chip : Chip) (refusal : Refusal) : Type 0 where
   pub holds : RestoreHolds journal chip refusal
   pub first : (other : Refusal)
@@ -106,9 +106,10 @@ HasFixedRead journal identity = fixed_of (kept_in (status_read identity)) ≡ fi
 abbrev pub HasUniqueRead : Content → Identity → Type 0
 HasUniqueRead journal identity = (journal.unique ≡ None) ⊎ (journal.unique ≡ Some identity.unique)
 
--- Holds if the journal fits what the bus replied to a restore's identification: the ID, the size (of the table's row of
--- that ID or, without a row, of the SFDP replies), the unique ID (a journal of format 1 has none), and the status bits
--- that flashnor never changes. `read` is the history of the bus after the identification.
+-- Holds if the journal fits what the bus replied to a restore's identification: the ID, the size, the unique ID (a
+-- journal of format 1 has none), and the status bits that flashnor never changes. The size is that of the table's row
+-- of the ID or, without a row, of the SFDP replies. `read` is the history of the bus at some point of the restore; the
+-- proof gives the history after the identification.
 pub record FitsReplies (journal : Content) (old new : BusState) : Type 0 where
   pub read : List Exchange
   pub before : Continues old.history read
@@ -127,8 +128,8 @@ IsRestoreRefusal refusal = list_any (λ n. refusal_number refusal == n) (12 ∷ 
 
 -- ---- on a modelled bus
 
--- Holds on a modelled bus: the error is the verdict; or the bus stopped, and fewer transactions were left at the start
--- than the bound.
+-- Holds if the error is the verdict; or 12, and fewer transactions were left at the start than the bound. A restore
+-- promises this on a modelled bus.
 abbrev pub RestoreErrors : Content → (old new : BusState) → Refusal → Type 0
 RestoreErrors journal old new Stopped = RanOut (most_of (length journal.saved)) old new
 RestoreErrors journal old new refusal = IsRestoreVerdict journal old.chip refusal
@@ -155,7 +156,7 @@ pub record IsRestored (journal : Content) (old new : BusState) (report : Report)
 
 -- The promises of a restore on every bus.
 pub record RestoreAlways (journal : Content) (old new : BusState) (result : Result Report Refusal) : Type 0 where
-  -- at every exit on a well-behaved bus, the transactions that were sent are within the bound for this number of
+  -- at every exit on a well-behaved bus, the transactions that were sent are within the bound for the number of saved
   -- sectors
   pub spends : Spends (most_of (length journal.saved)) old new
   -- at every exit all that was sent fits the journal (`SendsSaved`)

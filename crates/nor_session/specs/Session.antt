@@ -76,13 +76,13 @@ pub record IsPastChipEnd (journal : Content) (sector : ℕ) : Type 0 where
   pub whole : (s : ℕ) → s < journal.size / 4096 → is_saved journal s ≡ true
   pub behind : journal.size / 4096 ≤ sector
 
--- Holds for the protection bits of the chip that the journal saves, and for 0 (all clear).
+-- Holds for the protection bits that the journal saves, and for 0 (all clear).
 abbrev pub IsSavedCode : Content → (code : ℕ) → Type 0
 IsSavedCode journal code = (code ≡ 0) ⊎ (code ≡ code_of (kept_in journal.status))
 
--- Holds for the protection bits that a session may write. For a protection range these are the least defined value that
--- protects exactly this range on a chip of the journal's size. For a write or an erase they are 0 (to lift protection),
--- or those that the journal saves.
+-- Holds for the protection bits that a session may write. For a protection range it is the least defined value that
+-- protects exactly this range on a chip of the journal's size. For a write or an erase it is 0 (to lift protection), or
+-- the value that the journal saves.
 abbrev pub IsWrittenCode : What → Content → (code : ℕ) → Type 0
 IsWrittenCode (WpRange start len) journal code = IsLeastCode journal.size start len code
 IsWrittenCode _ journal code = IsSavedCode journal code
@@ -98,8 +98,8 @@ pub record WritesOnly (IsCode : (code : ℕ) → Type 0) (journal : Content) (on
 -- What was sent that may modify a chip, by a number of calls with the same journal. Each sector that was targeted is
 -- one that had been targeted before, or that the journal saves, or it lies past the end of a chip that the journal
 -- saves whole. All calls together sent, for each call and saved sector, at most one erase and sixteen page programs.
--- Each status write has bytes that had been written before, or is as `WritesOnly` says. No transaction that is unknown
--- to the model was sent.
+-- Each status write has bytes that had been written before, or is as `WritesOnly` says. A transaction that is unknown
+-- to the model was sent only if one had been sent before.
 pub record SendsSaved (IsCode : ℕ → Type 0) (calls : ℕ) (journal : Content) (old new : BusState) : Type 0 where
   pub targeted : (s : ℕ) → (is_targeted new.sent s ≡ is_targeted old.sent s)
       ⊎ ((is_saved journal s ≡ true) ⊎ IsPastChipEnd journal s)
@@ -109,8 +109,8 @@ pub record SendsSaved (IsCode : ℕ → Type 0) (calls : ℕ) (journal : Content
   pub programs : programs_of new.sent ≤ programs_of old.sent + calls * (16 * sector_count (is_saved journal))
   pub unknown : has_unknown new.sent ≡ has_unknown old.sent
 
--- Holds if no more erases and page programs were sent than the largest chip has sectors and pages, and no transaction
--- that is unknown to the model.
+-- Holds if no more erases and page programs were sent than the largest chip has sectors and pages. A transaction that
+-- is unknown to the model was sent only if one had been sent before.
 pub record SendsFew (old new : BusState) : Type 0 where
   pub erases : erases_of new.sent ≤ erases_of old.sent + 4096
   pub programs : programs_of new.sent ≤ programs_of old.sent + 65536
@@ -160,8 +160,8 @@ HonestErrors most IsEarly old new refusal = IsEarly refusal → IsSame old.chip 
 
 -- ---- on a modelled bus
 
--- Holds on a modelled bus: the error is the verdict on the request; or the vault failed; or the bus stopped, and fewer
--- transactions were left at the start than the bound.
+-- Holds if the error is the verdict on the request; or 11, and the vault failed; or 12, and fewer transactions were
+-- left at the start than the bound. A session promises this on a modelled bus.
 abbrev pub SessionErrors : Request → List ℕ → (old new : BusState) → (vault vault' : VaultState) → Refusal → Type 0
 SessionErrors request image old new vault vault' Vault = CountsRefusal vault vault'
 SessionErrors request image old new vault vault' Stopped = RanOut (most_of (old.chip.config.size / 4096)) old new
@@ -179,9 +179,9 @@ pub record IsDone (request : Request) (image : List ℕ) (old new : BusState) (r
 
 -- Holds at every exit after the seal, on a modelled bus. The request is accepted. A faithful vault holds the journal of
 -- the original chip, which saves exactly the touched sectors. The chip changed only as `MayChange` allows: in bytes of
--- touched sectors and in protection bits. Only raised sectors were erased, and on a steady bus each byte outside these
--- is the old or the target one. At least four transactions (the shortest identification), and one for each scanned
--- sector, were sent.
+-- touched sectors, in protection bits that can be written, in BUSY and in WEL. Only raised sectors were erased, and on
+-- a steady bus each byte outside these is the old or the target one. At least four transactions (the shortest
+-- identification), and one for each scanned sector, were sent.
 pub record CanBeUndone (request : Request) (image : List ℕ) (old new : BusState) (vault : VaultState) : Type 0 where
   pub accepted : IsAccepted request image old.chip
   pub journal : vault.telling ≡ true
@@ -200,9 +200,9 @@ HoldsBegun request image chip bytes = (bytes ≡ [])
     × IsJournalPrefix (header_of chip) chip.bytes (is_touched chip.bytes (wanted request image chip)) bytes)
 
 -- Holds if a journal has the last replies of the bus before the seal. Its header has the ID, the unique ID and the
--- non-volatile status bits that the bus replied, and the size in the table's row of that ID or, without a row, the one
--- that the SFDP replies give. Each record has the bytes of the last reply to a read of its sector. `at_seal` is the
--- history of the bus at some point of the session; the proof gives the history at the seal.
+-- non-volatile status bits that the bus replied. The size in the header is that of the table's row of the ID or,
+-- without a row, of the SFDP replies. Each record has the bytes of the last reply to a read of its sector. `at_seal` is
+-- the history of the bus at some point of the session; the proof gives the history at the seal.
 pub record IsJournalOfReplies (old new : BusState) (bytes : List ℕ) : Type 0 where
   pub at_seal : List Exchange
   pub before : Continues old.history at_seal
@@ -223,7 +223,8 @@ pub record SessionAlways (request : Request) (old new : BusState) (vault vault' 
   pub only_reads : vault'.sealed ≡ false → OnlyReads (most_reads 4096) old new
   -- at every exit on a well-behaved bus, the transactions that were sent are within the bound for the largest chip
   pub spends : Spends (most_of 4096) old new
-  -- at every exit on every bus, no more erases and page programs were sent than the largest chip has sectors and pages
+  -- at every exit on every bus, no more erases and page programs were sent than the largest chip has sectors and pages;
+  -- `SendsFew` also limits unknown transactions
   pub few : SendsFew old new
   -- at every exit the status was written no more often than the request may need
   pub writes : WritesStatusAtMost (most_status_writes request.what request.unlock) old new

@@ -13,7 +13,8 @@ simulated_chip port = port.chip
 abbrev pub left_of : SimPort → ℕ
 left_of port = port.left
 
--- A programmer in front of the chip of this bus. Each call of the port sends whole frames, so none is ever begun.
+-- A programmer in front of the chip of this bus, with these bytes pending. It keeps no part of a frame from one call of
+-- the port to the next, so no frame is ever begun.
 abbrev pub device_over : BusState → (pending : List ℕ) → Device
 device_over bus pending = record {
   chip = bus.chip;
@@ -22,7 +23,7 @@ device_over bus pending = record {
   pending = pending;
 }
 
--- An honest port to this programmer.
+-- An honest port to the programmer in front of the chip of this bus (`device_over`), with `left` calls left.
 abbrev pub port_over : BusState → (pending : List ℕ) → (left : ℕ) → PortState
 port_over bus pending left = record {
   device = device_over bus pending;

@@ -15,7 +15,8 @@ const NAK: u8 = 0x15;
 
 const O_SPIOP: u8 = 0x13;
 
-// The most bytes that a transaction reads, a sector, and its reply: ACK and these bytes.
+// The most bytes that a transaction reads, which are those of a sector. Its reply, of at most `MOST_PENDING` bytes, is
+// ACK and these bytes.
 const MOST_READ: usize = 4096;
 
 const MOST_PENDING: usize = 1 + MOST_READ;
@@ -26,7 +27,7 @@ const COMMANDS: [u8; 33] = [
     0, 0, 0, 0,
 ];
 
-/// The call of a `SimPort` that failed.
+/// The call of a `SimPort` that failed: `send` (`Cut`) or `receive` (`Silent`).
 #[derive(Clone, Copy, Debug, PartialEq, Eq, Error)]
 pub enum SimFailure {
     #[error("the simulated port was cut")]
@@ -35,16 +36,17 @@ pub enum SimFailure {
     Silent,
 }
 
-/// A port to a serprog programmer that is simulated in memory, with a simulated chip. It is honest: it carries out the
-/// given number of calls, and then fails.
+/// A port to a serprog programmer that is simulated in memory, with a simulated chip. The port is honest: it carries
+/// out the given number of calls, and then fails.
 ///
-/// The programmer carries out each O_SPIOP that is sent by one call, and replies to the queries of a handshake
+/// The programmer carries out each O_SPIOP that is sent by a call of its own, and replies to the queries of a handshake
 /// (`Programmer::identify`). If the port fails while it sends an O_SPIOP, the chip stops as `SimBus::tear` and
 /// `SimBus::lose` set: the programmer sends the first bytes of the transaction, and the chip may lose its power. If the
 /// port fails later in an exchange, the chip has carried out the transaction, and the reply is lost.
 ///
-/// A call also fails if it sends an O_SPIOP before all replies were received, or one with more than 4,096 reply bytes,
-/// or if it requests more bytes than are pending. After any failure no call succeeds.
+/// A call also fails if it sends an O_SPIOP while a reply is pending, or one that requests more than 4,096 bytes. It
+/// fails, too, if it sends frames whose replies are longer than 4,097 bytes together with those that are pending, or if
+/// it requests more bytes than are pending. After any failure no call succeeds.
 #[derive(Drop)]
 pub struct SimPort {
     chip: SimBus,
@@ -79,7 +81,7 @@ impl SimPort {
         self.left
     }
 
-    /// Returns true if each reply was received.
+    /// Returns true if no byte of a reply is pending.
     pub fn is_idle(&self) -> bool
         ensures { result ≡ true → IsIdle (⟦<SimPort as Port>⟧.state self.now).device }
     {
@@ -87,7 +89,8 @@ impl SimPort {
     }
 
     // Carries out a frame of O_SPIOP: one transaction of the chip. The reply is ACK and the bytes that the chip
-    // returned.
+    // returned. Stops the chip inside the transaction and returns `Cut` if no call is left, if a reply is pending, or
+    // if the frame requests more than 4,096 bytes.
     fn operate(&mut self, frame: &[u8]) -> Result<(), SimFailure>
         ensures sent { OnOk result (IsSent frame.now (⟦<SimPort as Port>⟧.state self.old)
             (⟦<SimPort as Port>⟧.state self.new)) }
@@ -190,7 +193,7 @@ fn acknowledged(bytes: &[u8]) -> ArrayVec<u8, MOST_PENDING>
     reply
 }
 
-// Makes one transaction of the chip.
+// Carries out one transaction of the chip.
 fn transact(chip: &mut SimBus, out: &[u8], reply: &mut [u8])
     ensures { (pending pending' : List ℕ) → StepsOnce out.now reply.new
         (device_over (⟦<SimBus as Bus>⟧.state chip.old) pending)
@@ -200,7 +203,7 @@ fn transact(chip: &mut SimBus, out: &[u8], reply: &mut [u8])
     let _ = chip.transfer(out, reply);
 }
 
-// Stops the chip inside a transaction.
+// Stops the chip inside a transaction, as `SimBus::tear` and `SimBus::lose` set.
 fn cut(chip: &mut SimBus, out: &[u8])
     ensures { (pending : List ℕ) → IsCut out.now (device_over (⟦<SimBus as Bus>⟧.state chip.old) pending)
         (device_over (⟦<SimBus as Bus>⟧.state chip.new) pending) }
@@ -209,8 +212,8 @@ fn cut(chip: &mut SimBus, out: &[u8])
     let _ = chip.transfer(out, &mut []);
 }
 
-// Replies to frames of which at most the last is an O_SPIOP, which is refused. Bytes after the last whole frame are
-// ignored. Returns false if the replies are too long.
+// Appends the reply to each of these frames (`reply_to`) to `pending`. Bytes after the last whole frame are ignored.
+// Returns false if the replies do not fit.
 fn reply_to_each(pending: &mut ArrayVec<u8, MOST_PENDING>, frames: &[u8]) -> bool {
     let mut rest = frames;
     for _ in 0..frames.len() {
