@@ -1,5 +1,5 @@
-//! The lines that a trace reports as lost if its log refuses them. By the contract of `TraceBus`, only this report
-//! depends on the log.
+//! The report of `TraceBus` that a line is lost, if its log refuses a write or a flush. By the contract of `TraceBus`,
+//! a log that refuses changes nothing else.
 use crate::held::assert_held;
 use crate::row::{Start, erased};
 use nor_chip::{Bus, Config, Meter, SimBus, TraceBus};
@@ -99,8 +99,8 @@ fn sent(rt: &impl Abort, alloc: Global, form: Form, good: u8) -> (bool, bool) {
     (is_lost, lines.as_slice() == form.line)
 }
 
-// A line is reported as lost if and only if the log doesn't have all of it. It is lost if the log accepts at most one
-// write, and isn't lost if it accepts seven. The reply is the same in either case.
+// A line is reported as lost if and only if the log doesn't have all of it. A line is lost if the log accepts at most
+// one write before it refuses one, and isn't lost if the log accepts seven. The reply is the same in either case.
 #[test]
 fn a_line_is_lost_exactly_where_it_is_not_whole(rt: HostRuntime) {
     for form in FORMS {
@@ -135,7 +135,7 @@ fn flushed(
 }
 
 // A line in the log's buffer is reported as lost if a flush of the bus fails: because the sink refuses to write the
-// line, or because the sink received the line and refuses to flush it. It isn't lost if the flush succeeds.
+// line, or because the sink received the line and refuses to flush it. The line isn't lost if the flush succeeds.
 #[test]
 fn what_the_sink_refuses_is_lost_at_the_latest_by_a_flush(rt: HostRuntime) {
     for (good, flushes) in [(0, true), (0, false), (1, false)] {
