@@ -10,8 +10,9 @@ pub trait Wires {
     type Cause: Drop;
 
     /// Makes one transaction: pulls chip select low, sends `out`, then reads bytes from the chip until `reply` is full,
-    /// and releases chip select. Must release chip select after an error, too. `out` has at most 260 bytes and `reply`
-    /// at most 4,096.
+    /// and releases chip select. Must release chip select after an error, too.
+    ///
+    /// The engine sends at most 260 bytes and reads at most 4,096 in one transaction. An error ends the engine's call.
     fn transact(&mut self, out: &[u8], reply: &mut [u8]) -> Result<(), Self::Cause>;
 }
 
