@@ -61,7 +61,7 @@ impl OnceBus {
         }
     }
 
-    // True if this transaction, which sends `out`, fails.
+    // True if the next transaction, which sends `out`, fails.
     fn fails_at(&self, out: &[u8]) -> bool {
         let Some(behind) = self.behind else {
             return false;

@@ -15,9 +15,9 @@ use std::process::Abort;
 // The call that fails.
 #[derive(Clone, Copy, PartialEq, Eq)]
 enum Failure {
-    // The write after this number of others returns an error.
+    // The write that follows this number of writes returns an error.
     Write(usize),
-    // The write after this number of others accepts no bytes.
+    // The write that follows this number of writes accepts no bytes.
     Nothing(usize),
     // The first sync returns an error.
     Sync,
@@ -176,7 +176,7 @@ fn fail_at_each(rt: &impl Abort, alloc: Global, row: Row, most: usize, counted: 
 }
 
 // Each row has the most bytes per write, and the numbers of writes and of bytes. The header is one piece of 25 bytes,
-// each record is one of 4,100, and the end has two, of 4 and 32.
+// each record is one of 4,100, and the end mark and the digest are two pieces, of 4 and 32 bytes.
 const ROWS: [(Row, usize, (usize, usize)); 3] = [
     (Row::ABitRises, 5000, (1 + 1 + 2, 61 + 4100)),
     (Row::ABitRises, 1000, (1 + 5 + 2, 61 + 4100)),

@@ -20,7 +20,7 @@
 //! - `lost.rt`: sessions and restores that lose the reply to each of their transactions
 //! - `in_turn.rt`: two successive sessions, each stopped, and their two restores in reverse order
 //! - `power.rt`: sessions and restores during which the chip loses its power
-//! - `rehearsed.rt`: rehearsals with each stop, and on faulty buses
+//! - `rehearsed.rt`: rehearsals with each stop of the session and of its restores, and rehearsals on faulty buses
 //! - `allowances.rt`: how many transactions a rehearsal allows each of its calls
 //! - `once.rt`: after a stop or a timeout no call except a rehearsal sends anything more; a spoilt sector isn't read
 //!   again
@@ -42,7 +42,7 @@
 //! - `serprog_frames.rt`: the frames of five commands, and a transaction that is too long for a frame
 //! - `serprog_handshakes.rt`: how a link is synchronized, and how a programmer is identified
 //! - `serprog_buses.rt`: transactions over the bus, and faults of the programmer and the port
-//! - `serprog_stops.rt`: sessions and restores over an honest port (nor_wire), which fails at each of its calls
+//! - `serprog_stops.rt`: sessions and restores over an honest port (nor_wire), which fails at each of its calls in turn
 //! - `serprog_wrappers.rt`: paced polls, and readings that are made twice
 //!
 //! Single calls:

@@ -116,8 +116,8 @@ fn lose_in_restore(rt: &impl Abort, pair: &Pair, n: u64) -> u64 {
 }
 
 // Each row has its start and the number of replies that its restores lose. A session that loses a reply leaves the chip
-// as at the next stop of `undone.rt`, so the number is the sum of the lengths of the restores there, except for the
-// stop that directly follows the seal.
+// as at the next stop of `undone.rt`. So the number is the sum of the lengths of the restores there, without the one
+// that follows the first stop after the seal.
 const RESTORES: [(Row, Start, u64); 5] = [
     (Row::AByteIsProgrammed, Start::IDLE, 2 * 8 + 3 * 12),
     (

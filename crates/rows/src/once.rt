@@ -1,6 +1,6 @@
-//! After a stop or a timeout, a call other than a rehearsal ends and sends nothing more, even though the bus would
-//! carry out further transactions and further polls would show that the chip is ready. After a stop, a rehearsal goes
-//! on only if a stop was given for the call that stopped. A sector with a spoilt reply isn't read again.
+//! After a stop or a timeout, a call other than a rehearsal ends and sends nothing more. The bus would carry out
+//! further transactions, and further polls would show that the chip is ready. After a stop, a rehearsal goes on only if
+//! a stop was given for the call that stopped. A sector with a spoilt reply isn't read again.
 use crate::failing::{Fault, OnceBus};
 use crate::held::assert_held;
 use crate::row::{Row, Start, erased};
@@ -103,7 +103,7 @@ fn a_stop_ends_each_command(rt: HostRuntime) {
 // - The restore scans 19 sectors, sends two erases and 17 programs, reads 17 sectors before it programs them, and reads
 //   19 to verify them.
 //
-// On the W25Q64FV both scan two sectors, and read them to verify them:
+// On the W25Q64FV session and restore each scan two sectors, and read them again at the end to verify them:
 //
 // - The session sends two status writes, an erase and two programs, and reads one sector before it programs it.
 // - The restore sends two status writes, two erases and a program.

@@ -278,8 +278,8 @@ const WAITED_LONG: Answer = Ok(Probed {
 const STOPPED: Answer = Err(ProbeFault::Stopped);
 
 // Each row has the number of polls that show BUSY at first, the fault of the bus, the number of allowed transactions,
-// and the result. `HONEST` is a fault that never occurs. On a faulty bus no clause distinguishes a stop from a timeout,
-// so this test checks which of the two is returned.
+// and the result. `HONEST` is a fault that never occurs, and with `STUCK` each poll shows BUSY. On a faulty bus no
+// clause states how many polls precede a timeout, so this test checks that there are 65,536.
 const WAITS: [(u16, Spoil, u64, Answer); 6] = [
     (3, HONEST, 8, WAITED),
     (3, HONEST, 7, STOPPED),

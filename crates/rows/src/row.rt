@@ -288,7 +288,8 @@ pub fn included(rt: &impl Abort, alloc: Global, layout: Option<&[u8]>) -> Option
     Some(layout.include("part").expect(rt, "a region"))
 }
 
-// Returns a write of the whole chip to a TINY64. The identification sends seven transactions, the scan sixteen.
+// Returns a write to a TINY64, with the whole chip included. The identification sends seven transactions, the scan
+// sixteen.
 fn on_tiny64(old: Bytes, image: Bytes, length: u32, operations: u32) -> Written {
     Written {
         chip: Chip::Tiny64,

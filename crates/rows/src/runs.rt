@@ -96,9 +96,9 @@ impl Runs {
         }
     }
 
-    /// Runs the session on a new chip, with `allowed` transactions. Asserts that it ends if and only if these are at
-    /// least `ends_at`, and that it then sent `ends_at` transactions. Asserts that its vault is sealed if and only if
-    /// `allowed` is at least `sealed_at`.
+    /// Runs the session on a new chip, with `allowed` transactions. Asserts that the session ends if and only if
+    /// `allowed` is at least `ends_at`, and that it then sent `ends_at` transactions. Asserts that the vault is sealed
+    /// if and only if `allowed` is at least `sealed_at`.
     ///
     /// If the session ends, asserts that the chip is idle and its write enable latch is clear: each row's session ends
     /// with an operation or a reading after one, and operations clear the latch.

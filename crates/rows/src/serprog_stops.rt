@@ -69,12 +69,13 @@ fn handshake(rt: &impl Abort, alloc: Global) -> u64 {
 }
 
 // Returns how many bytes the simulated bus must send at the stop that corresponds to a port that fails after `calls`
-// calls: `cut` if the port fails while it sends, and all if the reply is lost.
+// calls. These are `cut` bytes if the port fails while it sends a transaction, and all if the reply is lost.
 fn torn(calls: u64, cut: u32) -> u32 {
     if calls % CALLS == 0 { cut } else { u32::MAX }
 }
 
-// Returns the cuts to try at a port that fails after `calls` calls. If the reply is lost, there is no cut.
+// Returns the numbers of bytes to try as `cut` of a port that fails after `calls` calls. If the reply is lost, all
+// bytes were sent, so one number is enough.
 fn cuts(calls: u64) -> &'static [u32] {
     if calls % CALLS == 0 { &CUTS } else { &[0] }
 }

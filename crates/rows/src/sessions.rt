@@ -30,9 +30,12 @@ fn blank(
     session(&mut bus, &mut vault, &mut image, &request).expect(rt, "the session ends")
 }
 
-// Each row has: whether the chip has erases of 32 KiB, and of 64 KiB; the number of erases that a session needs for
-// sectors 8 to 39; and its number of transactions: three for each erase, seven to identify the chip, 64 to scan it, and
-// 32 to verify the sectors.
+// Each row has:
+//
+// - whether the chip has erases of 32 KiB, and of 64 KiB
+// - the number of erases that a session needs for sectors 8 to 39
+// - the session's number of transactions: three for each erase, seven to identify the chip, 64 to scan it, and 32 to
+//   verify the sectors
 const UNITS: [(bool, bool, u32, u64); 4] = [
     (false, true, 17, 154),
     (true, false, 4, 115),

@@ -103,7 +103,8 @@ fn refuse_each(rt: &impl Abort, alloc: Global, right: &[u8], kept: usize) {
 }
 
 // The vault keeps a prefix of a refused piece, and the error contains the length of that prefix, so the vault holds a
-// prefix of the journal. No call has number 0 or 6: a vault that refuses one of these accepts the whole journal.
+// prefix of the journal. No call has number 0 or 6, so a vault that would refuse only call 0 or call 6 accepts the
+// whole journal.
 #[test]
 fn each_call_of_a_writer_is_refused(rt: HostRuntime) {
     let chip = Journal::read(&EMPTY).expect(&rt, "a journal");

@@ -31,7 +31,7 @@ pub fn lies(n: u8) -> [Spoil; 4] {
     ]
 }
 
-/// Returns a faulty bus over `bus`, which carries out `u64::MAX` transactions.
+/// Allows `bus` to carry out `u64::MAX` transactions, and returns a faulty bus over it.
 pub fn spoilt(mut bus: SimBus, spoil: Spoil) -> SpoiltBus<SimBus> {
     bus.allow(u64::MAX);
     SpoiltBus::new(bus, spoil)
@@ -76,7 +76,7 @@ impl Lied {
         Lied { refusal, sent, cut }
     }
 
-    /// Restores on the well-behaved bus if the vault is sealed. Asserts that afterwards the chip is as before the
+    /// Restores on the bus without the fault, if the vault is sealed. Asserts that afterwards the chip is as before the
     /// session.
     pub fn assert_given_back(self, rt: &impl Abort, alloc: Global, row: Row) {
         let Lied { mut cut, .. } = self;

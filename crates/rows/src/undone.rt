@@ -1,14 +1,14 @@
-//! Sessions that are stopped after each number of transactions. Each restore after that is stopped after each number of
-//! its own transactions, and a second restore follows.
+//! Sessions that are stopped after each number of transactions. A restore after a stop is itself stopped after each
+//! number of its own transactions, and a second restore follows.
 //!
 //! Each test counts its runs. A stop before the seal is one run. The end of the session counts as its last stop. After
 //! a stop that follows the seal, the restore is run with 0, 1, .. allowed transactions until it succeeds. So the number
 //! of runs for that stop is one more than the restore's number of transactions.
 //!
 //! A restore identifies the chip, with seven transactions on a TINY64 and four on a W25Q64FV, and reads the one saved
-//! sector. If the sector and the protection are as saved, the restore ends. Otherwise it sends its operations, each
-//! with a write enable and a poll. If it programs the sector without an erase, it reads the sector again first. If it
-//! changes the sector, it reads the sector at the end to verify it.
+//! sector. If the sector and the protection are as saved, the restore ends. Otherwise it sends its operations: each is
+//! a write enable, a command and a poll, and on a slow chip two more polls. If the restore programs the sector without
+//! an erase, it reads the sector again first. If it changes the sector, it reads the sector at the end to verify it.
 use crate::row::{Row, Start};
 use crate::runs::Runs;
 
