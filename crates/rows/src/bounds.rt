@@ -1,5 +1,5 @@
-//! No call sends more transactions than its bound: each call on faulty buses, and a session and its restore on the
-//! slowest chip.
+//! No call sends more transactions than its bound: probes, readings, sessions and restores on faulty buses, and a
+//! session and its restore on the slowest chip.
 ghost use Rattle.std.specs.Prelude.{◌≡◌, false};
 
 use crate::held::assert_held;

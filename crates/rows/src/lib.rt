@@ -20,7 +20,7 @@
 //! - `lost.rt`: sessions and restores that lose the reply to each of their transactions
 //! - `in_turn.rt`: two successive sessions, each stopped, and their two restores in reverse order
 //! - `power.rt`: sessions and restores during which the chip loses its power
-//! - `rehearsed.rt`: rehearsals with each stop of the session and of its restores, and rehearsals on faulty buses
+//! - `rehearsed.rt`: rehearsals with each stop of the session and of its first restore, and rehearsals on faulty buses
 //! - `allowances.rt`: how many transactions a rehearsal allows each of its calls
 //! - `once.rt`: after a stop or a timeout no call except a rehearsal sends anything more; a spoilt sector isn't read
 //!   again
@@ -29,7 +29,8 @@
 //! Faulty buses, vaults and files:
 //!
 //! - `lies.rt`: the errors of sessions and restores on faulty buses, and restores after them on a well-behaved bus
-//! - `bounds.rt`: no call sends more transactions than its bound, on faulty buses and on the slowest chip
+//! - `bounds.rt`: probes, readings, sessions and restores keep their bounds of transactions on faulty buses, and a
+//!   session and its restore on the slowest chip
 //! - `vaults.rt`: sessions whose vault refuses a call
 //! - `files.rt`: sessions whose journal is in a file that fails once
 //! - `sinks.rt`: vaults and files that accept everything, refuse a call, write short or can't be synced

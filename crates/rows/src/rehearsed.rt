@@ -1,4 +1,4 @@
-//! The results of rehearsals: for each stop of the session and each stop of the restore after it, and on faulty buses.
+//! The results of rehearsals: with each stop of the session and each stop of the restore after it, and on faulty buses.
 ghost use Rattle.std.specs.Prelude.{◌≤◌, length};
 
 use crate::held::assert_held;

@@ -162,8 +162,8 @@ impl Stage {
         vault.bytes().to_vec(self.alloc).expect(rt, "memory")
     }
 
-    // Returns a bus to the original chip, or for a restore to the chip that the session left. It fails as `fault` says
-    // after `behind` transactions. It allows the bound of a session.
+    // Returns a bus to the original chip, or for a restore to the chip that the session left. The bus fails as `fault`
+    // says after `behind` transactions, and allows the bound of a session.
     fn bus(&self, rt: &impl Abort, call: Call, fault: Fault, behind: Option<u64>) -> OnceBus {
         let bytes = if call == Call::Restore {
             &self.image

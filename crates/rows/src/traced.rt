@@ -1,5 +1,5 @@
-//! The report of `TraceBus` that a line is lost, if its log refuses a write or a flush. By the contract of `TraceBus`,
-//! a log that refuses changes nothing else.
+//! When `TraceBus` reports a line as lost: tests with a log that refuses writes or flushes. By the contract of
+//! `TraceBus`, only this report depends on what the log refuses.
 use crate::held::assert_held;
 use crate::row::{Start, erased};
 use nor_chip::{Bus, Config, Meter, SimBus, TraceBus};
