@@ -15,8 +15,8 @@ const SHORT: [u32; 7] = [0, 1, 2, 3, 4, 5, 6];
 // which four precede the data. A test with each number would take minutes.
 const LONG: [u32; 10] = [0, 1, 2, 3, 4, 5, 6, 132, 259, 260];
 
-// Two chips that keep their power, one of them busy at first and after each operation, and three chips that lose it,
-// one for each fill of `power.rt`.
+// Returns two chips that keep their power, one of them busy at first and after each operation, and three chips that
+// lose it at a stop, one for each fill of `power.rt`.
 fn starts() -> [Start; 5] {
     [
         Start::IDLE,
@@ -27,8 +27,8 @@ fn starts() -> [Start; 5] {
     ]
 }
 
-// The chips for the rows with protection, which take longest. With an even fill a loss of power leaves the old bits of
-// a running status write, with an odd fill the new bits.
+// Returns the chips for the rows with protection, which take longest. With an even fill a loss of power leaves the old
+// bits of a running status write, with an odd fill the new bits.
 fn few_starts() -> [Start; 3] {
     [Start::IDLE, Start::losing(0x5A), Start::losing(0xFF)]
 }
@@ -43,7 +43,7 @@ struct Stops {
 impl Stops {
     const NONE: Stops = Stops { kept: 0, lost: 0 };
 
-    // Returns these stops and `more` stops in runs with this start.
+    // Returns these numbers after `more` stops in runs with this start were added.
     fn with(self, start: Start, more: u64) -> Stops {
         let Stops { kept, lost } = self;
         if start.fill.is_some() {
@@ -55,7 +55,7 @@ impl Stops {
         }
     }
 
-    // Returns the sum of these stops and others.
+    // Returns the sums of these numbers and those of `others`.
     fn and(self, others: Stops) -> Stops {
         Stops {
             kept: self.kept.saturating_add(others.kept),
@@ -65,6 +65,7 @@ impl Stops {
 }
 
 // Stops a row's session after each number of transactions from `first` on, for each start and each number of bytes.
+// Restores each time as `Runs::stop_sessions` does. Returns the numbers of stopped sessions.
 fn stop_sessions(
     rt: &impl Abort,
     alloc: Global,
@@ -82,8 +83,8 @@ fn stop_sessions(
     stops
 }
 
-// Stops the session at each transaction that follows the seal, and the restore after each of these stops. Returns the
-// number of stopped restores.
+// Stops the session at each transaction that follows the seal, and after each of these stops the restore at each of its
+// transactions. Returns the number of stopped restores.
 fn stop_restores(rt: &impl Abort, torn: &Runs, row: Row, start: Start) -> Stops {
     let mut stops = Stops::NONE;
     for n in row.sealed_at(start)..row.ends_at(start) {
@@ -92,8 +93,8 @@ fn stop_restores(rt: &impl Abort, torn: &Runs, row: Row, start: Start) -> Stops 
     stops
 }
 
-// Stops sessions and restores for each start and each number of bytes. A restore's stop sends the same number of bytes
-// as its session's stop.
+// Stops sessions and restores as `stop_restores` does, for each start of `starts` and each number of bytes. A restore's
+// stop sends the same number of bytes as its session's stop. Returns the numbers of stopped restores.
 fn stop_all(rt: &impl Abort, alloc: Global, row: Row, counts: &[u32]) -> Stops {
     let mut stops = Stops::NONE;
     for start in starts() {
@@ -180,12 +181,13 @@ fn each_cut_of_a_session_on_a_protected_chip(rt: HostRuntime) {
     assert!(rt; stops == SESSIONS_IN_THE_RANGE);
 }
 
-// The restore's stop sends the same number of bytes as the session's stop. Each number is the sum of the lengths of all
-// restores. For the programmed byte it was also calculated by hand:
+// The restore's stop sends the same number of bytes as the session's stop. Each row has the numbers of stopped restores
+// at which the chip keeps its power, and loses it: the sums of the lengths of all restores. For the row that programs a
+// byte the sums were also calculated by hand:
 //
-// - On an idle chip three stops that send up to four bytes leave the byte as it was, and two leave it programmed. These
-//   restores have 8 and 12 transactions. The third stop programs the byte if it sends five or six bytes:
-//   5 * 48 + 2 * 52 = 344.
+// - On an idle chip three stops that send up to four bytes leave the byte as it was, and two leave it programmed. The
+//   restores have 8 transactions after the former and 12 after the latter. The third stop programs the byte if it sends
+//   five or six bytes: 5 * 48 + 2 * 52 = 344.
 // - On a slow chip the next restore also waits for the remaining polls that show BUSY. A poll that was cut is no longer
 //   one of them: 83 + 4 * 81 + 2 * 89 = 585.
 // - On a chip that loses its power a restore has 14 transactions if it erases. 10 restores for each fill follow a loss
@@ -228,8 +230,8 @@ fn each_cut_of_a_restore_after_a_part_of_a_page(rt: HostRuntime) {
     assert!(rt; stops == RESTORES_OF_TWO_PAGES);
 }
 
-// A restore has 8 transactions if the sector is as it was. Otherwise it has 10, and one operation for each page that
-// differs. Before these it waits for the remaining polls that show BUSY.
+// A restore has 8 transactions if the sector is as it was. Otherwise it has 10 transactions, and one page program for
+// each page that differs. Before these it waits for the remaining polls that show BUSY.
 const RESTORES_OF_PAGES: Stops = Stops {
     kept: 60_106,
     lost: 127_387,
@@ -242,10 +244,10 @@ fn each_cut_of_a_restore_that_programs_pages(rt: HostRuntime) {
     assert!(rt; stops == RESTORES_OF_PAGES);
 }
 
-// The session is stopped three times, since each run on this chip takes long: in the status write that lifts the
-// protection, in the page program, and in the status write that restores the protection. An operation takes three
-// transactions and the polls that show BUSY. The sector is read before its program. No transaction sends more than five
-// bytes.
+// The session is stopped at only three transactions, since each run on this chip takes long: the status write that
+// lifts the protection, the page program, and the status write that restores the protection. An operation takes three
+// transactions and the polls that show BUSY. The session reads the sector before its program. No transaction sends more
+// than five bytes.
 const RESTORES_IN_THE_RANGE: Stops = Stops {
     kept: 172,
     lost: 408,
