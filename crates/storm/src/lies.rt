@@ -116,8 +116,8 @@ fn tell_restore(alloc: Global, bus: Faulty, saved: Saved<'_>) -> Told {
     Told { answer, sent }
 }
 
-// Checks that the call returned the same error as the reference implementation, including the address, and sent the
-// same transactions.
+// Checks that the call sent the same transactions as the reference implementation, and returned the same error,
+// including the address. If both succeeded, the report must count these transactions.
 fn check(ran: &Ran, told: Told, call: &'static str) -> Result<(), Fault> {
     let count = check_sent(ran.sent.as_slice(), told.sent.as_slice(), call)?;
     check_answer(ran.answer, told.answer, count)
@@ -272,7 +272,7 @@ fn spoil_for(dice: &mut Dice, count: u64) -> Spoil {
     }
 }
 
-// Returns a bus to a copy of the chip with this fault. The bus never stops.
+// Returns a bus with this fault to a copy of the chip. The bus never stops.
 fn liar(alloc: Global, chip: &Chip, lie: Lie) -> Result<Faulty, Fault> {
     let bus = chip.bus(alloc, Stop::NEVER)?;
     let (spoil, high) = match lie {

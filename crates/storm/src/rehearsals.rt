@@ -16,7 +16,7 @@ use std::alloc::Global;
 struct Plan {
     // the numbers of transactions after which the session and the two restores stop
     stops: [u64; 3],
-    // the number of bytes of its transaction that each stop sends
+    // the number of bytes that are sent of the transaction at each stop; `None` for no byte
     cut: Option<u32>,
     // the fill byte, if a stop loses the power
     fill: Option<u8>,
