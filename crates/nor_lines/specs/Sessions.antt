@@ -20,8 +20,8 @@ abbrev pub TellsReport : Report → Answer → Type 0
 TellsReport report (answer.Done returned) = returned ≡ report
 TellsReport report _ = ⊥
 
--- The job called `session` with its journal in a vault. The call kept all its promises, and the job returned its report
--- or its error.
+-- The job called `session` with a vault for the journal. The call kept all its promises, and the job returned its
+-- report or its error.
 pub record HasRunSession (request : Request) (image : List ℕ) (old new : BusState) (vault vault' : VaultState)
     (outcome : Result Answer Refusal) : Type 0 where
   pub result : Result Report Refusal

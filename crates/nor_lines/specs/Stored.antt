@@ -7,7 +7,7 @@ use Rattle.nor_files.specs.Files.Failure.{Unwritten}
 use Rattle.nor_journal.specs.Vault.{VaultState}
 use Rattle.nor_words.specs.Text.{Text}
 
--- Holds if a call on these files may ever find this failure. `nature` never changes, so this does not depend on time.
+-- Holds if a call on these files may find this failure, now or later: the nature of the files never changes.
 abbrev pub Happens : View → Failure → Type 0
 Happens view failure = view.nature.fails failure ≡ true
 
@@ -69,14 +69,14 @@ abbrev pub LeavesNoMoreOf : Option (Bor Text) → (old new : FilesState) → Typ
 LeavesNoMoreOf None old new = ⊤
 LeavesNoMoreOf (Some name) old new = LeavesNoMore name.now old new
 
--- Holds if no file is named, or if the file of that name is missing. A file that isn't known (`IsKnownFile`) is not
--- covered.
+-- Holds if no file is named, or if the file of that name is missing. This is claimed only for a known file
+-- (`IsKnownFile`).
 abbrev pub IsMissing : Option (Bor Text) → View → Type 0
 IsMissing None view = ⊤
 IsMissing (Some name) view = IsKnownFile name.now view → view.seen name.now ≡ None
 
 -- Holds if no file is named, or if a host crash may leave nothing of the named file that it could not leave before,
--- except an empty file if it was missing. A file that isn't known is not covered.
+-- except an empty file if it was missing. This is claimed only if the file was known (`IsKnownFile`) before.
 abbrev pub MakesNothing : Option (Bor Text) → (old new : FilesState) → Type 0
 MakesNothing None old new = ⊤
 MakesNothing (Some name) old new = IsKnownFile name.now old.view → LeavesOrEmpty name.now old new
