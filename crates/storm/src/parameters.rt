@@ -163,7 +163,7 @@ pub fn read(shown: &Shown, size: u32) -> Result<Told, SfdpFault> {
 
 // Returns the size and erase types that double words 1 to 9 describe, or the first fault.
 fn read_table(table: &[u8; 36]) -> Result<Told, SfdpFault> {
-    // Bits 17 and 18 of the first double word.
+    // Bits 17 and 18 of the first double word. 2 (only four address bytes) and 3 (reserved) are rejected.
     if table[2] / 2 % 4 >= 2 {
         return Err(SfdpFault::Address);
     }

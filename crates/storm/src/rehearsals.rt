@@ -18,7 +18,7 @@ struct Plan {
     stops: [u64; 3],
     // the number of bytes that are sent of the transaction at each stop; `None` for no byte
     cut: Option<u32>,
-    // the fill byte, if a stop loses the power
+    // the fill byte, if the chip loses its power at each stop
     fill: Option<u8>,
 }
 

@@ -149,8 +149,8 @@ fn check_outside(chip: &Chip, wanted: &Wanted, bytes: &[u8]) -> Result<(), Fault
     Ok(())
 }
 
-// Checks, if the stop has no fill byte, so that the chip kept its power: in each sector that isn't raised, bits changed
-// only from 1 to 0, and only bits that are 0 in the target.
+// Checks that in each sector that isn't raised, bits changed only from 1 to 0, and only bits that are 0 in the target.
+// Checks nothing if the stop has a fill byte, since the chip may then have lost its power.
 fn check_gentle(case: &Case, wanted: &Wanted, bus: &SimBus, fill: Option<u8>) -> Result<(), Fault> {
     if fill.is_some() {
         return Ok(());
