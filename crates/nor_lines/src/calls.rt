@@ -41,7 +41,7 @@ pub fn list_ranges<B: Bus>(bus: &mut B, named: Option<ChipName>) -> Outcome
 /// they are, and FFh for the others. If `included` is `None`, the whole chip is included.
 ///
 /// The outer error is one of `empty`, which occurred before the first transaction. The inner error is one of
-/// `read_out`; the file then holds only what was read before it.
+/// `read_out`, after which the file may hold only a part of the copy.
 pub fn read_to_file<'a, R: Store, B: Bus>(
     rt: &mut R,
     bus: &mut B,
