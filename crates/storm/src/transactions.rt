@@ -1,8 +1,8 @@
 //! The transactions that each call must send, in order, with one line for each: a part of the reference implementation.
 //!
 //! A wait is a number of polls (05h) until one shows BUSY clear. An operation is a write enable (06h), a command, and a
-//! wait. One 03h reads a sector of 4,096 bytes. A call that is stopped sends a prefix of the transactions that it sends
-//! without a stop. A session or restore has these steps:
+//! wait. One 03h reads a sector of 4,096 bytes. If a call is stopped, its lines are a prefix of its lines without a
+//! stop: the transaction that a stop interrupts has no line. A session or restore has these steps:
 //!
 //! 1. Find the chip: a wait, the ID, and three reads of SFDP. The SFDP is not read if the ID is in the table, or means
 //!    that there is no chip.
