@@ -255,8 +255,8 @@ fn lie_for(dice: &mut Dice, count: u64) -> Lie {
     }
 }
 
-// Draws a fault of a `SpoiltBus`. A fault at one transaction, or from one on, is in the last quarter of the call for
-// half of the draws, and anywhere for the other half.
+// Draws a fault of a `SpoiltBus`. The transaction of `Drop` or `BusyFrom` is in the last quarter of the call for half
+// of the draws, otherwise it is any from 0 to `count`. A `Drop` at 0 has no effect, as transactions are counted from 1.
 fn spoil_for(dice: &mut Dice, count: u64) -> Spoil {
     let late = count / 4 * 3;
     let number = if dice.hits(1, 2) {
