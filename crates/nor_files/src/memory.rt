@@ -135,7 +135,7 @@ impl Memory {
         Ok(at)
     }
 
-    // Creates or empties the named file, for a vault or a log. If `is_new`, it must not exist.
+    // Creates or empties the named file, for a vault or a log. Fails if `is_new` and the file exists.
     fn lend(&mut self, name: &str, is_new: bool) -> io::Result<()>
         ensures counts { Counts result (memory_state self.old) (memory_state self.new) }
         ensures others { OthersStay name.now (memory_state self.old) (memory_state self.new) }

@@ -86,6 +86,7 @@ impl Stored {
         }
     }
 
+    /// Returns true if the file has this name.
     pub fn is_named(&self, name: &[u8]) -> bool
         ensures { result ≡ is_named name.now self.now }
     {
