@@ -1,4 +1,4 @@
--- The files after a run that ends before its call, or whose task does not change the chip.
+-- The files after a run that ends before its call to the engine, or whose task does not change the chip.
 use Rattle.std.proofs.Common.{◌≡◌, ◌∙◌, Option, None, Some, arith, false, inl, inr, refl, subst, sym, true, true≢false}
 use Rattle.std.specs.Borrow.{Bor}
 use Rattle.nor_files.specs.Calls.{LeaveNoMore, LeavesNoMore, LeavesOrEmpty}

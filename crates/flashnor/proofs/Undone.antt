@@ -70,7 +70,8 @@ same_with chip (Some number) one other a b =
 
 -- ---- names
 
--- What may be found of the file of one programmer may be found of the other's, if both name the same file.
+-- If two programmers name the same file, or neither names one, a later run that may find some contents under the name
+-- of one may also find them under the name of the other (`MayFind`).
 found_one : (one other : Option (Bor Text)) (was left : Found) (files : FilesState) → NameOne one other
     → MayFind other was left files → MayFind one was left files
 found_one None None was left files same can = can

@@ -123,7 +123,8 @@ module _ {kinds : Kinds} {size : ℕ} {set : ℕ → Bool} {units left : List Er
       sym (so.covers.union s)
       ∙ rw (← so.listed.split, list_any-append (erases_sector (size / 4096) s) units left, erased) refl
 
-  -- limits of `n` erases are part of the limits of one erase per sector, if `n` is at most the number of sectors
+  -- the limits of `n` erases are part of the limits of one erase per sector of the set, if `n` is at most the number of
+  -- sectors in the set
   within_count : {n : ℕ} → n ≤ sector_count set
       → IsPartOf (erasing (may_target set size) n) (erasing (may_target set size) (sector_count set))
   within_count few = record {

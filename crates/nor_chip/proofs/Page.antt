@@ -15,8 +15,8 @@ pub record ClearsFrom (from done : ℕ) (sent old new : List ℕ) : Type 0 where
   pub below : (a : ℕ) → a < from → slice_index new a ≡ slice_index old a
   pub above : (a : ℕ) → from + done ≤ a → slice_index new a ≡ slice_index old a
 
--- `skipped` is the number of bytes of `sent` before the last 256, which have no effect. `front` are the next bytes, up
--- to the end of the page. `back` are the last bytes, from the start of the page on.
+-- `skipped` is the number of bytes of `sent` that have no effect: those before the last 256. `front` has the next
+-- bytes, up to the end of the page. `back` has the last bytes, from the start of the page on.
 pub record IsParted (at : ℕ) (sent : List ℕ) (skipped : ℕ) (front back : List ℕ) : Type 0 where
   pub skips : skipped ≡ length sent - 256
   pub front_len : length front ≡ min (length sent - skipped) (256 - (at + skipped) % 256)

@@ -107,7 +107,7 @@ read_fails (Err stop) out answer old new records stops = record {
   };
 }
 
--- a transaction that reads is no poll
+-- a transaction for which `IsReading` holds is no poll
 no_poll : (config : Config) (out : List ℕ) → IsReading out → is_poll out ≡ false
 no_poll config (opcode ∷ []) is = elim (eqb_tells opcode 5) [
   | inl five ↦ absurd (let off = is.reading config 0 in cc)

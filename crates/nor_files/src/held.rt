@@ -1,4 +1,5 @@
-//! The files that a run keeps open and locked until it ends: the chip's files, and the journal of a restore.
+//! The files that `hold` and `share` keep open and locked until the run ends: the chip's files, if the run will write
+//! them, and the journal that a restore reads.
 
 use crate::identity::is_same;
 use crate::locks::LockFile;

@@ -33,12 +33,12 @@ abbrev pub ListsRanges : Protection → Answer → Type 0
 ListsRanges protection (answer.Ranges ranges) = IsStart protection.size ranges
 ListsRanges protection _ = ⊥
 
--- Holds if the answer is this report, as that of a chip that was read.
+-- Holds if the answer says that a chip was read out, with this report.
 abbrev pub ReportsReadOut : Report → Answer → Type 0
 ReportsReadOut report (answer.Read returned) = returned ≡ report
 ReportsReadOut report _ = ⊥
 
--- Holds if the answer is this report, as that of a chip that was verified.
+-- Holds if the answer says that a chip was verified, with this report.
 abbrev pub ReportsVerified : Report → Answer → Type 0
 ReportsVerified report (answer.Verified returned) = returned ≡ report
 ReportsVerified report _ = ⊥

@@ -76,9 +76,9 @@ JudgesChip request identity code image old refusal =
     (chip : Chip) → IsIdentityOf chip identity → HasIdleChip chip old → IdentityAccepts request image chip code
     → IsVerdict request image chip refusal
 
--- Holds for the errors of `save`. Error 12 means that the bus stopped at the last transaction; on a well-behaved bus
--- fewer transactions were left than the scan needs. Error 11 means that the vault failed. Errors 9 and 10 are the
--- verdict, as `JudgesChip` says.
+-- Holds for the errors that `save` may return. After error 12 the bus stopped at the last transaction; on a
+-- well-behaved bus fewer transactions were left than the scan needs. Errors 9 and 10 are the verdict, as `JudgesChip`
+-- says. About error 11 (the vault failed) nothing is stated here: `SavePuts` does that.
 abbrev pub SaveErrors : Request → Identity → ℕ → List ℕ → (old new : BusState) → Refusal → Type 0
 SaveErrors request identity code image old new Stopped =
     HasStopped (scanned_sectors request identity.found.size) old new

@@ -1,11 +1,13 @@
 //! Sessions and restores during which the chip loses its power, at each transaction in turn. The chips show BUSY in two
 //! polls after each operation. An interrupted erase or program leaves 00h, 5Ah or FFh in the bytes that it works on.
 //!
-//! Each test counts its runs: one for a stop before the seal, and after any other stop one more than the restore has
-//! transactions. The end of the session counts as its last stop. An operation takes five transactions. After a loss of
-//! power the chip is idle, so the identification has one poll. A restore that only reads the sector has 8 transactions.
-//! Any other has 9 and five for each operation, and one more if it programs the sector without an erase, since it then
-//! reads it again.
+//! Each test counts its runs. A stop before the seal is one run. After any other stop the restore is stopped after 0,
+//! 1, .. transactions until it ends, so the number of runs is one more than its number of transactions. The end of the
+//! session counts as its last stop.
+//!
+//! An operation takes five transactions. After a loss of power the chip is idle, so the identification has one poll. A
+//! restore that only reads the sector has 8 transactions. Any other restore has 9 transactions, and five more for each
+//! operation. If it programs the sector without an erase, it reads the sector a second time, with one more transaction.
 use crate::held::assert_held;
 use crate::row::{Row, Start};
 use crate::runs::Runs;

@@ -181,17 +181,21 @@ fn each_cut_of_a_session_on_a_protected_chip(rt: HostRuntime) {
     assert!(rt; stops == SESSIONS_IN_THE_RANGE);
 }
 
-// The restore's stop sends the same number of bytes as the session's stop. Each row has the numbers of stopped restores
-// at which the chip keeps its power, and loses it: the sums of the lengths of all restores. For the row that programs a
-// byte the sums were also calculated by hand:
+// Each row has the number of stopped restores after which the chip keeps its power, and the number after which it loses
+// it. Each restore is stopped at each of its transactions, so these are the sums of the lengths of all restores. A
+// restore's stop sends the same number of bytes (0 to 6) as its session's stop. For the row that programs a byte the
+// sums were also calculated by hand:
 //
-// - On an idle chip three stops that send up to four bytes leave the byte as it was, and two leave it programmed. The
-//   restores have 8 transactions after the former and 12 after the latter. The third stop programs the byte if it sends
-//   five or six bytes: 5 * 48 + 2 * 52 = 344.
-// - On a slow chip the next restore also waits for the remaining polls that show BUSY. A poll that was cut is no longer
-//   one of them: 83 + 4 * 81 + 2 * 89 = 585.
-// - On a chip that loses its power a restore has 14 transactions if it erases. 10 restores for each fill follow a loss
-//   during the page program, and erase unless the fill is FFh. The other restores have 432 transactions for each fill.
+// - On an idle chip the session is stopped at five transactions after the seal: read, write enable, program, poll,
+//   verification. The first three of these stops leave the byte as it was, and the last two leave it programmed. A
+//   restore has 8 transactions after the former and 12 after the latter: 48 for each number of bytes up to four. With
+//   five or six bytes the third stop programs the byte too, which makes 52: 5 * 48 + 2 * 52 = 344.
+// - On a slow chip the session also sends two polls that show BUSY, and the next restore waits for those that remain. A
+//   poll that was cut after its first byte is no longer one of them. The sums are 83 if no byte is sent, 81 for one to
+//   four bytes, and 89 for five or six: 83 + 4 * 81 + 2 * 89 = 585.
+// - On a chip that loses its power a restore that erases has 14 transactions, and any other has 8. For each fill, 10
+//   restores follow a power failure during the page program; they erase unless the fill is FFh: 10 * (14 + 14 + 8). The
+//   lengths of the other restores add up to 432 for each fill.
 const RESTORES: [(Row, u64, u64); 4] = [
     (Row::AByteIsProgrammed, 344 + 585, 3 * 432 + 10 * 36),
     (Row::ABitRises, 1688, 3402),

@@ -6,7 +6,7 @@ use nor_layout::LayoutFault;
 use std::alloc::{AllocError, AllocFailed};
 use std::io;
 
-/// The fault that ended a run, at one of its cases or before the first one.
+/// The fault that ended a run: before its first case, at a case, or when a result was printed.
 #[derive(Debug, Drop)]
 pub enum Fault {
     /// The command line can't be read, or a line can't be printed.
