@@ -1,4 +1,4 @@
--- The facts about the chip that a restore has shown before it changes anything.
+-- The facts about the chip that a restore has established before it changes anything.
 use Rattle.std.proofs.Common.{◌≡◌, ◌<◌, ◌+◌, ◌/◌, ◌∙◌, ◌||◌, ℕ, Bool, true, length, ap, sym, refl, arith, rules, inl, inr}
 use Rattle.std.specs.Prelude.{None}
 use Rattle.std.proofs.lemmas.Bool.{cases_Bool, both_ways, true_from_ne_false}

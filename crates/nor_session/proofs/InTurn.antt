@@ -41,7 +41,7 @@ changes_nothing journal first old new report saves same done =
     let untouched = λ (s : ℕ). none_touched journal first old.chip s saves same in
     let never = never_needed journal first old.chip saves same in
     let touched = done.reported.sectors ∙ count_below-none 4096 _ (λ s below. untouched s) in
-    -- the empty list erases exactly the raised sectors, since there are none; so no erase was sent
+    -- the empty list of erases covers exactly the raised sectors, since there are none; so the report counts no erase
     let least = done.reported.erases.least [] record {
       units = λ k any below. absurd (omega arith);
       union = λ s. sym (none_raised journal first old.chip s saves same);
@@ -58,8 +58,9 @@ changes_nothing journal first old new report saves same done =
 
 -- ---- one session after the other
 
--- Holds if the journal can turn a chip into the original one, even if an operation is in progress on it. The journal
--- saves the original chip, and the two chips agree at all addresses that a restore can't write.
+-- Holds if a restore of this chip from the journal leaves the original chip, provided that the restore succeeds
+-- (`led_back`). The journal saves the original chip, and the two chips have the same configuration and agree at all
+-- addresses that a restore can't write. An operation may be in progress.
 record LeadsTo (journal : Content) (first chip : Chip) : Type 0 where
   saves : SavesChip journal first
   config : chip.config ≡ first.config
@@ -80,14 +81,14 @@ lost_back journal first old new can loses = record {
   within = lost_within (open_addresses journal first) first old new loses.known loses.lost can.within;
 }
 
--- if a journal can restore the original chip, it can still turn the chip into the original one after the chip kept its
--- bytes and status bits, or lost its power
+-- if a journal can restore the original chip (`CanRestore`), `LeadsTo` holds for the chip after it kept its bytes and
+-- status bits, or lost its power
 leads_kept : (journal : Content) (first : Chip) (new taken : BusState) → CanRestore journal first new → MayLosePower new taken → LeadsTo journal first taken.chip
 leads_kept journal first new taken can (inl same) = leads_same journal first new.chip taken.chip (leads_to journal first new can) same
 leads_kept journal first new taken can (inr loses) = leads_to journal first taken (lost_back journal first new taken can loses)
 
--- the journal of a session can restore the original chip from the chip that the session left (`left_back`), and can
--- turn the chip with which the next run starts into the original one (`left_taken`)
+-- the journal of a session can restore the original chip from the chip that the session left (`left_back`), and
+-- `LeadsTo` holds for the chip with which the next run starts (`left_taken`)
 left_back : (request : Request) (image : List ℕ) (old new : BusState) (journal : Content) → LeavesJournal request image old new journal → CanRestore journal old.chip new
 left_back request image old new journal left = search (arith, read_back)
 
@@ -97,14 +98,14 @@ left_taken request image old new taken journal left (inl kept) =
     leads_kept journal old.chip new taken (left_back request image old new journal left) kept
 left_taken request image old new taken journal left (inr over) = search (arith, leads_to, session_over)
 
--- the journal of a session can turn a chip into the original one if that chip was taken up after the session
--- (`IsTakenUp`), or if stopped restores left it (`CanRestore`)
+-- for the journal of a session, `LeadsTo` holds for a chip that was taken up after the session (`IsTakenUp`), and for
+-- one from which that journal can still restore the original chip (`CanRestore`)
 left_reached : (request : Request) (image : List ℕ) (old new taken : BusState) (journal : Content) → LeavesJournal request image old new journal
     → IsTakenUp old new taken ⊎ CanRestore journal old.chip taken → LeadsTo journal old.chip taken.chip
 left_reached request image old new taken journal left (inl up) = left_taken request image old new taken journal left up
 left_reached request image old new taken journal left (inr can) = leads_to journal old.chip taken can
 
--- if the journal can turn the chip into the original one (`LeadsTo`), a restore that succeeds leaves the original chip
+-- if `LeadsTo` holds for the chip, a restore from the journal that succeeds leaves the original chip
 led_back : (journal : Content) (first : Chip) (old new : BusState) (report : Report) → LeadsTo journal first old.chip → IsRestored journal old new report → IsSame first new.chip
 led_back journal first old new report leads done = search (arith, given_back)
 

@@ -39,8 +39,8 @@ kept_code identity = omega arith
 
 -- ---- a session
 
--- if a journal has the header of this identification, the protection bits that the session leaves are among those that
--- it may write
+-- if a journal has the header of this identification, the target protection bits of the session are among those that
+-- the session may write
 found_written : (what : What) (identity : Identity) (journal : Content) (code : ℕ) → SameHeader (header_found identity) journal
     → IsFoundCode what identity code → IsWrittenCode what journal code
 found_written (WpRange start len) identity journal code same is =

@@ -1,4 +1,5 @@
--- The state of a session after the touched sectors are saved, on every bus, and the number of later transactions.
+-- The state of a session after the touched sectors are saved, on every bus, and bounds on the transactions and status
+-- writes of the whole session.
 use Rattle.std.proofs.Common.{◌≡◌, ◌≤◌, ◌+◌, ◌/◌, ◌∙◌, ℕ, Bool, true, false, List, ap, sym, refl, arith, rules}
 use Rattle.std.specs.Prelude.{if◌then◌else◌}
 use Rattle.std.proofs.lemmas.Bool.{true_from_ne_false, false_from_ne_true}
@@ -61,7 +62,7 @@ pub record Ready (request : Request) (identity : Identity) (status : Status) (co
   pub is_status : bytes_of status ≡ status_read identity
   pub same_code : is_data request.what ≡ true → code ≡ code_of (kept_in (status_read identity))
 
--- ---- the identification, and the readings after it
+-- ---- the identification, and the scan after it
 
 pub has_opened : {named : _} {identity : Identity} {old mid : BusState} → OnlyReads most_identity old mid
     → ReadsIdentity named old mid identity → HasLooked identity.transactions old mid

@@ -29,7 +29,7 @@ use Rattle.nor_session.specs.Session.{SessionErrors, HonestErrors}
 use Rattle.nor_scan.proofs.OneVerdict.{first_of}
 use Rattle.nor_session.proofs.Ready.{scanned_most, scanned_few}
 
--- ---- the identification shows the chip from before it
+-- ---- the identification shows the chip as it was before
 
 pub opening_of : {named : Option ChipName} {identity : Identity} {old mid : BusState} → IsModelled old
     → ReadsIdentity named old mid identity → IsIdentityOf old.chip identity

@@ -142,8 +142,8 @@ module _ {n : ℕ} {journal : Content} {old mid new : BusState} (allows : Allows
 -- ---- restores in turn
 
 -- Holds after the first `n` restores were stopped. On a modelled bus each of their stops is below the bound on the
--- transactions of one restore (`most_of`). If `n` is 0, the latch is set only if it was set before. The allowances
--- that were set are the first `n` stops.
+-- transactions of one restore (`most_of`). If `n` is 0, the latch is set only if it was set before. The allowances that
+-- were set are those of `n` calls with these stops (`allowances_of`).
 pub record AreStopped (journal : Content) (stops : List ℕ) (old now : BusState) (n : ℕ) : Type 0 where
   pub leaves : LeavesRestores journal n old now
   pub allowed : now.allowances ≡ allowances_of stops n ++ old.allowances
@@ -156,7 +156,8 @@ module _ {journal : Content} {stops : List ℕ} {old now : BusState} {n : ℕ} (
   pub leaves_more : {most : ℕ} → n + 1 ≤ most → LeavesRestores journal 1 now new → LeavesRestores journal most old new
   leaves_more fits leaves = restores_then journal n 1 _ old now new fits before.leaves leaves
 
-  -- the allowances of one more restore: the next stop or, if none is left, the bound
+  -- the allowances that were set after one more restore, which was allowed the next stop or, if none is left,
+  -- `most_of 4096`
   pub allowed_more : {allowance : ℕ} → allowance ≡ slice_index_or stops n (most_of 4096)
       → new.allowances ≡ allowance ∷ now.allowances → new.allowances ≡ allowances_of stops (n + 1) ++ old.allowances
   allowed_more is by = allowed_then stops n old.allowances is before.allowed by
@@ -249,7 +250,8 @@ module _ {bytes : List ℕ} {journal : Content} (is : IsContent journal) (same :
     undo_wears modelled saved first leads s other = leaves.worn modelled s
         (sym (Saves-set first.bytes saved journal s (saves_all saved first leads)) ∙ other)
 
-    -- All that the restores sent fits each journal that the bytes encode: that can only be the journal that was read.
+    -- The modifying commands that the restores sent fit each journal that the bytes encode: that can only be the
+    -- journal that was read.
     pub undo_sends : SendsFromJournal bytes n old new
     undo_sends other =
         rw (is_read bytes (Ok journal) other.content (is, same) tt other.is other.same) at leaves.sends

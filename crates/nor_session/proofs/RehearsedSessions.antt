@@ -123,14 +123,15 @@ module _ {n : ℕ} {old mid : BusState} (allows : Allows n old mid) where
         }
 
     -- The session returned an error. If that is a stop, the session was allowed `most_of 4096` transactions, a bound
-    -- that no call exceeds on a well-behaved bus.
+    -- that no session exceeds on a well-behaved bus.
     pub session_refuses : (refusal : Refusal) → SessionAlways request mid new before after (Err refusal)
         → (mid.honest ≡ true → SessionHonest request image mid new (Err refusal))
         → (IsModelled mid → SessionModelled request image mid new before after (Err refusal))
         → (refusal ≡ Stopped → n ≡ most_of 4096) → RefusesSession request image old new before after refusal
     session_refuses refusal always reply_digits promise all = search (arith, early, no_halt, returned)
 
--- without stops the session is allowed `most_of 4096` transactions, a bound that no call exceeds on a well-behaved bus
+-- without stops the session is allowed `most_of 4096` transactions, a bound that no session exceeds on a well-behaved
+-- bus
 pub unlimited : (stops : List ℕ) → length stops ≡ 0 → first_allowance stops ≡ most_of 4096
 unlimited [] none = refl
 unlimited (first ∷ later) none = absurd (omega arith)
@@ -142,7 +143,8 @@ behind_first : (stops : List ℕ) → length (drop 1 stops) + 1 ≡ max 1 (lengt
 behind_first [] = refl
 behind_first (first ∷ later) = omega arith
 
--- after a session that sealed its vault, and before any restore, what was sent is within the limits of a rehearsal
+-- after a session that sealed its vault, and before any restore, the modifying commands that were sent are within the
+-- limits of a rehearsal
 pub session_sends : {request : Request} {image : List ℕ} {old new : BusState} {vault : VaultState} (stops : List ℕ)
     → LeavesSession request image old new vault → vault.sealed ≡ true → (journal : IsJournal vault.bytes)
     × SendsSaved (IsRehearsedCode request.what journal.content) (1 + max 1 (length stops)) journal.content old new
@@ -172,7 +174,7 @@ module _ {request : Request} {image text later : List ℕ} {old mid new : BusSta
   both_wear modelled s other =
       let (unsent, leads) = led modelled in undone.wears unsent _ _ leads s other ∙ session.wears modelled s other
 
-  -- all that the session and the restores sent fits the journal in the vault
+  -- the modifying commands that the session and the restores sent fit the journal in the vault
   pub both_send : (stops : List ℕ) → later ≡ drop 1 stops → (journal : IsJournal vault.bytes)
       × SendsSaved (IsRehearsedCode request.what journal.content) (1 + max 1 (length stops)) journal.content old new
   both_send stops behind =

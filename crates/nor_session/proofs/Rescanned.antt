@@ -28,7 +28,7 @@ abbrev pub saved_before : Content → ℕ → ℕ → Bool
 saved_before journal i s = is_some (saved_in (take i journal.saved) s)
 
 -- Holds after the first `i` saved sectors were read once each. On a well-behaved bus with an idle chip of the journal's
--- size, exactly the touched and raised ones of these are marked.
+-- size, exactly the touched ones of these are marked as touched, and the raised ones as raised.
 pub record HasRescanned (journal : Content) (i : ℕ) (old new : BusState) (scanned : Scanned) : Type 0 where
   pub marks : AreMarks (least_after 0 (take i journal.saved)) scanned
   pub reads : scanned.reads ≡ i
@@ -51,7 +51,7 @@ nothing_rescanned {journal = journal} {state = state} {scanned = scanned} blank 
 later_marks : {m n : ℕ} {scanned : Scanned} → m ≤ n → AreMarks m scanned → AreMarks n scanned
 later_marks later are = search (are.below, arith)
 
--- one more record adds exactly its sector to those that are saved
+-- the first `i + 1` records have exactly the sectors of the first `i` records, and that of the next record
 more_before : (journal : Content) (i number : ℕ) (saved : List ℕ) (s : ℕ) → IsContent journal → slice_get journal.saved i ≡ Some (record { number = number; bytes = saved })
     → saved_before journal (i + 1) s ≡ ((s == number) || saved_before journal i s)
 more_before journal i number saved s is at =

@@ -53,7 +53,7 @@ written_restored journal old mid new touched a right same is = search (arith, to
 and_same : (b x y : Bool) → (b ≡ true → x ≡ y) → (b && x) ≡ (b && y)
 and_same b x y same = grind arith
 
--- of the target bytes, only those in touched sectors affect the number of pages to program
+-- target bytes outside the touched sectors don't affect the number of pages to program
 pub pages_same : (touched : ℕ → Bool) (old target_bytes target_bytes' : ℕ → ℕ) → ((a : ℕ) → touched (a / 4096) ≡ true → target_bytes a ≡ target_bytes' a)
     → count_below 65536 (is_programmed touched old target_bytes) ≡ count_below 65536 (is_programmed touched old target_bytes')
 unfolding is_page_other

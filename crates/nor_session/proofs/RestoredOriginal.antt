@@ -43,9 +43,9 @@ use Rattle.nor_session.proofs.RestoredBytes.{touched_byte, touched_saved}
 calm_or_not : (state : BusState) → IsSteadyOrIdle state ⊎ ((state.steady ≡ false) × (state.chip.busy ≢ 0))
 calm_or_not state = grind arith
 
--- An operation that changes only these addresses (`WorksIn`) was interrupted. If the bits that are never changed were
--- the original ones, they still are. If the status can't be written, all non-volatile bits that were the original ones
--- still are.
+-- An operation that changes only these addresses (`WorksIn`) was interrupted. The bits that are never changed were the
+-- original ones, and still are. If the original chip's status can't be written and all non-volatile bits were the
+-- original ones, all of them still are.
 cut_kept : (p : ℕ → Bool) (first : Chip) (old new : KeptBits) (running : Running) → KeptCut running old new
     → WorksIn p first running → fixed_of old ≡ fixed_of first.kept
     → (fixed_of new ≡ fixed_of first.kept) × (is_writable first ≡ false → old ≡ first.kept → new ≡ first.kept)
@@ -115,7 +115,7 @@ guarded_same : (chip : Chip) (a b : ℕ) → IsGenuine chip.config → a / 4096 
 guarded_same chip a b genuine sector =
     search (arith, cases_Bool, cases_lt, guarded_within, is_protected-no_scheme, is_protected-past, sized_bounds)
 
--- ---- a touched sector may differ from the original chip
+-- ---- each address in a touched sector is open (`open_addresses`)
 
 pub touched_open : (journal : Content) (first chip : Chip) (a : ℕ) → IsKnown first.config → SavesChip journal first → ((b : ℕ) → open_addresses journal first b ≡ false → chip.bytes b ≡ first.bytes b)
     → is_touched chip.bytes (restored journal chip.bytes) (a / 4096) ≡ true → open_addresses journal first a ≡ true

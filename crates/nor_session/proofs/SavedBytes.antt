@@ -28,7 +28,7 @@ is_saved-some journal s bytes is = ap is_some is
 pub saved_room : (journal : Content) → IsContent journal → length journal.saved ≤ 4096
 saved_room journal is = search (arith, is_chip_size-in_blocks, saved_few)
 
--- ---- how many
+-- ---- the number of saved sectors
 
 -- true if one of these records has the sector
 abbrev has_record : List SavedSector → ℕ → Bool

@@ -103,8 +103,9 @@ sends_wider IsCode IsWider calls journal old new wider sends = record {
 
 -- ---- the bytes of a status write
 
--- A status write that sends the status that was read, with the protection bits `code`, is allowed (`WritesOnly`). Its
--- premises are that the bits that are never changed are the journal's, and that `IsCode` holds for `code`.
+-- A status write that sends the status that was read, with the protection bits `code`, is allowed (`WritesOnly`). The
+-- premises are that the bits that are never changed are the journal's, that `code` is below 64, and that `IsCode` holds
+-- for it.
 pub coded_only : (IsCode : ℕ → Type 0) (journal : Content) (status : Status) (code one two : ℕ) → code < 64
     → fixed_of (kept_in (bytes_of status)) ≡ fixed_of (kept_in journal.status) → IsCode code
     → is_status_with_code status code one two ≡ true → WritesOnly IsCode journal one two
@@ -123,9 +124,9 @@ coded_only IsCode journal status code one two small fixed is written =
 
 -- ---- changes after calls that only read
 
--- Holds if the changes are for a chip of the journal's size and touch only sectors that it saves, and the bits that are
--- never changed were read as the journal has them. `IsCode` holds for the target protection bits and, if protection is
--- lifted, for 0.
+-- Holds if the changes are for a chip of the journal's size and touch only sectors that the journal saves, and the bits
+-- that are never changed were read as the journal has them. The raised sectors are touched. The target protection bits
+-- are below 64; `IsCode` holds for them and, if protection is lifted, for 0.
 pub record AreOfJournal (IsCode : ℕ → Type 0) (journal : Content) (changes : Changes) : Type 0 where
   pub sized : journal.size ≡ changes.size
   pub saved : (s : ℕ) → touched_in changes s ≡ true → is_saved journal s ≡ true

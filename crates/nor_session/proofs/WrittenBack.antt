@@ -28,8 +28,8 @@ pub either : (P : ℕ → Type 0) (x y z : ℕ) → (z ≡ x) ⊎ (z ≡ y) → 
 either P x y z (inl is) one two = rw is one
 either P x y z (inr is) one two = rw is two
 
--- if both chips have the non-volatile bits of `first`, so does the chip that was opened (`kept_over`); `fixed_over`
--- says this for the bits that are never changed
+-- if the chips before and after the overwriting have the non-volatile bits `first`, so does the chip that was opened
+-- (`kept_over`); `fixed_over` says this for the bits that are never changed
 kept_over : {old new opened : Chip} (first : KeptBits) → IsWrittenOver old new opened → old.kept ≡ first
     → new.kept ≡ first → opened.kept ≡ first
 kept_over {old} {new} {opened} first over before after =
@@ -84,7 +84,7 @@ read_back request image old new vault journal modelled is telling undone sound r
     (restorable request image old new vault is modelled.genuine telling undone)
     (read_kept (header_of old.chip) old.chip.bytes _ journal vault.bytes (undone.journal telling) sound read)
 
--- the same bus with an idle chip
+-- this bus, with its chip made idle
 abbrev idle : BusState → BusState
 idle state = record state { chip = record state.chip { busy = 0 } }
 

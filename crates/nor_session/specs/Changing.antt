@@ -50,10 +50,11 @@ pub record DoesCheck (changes : Changes) (wanted : ℕ → ℕ) (verify : Bool) 
   pub same : verify ≡ true → old.honest ≡ true → CanCheck (touched_in changes) old.chip
       → (a : ℕ) → touched_in changes (a / 4096) ≡ true → old.chip.bytes a ≡ wanted a
 
--- The meaning of an error of the check. On every bus the last transaction is the one at which the bus stopped, or the
--- read of the sector of the mismatch, and no other error occurs. On a well-behaved bus `Stopped` means that fewer
--- transactions were left than there are touched sectors, and that none is left. If the chip of such a bus can be
--- checked (`CanCheck`), the address of `Mismatch` is that of the first difference in the touched sectors.
+-- The meaning of an error of the check. On every bus the last transaction is the one at which the bus stopped
+-- (`Stopped`), or a read of the sector of the mismatch (`Mismatch`); no other error occurs. On a well-behaved bus
+-- `Stopped` means that fewer transactions were left than there are touched sectors, and that none is left. If the chip
+-- of such a bus can be checked (`CanCheck`), the address of `Mismatch` is that of the first difference in the touched
+-- sectors.
 abbrev pub CheckRefuses : Changes → (ℕ → ℕ) → (old new : BusState) → Refusal → Type 0
 CheckRefuses changes wanted old new Stopped = HasStopped (touched_count changes) old new
 CheckRefuses changes wanted old new (Mismatch address) = EndsReading address new.history
@@ -67,9 +68,10 @@ CheckRefuses changes wanted old new _ = ⊥
 abbrev pub HasBytes : (sectors : ℕ → Bool) → (wanted : ℕ → ℕ) → Chip → Type 0
 HasBytes sectors wanted chip = (a : ℕ) → sectors (a / 4096) ≡ true → chip.bytes a ≡ wanted a
 
--- Holds at every exit of the changes and their check. On every bus, what was sent is within `most_sent`: which sectors
--- are newly targeted, which bytes a status write newly has, and how many commands are sent. On a well-behaved bus the
--- number of transactions is bounded, and if `CanApply` held at the start, the chip changes only as `MayChange` allows.
+-- Holds at every exit of the changes and their check. On every bus the modifying commands that were sent are within
+-- `most_sent` (`SendsWithin`): the sectors targeted for the first time, the bytes of status writes, and the numbers of
+-- commands. On a well-behaved bus the number of transactions is bounded, and if `CanApply` held at the start, the chip
+-- changes only as `MayChange` allows.
 pub record LeavesChange (changes : Changes) (wanted : ℕ → ℕ) (old new : BusState) : Type 0 where
   pub spends : Spends (most_changed changes) old new
   pub sends : SendsWithin (most_sent changes) old new
@@ -111,8 +113,9 @@ ChangeErrors changes wanted old new (Mismatch address) =
     EndsReading address new.history × (old.honest ≡ true → CanApply changes wanted old.chip → ⊥)
 ChangeErrors changes wanted old new _ = ⊥
 
--- Holds on every bus: a timeout names an address in a touched sector, or 0 if a status write is needed; a mismatch
--- names an address in a touched sector.
+-- Holds for a timeout that names an address in a touched sector, or 0 if a status write is needed. Holds for a mismatch
+-- that names an address in a touched sector, and for every error of another kind. The changes and their check promise
+-- this on every bus.
 abbrev pub NamesTouchedSector : Changes → Refusal → Type 0
 NamesTouchedSector changes (Timeout address) =
     ((1 ≤ status_writes changes) × (address ≡ 0)) ⊎ (touched_in changes (address / 4096) ≡ true)

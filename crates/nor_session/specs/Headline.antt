@@ -38,8 +38,8 @@ abbrev pub open_addresses : Content → Chip → ℕ → Bool
 open_addresses journal first a = is_saved journal (a / 4096) && not (is_locked first.kept && is_protected first a)
 
 -- Holds if the journal can restore the original chip (`first`) on this bus. The journal saves that chip, which is
--- known. The bus's chip differs from it only in bytes and bits that a restore can write, in BUSY and in WEL. On a bus
--- that isn't steady, an operation in progress is limited too (`IsWithin`).
+-- known. The bus's chip differs from the original one only in bytes and bits that a restore can write, in BUSY and in
+-- WEL. On a bus that isn't steady, an operation in progress is limited too (`IsWithin`).
 pub record CanRestore (journal : Content) (first : Chip) (state : BusState) : Type 0 where
   pub known : IsKnown first.config
   pub saves : SavesChip journal first
@@ -52,7 +52,7 @@ pub record CanRestoreFrom (bytes : List ℕ) (first : Chip) (state : BusState) :
 
 -- ---- what the calls promise
 
--- The promise of a session at every exit, wherever it ended or was stopped.
+-- The promise of a session at every exit, wherever the session ended or was stopped.
 pub record KeepsOriginal (old new : BusState) (vault : VaultState) : Type 0 where
   -- if the vault isn't sealed, no modifying command was sent, on every bus
   pub unsent : vault.sealed ≡ false → new.sent ≡ old.sent

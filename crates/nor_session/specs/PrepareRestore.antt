@@ -154,8 +154,8 @@ pub record AreChanges (journal : Content) (identity : Identity) (scanned : Scann
   pub code : changes.code ≡ code_of (kept_in journal.status)
   pub six_bits : changes.code < 64
 
--- Holds if a status write is needed when these sectors are touched: the protection bits differ from the journal's, or a
--- touched sector is protected.
+-- Holds if a status write is needed, given that these sectors are touched: the protection bits differ from the
+-- journal's, or a touched sector is protected.
 abbrev pub NeedsStatusWith : Content → (touched : ℕ → Bool) → Chip → Type 0
 NeedsStatusWith journal touched chip =
     (code_of chip.kept ≢ code_of (kept_in journal.status)) ⊎ SomeProtected touched chip
@@ -172,12 +172,13 @@ pub record IsShut (journal : Content) (touched : ℕ → Bool) (chip : Chip) : T
   pub locked : is_locked chip.kept ≡ true
   pub needs : NeedsStatusWith journal touched chip
 
--- Holds if changes are returned only if `MayChangeStatus` holds for them and each chip with this identification.
+-- Holds if `MayChangeStatus` holds for each chip with this identification and for the changes that are returned, if
+-- any.
 abbrev pub MakesChanges : Content → Identity → (ℕ → Bool) → Result Changes Refusal → Type 0
 MakesChanges journal identity touched judged =
     (chip : Chip) → IsIdentityOf chip identity → IfOk judged (MayChangeStatus journal touched chip)
 
--- Holds if an error is returned only when the status of each chip with this identification is locked and must be
+-- Holds if an error is returned only if the status of each chip with this identification is locked and would have to be
 -- written.
 abbrev pub RefusesShut : Content → Identity → (ℕ → Bool) → Result Changes Refusal → Type 0
 RefusesShut journal identity touched judged =
@@ -185,9 +186,9 @@ RefusesShut journal identity touched judged =
 
 -- ---- the preparation as a whole
 
--- The result of the preparation on a modelled bus. All checks of the restore pass for the chip, it was identified as
--- what its ID or SFDP says, and the changes that the journal asks for can be made to it (`CanApply`). They write the
--- status only if that is needed.
+-- The result of the preparation on a modelled bus. All checks of the restore pass for the chip, the chip was identified
+-- as what its ID or SFDP says, and the changes that the journal asks for can be made to the chip (`CanApply`). The
+-- changes write the status only if that is needed.
 pub record IsPreparedFor (journal : Content) (old new : Chip) (prepared : PreparedRestore) : Type 0 where
   pub accepted : RestoreAccepts journal old
   pub shown : shown_as old.config ≡ Ok (part_in prepared.found)
@@ -204,7 +205,8 @@ pub record IsPreparedFor (journal : Content) (old new : Chip) (prepared : Prepar
 
 -- The result of a restore's preparation on every bus. The changes fit the journal, and the counts are within their
 -- bounds. On a well-behaved bus the chip is as before and idle, and if it has the journal's size, the touched sectors
--- are those that differ from the journal. On a modelled bus the chip can be restored (`IsPreparedFor`).
+-- are the saved ones whose bytes differ from the journal's. On a modelled bus the chip can be restored
+-- (`IsPreparedFor`).
 pub record IsPreparedRestore (journal : Content) (old new : BusState) (prepared : PreparedRestore) : Type 0 where
   pub inside : LiesBelow prepared.changes.touched (prepared.changes.size / 4096)
   pub raised : (s : ℕ) → has prepared.changes.raised s ≡ true → has prepared.changes.touched s ≡ true

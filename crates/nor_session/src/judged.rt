@@ -12,8 +12,8 @@ use nor_model::Bus;
 use nor_request::{Refusal, Report, Request};
 use nor_scan::{Identity, save};
 
-/// The state in which the request is checked against the identification, and nothing is saved yet. A `Judged` holds all
-/// that a session uses until it returns.
+/// The state after the checks of the request against the identification, in which nothing is saved yet. A `Judged`
+/// holds all that a session uses until it returns.
 pub(crate) struct Judged<'a, B: Bus, V: Vault> {
     pub(crate) bus: &'a mut B,
     pub(crate) vault: &'a mut V,

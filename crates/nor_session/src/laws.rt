@@ -15,7 +15,7 @@ ghost use Rattle.nor_session.specs.Restore.{IsRestored};
 ghost use Rattle.nor_session.specs.Session.{CanBeUndone, HoldsBegun};
 ghost use Rattle.nor_session.specs.WrittenOver.{IsWrittenOver};
 
-/// A restore that succeeds on a modelled bus changes nothing if its journal saves the chip as it already is
+/// A restore that succeeds on a modelled bus changes nothing if its journal saves the chip in its present state
 /// (`SavesChip`), for example after another restore from that journal.
 pub fn restored_stays()
     ensures { (journal : Content) (first : Chip) (old new : BusState) (report : Report)
@@ -90,15 +90,15 @@ pub fn session_written_over()
 {}
 
 /// The chip's files held the chip from before a restore, and were being overwritten with the chip after it. If a
-/// journal can restore the original chip from both of these chips, it can restore it from these files, wherever the
-/// overwriting was interrupted.
+/// journal can restore the original chip from both of these chips, the journal can restore that chip from these files,
+/// wherever the overwriting was interrupted.
 pub fn restore_written_over()
     ensures { (journal : Content) (first : Chip) (old new opened : BusState)
         → CanRestore journal first old → CanRestore journal first new → IsWrittenOver old.chip new.chip opened.chip
         → CanRestore journal first opened }
 {}
 
-/// Files that are overwritten with the chip that they hold have that chip at each moment.
+/// Files that are overwritten with the same chip that they hold still hold that chip at each moment.
 pub fn same_written_over()
     ensures { (old new opened : Chip) → IsSame old new → IsWrittenOver old new opened → IsSame old opened }
 {}

@@ -103,7 +103,7 @@ fn later(stops: &[u64]) -> &[u64]
 }
 
 // Allows the number of transactions of the first stop or, without stops, `most_needed`, and runs the session. Returns
-// whether the session ended. A stop of the bus is an error only if there are no stops.
+// whether the session ended. If the bus stopped, that is error 12 only if `stops` is empty.
 fn stopped_session<B: Meter>(
     bus: &mut B,
     vault: &mut MemVault,
@@ -131,7 +131,7 @@ fn stopped_session<B: Meter>(
 }
 
 // Reads `text` as a journal, and restores from it with `stops` in turn (`restore_in_turn`). Returns how many restores
-// were run.
+// were run, error 15 if `text` isn't a journal, or an error of `restore_in_turn`.
 fn undo<B: Meter>(bus: &mut B, text: &[u8], stops: &[u64]) -> Result<u32, Refusal>
     requires few { length stops.now ≤ 64 }
     ensures { LeavesUndo text.now stops.now (B.state bus.old) (B.state bus.new) result }
@@ -143,7 +143,7 @@ fn undo<B: Meter>(bus: &mut B, text: &[u8], stops: &[u64]) -> Result<u32, Refusa
 }
 
 // Runs restores until one ends: one with each of the stops in turn, then one with `most_needed` transactions. Returns
-// how many restores were run, or error 12 if the last one was stopped too.
+// how many restores were run, error 12 if the last one was stopped too, or any other error that a restore returned.
 fn restore_in_turn<B: Meter>(
     bus: &mut B,
     journal: &Journal<'_>,
@@ -169,7 +169,8 @@ fn restore_in_turn<B: Meter>(
     Err(Refusal::Stopped)
 }
 
-// Allows the given number of transactions, and restores. Returns whether the restore ended; if not, the bus stopped.
+// Allows the given number of transactions, and restores. Returns whether the restore ended (if not, the bus stopped),
+// or an error of the restore other than 12.
 fn ends_under<B: Meter>(bus: &mut B, journal: &Journal<'_>, allowance: u64) -> Result<bool, Refusal>
     ensures leaves { LeavesRestores journal.now 1 (B.state bus.old) (B.state bus.new) }
     ensures allowed { (B.state bus.new).allowances ≡ allowance ∷ (B.state bus.old).allowances }
