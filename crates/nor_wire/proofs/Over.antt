@@ -31,7 +31,8 @@ use Rattle.nor_wire.specs.Headline.{ReachesGenuine, CanRestoreChip, CanRestoreCh
 pub modelled : (port : PortState) (history : List Exchange) → ReachesGenuine port → IsModelled (over_port port history)
 modelled port history reaches = record { honest = reaches.honest; genuine = reaches.genuine }
 
--- A journal that can restore a chip on a bus that isn't steady can restore it on every bus to that chip.
+-- If a journal can restore the original chip (`first`) on a bus that isn't steady, it can do so on every bus to the
+-- same chip.
 pub on_every_bus : (journal : Content) (first : Chip) (state : BusState) → state.steady ≡ false
     → CanRestore journal first state → CanRestoreChip journal first state.chip
 on_every_bus journal first state unsteady can = λ other same. record {

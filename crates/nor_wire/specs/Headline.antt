@@ -1,5 +1,5 @@
 -- The main promises over serprog: on an honest port to a genuine chip, the original chip can be restored from the
--- journal in a faithful vault, wherever the port fails.
+-- journal in a sealed faithful vault, wherever the port fails.
 use Rattle.std.specs.Prelude.{◌≡◌, ◌<◌, ◌*◌, ◌/◌, ℕ, true, false, List, length, Result, IfErr, OnOk}
 use Rattle.nor_model.specs.Chip.{Chip, IsSame}
 use Rattle.nor_model.specs.Sent.{Sent}

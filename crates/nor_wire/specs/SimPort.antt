@@ -9,12 +9,12 @@ use Rattle.nor_wire.specs.declared.sim_port.SimPort.{SimPort}
 abbrev pub simulated_chip : SimPort → SimBus
 simulated_chip port = port.chip
 
--- The number of calls that the port still carries out.
+-- The greatest number of calls that the port can still carry out.
 abbrev pub left_of : SimPort → ℕ
 left_of port = port.left
 
--- A programmer in front of the chip of this bus, with these bytes pending. It keeps no part of a frame from one call of
--- the port to the next, so no frame is ever begun.
+-- A programmer in front of the chip of this bus, with these bytes pending. The programmer keeps no part of a frame from
+-- one call of the port to the next, so `begun` is empty.
 abbrev pub device_over : BusState → (pending : List ℕ) → Device
 device_over bus pending = record {
   chip = bus.chip;

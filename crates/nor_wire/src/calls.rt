@@ -38,10 +38,11 @@ pub fn session_over<P: Port + Drop, V: Vault>(
 /// Runs `restore` of nor_session on the chip at a programmer: writes the saved sectors and the protection bits of
 /// `journal` back to the chip, and verifies the sectors that it changed.
 ///
-/// The port may fail at any call, and inside any exchange. Then connect again, and run the restore again. On an honest
-/// port to a genuine chip, if the journal can restore a chip at the start, it can restore that chip at every exit. If
-/// it can, success leaves that chip, idle, and the only possible error is 12 (the port failed). In all other cases the
-/// errors are those of `restore`. On every port, all that is sent fits the journal (`SendsSaved`).
+/// The port may fail at any call, and inside any exchange. If it fails, connect again, and run the restore again. On an
+/// honest port to a genuine chip, if the journal can restore a chip at the start, it can restore that chip at every
+/// exit. In this case success leaves that chip, idle, and the only possible error is 12 (the port failed). In all other
+/// cases the errors are those of `restore`. On every port the modifying commands that are sent fit the journal
+/// (`SendsSaved`).
 pub fn restore_over<P: Port + Drop>(
     bus: &mut SerprogBus<P>,
     journal: &Journal<'_>,
