@@ -23,9 +23,9 @@ IdentificationErrors most named old new (Timeout address) =
     (address ≡ 0) × EndsBusy new.history × (old.honest ≡ true → ⊥)
 IdentificationErrors most named old new _ = ⊥
 
--- Holds for the history of a bus after a call that returned this error. The last transaction is, after error 12, one at
--- which the bus stopped; after error 13, a poll that showed BUSY; and after error 14, a read of the sector that has the
--- address of the error. For any other error nothing is said.
+-- Holds for the history of a bus after a call that returned this error. After error 12 the last transaction is one at
+-- which the bus stopped. After error 13 it is a poll that showed BUSY, and after error 14 a read of the sector that
+-- contains the address of the error. For any other error nothing is said.
 abbrev pub EndsAtError : Refusal → List Exchange → Type 0
 EndsAtError Stopped history = EndsStopped history
 EndsAtError (Timeout address) history = EndsBusy history
