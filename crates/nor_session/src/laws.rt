@@ -34,8 +34,8 @@ pub fn power_lost_restores_original()
 /// Two sessions, one after the other, left their journals in sealed `telling` vaults (`LeavesJournal`). Once a restore
 /// from the later journal has succeeded, the earlier journal can restore the chip from before the first session. All
 /// buses are modelled, and each run may have another one. Other restores from the later journal may have been stopped
-/// before: then that journal must still be able to restore its chip. Between two runs the chip may lose its power, or
-/// be in files that were not completely overwritten (`IsTakenUp`).
+/// before: then that journal must still be able to restore its chip. Between two runs the chip may lose its power, if
+/// it was idle or its bus isn't steady, or be in files that were not completely overwritten (`IsTakenUp`).
 pub fn undone_is_restorable()
     ensures { (request later : Request) (image later_image : List ℕ) (old mid mid' new new' back : BusState)
         (journal other : Content) (report : Report)
@@ -48,8 +48,9 @@ pub fn undone_is_restorable()
 /// Two sessions, one after the other, left their journals in sealed `telling` vaults (`LeavesJournal`). Restores from
 /// these journals in the reverse order leave the chip from before the first session. All buses are modelled, and each
 /// run may have another one. Before each restore that succeeds, other restores from its journal may have been stopped:
-/// then that journal must still be able to restore its chip. Between two runs the chip may lose its power or, after a
-/// session, be in files that were not completely overwritten (`MayLosePower`, `IsTakenUp`).
+/// then that journal must still be able to restore its chip. Between two runs the chip may lose its power, if it was
+/// idle or its bus isn't steady, or, after a session, be in files that were not completely overwritten (`MayLosePower`,
+/// `IsTakenUp`).
 pub fn undone_in_turn()
     ensures { (request later : Request) (image later_image : List ℕ) (old mid mid' new new' back back' end : BusState)
         (journal other : Content) (report last : Report)
