@@ -111,9 +111,9 @@ pub record CanProgramAll (touched raised : ℕ → Bool) (wanted : ℕ → ℕ) 
   pub blank : (a : ℕ) → touched (a / 4096) ≡ true → raised (a / 4096) ≡ true → chip.bytes a ≡ 255
   pub falls : OnlyFalls touched wanted chip.bytes
 
--- Holds at every exit of the programs. On every bus they are at most sixteen per touched sector, and target only
--- touched sectors. On a well-behaved bus, if `CanProgramAll` held at the start, the chip changes only as `MayChange`
--- allows: if the bus is also steady, each byte is the old or the target one.
+-- Holds at every exit of the programs. On every bus at most sixteen programs per touched sector are sent, and they
+-- target only touched sectors (`SendsWithin`). On a well-behaved bus, if `CanProgramAll` held at the start, the chip
+-- changes only as `MayChange` allows: if the bus is also steady, each byte is the old or the target one.
 pub record LeavesPrograms (touched raised : ℕ → Bool) (wanted : ℕ → ℕ) (old new : BusState) : Type 0 where
   pub spends : Spends (most_sector * sector_count touched) old new
   pub sends : SendsWithin (programming touched (16 * sector_count touched)) old new
