@@ -226,9 +226,9 @@ pub trait Store: AllocGlobal {
         ensures fails { OnErr result ((state self.old).view.nature.fails (Unwritten name.now) ≡ true) };
 
     /// Creates the named file, which must not exist, and lends a vault in it; return the vault with `hand_back`. `Disk`
-    /// returns `There` for an existing file, and syncs the directory. On lawful files, if no vault or log in the named
-    /// file is borrowed, after a failure a host crash can leave nothing of this file that it couldn't leave before,
-    /// except an empty file if it was missing.
+    /// returns `There` for an existing file, and syncs the directory. After a failure on lawful files, a host crash can
+    /// leave of this file only what it could leave before, or an empty file if it was missing. This requires that no
+    /// vault or log in the file was borrowed before the call.
     fn vault_in_new(&mut self, name: &str) -> Result<Self::Filed, CreateFault>
         ensures nature { (state self.new).view.nature ≡ (state self.old).view.nature }
         ensures fresh { IfOk result (λ vault. IsFresh (Self.Filed.state vault)) }
