@@ -32,7 +32,7 @@ pub number_at-number_text : (n : ℕ) (rest : List ℕ) → n < 2 ^ 32 → numbe
 unfolding number_text number_at
 number_at-number_text n rest fits = little_number-reads_back 4 n rest fits
 
--- a number depends on the first four bytes only
+-- the number that bytes encode depends only on the first four of them
 pub number_at-take : (bytes : List ℕ) → number_at (take 4 bytes) ≡ number_at bytes
 unfolding number_at
 number_at-take bytes = little_from-take 0 4 4 bytes (omega arith)
