@@ -87,7 +87,7 @@ Places name (Err _) old new = KeepsFile name old new
 -- ---- changing
 
 -- `has` is a mix of the old bytes `had` and the written `bytes`: each byte is from one of the two, in any combination.
--- Past the end of either list the byte from there is 0. The length is at least that of `had`, and at most that of the
+-- Past the end of a list, the byte from that list is 0. The length is at least that of `had`, and at most that of the
 -- longer of the two lists.
 pub record IsMixed (had bytes has : List ℕ) : Type 0 where
   pub shortest : length had ≤ length has
