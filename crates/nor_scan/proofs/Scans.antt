@@ -254,8 +254,8 @@ module _ {request : Request} {size n : ℕ} {image image' : List ℕ} {old mid :
         count_below-add (n + 1) (size / 4096 - (n + 1)) test,
       ))
 
-  -- At the end of the loop `Scans` follows from `HasScanned` and from three facts about the whole chip: the marks, the
-  -- number of reads, and `AreRight`.
+  -- `Scans` follows from `HasScanned` if, at the end of the loop, the counts and the marks (`AreMarks`, `AreRight`) are
+  -- those of the whole chip.
   scans_of : scanned.count ≤ scanned.reads → AreMarks (size / 4096) scanned
       → scanned.reads ≡ scanned_sectors request size → (IsOpen size old
       → AreRight (wanted_at request image size old.chip.bytes) old.chip.bytes (size / 4096) scanned)
