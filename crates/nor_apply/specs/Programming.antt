@@ -60,7 +60,7 @@ pub record CanProgramSector (sector : ℕ) (wanted : List ℕ) (erased : Bool) (
 
 -- Holds after a sector was loaded into `bytes'`. The returned number of reads is 1, or 0 if the sector was erased: then
 -- the bytes and the bus are as they were. On a well-behaved bus with an idle chip that has the sector, the bytes read
--- are its own.
+-- are the chip's.
 pub record LoadsOk (sector : ℕ) (erased : Bool) (bytes bytes' : List ℕ) (reads : ℕ) (old new : BusState) : Type 0 where
   pub reads_once : reads ≡ (if erased then 0 else 1)
   pub polled_ready : new.polled_ready ≡ old.polled_ready
