@@ -27,8 +27,8 @@ abbrev pub Counts : {T E : Type 0} → Result T E → (old new : FilesState) →
 Counts (Ok _) old new = Succeeds old new
 Counts (Err _) old new = Fails old new
 
--- The effect of a call on one file, except calls that lend or take back a vault or log: the call is counted (`Counts`),
--- what is borrowed doesn't change, and each file whose name is apart from this one is as it was.
+-- The effect of a call on one file, except calls that lend or take back a vault or log. The call is counted (`Counts`),
+-- and what is borrowed doesn't change. Each file whose name is apart from this one is as it was.
 pub record WorksOn {T E : Type 0} (name : Name) (result : Result T E) (old new : FilesState) : Type 0 where
   pub counts : Counts result old new
   pub borrowed : new.borrowed ≡ old.borrowed

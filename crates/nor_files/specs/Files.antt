@@ -79,7 +79,7 @@ pub record AreAtRest (files : FilesState) : Type 0 where
   pub lawful : is_lawful files.view ≡ true
   pub in_store : (name : Name) → files.view.out name ≡ false
 
--- The file is as it was: a read returns the same, a vault or log in it is borrowed if and only if one was, and a host
+-- The file is as it was: a read returns the same, and a vault or log in it is borrowed if and only if one was. A host
 -- crash can leave nothing that it couldn't leave before.
 pub record KeepsFile (name : Name) (old new : FilesState) : Type 0 where
   pub out : new.view.out name ≡ old.view.out name
