@@ -104,8 +104,8 @@ module _ {changes : Changes} {wanted : ℕ → ℕ} {old : BusState} (can : CanA
   -- ---- what erases and programs need
 
   module _ {bytes : ℕ → ℕ} {worn : ℕ → Bool} {mid : BusState} (is : Stands bytes worn (code_once changes) old mid) where
-    -- Before the last status write no address in a touched sector is protected: without an unlock by `CanApply`, and
-    -- after an unlock because all protection bits are clear.
+    -- After the unlock, if one was requested, and before the last status write, no address in a touched sector is
+    -- protected: without an unlock by `CanApply`, and after an unlock because all protection bits are clear.
     free : (a : ℕ) → touched_in changes (a / 4096) ≡ true → is_protected mid.chip a ≡ false
     free a touched =
         let before = kept_read can in let cleared = code_cleared old.chip.kept in
