@@ -113,10 +113,10 @@ pub trait Store: AllocGlobal {
     /// A file to which a run writes piece by piece.
     type Log: Write + Drop;
 
-    /// Returns whether the two names refer to one file: the same text, the same file of the system, or the same name in
-    /// the same directory if neither file exists yet. If the result is false, the names are apart: on lawful files a
-    /// call on one of them leaves the other as it is, and on the system's files the names differ. Returns as the error
-    /// a name that can't be looked up.
+    /// Returns whether the two names refer to one file: they are equal, or refer to the same file of the system, or, if
+    /// neither file exists yet, have the same last part in the same directory. If the result is false, the names are
+    /// apart: on lawful files a call on one of them leaves the other as it is, and on the system's files the names
+    /// differ. Returns as the error a name that can't be looked up.
     fn is_one_file<'n>(&self, one: &'n str, other: &'n str) -> Result<bool, &'n str>
         ensures shared { IfOk result (λ is_one. is_one ≡ true
             → (state self.now).view.nature.fails (Shared one.now other.now) ≡ true) }
