@@ -229,8 +229,8 @@ pages_other content sector old wanted whole shown =
 
 -- ---- one span after another
 
--- Holds if the programs of the spans `spans` of a sector succeeded, and nothing else was sent. The spans `left` are not
--- programmed yet.
+-- Holds if the programs of the spans `spans` of a sector succeeded, and no other operation was sent. The spans `left`
+-- are not programmed yet.
 pub record SpansSoFar (sector : ℕ) (old wanted : List ℕ) (spans left : List PageSpan) (first now : BusState)
     (tally : Tally) : Type 0 where
   pub whole : length old ≡ 4096

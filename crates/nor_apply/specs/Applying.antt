@@ -38,9 +38,9 @@ writes_code changes = not ((if changes.unlock then 0 else code_of (kept_in (byte
 abbrev pub status_writes : Changes → ℕ
 status_writes changes = (if changes.unlock then 1 else 0) + (if writes_code changes then 1 else 0)
 
--- True if the changes ask for a status write of these two bytes. They are the status that was read, with BUSY, WEL and
--- (for target bits below 64) SUS clear and with other protection bits. These are all clear if protection is lifted
--- first, or the target ones if they are written at the end.
+-- True if the changes ask for a status write of these two bytes: one that clears all protection bits at the start, or
+-- one that writes the target protection bits at the end. The other bits are as in the status that was read, except that
+-- BUSY, WEL and (for target bits below 64) SUS are clear.
 abbrev pub is_status_asked : Changes → (one two : ℕ) → Bool
 is_status_asked changes one two =
     (changes.unlock && is_status_with_code changes.status 0 one two)
@@ -98,9 +98,9 @@ abbrev pub most_applied : ℕ → ℕ
 most_applied touched = touched + most_operation * (17 * touched + 2)
 
 -- Holds at every exit of `apply`. On every bus, erases and programs target only touched sectors, or if these are the
--- whole chip, also sectors past its end; no more operations are sent than `most_sent` allows. On a well-behaved bus at
--- most `most_applied` transactions are carried out, and if `CanApply` held at the start, the chip changes only as
--- `MayChange` allows.
+-- whole chip, also sectors past its end; no more operations are sent than `most_sent` allows (`SendsWithin`). On a
+-- well-behaved bus at most `most_applied` transactions are carried out. If `CanApply` held at the start, too, the chip
+-- changes only as `MayChange` allows.
 pub record LeavesApply (changes : Changes) (wanted : ℕ → ℕ) (old new : BusState) : Type 0 where
   pub spends : Spends (most_applied (sector_count (touched_in changes))) old new
   pub sends : SendsWithin (most_sent changes) old new

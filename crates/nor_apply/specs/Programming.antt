@@ -60,7 +60,7 @@ pub record CanProgramSector (sector : ℕ) (wanted : List ℕ) (erased : Bool) (
 
 -- Holds after a sector was loaded into `bytes'`. The returned number of reads is 1, or 0 if the sector was erased: then
 -- the bytes and the bus are as they were. On a well-behaved bus with an idle chip that has the sector, the bytes read
--- are its own.
+-- are the chip's.
 pub record LoadsOk (sector : ℕ) (erased : Bool) (bytes bytes' : List ℕ) (reads : ℕ) (old new : BusState) : Type 0 where
   pub reads_once : reads ≡ (if erased then 0 else 1)
   pub polled_ready : new.polled_ready ≡ old.polled_ready
@@ -111,9 +111,9 @@ pub record CanProgramAll (touched raised : ℕ → Bool) (wanted : ℕ → ℕ) 
   pub blank : (a : ℕ) → touched (a / 4096) ≡ true → raised (a / 4096) ≡ true → chip.bytes a ≡ 255
   pub falls : OnlyFalls touched wanted chip.bytes
 
--- Holds at every exit of the programs. On every bus they are at most sixteen per touched sector, and target only
--- touched sectors. On a well-behaved bus, if `CanProgramAll` held at the start, the chip changes only as `MayChange`
--- allows: if the bus is also steady, each byte is the old or the target one.
+-- Holds at every exit of the programs. On every bus at most sixteen programs per touched sector are sent, and they
+-- target only touched sectors (`SendsWithin`). On a well-behaved bus, if `CanProgramAll` held at the start, the chip
+-- changes only as `MayChange` allows: if the bus is also steady, each byte is the old or the target one.
 pub record LeavesPrograms (touched raised : ℕ → Bool) (wanted : ℕ → ℕ) (old new : BusState) : Type 0 where
   pub spends : Spends (most_sector * sector_count touched) old new
   pub sends : SendsWithin (programming touched (16 * sector_count touched)) old new

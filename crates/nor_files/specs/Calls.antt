@@ -27,8 +27,8 @@ abbrev pub Counts : {T E : Type 0} → Result T E → (old new : FilesState) →
 Counts (Ok _) old new = Succeeds old new
 Counts (Err _) old new = Fails old new
 
--- The effect of a call on one file, except calls that lend or take back a vault or log: the call is counted (`Counts`),
--- what is borrowed doesn't change, and each file whose name is apart from this one is as it was.
+-- The effect of a call on one file, except calls that lend or take back a vault or log. The call is counted (`Counts`),
+-- and what is borrowed doesn't change. Each file whose name is apart from this one is as it was.
 pub record WorksOn {T E : Type 0} (name : Name) (result : Result T E) (old new : FilesState) : Type 0 where
   pub counts : Counts result old new
   pub borrowed : new.borrowed ≡ old.borrowed
@@ -87,7 +87,7 @@ Places name (Err _) old new = KeepsFile name old new
 -- ---- changing
 
 -- `has` is a mix of the old bytes `had` and the written `bytes`: each byte is from one of the two, in any combination.
--- Past the end of either list the byte from there is 0. The length is at least that of `had`, and at most that of the
+-- Past the end of a list, the byte from that list is 0. The length is at least that of `had`, and at most that of the
 -- longer of the two lists.
 pub record IsMixed (had bytes has : List ℕ) : Type 0 where
   pub shortest : length had ≤ length has

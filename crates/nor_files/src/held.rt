@@ -19,8 +19,8 @@ pub struct Held<F> {
 }
 
 /// Opens a file of the chip that the run will write, and locks it exclusively. A missing file is recorded as missing.
-/// Fails if the name refers to anything but a regular file, if it is a dangling link, if the file can't be looked up,
-/// opened for reading and writing, or locked, or if the program is out of memory.
+/// Fails if the name refers to anything but a regular file, or is a dangling link. Also fails if the file can't be
+/// looked up, opened for reading and writing, or locked, or if the program is out of memory.
 pub fn hold_chip<R: Files>(files: &R, alloc: Global, name: &str) -> Result<Held<R::File>, LockFault>
 where
     R::File: LockFile,

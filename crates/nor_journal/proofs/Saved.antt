@@ -110,7 +110,7 @@ take-next c i s is e = (
   rw (take-sector c.saved i s e) (least_after-push 0 (take i c.saved) s),
 )
 
--- For a list that ascends from `least` on, where `least` is at most the number of sectors: the least number that may
+-- Let a list ascend from `least` on, where `least` is at most the number of sectors. Then the least number that may
 -- follow, and `least` plus the number of records, are at most the number of sectors.
 after_within : (sectors least : ℕ) (ss : List SavedSector) → AreRising sectors least ss → least ≤ sectors → (least_after least ss ≤ sectors) × (least + length ss ≤ sectors)
 after_within sectors least [] rising within = (within, omega arith)

@@ -63,7 +63,7 @@ reads_kept bytes (Err fault) head chip saved kept never = absurd never
 
 -- ---- a writer
 
--- a writer that has written only the header has written the empty set of sectors
+-- if a writer was given only a header, `HasPutSectors` holds for the empty set of sectors
 pub HasKept-none : {V : Type 0} (state : V → VaultState) (w : Writer V) (id : List ℕ) (unique : Option (List ℕ)) (status : List ℕ) (size : ℕ) (chip : ℕ → ℕ) (saved : ℕ → Bool) (n : ℕ)
     → HasWritten state w (empty_content id unique status size) → ((s : ℕ) → saved s ≡ false) → HasPutSectors state w (empty_content id unique status size) chip saved n
 HasKept-none state w id unique status size chip saved n written none = record {
@@ -81,8 +81,8 @@ may_follow state w head chip saved n number kept above place = record {
   place = subst (λ (c : Content). number < c.size / 4096) kept.same place;
 }
 
--- a writer that has written a set of the chip's sectors, and then one more that may follow, has written the set with
--- this sector added
+-- if `HasPutSectors` holds for a set of the chip's sectors, and then one more that may follow is written, it holds for
+-- the set with this sector added
 pub HasKept-more : {V : Type 0} (state : V → VaultState) (old new : Writer V) (head : Content) (chip : ℕ → ℕ) (saved more : ℕ → Bool) (n number : ℕ) (bytes : List ℕ) (kept : HasPutSectors state old head chip saved n)
     → MayFollow kept.content number → IsWholeSector chip number bytes → HasOneMore saved number more → HasWritten state new (with_sector kept.content number bytes) → HasPutSectors state new head chip more (number + 1)
 HasKept-more state old new head chip saved more n number bytes kept follows sector one written = record {

@@ -32,7 +32,7 @@ pub number_at-number_text : (n : ℕ) (rest : List ℕ) → n < 2 ^ 32 → numbe
 unfolding number_text number_at
 number_at-number_text n rest fits = little_number-reads_back 4 n rest fits
 
--- a number depends on the first four bytes only
+-- the number that bytes encode depends only on the first four of them
 pub number_at-take : (bytes : List ℕ) → number_at (take 4 bytes) ≡ number_at bytes
 unfolding number_at
 number_at-take bytes = little_from-take 0 4 4 bytes (omega arith)
@@ -82,7 +82,8 @@ slice_get-sectors_in (suc k) bytes i lt =
       | inr at ↦ let here : i ≡ k = omega arith in rw here (grind (arith, common_steps, gets))
     ]
 
--- if bytes, each below 256, contain all of record k, its bytes are the encoding of its sector
+-- if bytes, each below 256, contain all of record k, the bytes of that record are the encoding of its sector
+-- (`sector_at`)
 pub record_text-sector_at : (k : ℕ) (bytes : List ℕ) → IsBytes bytes → 4100 * k + 4100 ≤ length bytes → record_text (sector_at bytes k) ≡ take 4100 (drop (4100 * k) bytes)
 unfolding record_text
 record_text-sector_at k bytes fits long =

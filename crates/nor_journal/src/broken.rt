@@ -5,11 +5,11 @@ ghost use Rattle.nor_journal.specs.BrokenVault.{inner_vault, calls_left, kept_of
 
 use crate::vault::{Vault, VaultFault};
 
-/// A wrapper of another vault that refuses one call and passes every other call on.
+/// A vault that refuses one call, and passes every other call on to an inner vault.
 ///
 /// It refuses the `nth` call, counting the calls of `put` and `seal` together, from 1; if `nth` is 0, it refuses none.
 /// A refused `put` first writes the first `kept` bytes of the piece, or all of a shorter piece, to the inner vault. The
-/// wrapper counts its own refusals and those of the inner vault.
+/// count of refusals includes those of the inner vault.
 #[derive(Drop)]
 pub struct BrokenVault<V: Vault> {
     inner: V,

@@ -27,8 +27,8 @@ copies_if : {known : Type 0} {included : Option (List Span)} {content : ℕ → 
     → CopiesIf known included content count old new → known → Copies included content count old new
 copies_if has is = let right = has.right is in search right
 
--- Holds if the pieces below `n` were copied to the vault, which refused nothing. The copy is known to be right on a
--- well-behaved bus whose chip was idle at the start and has this size.
+-- Holds if the pieces below `n` were copied to the vault, which refused nothing. The copy in a `telling` vault is known
+-- to be right on a well-behaved bus whose chip was idle at the start and has this size.
 pub record HasCopied (included : Option (List Span)) (size n : ℕ) (old new : BusState) (vault vault' : VaultState)
     (reads : ℕ) : Type 0 where
   pub few : reads ≤ 16 * n

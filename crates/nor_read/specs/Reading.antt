@@ -147,8 +147,8 @@ pub record ReadsPiece (included : Option (List Span)) (piece : ℕ) (bytes : Lis
   pub right : old.honest ≡ true → old.chip.busy ≡ 0 → 65536 * (piece + 1) ≤ old.chip.config.size
       → (i : ℕ) → i < 65536 → slice_index bytes i ≡ copied included old.chip.bytes (65536 * piece + i)
 
--- Holds after all pieces of the copy were made and appended. The copy is known to be right on a well-behaved bus with
--- an idle chip of this size.
+-- Holds after all pieces of the copy were made and appended. The copy in a `telling` vault is known to be right on a
+-- well-behaved bus with an idle chip of this size.
 pub record ReadsAll (included : Option (List Span)) (size : ℕ) (old new : BusState) (vault vault' : VaultState)
     (reads : ℕ) : Type 0 where
   pub counted : reads ≡ sectors_included included size

@@ -70,8 +70,9 @@ cut_between {head = head} {chip = chip} {touched = touched} size sized below = �
     rw (← sized) (begins_whole head chip touched kept.content below.bound _ kept.same kept.saves kept.next
     (rw sized inside) (put_begins kept.written errors))
 
--- For a refusal within the record of `n`, a touched sector of the chip. The vault then holds a prefix of the earlier
--- header and records followed by this record, which is a prefix of the whole journal, too.
+-- For a refusal within the record of `n`, a touched sector of the chip. A `telling` vault then holds a prefix of the
+-- header, the earlier records and this record. These are a prefix of the whole journal, so the vault's bytes are one,
+-- too.
 pub cut_in_record : {V : Type 0} {state : V → VaultState} {writer : Writer V} {head : Content} {chip : ℕ → ℕ} {n : ℕ}
     {bytes : List ℕ} (vault : VaultState) (touched : ℕ → Bool) (size : ℕ)
     (kept : HasPutSectors state writer head chip (λ s. nat_lt s n && touched s) n) → head.size ≡ size
@@ -133,7 +134,7 @@ module _ {chip : Chip} {identity : Identity} {old : BusState} (is : IsIdentityOf
         (raised_past request image chip.config.size chip.bytes s (sized_bounds chip.config).blocks)
 
   -- The header that is made from the identification is that of the chip's journal. The premise that status 2 is below
-  -- 128 holds for each chip (`IsChip`).
+  -- 128 holds for the chip of each well-behaved bus (`IsChip`).
   pub head_same : {status : List ℕ} → old.chip.kept.two < 128 → status ≡ kept_read identity
       → head_read identity status ≡ header_of chip
   head_same {status = status} small read =

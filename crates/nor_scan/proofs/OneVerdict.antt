@@ -74,7 +74,7 @@ pub record ScanPasses (request : Request) (code : ℕ) (touched : ℕ → Bool) 
 
 -- ---- the request
 
--- A request for a range that no protection bits select is not a write or an erase.
+-- A request for a range that no defined protection bits protect exactly is not a write or an erase.
 asks_for_range : (what : What) (chip : Chip) → AsksForNone what chip → is_data what ≡ false
 asks_for_range (WpRange start len) chip none = refl
 asks_for_range _ chip none = absurd none

@@ -47,9 +47,9 @@ abbrev pub HoldsJournal : VaultState → Type 0
 HoldsJournal vault = vault.sealed ≡ true → vault.telling ≡ true → IsJournal vault.bytes
 
 -- Holds if the result of a `save` that succeeded is right for this chip. The marks are the touched and the raised
--- sectors, and the image has the target bytes of the touched sectors. If the identification accepts the request, so do
--- the touched sectors (`ScanAccepts`). A `telling` vault has the journal of the chip, which saves exactly the touched
--- sectors.
+-- sectors, and the image has the target bytes of the touched sectors. If `IdentityAccepts` holds with `code`, then
+-- `ScanAccepts` holds with `saved.unlock`. A `telling` vault has the journal of the chip, which saves exactly the
+-- touched sectors.
 pub record HasSavedChip (request : Request) (code : ℕ) (image image' : List ℕ)
     (chip : Chip) (vault : VaultState) (saved : SavedScan) : Type 0 where
   pub touched : (s : ℕ) → has saved.scanned.touched s ≡ is_touched chip.bytes (wanted request image chip) s
@@ -70,7 +70,7 @@ pub record HasSaved (request : Request) (identity : Identity) (code : ℕ) (imag
       → HasSavedChip request code image image' chip vault saved
 
 -- Holds if the error is the verdict for the chip on the bus, provided that the bus is well-behaved, the chip is idle
--- and has this identification, and the identification accepts the request.
+-- and has this identification, and the identification accepts the request (`IdentityAccepts`).
 abbrev pub JudgesChip : Request → Identity → ℕ → List ℕ → BusState → Refusal → Type 0
 JudgesChip request identity code image old refusal =
     (chip : Chip) → IsIdentityOf chip identity → HasIdleChip chip old → IdentityAccepts request image chip code

@@ -28,7 +28,7 @@ pub record HasIdleChip (chip : Chip) (state : BusState) : Type 0 where
 
 -- ---- the request
 
--- Holds if the request is for a protection range that no defined protection bits select.
+-- Holds if the request is for a protection range, and no defined protection bits protect exactly this range.
 abbrev pub AsksForNone : What → Chip → Type 0
 AsksForNone (WpRange start len) chip = IsNotOffered chip.config.size start len
 AsksForNone _ chip = ⊥

@@ -25,8 +25,8 @@ use Rattle.nor_request.specs.Request.{target, is_requested, scanned_sectors}
 abbrev pub wanted_at : Request → (image : List ℕ) → (size : ℕ) → (content : ℕ → ℕ) → (a : ℕ) → ℕ
 wanted_at request image size content a = if is_requested request size a then target request.what image a else content a
 
--- Holds if the sector was added to the touched and the raised sectors as its plan says. The number of reads is one
--- higher, and so is the number of touched sectors if the plan is touched.
+-- Holds if the sector was added to the touched and the raised sectors as its plan says. `reads` is one higher, and so
+-- is `count` if the plan's `touched` is true.
 pub record HasMarked (sector : ℕ) (plan : SectorPlan) (old new : Scanned) : Type 0 where
   pub touched : (s : ℕ) → has new.touched s ≡ ((plan.touched && (s == sector)) || has old.touched s)
   pub raised : (s : ℕ) → has new.raised s ≡ ((plan.raised && (s == sector)) || has old.raised s)
@@ -40,8 +40,8 @@ pub record IsBlank (scanned : Scanned) : Type 0 where
   pub count : scanned.count ≡ 0
   pub reads : scanned.reads ≡ 0
 
--- Holds on every bus: the marked sectors are below `n`, the raised sectors are touched, and `count` is the number of
--- touched sectors.
+-- Holds if the touched sectors are below `n`, the raised sectors are touched, and `count` is the number of touched
+-- sectors. A scan ensures this on every bus.
 pub record AreMarks (n : ℕ) (scanned : Scanned) : Type 0 where
   pub below : (s : ℕ) → has scanned.touched s ≡ true → s < n
   pub inside : (s : ℕ) → has scanned.raised s ≡ true → has scanned.touched s ≡ true
@@ -95,7 +95,8 @@ ScanErrors most old new Stopped = HasStopped most old new
 ScanErrors most old new Vault = ⊤
 ScanErrors most old new _ = ⊥
 
--- Holds for the vault after a scan: after error 11 it refused one call, and otherwise it accepted each piece.
+-- Holds for the vault after a scan: its number of refusals is one higher (modulo 2^64) after error 11, and otherwise as
+-- it was. Whether the vault is faithful, and whether it is sealed, doesn't change.
 abbrev pub ScanPuts : {T : Type 0} → Result T Refusal → (old new : VaultState) → Type 0
 ScanPuts (Err Vault) old new = Refused old new
 ScanPuts _ old new = Accepted old new

@@ -24,7 +24,7 @@ use nor_request::{Refusal, Request, What};
 ///
 /// - For a write or an erase: 4 (the image isn't as long as the chip), 5 (an included address isn't on the chip) or 7
 ///   (undefined protection bits on a chip with block protection).
-/// - For a protection range: 6 (the chip has no block protection), 7, or 8 (no defined protection bits select exactly
+/// - For a protection range: 6 (the chip has no block protection), 7, or 8 (no defined protection bits protect exactly
 ///   this range).
 #[tactic(auto, using(crate::proofs::Held::code_same, crate::proofs::OneVerdict::opening_judged, crate::proofs::OneVerdict::opening_accepted))]
 pub fn judge_identity(request: &Request, identity: &Identity, image: usize) -> Result<u8, Refusal>

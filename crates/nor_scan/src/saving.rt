@@ -37,8 +37,8 @@ pub struct SavedScan {
 ///
 /// Returns error 9 (the status registers must be written and are locked), 10 (a touched sector is protected, and the
 /// request doesn't unlock), 11 (the vault failed) or 12 (the bus stopped). Error 9 or 10 is the verdict on the request
-/// if the bus is well-behaved, its chip is idle and is the one that `identity` describes, and `judge_identity` accepted
-/// the request.
+/// if the bus is well-behaved, its chip is idle and is the one that `identity` describes, and none of the errors 1 to 8
+/// applies. If the chip has the requested name or none is requested, `judge_identity` has checked the last condition.
 ///
 /// After an error the vault is unsealed. If the vault is `telling`, the bus is well-behaved, and its chip is idle and
 /// is the one that `identity` describes, the vault holds a prefix of the chip's journal. After an error other than 11
