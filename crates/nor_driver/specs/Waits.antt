@@ -40,8 +40,8 @@ pub record HasWaited (old new : BusState) (waited : Waited) : Type 0 where
 
 -- A wait succeeded. On every bus its last poll received this status, which shows that the chip is ready, and the number
 -- of polls is from 1 to 65,536. For each test that is false for every poll, the last reply to a transaction that passes
--- the test is as before (`only_polls`). A transaction other than a poll may still have been sent. On an honest bus the
--- effect of the wait is `HasWaited`.
+-- the test is as before (`only_polls`); that leaves open whether transactions other than polls were sent. On an honest
+-- bus the effect of the wait is `HasWaited`.
 pub record Waits (old new : BusState) (waited : Waited) : Type 0 where
   pub only_polls : KeepsReplies is_poll old.history new.history
   pub status : last_reply is_poll new.history ≡ waited.status1 ∷ []
