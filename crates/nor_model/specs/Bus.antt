@@ -24,7 +24,7 @@ pub record BusState : Type 0 where
   pub sent : Sent
   -- the allowances that were set, the last one first
   pub allowances : List ℕ
-  -- the sectors that the chip erased so far
+  -- the sectors that the chip erased so far, over this bus
   pub worn : ℕ → Bool
   -- if the bus is honest: a stop sends no byte of its transaction and keeps the chip's power, so the chip stays as it
   -- was

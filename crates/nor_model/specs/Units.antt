@@ -1,4 +1,5 @@
--- Tests of addresses that are true in one range at an end of the chip. The test whether an address is protected is one.
+-- Tests of addresses that are true in one range at an end of the chip, such as the test whether an address is
+-- protected.
 use Rattle.std.specs.Prelude.{◌≡◌, ◌<◌, ◌≤◌, ◌+◌, ◌%◌, ◌⊎◌, ℕ, Bool, true, nat_lt, nat_le}
 
 -- The test holds at some address from `start` to `start + len - 1`.
