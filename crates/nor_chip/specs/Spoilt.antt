@@ -17,7 +17,8 @@ bus_in bus = bus.bus
 abbrev pub spoil_of : {B : Type 0} → SpoiltBus B → Spoil
 spoil_of bus = bus.spoil
 
--- the transactions that the faulty bus was asked to carry out, each with the reply that it returned
+-- the transactions that the faulty bus was asked to carry out, each with the reply that the faulty bus returned, or
+-- without a reply if the bus inside stopped
 abbrev pub history_of : {B : Type 0} → SpoiltBus B → List Exchange
 history_of bus = bus.history.exchanges
 

@@ -18,7 +18,7 @@ fn clear_bits(bytes: &mut [u8], from: usize, sent: &[u8])
 }
 
 // Programs within one page, which must lie in `bytes`: starts at `at` and wraps around at the end of the page. Each
-// byte is ANDed with the last byte that was sent for it.
+// byte for which at least one byte was sent is ANDed with the last of these.
 pub(crate) fn program(bytes: &mut [u8], at: usize, sent: &[u8])
     requires { at / 256 * 256 + 256 ≤ length bytes.old }
     ensures { HasPageProgrammed at sent.now bytes.old bytes.new }
