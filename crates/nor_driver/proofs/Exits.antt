@@ -68,8 +68,8 @@ module _ (out : List ℕ) (asks : AsksForOperation out) (old : BusState) where
           sends = command_sends out old ready new asks.known sends sends';
         }
 
-    -- If the bus stopped at the command, the bytes that were sent asked for no operation, or for the command's
-    -- operation.
+    -- The bus stopped at the command. The bytes that were sent asked for no operation, or for the command's operation:
+    -- the effect on the chip in both cases.
     module _ (honest : old.honest ≡ true) (new : BusState) where
       stays-before : KeepsChip ready new → KeepsChip old new
       stays-before stays = stays_after old ready new sends.nature.steady (enabling honest).unchanged stays

@@ -63,8 +63,8 @@ pub record SendsExactly (erases programs status_writes : ℕ) (old new : BusStat
   pub programmed : programs_of new.sent ≡ programs_of old.sent + programs
   pub wrote_status : status_writes_of new.sent ≡ status_writes_of old.sent + status_writes
 
--- At every exit of an operation, on every bus: `KeepsNature` holds, and `SendsWithin` for these limits. By now a
--- transaction was sent that begins with a modifying opcode.
+-- At every exit of an operation, on every bus: `KeepsNature` holds, and `SendsWithin` for these limits. The bus has
+-- been asked to send at least one transaction that begins with a modifying opcode, in this call or before it.
 pub record Stirs (limits : Limits) (old new : BusState) : Type 0 where
   pub nature : KeepsNature old new
   pub stirred : is_stirred new.sent ≡ true
