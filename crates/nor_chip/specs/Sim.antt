@@ -60,8 +60,8 @@ pub record KeepsBus (old new : SimBus) : Type 0 where
   pub left : new.left ≡ old.left
   pub history : new.history ≡ old.history
 
--- The sectors that are recorded as erased after a stop: those of before, and with `Some count` those that the first
--- `count` bytes of the transaction erased.
+-- The sectors that are recorded as erased after a stop: those recorded before the stop, and with `Some count` also
+-- those that the first `count` bytes of the transaction erased.
 abbrev pub WornTo : (torn : Option ℕ) → (out : List ℕ) → Chip → (old new : ℕ → Bool) → Type 0
 WornTo None out chip old new = (s : ℕ) → new s ≡ old s
 WornTo (Some count) out chip old new = (s : ℕ) → new s ≡ (old s || wears (done_of chip (take count out) 0) s)
