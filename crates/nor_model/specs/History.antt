@@ -84,8 +84,8 @@ pub record EndsBusy (history : List Exchange) : Type 0 where
   pub is : history ≡ replied (0x05 ∷ []) (status ∷ []) ∷ earlier
   pub busy : status % 2 ≡ 1
 
--- The last transaction received a reply. It begins with 03h (a read of data) and with the first address of the sector
--- that contains `address`. The number of bytes read is not stated.
+-- The last transaction received a reply. The bytes that it sent begin with 03h (a read of data), followed by the first
+-- address of the sector that contains `address`. The number of bytes read is not stated.
 pub record EndsReading (address : ℕ) (history : List Exchange) : Type 0 where
   pub earlier : List Exchange
   pub bytes : List ℕ

@@ -79,8 +79,8 @@ impl Config {
         })
     }
 
-    /// Returns the emulated chip `TINY64`: 64 KiB, ID `FE 10 10`, all erase types, no block protection, identified only
-    /// by its SFDP.
+    /// Returns the emulated chip `TINY64`: 64 KiB, ID `FE 10 10`, all erase types, no block protection. The table of
+    /// chips has no row for its ID; only its SFDP bytes describe the chip.
     pub fn tiny64() -> Config
         ensures { IsTiny64 result }
     {
