@@ -45,8 +45,8 @@ limits_of out = record {
 -- Since the state `old`, each sector that an erase or program targeted for the first time, and each pair of bytes that
 -- a status write had for the first time, is within the limits. The numbers of erases, page programs and status writes
 -- grew by at most those of the limits. A transaction that the model doesn't know was sent only if one had been sent
--- before `old` too. Sectors that were already targeted before `old`, and pairs of bytes that were already written, may
--- be sent again, even outside the limits.
+-- before `old` too. Sectors that were already targeted before `old` may be targeted again, and pairs of bytes that were
+-- already written may be written again, even outside the limits.
 pub record SendsWithin (limits : Limits) (old new : BusState) : Type 0 where
   pub targeted : (s : ℕ) → (is_targeted new.sent s ≡ is_targeted old.sent s) ⊎ (limits.sectors s ≡ true)
   pub written : (one two : ℕ)
