@@ -8,7 +8,7 @@ ghost use Rattle.nor_chip.specs.Trace.{traced_by, log_of, has_lost, traced_line,
 use nor_model::{Bus, Meter, Stopped};
 use std::io::{self, Write};
 
-// The number of bytes that are converted to digits at a time.
+// The greatest number of bytes that are converted to digits at a time.
 const PIECE: usize = 64;
 
 /// A bus that writes one line to a log for each transaction that the bus inside carries out. A line has the bytes sent,

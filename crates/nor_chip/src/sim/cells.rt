@@ -4,7 +4,7 @@ ghost use Rattle.nor_chip.specs.Cells.{HasPageProgrammed, IsFilled};
 
 use nor_geometry::PAGE_LEN;
 
-// ANDs the sent bytes into `bytes`, from index `from`.
+// ANDs the sent bytes into `bytes`, from index `from` on. They must not reach past the end of `bytes`.
 fn clear_bits(bytes: &mut [u8], from: usize, sent: &[u8])
     requires { from + length sent.now ≤ length bytes.old }
     ensures inside { (i : ℕ) → i < length sent.now
@@ -32,7 +32,7 @@ pub(crate) fn program(bytes: &mut [u8], at: usize, sent: &[u8])
     clear_bits(bytes, page, back);
 }
 
-// Sets `len` bytes, from index `start` on, to `byte`.
+// Sets `len` bytes, from index `start` on, to `byte`. They must lie in `bytes`.
 pub(crate) fn fill(bytes: &mut [u8], start: usize, len: usize, byte: u8)
     requires { start + len ≤ length bytes.old }
     ensures { IsFilled byte start len bytes.old bytes.new }
