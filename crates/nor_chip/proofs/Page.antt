@@ -60,7 +60,7 @@ module _ (at : ℕ) (sent : List ℕ) (skipped : ℕ) (front back old mid new : 
     ])
   ]
 
--- after a program each byte of the list is at most its old value
+-- after a program each byte of the list is at most its old value (`IsProgrammed-le`)
 lowered-le : (here : Bool) (old : ℕ) (sent : Option ℕ) → (if here then lowered old sent else old) ≤ old
 lowered-le true old (Some byte) = and_le_l old byte
 lowered-le _ old _ = omega arith

@@ -60,8 +60,8 @@ pub record KeepsBus (old new : SimBus) : Type 0 where
   pub left : new.left ≡ old.left
   pub history : new.history ≡ old.history
 
--- The sectors that are recorded as erased after a stop: those of before, and with `Some count` those that the first
--- `count` bytes of the transaction erased.
+-- The sectors that are recorded as erased after a stop: those recorded before the stop, and with `Some count` also
+-- those that the first `count` bytes of the transaction erased.
 abbrev pub WornTo : (torn : Option ℕ) → (out : List ℕ) → Chip → (old new : ℕ → Bool) → Type 0
 WornTo None out chip old new = (s : ℕ) → new s ≡ old s
 WornTo (Some count) out chip old new = (s : ℕ) → new s ≡ (old s || wears (done_of chip (take count out) 0) s)
@@ -74,8 +74,8 @@ pub record TearsOff (torn fill : Option ℕ) (out : List ℕ) (old new : Chip) :
   pub lost : LostTo fill reached new
 
 -- The effect of a transaction of a simulated bus, in addition to the contract of a bus. The settings stay. After an
--- operation that the chip carried out, the chip is busy for the number of polls that was set. After a stop the chip is
--- as `tear` and `lose` set.
+-- operation that the chip carried out, the chip is busy for `pace_of` polls. After a stop the chip is as the settings
+-- of `tear` and `lose` state (`TearsOff`).
 pub record Simulates (out answer : List ℕ) (outcome : Result Unit Stopped) (old new : SimBus) : Type 0 where
   pub fill : fill_of new ≡ fill_of old
   pub torn : torn_of new ≡ torn_of old

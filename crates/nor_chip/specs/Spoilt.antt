@@ -17,7 +17,8 @@ bus_in bus = bus.bus
 abbrev pub spoil_of : {B : Type 0} → SpoiltBus B → Spoil
 spoil_of bus = bus.spoil
 
--- the transactions that the faulty bus was asked to carry out, each with the reply that it returned
+-- the transactions that the faulty bus was asked to carry out, each with the reply that the faulty bus returned, or
+-- without a reply if the bus inside stopped
 abbrev pub history_of : {B : Type 0} → SpoiltBus B → List Exchange
 history_of bus = bus.history.exchanges
 
@@ -26,9 +27,8 @@ abbrev pub succeeded_of : {B : Type 0} → SpoiltBus B → ℕ
 succeeded_of bus = bus.sent
 
 -- The state of a faulty bus, which isn't honest. Its history has each transaction that it was asked to carry out, even
--- a dropped one, with the reply that the faulty bus returned. What was sent and the result of the last poll follow
--- from this history. The allowances are those that were set on the faulty bus. All else is the state of the bus
--- inside.
+-- a dropped one, with the reply that the faulty bus returned. `sent` and `polled_ready` follow from this history. The
+-- allowances are those that were set on the faulty bus. All else is the state of the bus inside.
 abbrev pub spoilt_state : {B : Type 0} → (B → BusState) → SpoiltBus B → BusState
 spoilt_state state bus = record (state bus.bus) {
   honest = false;

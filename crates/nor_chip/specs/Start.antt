@@ -1,4 +1,4 @@
--- The start of a simulated bus, and what it shows of its chip.
+-- The state of a simulated bus at its start, and the contents of its chip.
 use Rattle.std.specs.Prelude.{◌≡◌, ◌<◌, ◌/◌, ◌%◌, ◌==◌, [], ℕ, List, true, false, length, slice_index}
 use Rattle.nor_model.specs.declared.config.Config.{Config}
 use Rattle.nor_chip.specs.declared.sim.Delays.{Delays}

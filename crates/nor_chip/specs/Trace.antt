@@ -29,8 +29,8 @@ reply_digits answer =
 abbrev pub traced_line : (out answer : List ℕ) → List ℕ
 traced_line out answer = encode_lower out ++ reply_digits answer ++ codes "\n"
 
--- The effect of a transaction on the log. If the bus inside stops, the log is as it was, and `has_lost` too. If the bus
--- inside carried the transaction out and `has_lost` is false, the line was appended to the log's contents, if these are
+-- The effect of a transaction on the log. If the bus inside stops, the log is as it was, and `has_lost` too. If the
+-- transaction succeeded and `has_lost` is false after it, the line was appended to the log's contents, if these are
 -- known. Once true, `has_lost` stays true.
 pub record Traces {B L : Type 0} (contents : L → Option (List ℕ)) (out answer : List ℕ) (outcome : Result Unit Stopped)
     (old new : TraceBus B L) : Type 0 where

@@ -32,8 +32,8 @@ impl fmt::Display for WrongLength {
 
 impl std::error::Error for WrongLength {}
 
-/// An honest bus to a chip that is simulated in memory. After it has carried out the number of transactions that
-/// `allow` set, it stops.
+/// An honest bus to a chip that is simulated in memory. After the bus has carried out the number of transactions that
+/// the last `allow` set, it stops at each further one.
 #[derive(Drop)]
 pub struct SimBus {
     flash: Flash,
@@ -149,8 +149,8 @@ impl SimBus {
         }
     }
 
-    // Performs a stop: sends the first bytes of the transaction, and makes the chip lose its power, if `tear` and
-    // `lose` set that.
+    // Performs a stop: sends the first bytes of the transaction if `tear` set that, and then makes the chip lose its
+    // power if `lose` set that.
     fn cut(&mut self, out: &[u8])
         ensures at_stop { AtStop out.now (sim_state self.old) (sim_state self.new) }
         ensures torn_off { TearsOff (torn_of self.old) (fill_of self.old) out.now

@@ -11,12 +11,12 @@ use nor_model::{Bus, History, Meter, Stopped};
 /// succeeded before it (`SpoiltBus::sent`), so it is at least 1.
 #[derive(Clone, Copy, Debug, PartialEq, Eq)]
 pub enum Spoil {
-    /// No transaction is carried out, and each reply byte is this one.
+    /// No transaction is carried out. Each transaction succeeds, and each reply byte is this one.
     Fill(u8),
     /// In the transaction with this number and in each later one, bit 0 (BUSY) is set in each reply byte of a poll.
     BusyFrom(u64),
-    /// The transaction with this number isn't carried out, and each of its reply bytes is FFh. The number 0 has no
-    /// effect.
+    /// The transaction with this number isn't carried out. It succeeds, and each of its reply bytes is FFh. The number
+    /// 0 has no effect.
     Drop(u64),
     /// The bit with this number is clear in each reply byte. A number above 7 has no effect.
     Low(u8),

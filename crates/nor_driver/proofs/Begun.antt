@@ -30,7 +30,8 @@ enabled old new [] none carries =
     grind (arith, nothing, carries.step, carries.worn)
 enabled old new (byte ∷ rest) none carries = absurd (omega arith)
 
--- if the bytes ask for an operation: after write enable, the chip carries out the command that `operation_of` returns
+-- if the bytes satisfy `AsksForOperation`: after write enable, the chip carries out the command that `operation_of`
+-- returns
 pub then_done : (out : List ℕ) (old ready : BusState) → AsksForOperation out → IsEnabled old ready
     → done_of ready.chip out 0 ≡ operation_of old.chip out
 then_done out old ready asks enabling = elim (eqb_tells old.chip.busy 0) [
@@ -90,7 +91,8 @@ pub may-before : (command : Command) (sent : List ℕ) (old new : BusState) → 
     → MayOperate command sent old new
 may-before command sent old new idle stays = grind (arith, stays.steady_or_idle (inr idle))
 
--- a call that began the operation, left the bus steady or not as before, and then only waited, satisfies `MayOperate`
+-- a call that began the operation, did not change whether the bus is steady, and then only waited, satisfies
+-- `MayOperate`
 pub may-after : (command : Command) (sent : List ℕ) (old begun new : BusState) → is_operation command ≡ true
     → begun.steady ≡ old.steady → HasBegun command sent old begun → KeepsChip begun new → MayOperate command sent old new
 may-after command sent old begun new is steady has stays =

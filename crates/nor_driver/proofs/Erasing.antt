@@ -63,8 +63,8 @@ named unit sector x y z names below s is =
     let first : 0 ≡ sector / 4096 * 4096 = omega (arith, below) in
     grind (arith, nat_tests)
 
--- after a write enable, the chip carries out an erase of an erase block if it is idle, has the erase type and protects
--- no address of the block; otherwise it ignores the erase
+-- after a write enable, the chip carries out an erase of an erase block if it is idle, has the erase type (`has`), and
+-- `is_block_protected` is false for the block; otherwise it ignores the erase
 erased_where : (chip : Chip) (has : Bool) (start start' len len' : ℕ) → start ≡ start' → len ≡ len'
     → (let command = cond has (Commands.Erase start len) Commands.Ignored in
     cond (is_carried_out (record chip { latch = true }) command) command Commands.Ignored)

@@ -21,7 +21,8 @@ use Rattle.nor_driver.proofs.Readings.{carried_ignored}
 use Rattle.nor_driver.proofs.Begun.{IsEnabled, enabled, then_done, part_done, operation-ignored, idle-takes, HasBegun, operation-begins, may-before, may-after, may-shaky, operated, latch-kept}
 
 module _ (out : List ℕ) (asks : AsksForOperation out) (old : BusState) where
-  -- at an exit at which the command was not carried out, `KeepsChip` is enough for `LeavesOperation`
+  -- at an exit at which the command was not carried out, `LeavesOperation` follows from `Stirs`, `Falls` and
+  -- `KeepsChip`
   not_begun : (new : BusState) → Stirs (limits_of out) old new
       → (old.honest ≡ true → Falls most_operation old new) → (old.honest ≡ true → KeepsChip old new)
       → LeavesOperation out old new
@@ -56,8 +57,8 @@ module _ (out : List ℕ) (asks : AsksForOperation out) (old : BusState) where
     honest-unsent : old.honest ≡ true → ready.honest ≡ true
     honest-unsent honest = sends.nature.honest ∙ honest
 
-    -- if the bus was asked to send the command after a write enable that succeeded, the limits of what was sent hold
-    -- (`Stirs`)
+    -- if the bus was asked to send the command after a write enable that succeeded, `Stirs` holds with the command's
+    -- limits
     stirs-by : (new : BusState) → Sends out ready new → Stirs (limits_of out) old new
     stirs-by new sends' =
         let nature = nature_then old ready new sends'.nature sends.nature in
@@ -67,8 +68,8 @@ module _ (out : List ℕ) (asks : AsksForOperation out) (old : BusState) where
           sends = command_sends out old ready new asks.known sends sends';
         }
 
-    -- If the bus stopped at the command, the bytes that were sent asked for no operation, or for the command's
-    -- operation.
+    -- The bus stopped at the command. The bytes that were sent asked for no operation, or for the command's operation:
+    -- the effect on the chip in both cases.
     module _ (honest : old.honest ≡ true) (new : BusState) where
       stays-before : KeepsChip ready new → KeepsChip old new
       stays-before stays = stays_after old ready new sends.nature.steady (enabling honest).unchanged stays

@@ -84,7 +84,8 @@ exactly_then erases programs status before after = record {
   wrote_status = omega (arith, status, before.wrote_status, after.wrote_status);
 }
 
--- limits are also kept with the exact numbers of erases, page programs and status writes that were sent
+-- limits are still kept if their numbers are replaced by the exact numbers of erases, page programs and status writes
+-- that were sent
 pub sends_exactly : {limits : Limits} {e p w : ℕ} {old new : BusState} → SendsWithin limits old new
     → SendsExactly e p w old new
     → SendsWithin (record limits { erases = e; programs = p; status_writes = w }) old new

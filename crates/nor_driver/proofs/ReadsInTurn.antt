@@ -7,8 +7,7 @@ use Rattle.nor_driver.proofs.Readings.{looked_then, looked_more}
 pub use Rattle.nor_driver.proofs.Cuts.{same_then}
 use Rattle.nor_driver.proofs.Cuts.{unchanged_none, unchanged_stays}
 
--- if two successive calls only read, with at most `m` and `n` transactions, both together only read, with at most `m +
--- n`
+-- if two successive calls only read, with the bounds `m` and `n`, both together only read, with the sum of these bounds
 pub looks_then : (m n : ℕ) (old mid new : BusState) → OnlyReads m old mid → OnlyReads n mid new → OnlyReads (m + n) old new
 looks_then m n old mid new first second =
     let nature = nature_then old mid new second.nature first.nature in

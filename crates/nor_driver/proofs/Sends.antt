@@ -8,7 +8,7 @@ use Rattle.nor_model.specs.Bus.{BusState, SameNature, KeepsNature, Records}
 use Rattle.nor_model.proofs.Nature.{nature_by}
 use Rattle.nor_model.proofs.Noted.{notes_by}
 
--- One transaction kept the bus as `KeepsNature` says, and had the effect `Notes` on what was sent.
+-- One transaction kept the bus as `KeepsNature` says, and had the effect `Notes` on the list `sent` of the bus.
 pub record Sends (out : List ℕ) (old new : BusState) : Type 0 where
   pub nature : KeepsNature old new
   pub sent : Notes out old.sent new.sent

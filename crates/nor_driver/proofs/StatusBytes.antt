@@ -39,8 +39,8 @@ every test n i all small =
     let below : i < length (range_with_len 0 n) = omega (arith, length-range_with_len 0 n) in
     ap test (omega (arith, at)) ∙ AllPass-from_list_all test (range_with_len 0 n) all i 0 below
 
--- if the low six bits agree and bit 7 of the sent byte is clear, status 2 is the sent byte after the write; the proof
--- checks all 128 values of that byte
+-- If the low six bits of status 2 and of the sent byte agree, and bit 7 of the sent byte is clear, status 2 is the sent
+-- byte after the write. The proof checks all 128 values of the sent byte.
 written_as : (kept sent : ℕ) → sent < 128 → kept % 64 ≡ sent % 64 → written kept sent ≡ sent
 written_as kept sent small same =
     rw (held_as kept sent same)

@@ -11,7 +11,7 @@ use Rattle.nor_model.specs.Chip.{sfdp_byte}
 use Rattle.nor_model.specs.Bus.{BusState}
 use Rattle.nor_driver.specs.Reads.{Replies, unique_of, shown, ReadsUnique, ReadsSfdp, ReadsSector}
 
--- `len` bytes that equal the SFDP bytes from the address `at` on, taken modulo the chip's size, are the list `shown`
+-- `len` bytes are the list `shown` if they equal the SFDP bytes from the address `at % config.size` on
 reply_shown : (config : Config) (at len : ℕ) (bytes : List ℕ) → length bytes ≡ len
     → ((i : ℕ) → i < length bytes → slice_index bytes i ≡ sfdp_byte config (at % config.size + i))
     → bytes ≡ shown config at len

@@ -111,6 +111,7 @@ quiet_done : (chip : Chip) (count : ℕ) (out : List ℕ) (replies : ℕ) → be
 quiet_done chip count out replies quiet = grind (arith, quiet_part chip.config count out replies quiet)
 
 -- a quiet command (`is_quiet`) isn't an operation (`is_operation`), and does not set the write enable latch
+-- (`quiet_latch`)
 quiet_is_none : (command : Command) → is_quiet command ≡ true → is_operation command ≡ false
 quiet_is_none command quiet = grind arith
 

@@ -32,8 +32,8 @@ pub record CanErase (erase : Erase) (chip : Chip) : Type 0 where
   pub offered : has_block chip.config erase.unit ≡ true
   pub free : is_block_protected chip (4096 * erase.sector) (block_length chip erase) ≡ false
 
--- true if the chip carries out this erase after a write enable: it is idle, has the erase type, and protects no address
--- of the block
+-- true if the chip carries out this erase of a block that lies on it, after a write enable: the chip is idle, has the
+-- erase type, and protects no address of the block
 abbrev pub takes_erase : Chip → Erase → Bool
 takes_erase chip erase =
     is_idle chip && has_block chip.config erase.unit
@@ -80,9 +80,9 @@ pub record LeavesErase (erase : Erase) (old new : BusState) : Type 0 where
   pub reached : old.honest ≡ true → CanErase erase old.chip → MayErase erase old new
   pub ignored : old.honest ≡ true → IsOnChip erase old.chip → takes_erase old.chip erase ≡ false → KeepsChip old new
 
--- The effect of an erase that succeeded, after `sent` transactions. On an honest bus: if `CanErase` holds, the chip
--- took the erase, and `HasErased` holds; if the block lies on the chip and `takes_erase` is false, the chip ignored the
--- erase, and `HasIgnored` holds.
+-- The effect of an erase that succeeded, after `sent` transactions: on every bus `EndsWaiting` and `SendsExactly` hold,
+-- for one erase. On an honest bus, if `CanErase` holds, the chip took the erase, and `HasErased` holds. On an honest
+-- bus, if the block lies on the chip and `takes_erase` is false, the chip ignored the erase, and `HasIgnored` holds.
 pub record Erases (erase : Erase) (old new : BusState) (sent : ℕ) : Type 0 where
   pub ends : EndsWaiting old new sent
   pub sends : SendsExactly 1 0 0 old new

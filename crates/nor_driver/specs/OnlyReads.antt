@@ -17,8 +17,11 @@ pub record Unchanged (old new : BusState) : Type 0 where
   pub busy : new.chip.busy ≤ old.chip.busy
   pub worn : (s : ℕ) → new.worn s ≡ old.worn s
 
--- The effect, on an honest bus and at every exit, of a call that began no operation. An operation from before the call
--- may have been interrupted; apart from that, bytes, non-volatile bits and erased sectors are as they were.
+-- The effect, on an honest bus and at every exit, of a call that began no operation. If `IsSteadyOrIdle` held before
+-- the call, bytes and non-volatile bits are as they were. Otherwise a stop may have interrupted the operation in
+-- progress: the bytes on which it works may then have any value, and the non-volatile bits are as `KeptCut` states.
+-- Erased sectors are as they were. A chip that is still busy executes the same operation, for at most as many polls as
+-- before.
 pub record KeepsChip (old new : BusState) : Type 0 where
   pub config : new.chip.config ≡ old.chip.config
   pub steady_or_idle : IsSteadyOrIdle old → IsSame old.chip new.chip
@@ -49,9 +52,9 @@ pub record OnlyReadsHonest (most : ℕ) (old new : BusState) : Type 0 where
   pub idle_latch : old.steady ≡ true → old.chip.busy ≡ 0 → new.chip.latch ≡ old.chip.latch
   pub falls : Falls most old new
 
--- On every bus, at every exit: the bus was asked to send no transaction that may modify a chip, its history continues
--- the earlier one, and no allowance was set. On an honest bus `OnlyReadsHonest` holds, so at most `most` transactions
--- were carried out.
+-- On every bus, at every exit: the bus was asked to send no transaction that may modify a chip, and `KeepsNature`
+-- holds, so its history continues the earlier one and no allowance was set. On an honest bus `OnlyReadsHonest` holds,
+-- so at most `most` transactions were carried out.
 pub record OnlyReads (most : ℕ) (old new : BusState) : Type 0 where
   pub nature : KeepsNature old new
   pub sent : new.sent ≡ old.sent

@@ -49,9 +49,9 @@ abbrev pub ChangesOnly : Bool → (ℕ → Bool) → (wanted old new : ℕ → �
 ChangesOnly steady places wanted old new =
     (a : ℕ) → (new a ≡ old a) ⊎ ((places a ≡ true) × (steady ≡ true → new a ≡ wanted a))
 
--- On an honest bus, an operation that the chip ignored has ended. Bytes, non-volatile bits and erased sectors are as
--- they were. The write enable latch is set if the chip was idle before, and clear if the chip was busy with another
--- operation, which has ended too.
+-- The effect, on an honest bus, of an operation that the chip ignored and whose wait succeeded. Configuration, bytes,
+-- non-volatile bits and erased sectors are as they were. The write enable latch is set if the chip was idle before the
+-- operation, and clear if the chip was busy.
 pub record HasIgnored (old new : BusState) : Type 0 where
   pub same : IsSame old.chip new.chip
   pub worn : (s : ℕ) → new.worn s ≡ old.worn s
@@ -71,10 +71,10 @@ pub record EndsWaiting (old new : BusState) (sent : ℕ) : Type 0 where
 abbrev pub operation_of : Chip → List ℕ → Command
 operation_of chip out = done_of (record chip { latch = true }) out 0
 
--- The effect, on an honest bus and at every exit, of an operation of an idle chip. On a steady bus each byte is as
--- before or as after the operation; on any other bus each byte on which the operation works may have any value. The
--- non-volatile bits are those from before or after it. A chip that is still busy executes this operation. Only sectors
--- that the operation erases may be newly recorded as erased.
+-- The effect, on an honest bus and at every exit, of an operation of an idle chip. Bytes on which the operation doesn't
+-- work are as they were. On a steady bus each other byte is as before or as after the operation; on any other bus it
+-- may have any value. The non-volatile bits are those from before or those from after the operation. A chip that is
+-- still busy executes this operation. Only sectors that the operation erases may be newly recorded as erased.
 pub record MayOperate (command : Command) (sent : List ℕ) (old new : BusState) : Type 0 where
   pub config : new.chip.config ≡ old.chip.config
   pub bytes : ChangesOnly old.steady (is_in_work (running_after old.chip command))
@@ -83,8 +83,8 @@ pub record MayOperate (command : Command) (sent : List ℕ) (old new : BusState)
   pub runs : new.chip.busy ≢ 0 → new.chip.running ≡ running_after old.chip command
   pub worn : (s : ℕ) → wears command s ≡ false → new.worn s ≡ old.worn s
 
--- On an honest bus, an operation of an idle chip has ended, with its whole effect on bytes, non-volatile bits and
--- erased sectors. The write enable latch is clear.
+-- On an honest bus, an operation that an idle chip carried out has ended, with its whole effect on bytes, non-volatile
+-- bits and erased sectors. The write enable latch is clear.
 pub record HasOperated (command : Command) (sent : List ℕ) (old new : BusState) : Type 0 where
   pub config : new.chip.config ≡ old.chip.config
   pub bytes : (a : ℕ) → new.chip.bytes a ≡ byte_after old.chip command sent a

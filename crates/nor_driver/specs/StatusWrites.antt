@@ -1,5 +1,5 @@
--- The effect of a status write that sends the given protection bits, and the bits that flashnor never changes as they
--- are.
+-- The effect of a status write that sends the protection bits of `code`, and the bits that flashnor never changes as in
+-- `status`.
 use Rattle.std.specs.Prelude.{◌≡◌, ◌≢◌, ◌+◌, ◌*◌, ◌/◌, ◌%◌, ◌==◌, ◌&&◌, ◌⊎◌, ℕ, Bool, true, false, not}
 use Rattle.nor_model.specs.declared.running.Running.TheVariants as Runs
 use Rattle.nor_model.specs.declared.status.Status.{Status}
@@ -64,9 +64,10 @@ pub record LeavesStatusWrite (status : Status) (code : ℕ) (old new : BusState)
   pub reached : old.honest ≡ true → CanWriteStatus status old.chip → MayWriteStatus code old new
   pub ignored : old.honest ≡ true → takes_status old.chip ≡ false → KeepsChip old new
 
--- The effect of a status write that succeeded, after `sent` transactions. On an honest bus: if `CanWriteStatus` holds,
--- the chip took the write, and `HasWrittenStatus` holds; if `takes_status` is false, the chip ignored the write, and
--- `HasIgnored` holds.
+-- The effect of a status write that succeeded, after `sent` transactions: on every bus `EndsWaiting` and `SendsExactly`
+-- hold, for one status write. On an honest bus, if `CanWriteStatus` holds, the chip took the write, and
+-- `HasWrittenStatus` holds. On an honest bus, if `takes_status` is false, the chip ignored the write, and `HasIgnored`
+-- holds.
 pub record WritesStatus (status : Status) (code : ℕ) (old new : BusState) (sent : ℕ) : Type 0 where
   pub ends : EndsWaiting old new sent
   pub sends : SendsExactly 0 0 1 old new

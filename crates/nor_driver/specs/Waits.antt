@@ -10,8 +10,8 @@ use Rattle.nor_driver.specs.declared.waits.OperationError.TheVariants.{Stopped, 
 use Rattle.nor_driver.specs.declared.waits.Waited.{Waited}
 use Rattle.nor_driver.specs.OnlyReads.{Rested, RanOut}
 
--- On an honest bus, one poll read the status 1 from before it. A busy chip is then busy for one poll fewer, and the
--- poll that shows the last BUSY clears the write enable latch.
+-- On an honest bus, one poll read status 1 as it was before the poll. A busy chip is then busy for one poll fewer, and
+-- the poll that shows the last BUSY clears the write enable latch.
 pub record HasPolled (old new : BusState) (status : ℕ) : Type 0 where
   pub rested : Rested old new
   pub status1 : status ≡ status1_of old.chip
@@ -29,7 +29,8 @@ pub record Polls (old new : BusState) (status : ℕ) : Type 0 where
 abbrev pub latch_when_idle : Chip → Bool
 latch_when_idle chip = if chip.busy == 0 then chip.latch else false
 
--- On an honest bus, a wait polled until the chip was idle: once for each BUSY, and once more.
+-- On an honest bus, a wait polled until the chip was idle: once for each poll that the chip was still busy for
+-- (`busy`), and once more. Status 1 is that of the chip after the wait.
 pub record HasWaited (old new : BusState) (waited : Waited) : Type 0 where
   pub rested : Rested old new
   pub idle : new.chip.busy ≡ 0
@@ -40,8 +41,8 @@ pub record HasWaited (old new : BusState) (waited : Waited) : Type 0 where
 
 -- A wait succeeded. On every bus its last poll received this status, which shows that the chip is ready, and the number
 -- of polls is from 1 to 65,536. For each test that is false for every poll, the last reply to a transaction that passes
--- the test is as before (`only_polls`). A transaction other than a poll may still have been sent. On an honest bus the
--- effect of the wait is `HasWaited`.
+-- the test is as before (`only_polls`); that leaves open whether transactions other than polls were sent. On an honest
+-- bus the effect of the wait is `HasWaited`.
 pub record Waits (old new : BusState) (waited : Waited) : Type 0 where
   pub only_polls : KeepsReplies is_poll old.history new.history
   pub status : last_reply is_poll new.history ≡ waited.status1 ∷ []

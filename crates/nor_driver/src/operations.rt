@@ -85,8 +85,8 @@ pub fn write_status<B: Bus>(bus: &mut B, status: Status, code: u8) -> Result<u32
     operation(bus, &[WRITE_STATUS, one, two], 0)
 }
 
-// Performs one operation: write enable, the command, a wait. The command must ask for an operation
-// (`AsksForOperation`). Returns the number of transactions. A timeout contains `address`.
+// Performs one operation: write enable, the command, a wait. The command must satisfy `AsksForOperation`. Returns the
+// number of transactions. A timeout contains `address`.
 fn operation<B: Bus>(bus: &mut B, command: &[u8], address: u32) -> Result<u32, OperationError>
     requires { AsksForOperation command.now }
     ensures leaves { LeavesOperation command.now (B.state bus.old) (B.state bus.new) }

@@ -36,7 +36,7 @@ keeps_replies_by {may} {exchange} {old} {new} by passes = record {
       ∙ ap (λ (b : Bool). if b then bytes_or_none exchange.reply else last_reply is old) (others exchange.out passes);
 }
 
--- `may` can be replaced by a test `might` that every transaction satisfies that satisfies `may`
+-- `may` can be replaced by a test `might` that is true for each transaction for which `may` is true
 pub keeps_replies_less : {may might : List ℕ → Bool} {old new : List Exchange} → KeepsReplies may old new
     → ((out : List ℕ) → may out ≡ true → might out ≡ true) → KeepsReplies might old new
 keeps_replies_less keeps less = record { same = λ is others. keeps.same is (λ out passes. others out (less out passes)) }

@@ -1,4 +1,4 @@
--- The effect of a transaction on what was sent.
+-- The effect of a transaction on the list `Sent`.
 use Rattle.std.proofs.Common.{◌≡◌, ◌∙◌, ◌∷◌, ℕ, Bool, true, false, true≢false, List, [], refl, sym, ap, subst, inl, inr, arith}
 use Rattle.std.specs.Prelude.{◌==◌, if◌then◌else◌}
 use Rattle.std.proofs.Math.Bool.{or-false}
@@ -50,7 +50,8 @@ writes_none opcode (x ∷ []) other one two = refl
 writes_none opcode (x ∷ y ∷ []) other one two = rw other refl
 writes_none opcode (x ∷ y ∷ z ∷ rest) other one two = refl
 
--- A transaction leaves what was sent as it was if its opcode is quiet, isn't modifying, and targets no sector.
+-- A transaction leaves the list `Sent` and each of its properties as they were if its opcode is quiet, isn't modifying,
+-- and targets no sector.
 silent : (opcode : ℕ) (rest : List ℕ) (old : Sent) → bare_targeted opcode ≡ none_targeted
     → ((sector : ℕ) → addressed_targeted opcode sector ≡ none_targeted) → is_quiet_opcode opcode ≡ true
     → is_changing_opcode opcode ≡ false → (opcode == 0x01) ≡ false → (opcode == 0x02) ≡ false
@@ -100,7 +101,7 @@ loud_notes out old loud = record {
   status_writes = refl;
 }
 
--- a transaction has the effect `Notes` on what was sent
+-- a transaction has the effect `Notes` on the list `Sent`
 pub notes_by : {out : List ℕ} {old new : Sent} → new ≡ with_sent out old → Notes out old new
 notes_by {out} {old} {new} is = elim (cases_Bool (begins_quiet out)) [
   | inl quiet ↦

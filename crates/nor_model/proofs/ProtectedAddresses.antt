@@ -32,7 +32,8 @@ named_length-part size code are = part_of size (names_sectors code) (bp_of code)
 part-rest : (size n : ℕ) → size % 65536 ≡ 0 → IsPart size n → IsPart size (size - n)
 part-rest size n blocks part = grind arith
 
--- the test that `protected_by` makes of an address, given the parts of the code
+-- the test that `protected_by` makes of an address, given the length `named` of the selected range and the parts of the
+-- code
 place_test : ℕ → ℕ → Bool → Bool → Bool → ℕ → Bool
 place_test size named undefined complement bottom a =
     let is_named = if bottom then nat_lt a named else nat_le (size - named) a in

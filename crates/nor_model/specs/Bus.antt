@@ -24,7 +24,7 @@ pub record BusState : Type 0 where
   pub sent : Sent
   -- the allowances that were set, the last one first
   pub allowances : List ℕ
-  -- the sectors that the chip erased so far
+  -- the sectors that the chip erased so far, over this bus
   pub worn : ℕ → Bool
   -- if the bus is honest: a stop sends no byte of its transaction and keeps the chip's power, so the chip stays as it
   -- was
@@ -60,9 +60,9 @@ pub record IsHonestFor (out : List ℕ) (replies : ℕ) (bus : BusState) : Type 
   pub fits : (bus.unlimited ≡ true) ⊎ ((length out ≤ 260) × (replies ≤ 4096))
 
 -- The effect of a transaction on what every bus records. The transaction is added to the history, with its reply or as
--- one at which the bus stopped. It is added to what was sent, unless it is empty or begins with a quiet opcode. The
--- allowances stay as they were. After a poll that received at least one reply byte, `polled_ready` follows the last of
--- these bytes; otherwise it stays as it was.
+-- one at which the bus stopped. Its bytes are added to `sent`, unless there are none or they begin with a quiet opcode.
+-- The allowances stay as they were. After a poll that received at least one reply byte, `polled_ready` follows the last
+-- of these bytes; otherwise it stays as it was.
 pub record Records (out answer : List ℕ) (outcome : Result Unit Stopped) (old new : BusState) : Type 0 where
   pub history : new.history ≡ exchange_of out answer outcome ∷ old.history
   pub sent : new.sent ≡ with_sent out old.sent

@@ -35,13 +35,13 @@ pub record Continues (old new : List Exchange) : Type 0 where
   pub later : List Exchange
   pub is : new ≡ later ++ old
 
--- the bytes of a reply, or no bytes
+-- the bytes of a reply; no bytes if there is no reply, because the bus stopped
 abbrev pub bytes_or_none : Option (List ℕ) → List ℕ
 bytes_or_none (Some bytes) = bytes
 bytes_or_none None = []
 
--- the reply to the last transaction whose sent bytes satisfy the test; empty if there is none, or if the bus stopped at
--- it
+-- the reply to the last transaction whose sent bytes satisfy the test; empty if no transaction satisfies the test, or
+-- if the bus stopped at the last one that does
 abbrev pub last_reply : (is : List ℕ → Bool) → List Exchange → List ℕ
 last_reply is [] = []
 last_reply is (exchange ∷ earlier) = if is exchange.out then bytes_or_none exchange.reply else last_reply is earlier
@@ -84,8 +84,8 @@ pub record EndsBusy (history : List Exchange) : Type 0 where
   pub is : history ≡ replied (0x05 ∷ []) (status ∷ []) ∷ earlier
   pub busy : status % 2 ≡ 1
 
--- The last transaction received a reply. It begins with 03h (a read of data) and with the first address of the sector
--- that contains `address`. The number of bytes read is not stated.
+-- The last transaction received a reply. The bytes that it sent begin with 03h (a read of data), followed by the first
+-- address of the sector that contains `address`. The number of bytes read is not stated.
 pub record EndsReading (address : ℕ) (history : List Exchange) : Type 0 where
   pub earlier : List Exchange
   pub bytes : List ℕ

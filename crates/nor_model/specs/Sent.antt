@@ -84,16 +84,16 @@ is_unknown_to_model out = not (begins_quiet out || is_change out)
 abbrev pub Sent : Type 0
 Sent = List (List ℕ)
 
--- what was sent, after a transaction that sends `out`
+-- the list `Sent` after one more transaction, which sends `out`
 abbrev pub with_sent : (out : List ℕ) → Sent → Sent
 with_sent out before = if begins_quiet out then before else out ∷ before
 
--- what was sent by all transactions of a history
+-- the list `Sent` of a history
 abbrev pub sent_in : List Exchange → Sent
 sent_in [] = []
 sent_in (exchange ∷ earlier) = with_sent exchange.out (sent_in earlier)
 
--- true if some transaction that was sent satisfies the test `is`
+-- true if some transaction of the list `Sent` satisfies the test `is`
 abbrev pub has_sent : (is : List ℕ → Bool) → Sent → Bool
 has_sent is [] = false
 has_sent is (out ∷ before) = has_sent is before || is out
@@ -102,7 +102,7 @@ has_sent is (out ∷ before) = has_sent is before || is out
 abbrev pub counted_once : (is : Bool) → (before : ℕ) → ℕ
 counted_once is before = if is then before + 1 else before
 
--- the number of transactions that were sent and satisfy the test `is`
+-- the number of transactions of the list `Sent` that satisfy the test `is`
 abbrev pub times_sent : (is : List ℕ → Bool) → Sent → ℕ
 times_sent is [] = 0
 times_sent is (out ∷ before) = counted_once (is out) (times_sent is before)
@@ -135,8 +135,8 @@ programs_of sent = times_sent begins_program sent
 abbrev pub status_writes_of : Sent → ℕ
 status_writes_of sent = times_sent begins_status_write sent
 
--- The effect of one transaction that sends `out` on each property of what was sent: `old` before it, `new` after it. A
--- transaction that is empty or begins with a quiet opcode changes nothing.
+-- The effect of one transaction that sends `out` on each property of the list `Sent`, which is `old` before the
+-- transaction and `new` after it. A transaction that is empty or begins with a quiet opcode leaves the list as it was.
 pub record Notes (out : List ℕ) (old new : Sent) : Type 0 where
   pub quiet : begins_quiet out ≡ true → new ≡ old
   pub stirred : is_stirred new ≡ (is_stirred old || begins_change out)

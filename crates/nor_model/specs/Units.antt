@@ -1,4 +1,5 @@
--- Tests of addresses that are true in one range at an end of the chip. The test whether an address is protected is one.
+-- Tests of addresses that are true in one range at an end of the chip, such as the test whether an address is
+-- protected.
 use Rattle.std.specs.Prelude.{◌≡◌, ◌<◌, ◌≤◌, ◌+◌, ◌%◌, ◌⊎◌, ℕ, Bool, true, nat_lt, nat_le}
 
 -- The test holds at some address from `start` to `start + len - 1`.
@@ -8,11 +9,11 @@ pub record HoldsSomewhere (test : ℕ → Bool) (start len : ℕ) : Type 0 where
   pub before : place < start + len
   pub holds : test place ≡ true
 
--- the test holds exactly at the addresses of the chip below the border
+-- among the addresses of the chip, the test holds exactly at those below the border
 abbrev pub OnFirst : ℕ → (ℕ → Bool) → ℕ → Type 0
 OnFirst size test border = (a : ℕ) → a < size → test a ≡ nat_lt a border
 
--- the test holds exactly at the addresses of the chip from the border on
+-- among the addresses of the chip, the test holds exactly at those from the border on
 abbrev pub OnLast : ℕ → (ℕ → Bool) → ℕ → Type 0
 OnLast size test border = (a : ℕ) → a < size → test a ≡ nat_le border a
 

@@ -54,8 +54,8 @@ pub trait Bus {
 
 /// A bus that can be set to stop after a given number of transactions.
 pub trait Meter: Bus {
-    /// Records the allowance and, if the bus is honest, sets the number of transactions that it still carries out to
-    /// `n`. Nothing else changes.
+    /// Records the allowance. On an honest bus, sets the number of transactions that the bus still carries out to `n`;
+    /// on any other bus this number is not stated. Nothing else changes.
     fn allow(&mut self, n: u64)
         ensures { Allows n (Self.state self.old) (Self.state self.new) };
 }

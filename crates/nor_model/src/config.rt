@@ -51,7 +51,7 @@ impl Config {
     ghost use Rattle.nor_model.specs.Makers.{HasParts, IsEmulatedWith, IsTiny64, IsW25q64fv, IsW25q128fv};
 
     /// Returns a configuration with these properties and a unique ID of zeros; `sfdp` has the SFDP bytes from address
-    /// 0. The function allocates no memory.
+    /// 0, and is padded with FFh to 256 bytes. The function allocates no memory.
     ///
     /// Returns `None` if the size is not a power of two from 65,536 to 16,777,216, or if there are more than 256 SFDP
     /// bytes.
@@ -79,8 +79,8 @@ impl Config {
         })
     }
 
-    /// Returns the emulated chip `TINY64`: 64 KiB, ID `FE 10 10`, all erase types, no block protection, identified only
-    /// by its SFDP.
+    /// Returns the emulated chip `TINY64`: 64 KiB, ID `FE 10 10`, all erase types, no block protection. The table of
+    /// chips has no row for its ID; only its SFDP bytes describe the chip.
     pub fn tiny64() -> Config
         ensures { IsTiny64 result }
     {
@@ -103,8 +103,8 @@ impl Config {
         Self::emulated([0xEF, 0x40, 0x18], 16_777_216, ALL_KINDS, true)
     }
 
-    /// Returns the emulated chip with these properties. Its unique ID is zero, and its SFDP bytes describe this size
-    /// and all erase types. The size must be a power of two from 65,536 to 16,777,216.
+    /// Returns the emulated chip with these properties. Its unique ID is zero. Its SFDP bytes describe this size and
+    /// all erase types, even those that `kinds` lacks. The size must be a power of two from 65,536 to 16,777,216.
     pub fn emulated(id: [u8; 3], size: u32, kinds: Kinds, scheme: bool) -> Config
         requires { IsTrue (is_chip_size size) }
         ensures { IsEmulatedWith id size kinds scheme result }

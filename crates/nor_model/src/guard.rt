@@ -203,8 +203,8 @@ pub fn code_for(start: u32, len: u32, size: u32) -> Option<u8>
     None
 }
 
-// Returns the range that a code protects, or `None` if the code is undefined or a lesser defined code protects the same
-// range. An empty range starts at 0.
+// Returns the range that a code, which must be below 64, protects. Returns `None` if the code is undefined or a lesser
+// defined code protects the same range. An empty range starts at 0.
 fn least_at(size: u32, code: u8) -> Option<Places>
     requires sized { IsTrue (is_chip_size size) }
     requires six_bits { code < 64 }

@@ -38,7 +38,7 @@ bitflag_items! {
         const LB1 = 0x08;
         const LB2 = 0x10;
         const LB3 = 0x20;
-        /// Set if all addresses outside the selected range are protected.
+        /// Set if the protected addresses are those outside the selected range, clear if those inside it.
         const CMP = 0x40;
         /// Set while an operation is suspended.
         const SUS = 0x80;
@@ -140,7 +140,7 @@ impl Status2 {
     // The bits that a status write doesn't clear: LB1 to LB3 and the reserved bit.
     const HELD: Status2 = Status2(Self::LB.0 | 0x04);
 
-    // Returns the non-volatile bits after a status write of `sent`.
+    // Returns the non-volatile bits of status 2 after a status write of `sent`.
     fn written(self, sent: Status2) -> Status2
         ensures { result.0
             ≡ bit_or (bit_and sent.0 0b1000011) (bit_or (bit_and self.0 0b0111100) (bit_and sent.0 0b0111000)) }

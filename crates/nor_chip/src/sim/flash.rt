@@ -219,7 +219,7 @@ impl Flash {
         }
     }
 
-    // Performs one transaction, and returns the command that the chip carried out.
+    // Performs one transaction. Returns the command that the chip carried out, or `Ignored` if it carried out none.
     pub(crate) fn step(&mut self, out: &[u8], reply: &mut [u8]) -> Command
         ensures steps { Step (chip_of self.old) out.now reply.new (chip_of self.new) }
         ensures done { result ≡ done_of (chip_of self.old) out.now (length reply.new) }
