@@ -13,7 +13,8 @@ use Rattle.nor_probe.specs.Sfdp.{sfdp_says}
 use Rattle.nor_probe.specs.Table.{part_with_id}
 
 -- The last three transactions read these parts of the SFDP: its header, its first parameter header, and the table to
--- which the parameter header points.
+-- which the parameter header points. Each transaction begins with 5Ah and the address of its part. The number of bytes
+-- read is not stated.
 pub record RepliedSfdp (history : List Exchange) (header first table : List ℕ) : Type 0 where
   pub before : List Exchange
   pub at_header : List Exchange
@@ -22,8 +23,8 @@ pub record RepliedSfdp (history : List Exchange) (header first table : List ℕ)
   pub read_first : Answered (names 0x5A 8) at_header at_first first
   pub read_table : Answered (names 0x5A (pointer_in first)) at_first history table
 
--- The type is the one that SFDP bytes of this history give (`sfdp_says`). Three transactions in a row read these bytes;
--- other transactions may have followed.
+-- Apart from its ID, which may be any, the type is the one that SFDP bytes of this history give (`sfdp_says`). Three
+-- transactions in a row read these bytes; other transactions may have followed.
 pub record IsTypeBySfdp (history : List Exchange) (part : Part) : Type 0 where
   pub read : List Exchange
   pub later : Continues read history

@@ -62,8 +62,9 @@ pub struct Probed {
     pub transactions: u64,
 }
 
-/// Identifies the chip on the bus. Waits until it is idle, with at most 65,536 polls (05h), reads its ID (9Fh) and, if
-/// the ID isn't in the table, its SFDP with three reads (5Ah). If `named` is given, the chip must have this name.
+/// Identifies the chip on the bus. Waits until it is idle, with at most 65,536 polls (05h), and reads its ID (9Fh). If
+/// the ID isn't in the table, and isn't `FF FF FF` or `00 00 00`, also reads its SFDP with three reads (5Ah). If
+/// `named` is given, the chip must have this name.
 ///
 /// On any bus a returned chip has the given name, if one is given, and the last poll showed that it is ready. Its ID
 /// and status 1 are the last replies of the bus to 9Fh and 05h. It has a supported size, and is a row of the table or
