@@ -57,7 +57,7 @@ first_of-holds total Chip s below = (omega arith, omega arith)
 
 module _ (whole : Bool) (kinds : Kinds) (set : ℕ → Bool) where
   -- The erase block of this kind that holds the sector is fit. A block of 32 or 64 KiB is fit if the chip has its erase
-  -- type and the block lies in the set. The chip is fit if `whole` is set, and the block of 4 KiB is always fit.
+  -- type and the block lies in the set. The chip is fit if `whole` is true, and the block of 4 KiB is always fit.
   abbrev pub is_fit : ℕ → EraseBlock → Bool
   is_fit s Sector = true
   is_fit s Block32 = kinds.k32 && holds_block set 8 s

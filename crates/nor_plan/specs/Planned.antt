@@ -16,7 +16,7 @@ holds_run set from count = list_all set (range_with_len from count)
 abbrev pub holds_block : (ℕ → Bool) → (count sector : ℕ) → Bool
 holds_block set count sector = holds_run set (sector - sector % count) count
 
--- The erase block with which a sector of the set is erased. The block is the chip if `whole` is set, else the largest
+-- The erase block with which a sector of the set is erased. The block is the chip if `whole` is true, else the largest
 -- of the chip's blocks of 64, 32 and 4 KiB that holds the sector and lies in the set.
 unfoldable pub planned_block : Bool → Kinds → (ℕ → Bool) → ℕ → EraseBlock
 planned_block whole kinds set sector =

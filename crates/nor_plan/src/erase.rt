@@ -71,8 +71,8 @@ fn next_erase(set: &SectorSet, kinds: Kinds, whole: bool, from: u32) -> Option<(
     None
 }
 
-/// Returns the erase block with which `sector` is erased, if it is in the set. The block is the chip if `whole` is set,
-/// else the largest of the chip's blocks of 64, 32 and 4 KiB that holds `sector` and lies in the set.
+/// Returns the erase block with which `sector` is erased, if it is in the set. The block is the chip if `whole` is
+/// true, else the largest of the chip's blocks of 64, 32 and 4 KiB that holds `sector` and lies in the set.
 #[tactic(auto, unfolding(crate::specs::Planned::planned_block))]
 fn block_of(set: &SectorSet, kinds: Kinds, whole: bool, sector: u32) -> EraseBlock
     requires { sector < 4096 }
