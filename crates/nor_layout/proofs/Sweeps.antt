@@ -1,5 +1,5 @@
--- A list of disjoint spans (`AreDisjoint`) is at most as long as another one, if its addresses are those of the other
--- list within a range.
+-- A list of disjoint spans (`AreDisjoint`) is at most as long as another such list, if its addresses are those of the
+-- other list within a range.
 use Rattle.std.proofs.Common.{◌≡◌, ℕ, ◌+◌, ◌<◌, ◌≤◌, true, ◌&&◌, ltb, List, [], ◌∷◌, length, inl, inr, arith}
 use Rattle.std.proofs.lemmas.Bool.{false≢true, or_cases}
 use Rattle.std.proofs.lemmas.Bool.Decides.{nat_tests}

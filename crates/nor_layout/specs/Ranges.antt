@@ -11,7 +11,8 @@ is_in_span span address = nat_le span.first address && nat_le address span.last
 abbrev pub contains : (spans : List Span) → (address : ℕ) → Bool
 contains spans address = list_any (λ span. is_in_span span address) spans
 
--- True if at least one address is between the span and the first of the following spans, if there is one.
+-- True if the first of the following spans begins above the span, with at least one address between the two. True also
+-- if no span follows.
 abbrev pub IsApartFrom : Span → List Span → Type 0
 IsApartFrom span [] = ⊤
 IsApartFrom span (next ∷ spans) = span.last + 1 < next.first

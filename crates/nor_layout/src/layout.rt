@@ -57,7 +57,8 @@ fn are_known(regions: &[Region], names: &[u8]) -> bool
 
 /// Adds the region of line `number` to `regions`, or nothing if the line is empty.
 ///
-/// Returns a fault of the line, or `TooMany` if there are 64 regions already, or `Memory` if an allocation fails.
+/// Returns the first fault of the line, or `TooMany` if it has none but there are 64 regions already, or `Memory` if an
+/// allocation fails.
 #[tactic(auto, unfolding(crate::specs::Text::with_line))]
 fn add_line(regions: &mut Vec<Region>, number: usize, line: &[u8]) -> Result<(), LayoutFault>
     ensures { AddsRegion regions.old.items regions.new.items result (with_line regions.old.items number line.now) }

@@ -80,7 +80,8 @@ fn sooner(next: Option<Span>, span: &Span, done: u64) -> Option<Span>
     }
 }
 
-// Returns the span that begins first among those that end at or above the address `done`, or `None` if no span does.
+// Returns the span that begins first among those that end at or above the address `done`, or `None` if no span does. No
+// span may end before it begins.
 fn next_span(spans: &[Span], done: u64) -> Option<Span>
     requires { has_backwards spans.now ≡ false }
     ensures { IsNextOrNone done spans.now result }
@@ -92,7 +93,8 @@ fn next_span(spans: &[Span], done: u64) -> Option<Span>
     next
 }
 
-/// Returns the spans of the set with one more span added.
+/// Returns the spans of the set with one more span added. The set must have at most 64 spans, ascending and neither
+/// overlapping nor adjacent, and `added` must not end before it begins.
 fn with_span(spans: &[Span], added: Span) -> ArrayVec<Span, ROOM>
     requires room { length spans.now ≤ 64 }
     requires forward { added.first ≤ added.last }
