@@ -80,8 +80,8 @@ IsSharingFault view name most fault = IsReadingFault view name most fault
 -- Holds for the faults of creating or truncating a file of this name:
 --
 -- - error 18 (out of memory)
--- - file fault 2 if the file may fail to be created, truncated or locked
--- - file fault 4 if the file may exist although it must be new, or may be a journal, which is never truncated
+-- - file fault 2 if the file may fail to be created, read, truncated or locked, or its directory to be synced
+-- - file fault 4 if the file may exist although it must be new, or may be a journal, which `Disk` never truncates
 -- - file fault 5 if another process may have locked the file
 abbrev pub IsMaking : View → Text → Fault → Type 0
 IsMaking view name (end.Refused refusal) = refusal ≡ Memory

@@ -63,7 +63,7 @@ pub record HasReadInto (named : Option ChipName) (ranges : Option (List Span)) (
   pub returned : AnswersCall ReportsReadOut result outcome
 
 -- The job called `read_out` with a fresh vault, and returned its report or its error. If the files obey their contract,
--- the vault is faithful (`telling`), and the file has exactly its bytes.
+-- the vault is faithful (`telling`), and the file has exactly the vault's bytes.
 pub record HasReadOut (named : Option ChipName) (file : Text) (ranges : Option (List Span)) (old new : BusState)
     (after : View) (outcome : Result Answer Refusal) : Type 0 where
   pub empty : VaultState

@@ -26,12 +26,13 @@ IsUnseenFile nature named (end.File file.Read of) = IsSomeAnd named (λ name.
     (of.now ≡ name.now) × (nature.fails (Unread of.now) ≡ true))
 IsUnseenFile nature named _ = ⊥
 
--- Holds for the faults of comparing two names: they refer to one file, or one of them can't be looked up.
+-- Holds for the faults of comparing two names, each if the files allow it: the names refer to one file, or one of them
+-- can't be looked up.
 abbrev pub FailsApart : Nature → (earlier later : Option (Bor Text)) → Fault → Type 0
 FailsApart nature earlier later fault = IsShared nature earlier later fault
     ⊎ (IsUnseenFile nature earlier fault ⊎ IsUnseenFile nature later fault)
 
--- Holds for the faults of comparing a file with the standard streams: the program prints to the file, or its name can't
--- be looked up.
+-- Holds for the faults of comparing a file with the standard streams, each if the files allow it: the program prints to
+-- the file, or its name can't be looked up.
 abbrev pub FailsUnprinted : Nature → Option (Bor Text) → Fault → Type 0
 FailsUnprinted nature name fault = IsPrintedTo nature name fault ⊎ IsUnseenFile nature name fault

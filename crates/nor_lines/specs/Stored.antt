@@ -81,7 +81,8 @@ abbrev pub MakesNothing : Option (Bor Text) → (old new : FilesState) → Type 
 MakesNothing None old new = ⊤
 MakesNothing (Some name) old new = IsKnownFile name.now old.view → LeavesOrEmpty name.now old new
 
--- The vault is faithful (`telling`), and the file has exactly its bytes. If the vault is sealed, the bytes are durable.
+-- The vault is faithful (`telling`), and the file has exactly the vault's bytes. If the vault is sealed, these bytes
+-- are durable.
 pub record IsKeptFile (name : Text) (vault : VaultState) (files : FilesState) : Type 0 where
   pub telling : vault.telling ≡ true
   pub seen : files.view.seen name ≡ Some vault.bytes

@@ -25,7 +25,8 @@ pub enum Answer {
     Done(Report),
     /// The result of a rehearsal that ended.
     Rehearsed(Rehearsal),
-    /// The chip's protected range, if its protection bits are defined, and whether its status is locked.
+    /// The chip's protected range, if the datasheets define one for its protection bits, and whether its status is
+    /// locked.
     Protection(Protection),
     /// The ranges of the chip that can be protected.
     Ranges(Offered),

@@ -19,8 +19,8 @@ use nor_read::{read_out, verify, wp_status};
 use nor_session::{Request, session};
 use std::alloc::{AllocError, Global};
 
-/// Returns the chip's protected range, if its protection bits are defined, and whether its status is locked; or an
-/// error of `wp_status`. With `named` the chip must have this name.
+/// Returns the chip's protected range, if the datasheets define one for its protection bits, and whether its status is
+/// locked; or an error of `wp_status`. With `named` the chip must have this name.
 pub fn report_protection<B: Bus>(bus: &mut B, named: Option<ChipName>) -> Outcome
     ensures { HasReported ReportsProtection named (B.state bus.old) (B.state bus.new) result }
 {

@@ -55,7 +55,7 @@ pub fn reading(error: io::Error, name: &str) -> Fault<'_>
     }
 }
 
-/// Returns the fault of a file that is missing or can't be read: file fault 1.
+/// Returns the fault of a file that is missing, or can't be looked up, opened or read: file fault 1.
 pub fn unread(name: &str) -> Fault<'_>
     ensures { result ≡ Faults.File FileFaults.Read name.entry }
 {
@@ -121,7 +121,7 @@ pub fn create_log<'a, R: Store>(rt: &mut R, name: &'a str) -> Result<BufWriter<R
 ///
 /// - file fault 4 if the file exists and must be new, or is a journal, which `Disk` never truncates
 /// - file fault 5 if another process has locked the file
-/// - error 18 if memory ran out
+/// - error 18 if `fault` is `Memory`: memory ran out
 /// - otherwise file fault 2
 pub fn making(fault: CreateFault, name: &str) -> Fault<'_>
     ensures { (view : View) → IsCreateFault view.nature name.now fault → IsMaking view name.now result }
@@ -146,7 +146,8 @@ pub fn taken(name: &str) -> Fault<'_>
     Fault::File { fault, name }
 }
 
-/// Returns the fault of a file that can't be created, truncated, locked, written or synced (file fault 2).
+/// Returns the fault of a file that can't be created, truncated, locked, written or synced, or whose directory can't be
+/// synced (file fault 2).
 pub fn unmade(name: &str) -> Fault<'_>
     ensures { result ≡ Faults.File FileFaults.Write name.entry }
 {
@@ -161,7 +162,7 @@ pub fn unmade(name: &str) -> Fault<'_>
 ///
 /// - file fault 1 if the file is missing or can't be read
 /// - file fault 2 if the file can't be locked
-/// - file fault 5 if another process has locked the file
+/// - file fault 5 if another process has locked the file to change it, not only to read it
 /// - error 18 if memory runs out
 pub fn read_journal<'a, R: Store>(rt: &mut R, journal: &'a str) -> Result<Vec<u8>, Fault<'a>>
     ensures same { AreUntouched (R.state rt.old) (R.state rt.new) }
@@ -182,7 +183,7 @@ pub fn read_journal<'a, R: Store>(rt: &mut R, journal: &'a str) -> Result<Vec<u8
 ///
 /// - error 18 if memory ran out
 /// - file fault 1 if the file can't be looked up, opened or read
-/// - file fault 2 if the file exists, but can't be overwritten or locked
+/// - file fault 2 if a file or link of this name exists, but can't be overwritten or locked
 /// - file fault 5 if another process has locked the file
 pub fn unheld(fault: LockFault, name: &str) -> Fault<'_>
     ensures { IsNotLocked fault name.now result }

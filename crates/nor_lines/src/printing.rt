@@ -237,7 +237,7 @@ impl fmt::Display for Digits {
     }
 }
 
-/// Prints the line of a fault. Returns true if the writer reported no failure.
+/// Prints the text of a fault and a line feed. Returns true if the writer reported no failure.
 pub fn print_fault<W: Write>(errors: &mut W, fault: &Fault<'_>) -> bool
     ensures { IsTrue result → IfSome (line_of fault.now) (Appends (W.contents errors.old) (W.contents errors.new)) }
 {
