@@ -28,7 +28,7 @@ abbrev pub has_wrong_journal : Texts → Bool
 has_wrong_journal given =
     not (nat_eq (how_many (is_some given.journal ∷ is_some given.rehearse ∷ [])) (if asks_change given then 1 else 0))
 
--- fault 7: true if there is only one of `-l` and `-i`, or if there are both and the operation takes no regions
+-- fault 7: true if there is only one of `-l` and `-i`, or both without any of `-r`, `-v`, `-w` and `-E`
 abbrev pub has_wrong_regions : Texts → Bool
 has_wrong_regions given = (is_some given.layout || is_some given.names)
     && not (is_some given.layout && (is_some given.names && takes_regions given))

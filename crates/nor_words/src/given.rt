@@ -261,7 +261,7 @@ impl<'a> Given<'a> {
         (self.no_verify || self.unlock) && !self.is_new_content()
     }
 
-    // Fault 7: true if there is only one of `-l` and `-i`, or if the operation takes no regions and there are both.
+    // Fault 7: true if there is only one of `-l` and `-i`, or both without any of `-r`, `-v`, `-w` and `-E`.
     fn has_wrong_regions(&self) -> bool
         ensures { result ≡ has_wrong_regions (texts_of self.now) }
     {

@@ -29,8 +29,8 @@ pub struct ChipJob<'a> {
 pub struct HardwareJob<'a> {
     /// The value of `-p`, which isn't parsed.
     pub programmer: &'a str,
-    /// The operation, or the first of the usage faults 4 to 9. If the program finds that the value of `-p` is wrong,
-    /// that is usage fault 3, and comes first.
+    /// The operation, or the first of the usage faults 4 to 8. Fault 9 can't occur, because there is no `--rehearse`.
+    /// If the program finds that the value of `-p` is wrong, it must report usage fault 3 instead of these faults.
     pub operation: Result<Operation<'a>, UsageFault>,
 }
 
@@ -49,7 +49,7 @@ pub enum Task<'a> {
     Probe,
     /// `--flash-size`: print the size of the chip.
     FlashSize,
-    /// `--wp-status`: print the protected range, and whether it is locked.
+    /// `--wp-status`: print the protected range, and whether the status is locked.
     WpStatus,
     /// `--wp-list`: list the ranges that can be protected.
     WpList,

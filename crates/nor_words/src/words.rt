@@ -28,7 +28,7 @@ pub enum UsageFault {
     /// 6: `-w`, `-E` or `--wp-range` without exactly one of `--journal` and `--rehearse`, or any other arguments with
     /// `--journal` or `--rehearse`.
     Journal,
-    /// 7: `-l` or `-i` without the other, or with an operation that takes no regions.
+    /// 7: `-l` or `-i` without the other, or both without any of `-r`, `-v`, `-w` and `-E`.
     Layout,
     /// 8: `-n` or `--unlock` without `-w` or `-E`.
     Unneeded,
