@@ -69,7 +69,7 @@ pub struct Programmer<'a> {
     pub stop: Option<u64>,
     /// `unique=HEX`: the chip's unique ID, as 16 hexadecimal digits.
     pub unique: Option<[u8; 8]>,
-    /// `busy=N`: the number of polls that show BUSY after each operation.
+    /// `busy=N`: the number of polls that show BUSY after each program, erase or status write.
     pub busy: Option<u16>,
     /// `power=HH`: each stop is a power failure. Each byte of the page or erase block in progress then becomes this
     /// byte. A status write in progress is undone if this byte is even, and completed if it is odd.
