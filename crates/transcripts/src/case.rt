@@ -81,7 +81,8 @@ impl Case<'_> {
     }
 
     // Performs all actions on a new bus. Returns the chip, and the number of transactions that the bus did not stop.
-    // Returns the fault of the first action that fails, or `Lost` if a line of the trace was lost.
+    // Returns the fault of making the bus, that of the first action that fails, or `Lost` if a line of the trace was
+    // lost.
     fn act(&self, alloc: Global, setup: Setup, log: &mut Vec<u8>) -> Result<Left, LineFault> {
         let mut bus = match setup.bus(alloc, log) {
             Ok(bus) => bus,
