@@ -87,7 +87,7 @@ FailsToOpen view programmer fault = (fault ≡ end.Refused Memory)
     ⊎ (IsSomeAnd programmer.image (λ name. IsOpeningFault view name.now (emulated_part programmer.chip).size fault)
     ⊎ IsSomeAnd programmer.status (λ name. IsOpeningFault view name.now 2 fault))
 
--- Holds for the faults of locking and reading the chip's files, and for out of memory.
+-- Holds for the faults of locking, reading and syncing the chip's files, and for out of memory.
 abbrev pub FailsToHold : View → Programmer → Fault → Type 0
 FailsToHold view programmer fault = (fault ≡ end.Refused Memory)
     ⊎ (IsSomeAnd programmer.image (λ name. IsLockingFault view name.now (emulated_part programmer.chip).size fault)

@@ -185,7 +185,8 @@ FailsTask view (task.Change change) fault =
 FailsTask view (task.Restore journal) fault = FailsToRestore view journal.now fault
 FailsTask view _ fault = ⊥
 
--- Holds for the faults of opening the chip's files and, if the task writes the chip back (`true`), of locking them.
+-- Holds for the faults of reading the chip's files and, if the task writes the chip back (`true`), of locking and
+-- syncing them.
 abbrev pub FailsToStart : Bool → View → Programmer → Fault → Type 0
 FailsToStart true view programmer fault = FailsToHold view programmer fault
 FailsToStart false view programmer fault = FailsToOpen view programmer fault
@@ -197,8 +198,8 @@ FailsTraced view on_chip fault = IsSomeAnd on_chip.programmer.trace (λ name. Is
     ⊎ (FailsFileRoles view.nature on_chip fault
     ⊎ ((amid : View) × IsViewBut on_chip.programmer.trace view amid × FailsTask amid on_chip.task fault))
 
--- Holds for the faults of a job that occur before its call: those of comparing its files, of opening the chip's files,
--- of the trace, and of its task.
+-- Holds for the faults of a job that occur before its call: those of comparing its files, of reading, locking and
+-- syncing the chip's files, of the trace, and of its task.
 abbrev pub FailsJob : View → ChipJob → Fault → Type 0
 FailsJob view on_chip fault = FailsFileRoles view.nature on_chip fault
     ⊎ (FailsToStart (puts_back on_chip.task) view on_chip.programmer fault
