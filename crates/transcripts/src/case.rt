@@ -23,7 +23,8 @@ pub struct Case<'a> {
     lines: Vec<Line<'a>>,
 }
 
-/// Parses the cases of a text. Returns the fault of the first line that can't be parsed, and the line's number.
+/// Parses the cases of a text. Returns the first fault, with the number of its line: the line can't be parsed, or
+/// memory runs out.
 pub fn cases_of<'a>(alloc: Global, text: &'a str) -> Result<Vec<Case<'a>>, LineFault> {
     let mut cases = Vec::new(alloc);
     let mut number = 0_usize;
