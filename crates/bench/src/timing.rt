@@ -59,7 +59,7 @@ impl fmt::Display for Outcome {
 }
 
 /// Prints the lines for two pieces of work, of 111 ms and 150 ms, with a reference of 100 ms. The gate compares these
-/// lines, which tests their form.
+/// lines with those in the file `stdout`, to test their form.
 pub fn answer<R: Print>(rt: &R) -> Result<(), Fault> {
     let measurement = Measurement {
         what: "timing",

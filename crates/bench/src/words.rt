@@ -15,7 +15,7 @@ pub enum Request {
     Journal,
     /// `session`: measure sessions and a restore on a whole chip.
     Session,
-    /// `read`: measure the reading of a whole chip.
+    /// `read`: measure a readout and a verification of a whole chip.
     Read,
     /// `answers`: do the work of `chip`, `plan`, `journal` and `read` once, untimed, and print the results.
     Answers,

@@ -58,8 +58,9 @@ aside_of other was (Some all) left len mid new rest unsent is whole long aside =
       inr aside,
     )
 
--- Both `left` and `kept` may be found of the files `new`: `left` if the file was as `was` at first, `kept` if it was as
--- `found` before the restore. The two are equal, or the file was missing at first and `left` is `None`.
+-- Suppose that `left` may be found of the files `new` if the file was as `was` at first. Then some `kept` may be found
+-- of them if the file was as `found` before the restore. The two are equal, or the file was missing at first and `left`
+-- is `None`.
 pub pick : (one other : Option (Bor Text)) (was found left : Found) (len : ℕ) (mid new : FilesState) → NameOne one other
     → AreAtRest mid → ((name : Name) → new.may_leave name (new.view.seen name)) → IsFileFound mid.view other len found
     → IfSome found (λ all. length all ≡ len) → LeavesAsLong other mid new → MayFind one was left new

@@ -1,4 +1,5 @@
--- The results of the calls that change a chip, for the request made from a change.
+-- The results of the calls that change a chip or read it out, for the request made from a change and for the ranges of
+-- the regions.
 use Rattle.std.proofs.Common.{◌≡◌, ◌≤◌, ℕ, List, Option, Result, Ok, Err, IfOk, IsOk, MatchResult, OnErr, arith, false, true}
 use Rattle.std.specs.Borrow.{Bor}
 use Rattle.nor_model.specs.Bus.{BusState}
@@ -90,7 +91,8 @@ module _ (request : Request) (image : List ℕ) (old new : BusState) (vault vaul
     unused = always.answers.unused;
   })) (λ ok. cc)
 
--- A session with its journal in a file is a change of a job (`HasMadeChange`), by what `session_in_file` promises.
+-- A session with its journal in a file is a change of a job (`HasMadeChange`), by what `session_in_file` promises. The
+-- bus must be modelled, and steady or idle.
 pub made_in_file : (request : Request) (image : List ℕ) (file : Bor Text) (before : View) (after : FilesState)
     (old new : BusState) (result : Result (Result Answer Refusal) Fault) → IsModelled old → IsChip old.chip
     → IsSteadyOrIdle old → IfOk result (HasRunInFile request image file.now before after old new)

@@ -110,6 +110,6 @@ passes_none bus modelled steady_or_idle = record {
   name = tt;
 }
 
--- a bus to which nothing was sent satisfies `OnlyReads`
+-- `OnlyReads` holds for a call that sent nothing
 pub looks_none : (most : ℕ) (bus : BusState) → OnlyReads most bus bus
 looks_none most bus = looks_more 0 most bus bus (omega arith) (looks_at_none bus)

@@ -54,8 +54,9 @@ left_either had bytes missing false left stood amid whole i = elim amid [
   | inr made ↦ inr (rw made.1 (ap (λ (l : List ℕ). slice_index l i) (made.2 (rw made.1 at whole))))
 ]
 
--- `over` in Kept.antt needs this for the image and for the status file. A file that was moved aside has the old bytes,
--- too: they are what stands for a missing file.
+-- Each byte of what a later run may find of a file of the chip is the old or the new one (`IsEither`). For a file that
+-- was moved aside it is the old one: the old bytes are what stands for a missing file. `over` in Kept.antt needs this
+-- for the image and for the status file.
 pub found_either : (had bytes missing : List ℕ) (named : Option (Bor Text)) (there : Bool) (files : FilesState)
     (was' left : Found) → (there ≡ false → had ≡ missing) → (named ≡ None → had ≡ missing)
     → (was' ≡ None → had ≡ missing) → LeavesAmid named there had bytes files → MayFind named was' left files

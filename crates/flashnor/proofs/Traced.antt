@@ -57,8 +57,8 @@ missing_before trace file old amid not but gone = λ known.
     let same = but.stays file.now not known in
     sym same.1 ∙ gone (record { lawful = lawful_after but.nature known.lawful; in_store = same.0 ∙ known.in_store })
 
--- `MakesNothing` of a journal, claimed for the files after the trace was created, also holds for the files before,
--- because creating the trace leaves the journal's file as it was.
+-- If the journal's name is apart from the trace's, creating the trace leaves the journal's file as it was. Then
+-- `MakesNothing`, claimed for the files after the trace was created, also holds for the files before.
 pub makes_nothing_before : (name : Bor Text) (journal : Option (Bor Text)) (old mid new : FilesState)
     → mid.view.nature ≡ old.view.nature → IsNot old.view.nature journal name.now
     → (is_lawful old.view ≡ true → OthersStay name.now old mid) → MakesNothing journal mid new

@@ -57,10 +57,11 @@ pub record IsSafe (old opened : BusState) (vault : VaultState) : Type 0 where
   pub back : vault.sealed ≡ true → vault.telling ≡ true
       → (journal : Journal) → IsContent journal → vault.bytes ≡ text journal → CanRestore journal old.chip opened
 
--- Holds for a session, with its journal in a vault, at every exit. If the vault isn't sealed, the chip is as before. If
--- it is sealed, the chip changed only as `CanBeUndone` says, and a faithful vault holds the journal that can undo the
--- session. `over`: `IsSafe` holds for each chip that may be left if writing the new chip to the old chip's files is
--- interrupted.
+-- Holds for a session, with its journal in a vault, at every exit. The result is an answer that `ReportsChange` allows,
+-- after which the vault is sealed, or an error that `FailsSession` allows. If the vault isn't sealed, the chip is as
+-- before. If the vault is sealed, the chip changed only as `CanBeUndone` says, and a faithful vault holds the journal
+-- that can undo the session. `over`: `IsSafe` holds for each chip that may be left if writing the new chip to the old
+-- chip's files is interrupted.
 pub record HasKeptChange (request : Request) (image : List ℕ) (old new : BusState) (vault vault' : VaultState)
     (outcome : Result Answer Refusal) : Type 0 where
   pub returned : MatchResult outcome (ReportsChange request image old new) (FailsSession request image old new vault vault')
@@ -86,7 +87,7 @@ pub record IsRehearsed (request : Request) (image stops : List ℕ) (chip : Chip
   pub accepted : rehearsal.sealed ≡ true → IsAccepted request image chip
   pub saves : rehearsal.sealed ≡ true
       → JournalSaves (header_of chip) chip.bytes (is_touched chip.bytes (wanted request image chip)) vault.bytes
-  -- The restores were run with the stops after the first, in turn.
+  -- If the journal was sealed, the stops after the first fit the restores, of which the last one ended (`AreRestores`).
   pub restores : rehearsal.sealed ≡ true
       → AreRestores (sector_count (is_touched chip.bytes (wanted request image chip))) (drop 1 stops) rehearsal.restores
 
@@ -162,9 +163,10 @@ pub record Passes (named : Option ChipName) (old new : BusState) : Type 0 where
   pub steady_or_idle : IsSteadyOrIdle new
   pub name : HasGivenName named old.chip
 
--- Describes the result of a restore, which identifies the chip first if a name is given. Take an original chip that the
--- journal could restore before the restore: from each chip that may be left if writing to the files is interrupted, the
--- journal can still restore it. If the restore succeeded, the chip is that original chip.
+-- Describes the result of a restore. If a name is given, the chip is identified and its name is checked before the
+-- restore. Take an original chip that the journal could restore before. The journal can still restore that original
+-- chip from each chip that may be left if writing to the files is interrupted. If the restore succeeded, the chip is
+-- that original chip.
 pub record HasRestoredNamed (journal : Journal) (named : Option ChipName) (old new : BusState)
     (outcome : Result Answer Refusal) : Type 0 where
   -- the bus after the identification for the name, if one is given

@@ -87,15 +87,15 @@ FailsToOpen view programmer fault = (fault ≡ end.Refused Memory)
     ⊎ (IsSomeAnd programmer.image (λ name. IsOpeningFault view name.now (emulated_part programmer.chip).size fault)
     ⊎ IsSomeAnd programmer.status (λ name. IsOpeningFault view name.now 2 fault))
 
--- Holds for the faults of locking and reading the chip's files, and for out of memory.
+-- Holds for the faults of locking, reading and syncing the chip's files, and for out of memory.
 abbrev pub FailsToHold : View → Programmer → Fault → Type 0
 FailsToHold view programmer fault = (fault ≡ end.Refused Memory)
     ⊎ (IsSomeAnd programmer.image (λ name. IsLockingFault view name.now (emulated_part programmer.chip).size fault)
     ⊎ IsSomeAnd programmer.status (λ name. IsLockingFault view name.now 2 fault))
 
--- Holds for the chip's files after the chip was written back. If the files obey their contract, a file that is named
--- and was written durably has the chip's bytes or status bytes. A file whose name is given as `image` or `status` may
--- have failed to be written.
+-- Holds for the chip's files after the chip was written back. `image` and `status` are the names of files that may have
+-- failed to be written. If the files obey their contract, each other named file of the chip has the chip's bytes or
+-- status bytes, and has them durably.
 pub record ArePutBack (programmer : Programmer) (chip : Chip) (image status : Option (Bor Text))
     (files : FilesState) : Type 0 where
   pub bytes : List ℕ

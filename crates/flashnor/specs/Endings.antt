@@ -37,8 +37,9 @@ pub record EndsWell (is_printed : Bool) (unwritten : Unwritten) (err err' : Opti
   pub returned : ending.returned ≡ true → Appends err err' (lines_of_unwritten unwritten)
   pub silent : unwritten ≡ all_written → err' ≡ err
 
--- The end of a run with a fault. The status is 1. If the line of the fault and those of files that could not be written
--- were printed (`returned`), they were appended to standard error, unless the fault's line isn't known.
+-- The end of a run with a fault. The status is 1, and no answer or help was printed. If the line of the fault and those
+-- of files that could not be written were printed (`returned`), they were appended to standard error. Nothing is
+-- claimed about these lines if the fault's line isn't known (`line_of`).
 pub record EndsBadly (fault : Fault) (unwritten : Unwritten) (err err' : Option (List ℕ))
     (ending : Ending) : Type 0 where
   pub status : ending.status ≡ 1
@@ -52,8 +53,8 @@ pub record HasPrinted (outcome : Result Answer Fault) (unwritten : Unwritten) (o
   pub few : ending.status ≤ 1
   pub exact : (ending.status ≡ 0) ↔ ((ending.printed ≡ true) × (unwritten ≡ all_written))
   -- If an answer was printed, its lines were appended to standard output; the text of help isn't known. If the lines of
-  -- the fault and of files that could not be written were printed, they were appended to standard error, unless the
-  -- fault's line isn't known (`line_of`).
+  -- the fault and of files that could not be written were printed, they were appended to standard error. Nothing is
+  -- claimed about these lines if the fault's line isn't known (`line_of`).
   pub printed : ending.printed ≡ true → PrintsAnswer outcome out out'
   pub returned : ending.returned ≡ true → IfSome (lines_printed outcome unwritten) (Appends err err')
   -- A run without an answer or help prints nothing to standard output. A run that has an answer or help and wrote every

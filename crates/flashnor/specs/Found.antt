@@ -14,7 +14,8 @@ emulated_part chip = chip.part
 abbrev pub HasName : Option ChipName → Emulated → Type 0
 HasName named chip = IsWanted named (emulated_part chip).name
 
--- Holds if the chip that was found is the emulated chip, and that chip has the given name, if one is given.
+-- Holds if the chip that was found has the type of the emulated chip, and the emulated chip has the given name, if one
+-- is given.
 pub record IsEmulatedFound (named : Option ChipName) (chip : Emulated) (found : Found) : Type 0 where
   pub part : part_in found ≡ emulated_part chip
   pub name : HasName named chip

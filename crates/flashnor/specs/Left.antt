@@ -136,7 +136,7 @@ pub record LeavesRestorable (programmer : Programmer) (file : Text) (old new : F
 
 -- Holds in one of two cases after a restore from the journal in the file of this name. First case (`LeavesSources`): a
 -- host crash can leave only what it could leave before, except for the trace. Second case (`LeavesRestorable`): the
--- journal can still restore each chip that it could restore.
+-- journal can still restore each original chip that it could restore from the chip that the run opened.
 abbrev pub KeepsRestorable : Programmer → (file : Text) → (old new : FilesState) → Type 0
 KeepsRestorable programmer file old new =
     LeavesSources programmer file old new ⊎ LeavesRestorable programmer file old new

@@ -20,12 +20,12 @@ FindRefuses programmer named OtherName = HasName named programmer.chip → ⊥
 FindRefuses programmer named Stopped = allowance_of programmer < most_probe
 FindRefuses programmer named _ = ⊥
 
--- Holds if the answer is the emulated chip, which has the given name if one is given.
+-- Holds if the answer is a chip of the emulated chip's type, and the emulated chip has the given name, if one is given.
 abbrev pub ReportsEmulated : Programmer → Option ChipName → Answer → Type 0
 ReportsEmulated programmer named (answer.Found found) = IsEmulatedFound named programmer.chip found
 ReportsEmulated programmer named _ = ⊥
 
--- Holds if the answer is the size of the emulated chip, which has the given name if one is given.
+-- Holds if the answer is the size of the emulated chip, and that chip has the given name, if one is given.
 abbrev pub ReportsEmulatedSize : Programmer → Option ChipName → Answer → Type 0
 ReportsEmulatedSize programmer named (answer.Size size) =
     HasName named programmer.chip × (size ≡ (emulated_part programmer.chip).size)

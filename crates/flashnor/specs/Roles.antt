@@ -82,20 +82,22 @@ must_differ job role.Image role.Wanted = false
 must_differ job earlier later =
     nat_lt (order_of earlier) (order_of later) && (is_written job earlier || is_written job later)
 
--- Holds if the fault is that two roles have one file, but need different files.
+-- Holds for file fault 5 with the name of the later of two roles that need different files, if the files allow that the
+-- names of both roles refer to one file.
 abbrev pub IsTwice : Nature → ChipJob → Fault → Type 0
 IsTwice nature job fault = (earlier later : Role) × (must_differ job earlier later ≡ true)
     × IsShared nature (file_with_role job earlier) (file_with_role job later) fault
 
--- Holds if the fault is that the program prints to a file of the job that is written.
+-- Holds for file fault 5 with the name of a file that the job writes, if the files allow that the program prints to
+-- that file.
 abbrev pub IsStream : Nature → ChipJob → Fault → Type 0
 IsStream nature job fault = (written : Role) × (is_written job written ≡ true)
     × IsPrintedTo nature (file_with_role job written) fault
 
--- Holds if the fault is that a file of the job can't be looked up.
+-- Holds for file fault 1 with the name of a file of the job, if the files allow that this name can't be looked up.
 abbrev pub IsUnseen : Nature → ChipJob → Fault → Type 0
 IsUnseen nature job fault = (role : Role) × IsUnseenFile nature (file_with_role job role) fault
 
--- Holds for the faults of comparing a job's files.
+-- Holds for the faults of comparing a job's files with one another and with the files that the program prints to.
 abbrev pub FailsFileRoles : Nature → ChipJob → Fault → Type 0
 FailsFileRoles nature job fault = IsTwice nature job fault ⊎ (IsStream nature job fault ⊎ IsUnseen nature job fault)

@@ -78,7 +78,7 @@ pub record DoesRead (view after : View) (named : Option ChipName) (file : Text) 
   pub read : HasReadOut named file ranges old new after outcome
 
 -- Describes the result of comparing the chip with the image in the file, in the ranges of the regions if there are any.
--- At most one byte more is read than the largest chip has.
+-- At most one byte more of the image is read than the largest chip has.
 pub record DoesVerify (view : View) (named : Option ChipName) (file : Text) (regions : Option Regions)
     (old new : BusState) (outcome : Result Answer Refusal) : Type 0 where
   pub ranges : Option (List Span)
@@ -87,8 +87,8 @@ pub record DoesVerify (view : View) (named : Option ChipName) (file : Text) (reg
   pub read : IsRead view file 16777217 image
   pub verified : HasVerified named ranges image old new outcome
 
--- Describes the result of a restore from the valid journal in the file. At most one byte more is read than the longest
--- journal has.
+-- Describes the result of a restore from the valid journal in the file. At most one byte more of the file is read than
+-- the longest journal has.
 pub record DoesRestore (view : View) (named : Option ChipName) (file : Text) (old new : BusState)
     (outcome : Result Answer Refusal) : Type 0 where
   pub journal : Journal
@@ -162,7 +162,7 @@ FailsToReadImage view (wanted.Write image) fault = IsReadingFault view image.now
 FailsToReadImage view wanted.Erase fault = fault ≡ end.Refused Memory
 FailsToReadImage view (wanted.Range start len) fault = ⊥
 
--- Holds for the faults of creating the journal of a change. A rehearsal creates none, and has no such fault.
+-- Holds for the faults of creating the file of a change's journal. A rehearsal creates no file, and has no such fault.
 abbrev pub FailsToKeep : View → JournalUse → Fault → Type 0
 FailsToKeep view (uses.Journal file) fault = IsMaking view file.now fault
 FailsToKeep view (uses.Rehearse stops) fault = ⊥
@@ -185,7 +185,8 @@ FailsTask view (task.Change change) fault =
 FailsTask view (task.Restore journal) fault = FailsToRestore view journal.now fault
 FailsTask view _ fault = ⊥
 
--- Holds for the faults of opening the chip's files and, if the task writes the chip back (`true`), of locking them.
+-- Holds for the faults of reading the chip's files and, if the task writes the chip back (`true`), of locking and
+-- syncing them.
 abbrev pub FailsToStart : Bool → View → Programmer → Fault → Type 0
 FailsToStart true view programmer fault = FailsToHold view programmer fault
 FailsToStart false view programmer fault = FailsToOpen view programmer fault
@@ -197,8 +198,8 @@ FailsTraced view on_chip fault = IsSomeAnd on_chip.programmer.trace (λ name. Is
     ⊎ (FailsFileRoles view.nature on_chip fault
     ⊎ ((amid : View) × IsViewBut on_chip.programmer.trace view amid × FailsTask amid on_chip.task fault))
 
--- Holds for the faults of a job that occur before its call: those of comparing its files, of opening the chip's files,
--- of the trace, and of its task.
+-- Holds for the faults of a job that occur before its call: those of comparing its files, of reading, locking and
+-- syncing the chip's files, of the trace, and of its task.
 abbrev pub FailsJob : View → ChipJob → Fault → Type 0
 FailsJob view on_chip fault = FailsFileRoles view.nature on_chip fault
     ⊎ (FailsToStart (puts_back on_chip.task) view on_chip.programmer fault
@@ -207,7 +208,7 @@ FailsJob view on_chip fault = FailsFileRoles view.nature on_chip fault
 -- ---- the files at every exit of a run
 
 -- Holds if the chip's files are as they were, and so is each file whose name is apart from those of the trace and of
--- the file that the task creates.
+-- the file that the task creates or truncates (`made`).
 pub record StayBut (programmer : Programmer) (made : Option (Bor Text)) (old new : FilesState) : Type 0 where
   pub image : StaysOf programmer.image old new
   pub status : StaysOf programmer.status old new

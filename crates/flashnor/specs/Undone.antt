@@ -48,8 +48,9 @@ abbrev pub Restores : Text → Task → Type 0
 Restores file (task.Restore journal) = journal.now ≡ file
 Restores file _ = ⊥
 
--- Holds if a run restores from a journal that can restore the original chip. The files `old` leave that journal, the
--- run finds the files `mid`, and has this result and leaves the files `new`.
+-- Holds if a run restores from a journal that can restore the original chip. An earlier run left that journal, in the
+-- files `old`. The restoring run has the same chip and chip's files as `programmer` (`HaveOneChip`), finds the files
+-- `mid`, has this result, and leaves the files `new`.
 pub record RestoresFirst {programmer : Programmer} {start : FilesState} (file : Text)
     (first : Opened programmer start) (on_chip : ChipJob) (unwritten : Unwritten) (returned : Result Answer Fault)
     (old mid new : FilesState) : Type 0 where

@@ -25,7 +25,7 @@ use nor_probe::ChipName;
 use nor_session::{Refusal, Request, rehearse, restore};
 use nor_words::{Change, Emulated, JournalUse, Wanted};
 
-/// Changes the chip, or rehearses the change in memory. Writes the journal of a change to a new file.
+/// Changes the chip, with the journal in a new file, or rehearses the change on `bus`, with the journal in memory.
 ///
 /// Returns the result of the call to the engine, or the fault that occurred before it: of the layout, of the image to
 /// write, of the journal's file, or error 18 if memory runs out.

@@ -99,7 +99,8 @@ pub fn read_whole<'a, R: Store>(
     Ok(Some(bytes))
 }
 
-/// Returns a bus to the emulated chip with these contents, idle. `content` must have as many bytes as the chip.
+/// Returns a bus to the emulated chip, which is idle and has these contents. `content` must have as many bytes as the
+/// chip.
 ///
 /// The bus carries out the number of transactions that `stop=` gives, or `u64::MAX` without it. After each operation
 /// the chip is busy for the number of polls that `busy=` gives, or for none without it. If `power=` is given, a stop
@@ -114,8 +115,8 @@ pub fn start(programmer: &Programmer<'_>, content: Content) -> SimBus
     bus
 }
 
-// Returns a bus to the emulated chip with these contents, idle. The bus carries out no transaction yet, and a stop
-// keeps the chip's power.
+// Returns a bus to the emulated chip, which is idle and has these contents. The bus carries out no transaction yet, and
+// a stop keeps the chip's power.
 fn hold(programmer: &Programmer<'_>, content: Content) -> SimBus
     requires { vec_len content.bytes ≡ (emulated_part programmer.now.chip).size }
     ensures held { HoldsFiles programmer.now content (⟦<SimBus as Bus>⟧.state result) }

@@ -38,8 +38,8 @@ pub fn existing_journal<'a, R: Store>(rt: &R, task: &Task<'a>) -> Option<&'a str
 /// its journal is read, and the trace is created or truncated. The first fault of these steps is returned, or file
 /// fault 4 if there is none.
 ///
-/// The run creates or truncates no other file than the trace; and it leaves the trace too, if its name isn't apart from
-/// those of the job's other files.
+/// The trace is the only file that is created or truncated, and only if its name is apart from the names of the job's
+/// other files.
 pub fn fault_before<'a, R: Store>(rt: &mut R, job: &ChipJob<'a>, journal: &'a str) -> Fault<'a>
     requires makes { journal_by job.now.task ≡ Some journal }
     requires there { Happens (R.state rt.old).view (There journal.now) }

@@ -19,11 +19,19 @@ use nor_files::Store;
 /// it, wherever that run was interrupted.
 ///
 /// `ends`: the first of these runs that returns an answer and writes all files leaves the original chip, even if the
-/// host then crashes. Between two runs a file of the chip that was missing before the change may be moved aside. Each
-/// run must find the files at rest (`AreAtRest`), which requires that they obey the contract of `Store`.
+/// host then crashes.
 ///
-/// The contract of `run_over` supplies the premise: on files at rest, a change leaves at every exit files from which
-/// the journal can restore the original chip, or files that open to the original chip.
+/// Each of these runs must have the same chip, unique ID, image and status file as the change (`HaveOneChip`). Each run
+/// must find the files at rest (`AreAtRest`), which requires that they obey the contract of `Store`. Between two runs
+/// nothing else may change the journal or the chip's files (`Follows`). As an exception, you may move aside a file of
+/// the chip that was missing before the change.
+///
+/// The contract of `run_over` supplies the premise. On files at rest, a change with its journal in a file leaves one of
+/// these at every exit (`KeepsOriginalFiles`):
+///
+/// - files from which the journal can restore the original chip
+/// - files that open to the original chip
+/// - files of the chip of which a host crash can leave only what it could leave before
 pub fn runs_restore_original<R: Store>()
     ensures leads { (programmer : Programmer) (file : Text) (start old mid new : R)
         (first : Opened programmer (R.state start)) (on_chip : ChipJob)

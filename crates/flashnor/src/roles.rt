@@ -9,7 +9,7 @@ use nor_files::Store;
 use nor_lines::{Fault, Named, apart, named_by, unprinted};
 use nor_words::ChipJob;
 
-// The role of a file in a job. If two roles that need different files have one, the fault names the file of the later
+// The role of a file in a job. If two roles that need different files share one, the fault names the file of the later
 // role in this order.
 #[derive(Clone, Copy)]
 enum Role {
@@ -25,9 +25,9 @@ enum Role {
 /// Checks that roles of a job which need different files have them, and that no file that is written is one that the
 /// program prints to.
 ///
-/// Two roles may share a file only if both files are only read, or if the two are the chip's image and the image to
-/// write. The journal of a restore counts as written. The order of the checks is fixed: first pairs of files, then
-/// files that the program prints to.
+/// Two roles may share a file only if the job writes it in neither role, or if the two are the chip's image and the
+/// image to write. The journal of a restore counts as written. The order of the checks is fixed: first pairs of files,
+/// then files that the program prints to.
 ///
 /// Returns file fault 5 with the name of the later of two roles (image, status, trace, layout, image to write or
 /// compare, output, journal), or with a name that is printed to. Returns file fault 1 if a name can't be looked up.

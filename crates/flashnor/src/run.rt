@@ -112,7 +112,7 @@ pub fn run_over<R: Store, O: Write, E: Write>(
     ensures { IsStatus (R.state rt.old) (R.state rt.new) (map string_bytes words.now)
         (O.contents output.old) (O.contents output.new) (E.contents errors.old) (E.contents errors.new) result }
 {
-    // The call does nothing at run time. A law is only checked in a program that calls it.
+    // The call does nothing at run time. A law is checked only in a program that calls it.
     runs_restore_original::<R>();
     let Work { answer, unwritten } = run(rt, words);
     print_end(output, errors, answer, unwritten)

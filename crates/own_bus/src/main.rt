@@ -2,8 +2,8 @@
 //!
 //! Without arguments it uses a serial programmer and a chip that it simulates: it reads the chip out into a file,
 //! changes the chip with a journal, and restores it. Then it begins the change on a second simulated chip, over a bus
-//! that speaks no serprog and whose wires are cut. With the name of a serial port it identifies the chip at that
-//! programmer, and changes nothing.
+//! that speaks no serprog and whose wires are cut. With the name of a serial port it identifies the chip of the
+//! programmer at that port, and changes nothing.
 //!
 //! - `main.rt`: the steps of the example
 //! - `device.rt`: a port over a device file
@@ -85,7 +85,7 @@ fn play(rt: &HostRuntime) -> Result<(), Fault> {
     cut_off(rt)
 }
 
-// Returns a simulated bus to a chip of 65,536 bytes, all FFh. It carries out `u64::MAX` transactions.
+// Returns a simulated bus to a chip of 65,536 bytes, all FFh. The bus carries out `u64::MAX` transactions.
 fn erased_chip(alloc: Global) -> Result<SimBus, Fault> {
     let idle = Delays { now: 0, each: 0 };
     let erased = vec![in alloc; 0xFF; 65536]?;
@@ -103,8 +103,8 @@ fn back_up<B: Bus>(rt: &HostRuntime, bus: &mut B) -> Result<(), Fault> {
     Ok(())
 }
 
-// Writes the backup to the chip with its first byte changed to 5Ah. The journal is in a new file with the name
-// `journal`.
+// Changes the first byte of the backup to 5Ah in memory, and writes the result to the chip. The session's journal is in
+// a new file with the name `journal`.
 fn change<B: Bus>(rt: &HostRuntime, bus: &mut B, journal: &str) -> Result<Report, Fault> {
     let mut image = fs::read(rt, "chip.bin")?;
     if let Some(first) = image.first_mut() {

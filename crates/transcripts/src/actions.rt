@@ -9,9 +9,14 @@ use crate::step::{Action, Exchange};
 use nor_chip::{Bus, Meter};
 use std::alloc::Global;
 
-/// Performs the action on `bus`, and compares its result with the expected one. Returns `Unread` if a value in the line
-/// can't be parsed, `Differs` if the result differs from the expected one, `Stopped` if the bus stops a transaction
-/// that it must carry out, and `Memory` if memory runs out.
+/// Performs the action on `bus`, and compares the action's result with the expected one.
+///
+/// Returns one of these faults:
+///
+/// - `Unread` if a value in the line can't be parsed, or breaks a premise of the called function
+/// - `Differs` if the result differs from the expected one
+/// - `Stopped` if the bus stops a transaction that it must carry out
+/// - `Memory` if memory runs out
 pub fn take(alloc: Global, bus: &mut Way<'_>, action: Action<'_>) -> Result<(), Fault> {
     match action {
         Action::Carries(exchange) => carry(alloc, bus, exchange),

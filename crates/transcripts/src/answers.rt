@@ -9,7 +9,8 @@ use nor_chip::{Config, Delays, Offered, SimBus, offered};
 use std::alloc::{AllocError, Global};
 use std::str::Lines;
 
-/// The chip after the actions of a case, and the number of transactions that succeeded (which the bus did not stop).
+/// The chip after the actions of a case, and the number of transactions that succeeded (those that the bus did not
+/// stop).
 #[derive(Drop)]
 pub struct Left {
     pub chip: SimBus,
@@ -41,8 +42,8 @@ impl<'a> Answers<'a> {
         }
     }
 
-    /// Makes one check. Returns `Differs` if the actual value differs from the expected one, and `Unread` if a value
-    /// can't be parsed.
+    /// Makes one check. Returns `Differs` if the actual value differs from the expected one, `Unread` if a value can't
+    /// be parsed or isn't allowed, and `Memory` if memory runs out.
     pub fn check(&mut self, alloc: Global, question: Question<'_>) -> Result<(), Fault> {
         match question {
             Question::Array(places, bytes) => self.check_array(alloc, places, bytes),

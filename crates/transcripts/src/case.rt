@@ -23,7 +23,8 @@ pub struct Case<'a> {
     lines: Vec<Line<'a>>,
 }
 
-/// Parses the cases of a text. Returns the fault of the first line that can't be parsed, and the line's number.
+/// Parses the cases of a text. Returns the first fault, with the number of its line: the line can't be parsed, or
+/// memory runs out.
 pub fn cases_of<'a>(alloc: Global, text: &'a str) -> Result<Vec<Case<'a>>, LineFault> {
     let mut cases = Vec::new(alloc);
     let mut number = 0_usize;
@@ -81,7 +82,8 @@ impl Case<'_> {
     }
 
     // Performs all actions on a new bus. Returns the chip, and the number of transactions that the bus did not stop.
-    // Returns the fault of the first action that fails, or `Lost` if a line of the trace was lost.
+    // Returns the fault of making the bus, that of the first action that fails, or `Lost` if a line of the trace was
+    // lost.
     fn act(&self, alloc: Global, setup: Setup, log: &mut Vec<u8>) -> Result<Left, LineFault> {
         let mut bus = match setup.bus(alloc, log) {
             Ok(bus) => bus,

@@ -3,8 +3,8 @@
 //! that fails, and how many passed and failed.
 //!
 //! All lines are parsed before the first case is played. If a line can't be parsed, the program plays no case, and
-//! prints only the number and the fault of that line. Values that are only parsed when their line is played, such as
-//! the bytes of a transaction, make the case fail instead.
+//! prints only the number and the fault of that line. Some values, such as the bytes of a transaction, are parsed only
+//! when their line is played. If such a value can't be parsed, its case fails, and the other cases are played.
 //!
 //! - `main.rt`: reads the cases, plays them and prints the results
 //! - `case.rt`: parses the text into cases, and plays one case
