@@ -28,7 +28,7 @@ pub struct Writer<'a, V: Vault> {
     hasher: Sha256,
 }
 
-// A writer whose last piece the vault accepted, or the vault that refused the piece, with its fault.
+// A writer whose last piece the vault accepted, or the vault that refused this piece, with its fault.
 #[derive(Drop)]
 enum Attempt<'a, V: Vault> {
     Accepted(Writer<'a, V>),
@@ -53,8 +53,9 @@ impl<'a, V: Vault> Writer<'a, V> {
     ///
     /// `status` has status 1 and 2. `size` is in bytes, and must be a power of two from 64 KiB to 16 MiB.
     ///
-    /// If it fails, the vault is left as by a failed `header`, but no clause says so. Call `on` and `header` if a proof
-    /// needs the state after a failure.
+    /// If it fails, the vault is unsealed and has counted one refusal, and a faithful (`telling`) vault holds a prefix of
+    /// the header. Rattle proves the clause `refused` but can't use it in the proof of a caller: call `on` and `header`
+    /// if a proof needs the state after a failure.
     pub fn start(
         vault: &'a mut V,
         id: [u8; 3],
@@ -75,7 +76,7 @@ impl<'a, V: Vault> Writer<'a, V> {
         Self::settled(Self::begun(vault, id, unique, status, size))
     }
 
-    // Writes the header to a vault.
+    // Writes the header to `vault`, which must be empty and unsealed.
     fn begun(
         vault: &'a mut V,
         id: [u8; 3],
@@ -104,7 +105,7 @@ impl<'a, V: Vault> Writer<'a, V> {
         }
     }
 
-    // Returns the writer, or gives up the vault and returns its fault.
+    // Returns the writer, or gives up the reference to the vault and returns the fault.
     fn settled(attempt: Attempt<'a, V>) -> Result<Writer<'a, V>, VaultFault>
         ensures* refused { sem 𝓛 (RestsIfErr V.row (lent_by attempt.entry) (λ writer. (vault_of writer).ghost_name)
             result (λ last. last ≡ (lent_by attempt.entry).now)) }
@@ -118,7 +119,9 @@ impl<'a, V: Vault> Writer<'a, V> {
 
     /// Writes a sector after the others, as `add` does, and returns the writer.
     ///
-    /// If it fails, the writer is consumed. The vault is left as by a failed `add`, but no clause says so.
+    /// If it fails, the writer is consumed, and the vault is unsealed and has counted one refusal. After a header and
+    /// ascending sectors, a faithful (`telling`) vault then holds a prefix of the journal's bytes up to this sector. Call
+    /// `add` if a proof needs this: Rattle can't use the clause `refused` in the proof of a caller.
     pub fn sector(
         mut self,
         number: u32,
@@ -138,7 +141,7 @@ impl<'a, V: Vault> Writer<'a, V> {
         Self::settled(self.added(number, bytes))
     }
 
-    // Writes a sector after the others.
+    // Writes a sector after the others, as `add` does.
     fn added(mut self, number: u32, bytes: &[u8; SECTOR_LEN as usize]) -> Attempt<'a, V>
         requires { (vault_seen V.state self).sealed ≡ false }
         ensures same_vault { (lent_by result).ghost_name ≡ (vault_of self.entry).ghost_name }
