@@ -82,7 +82,7 @@ def names():
     found = {path.stem for path in CRATES.glob("*/must-fail/*.edit")} | set(calls()) | set(words())
     for path in files("src") + files("specs"):
         text = source(path).text
-        found |= {*re.findall(r"(?m)^ +(?:pub )?(\w+'?) ?:(?!:)", text), *re.findall(r"\bensures (\w+) \{", text)}
+        found |= {*re.findall(r"(?m)^ +(?:pub )?(\w+'?) ?:(?!:)", text), *re.findall(r"\bensures\*? (\w+) \{", text)}
     return found
 
 

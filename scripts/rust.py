@@ -41,7 +41,8 @@ def end_of_head(tokens, at):
     while at < len(tokens):
         word = tokens[at].text
         if word in CLAUSES:
-            at = closing(tokens, at + 1 if tokens[at + 1].text == "{" else at + 2)
+            # Before the brace there may be a star and a name.
+            at = closing(tokens, next(at for at in range(at, len(tokens)) if tokens[at].text == "{"))
         elif word in "{;":
             return at
         elif word in "([":

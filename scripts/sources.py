@@ -24,7 +24,7 @@ PRELUDE = set("Some None Ok Err".split())
 # How a line begins that goes on with the one above it.
 CLOSING = " )]}"
 MARKED = re.compile(r"(?:(?:pub|abbrev|unfoldable|pattern|axiom) )+(?:(record|data) )?(\S+)|(\S+) : ")
-CLAUSE = re.compile(r"\b(?:(?:requires|ensures)(?:\s+\w+)?|ghost\s+\w+\s*[:=])\s*\{")
+CLAUSE = re.compile(r"\b(?:(?:requires|ensures)\*?(?:\s+\w+)?|ghost\s+\w+\s*[:=])\s*\{")
 
 
 def fail(message):
@@ -341,7 +341,7 @@ def clauses_of(text):
     clauses, rest, done = [], "", 0
     while match := CLAUSE.search(text, done):
         rest, done = rest + text[done : match.start()], end_of_braces(text, match.end())
-        kind, name = re.match(r"(\w+)\s*(\w*)", match.group()).groups()
+        kind, name = re.match(r"(\w+)\*?\s*(\w*)", match.group()).groups()
         clauses.append(Clause(kind, name, text[match.end() : done - 1]))
     rest += text[done:]
     if re.search(r"\b(requires|ensures)\b", rest):

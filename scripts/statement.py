@@ -44,7 +44,7 @@ def with_clauses(word, kept):
         if line.startswith("    //"):
             free.append(line)
             continue
-        if clause := re.match(r"    (?:(requires)\b|ensures(?: (\w+))? \{)", line):
+        if clause := re.match(r"    (?:(requires)\b|ensures\*?(?: (\w+))? \{)", line):
             names.add(clause[2])
             taken = bool(clause[1]) or not kept or clause[2] in kept
         lines += [*free, line] if taken else []

@@ -6,3 +6,4 @@ pub mod Saved
 pub mod Saves
 pub mod WholeJournals
 pub mod OneForm
+pub mod Rests

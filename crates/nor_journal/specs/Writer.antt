@@ -1,7 +1,10 @@
 -- The bytes that a writer has written to its vault so far.
-use Rattle.std.specs.Prelude.{◌≡◌, ℕ, ◌≤◌, Bool, true, List}
+use Rattle.std.specs.Prelude.{◌≡◌, ℕ, ◌≤◌, Bool, true, List, Result, Ok, Err}
 use Rattle.std.specs.Borrow.{MutBor}
 use Rattle.sha2.specs.Hashers.{Holds256}
+use Rattle.nor_journal.specs.declared.vault.VaultFault.{VaultFault}
+use Rattle.nor_journal.specs.declared.writer.Attempt.{Attempt}
+use Rattle.nor_journal.specs.declared.writer.Attempt.TheVariants as attempt
 use Rattle.nor_journal.specs.declared.writer.Writer.{Writer}
 use Rattle.nor_journal.specs.Vault.{VaultState}
 use Rattle.nor_journal.specs.Text.{Content, IsContent, SameHeader, next_number, front}
@@ -34,3 +37,15 @@ pub record HasPutSectors {V : Type 0} (state : V → VaultState) (writer : Write
   pub same : SameHeader head content
   pub saves : Saves old saved content
   pub next : next_number content ≤ n
+
+-- ---- a piece that was written or refused
+
+-- the vault that the writer borrowed, after the piece
+abbrev pub lent_by : {V : Type 0} → Attempt V → MutBor V
+lent_by (attempt.Accepted writer) = vault_of writer
+lent_by (attempt.Refused vault fault) = vault
+
+-- the writer, or the fault of the vault
+abbrev pub outcome_of : {V : Type 0} → Attempt V → Result (Writer V) VaultFault
+outcome_of (attempt.Accepted writer) = Ok writer
+outcome_of (attempt.Refused vault fault) = Err fault

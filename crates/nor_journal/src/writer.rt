@@ -1,11 +1,13 @@
 //! Writing a journal to a vault, piece by piece.
 ghost use Rattle.std.specs.Prelude.{◌≡◌, ◌+◌, ◌/◌, ◌<◌, ◌≤◌, ◌++◌, List, ℕ, Bool, []};
 ghost use Rattle.std.specs.Prelude.{IsTrue, false, true, Some, OnOk, OnErr, IfOk, IfErr};
-ghost use Rattle.nor_journal.specs.Vault.{PutRefused, Accepted, PutsOn, Completes, HoldsPrefix, IsFresh};
+ghost use Rattle.std.specs.Borrow.{sem, RestsIfErr};
+ghost use Rattle.nor_journal.specs.Vault.{PutRefused, Refused, Accepted, PutsOn, Completes, HoldsPrefix, IsFresh};
 ghost use Rattle.nor_geometry.specs.Size.{is_chip_size};
 ghost use Rattle.nor_journal.specs.Text.{Content, IsContent, MayFollow, empty_content, with_sector, front, text};
 ghost use Rattle.nor_journal.specs.Saved.{IsWholeSector, HasOneMore, JournalSaves};
 ghost use Rattle.nor_journal.specs.Writer.{vault_of, vault_seen, HasPut, HasWritten, HasPutSectors};
+ghost use Rattle.nor_journal.specs.Writer.{lent_by, outcome_of};
 
 use crate::head::head_bytes;
 use crate::records::{END_MARK, record_bytes};
@@ -26,6 +28,13 @@ pub struct Writer<'a, V: Vault> {
     hasher: Sha256,
 }
 
+// A writer whose last piece the vault accepted, or the vault that refused this piece, with its fault.
+#[derive(Drop)]
+enum Attempt<'a, V: Vault> {
+    Accepted(Writer<'a, V>),
+    Refused(&'a mut V, VaultFault),
+}
+
 impl<'a, V: Vault> Writer<'a, V> {
     /// Returns a writer to `vault`, which must be empty and unsealed. Writes nothing.
     pub fn on(vault: &'a mut V) -> Writer<'a, V>
@@ -44,8 +53,9 @@ impl<'a, V: Vault> Writer<'a, V> {
     ///
     /// `status` has status 1 and 2. `size` is in bytes, and must be a power of two from 64 KiB to 16 MiB.
     ///
-    /// If it fails, the vault is left as by a failed `header`, but no clause says so. Call `on` and `header` if a proof
-    /// needs the state after a failure.
+    /// If it fails, the vault is unsealed and has counted one refusal, and a faithful (`telling`) vault holds a prefix of
+    /// the header. Rattle proves the clause `refused` but can't use it in the proof of a caller: call `on` and `header`
+    /// if a proof needs the state after a failure.
     pub fn start(
         vault: &'a mut V,
         id: [u8; 3],
@@ -55,33 +65,102 @@ impl<'a, V: Vault> Writer<'a, V> {
     ) -> Result<Writer<'a, V>, VaultFault>
         requires fresh { IsFresh (V.state vault.old) }
         requires size { IsTrue (is_chip_size size) }
+        ensures* refused { sem 𝓛 (RestsIfErr V.row vault.entry (λ writer. (vault_of writer).ghost_name) result
+            (λ last. Refused (V.state vault.old) (V.state last)
+            × HoldsPrefix (V.state last) (front (empty_content id (Some unique) status size)))) }
         ensures same_vault { IfOk result (λ writer. (vault_of writer).ghost_name ≡ vault.entry.ghost_name) }
         ensures vault { IfOk result (λ writer. Accepted (V.state vault.old) (vault_seen V.state writer)) }
         ensures written { IfOk result (λ writer. HasWritten V.state writer
             (empty_content id (Some unique) status size)) }
     {
+        Self::settled(Self::begun(vault, id, unique, status, size))
+    }
+
+    // Writes the header to `vault`, which must be empty and unsealed.
+    fn begun(
+        vault: &'a mut V,
+        id: [u8; 3],
+        unique: [u8; 8],
+        status: [u8; 2],
+        size: u32,
+    ) -> Attempt<'a, V>
+        requires fresh { IsFresh (V.state vault.old) }
+        requires size { IsTrue (is_chip_size size) }
+        ensures same_vault { (lent_by result).ghost_name ≡ vault.entry.ghost_name }
+        ensures refused { OnErr (outcome_of result) (Refused (V.state vault.old) (V.state (lent_by result).now)
+            × HoldsPrefix (V.state (lent_by result).now)
+            (front (empty_content id (Some unique) status size))) }
+        ensures vault { IfOk (outcome_of result)
+            (λ writer. Accepted (V.state vault.old) (vault_seen V.state writer)) }
+        ensures written { IfOk (outcome_of result) (λ writer. HasWritten V.state writer
+            (empty_content id (Some unique) status size)) }
+    {
         let mut writer = Writer::on(vault);
-        writer.header(id, unique, status, size)?;
-        Ok(writer)
+        match writer.header(id, unique, status, size) {
+            Ok(()) => Attempt::Accepted(writer),
+            Err(fault) => {
+                let Writer { vault, .. } = writer;
+                Attempt::Refused(vault, fault)
+            }
+        }
+    }
+
+    // Returns the writer, or gives up the reference to the vault and returns the fault.
+    fn settled(attempt: Attempt<'a, V>) -> Result<Writer<'a, V>, VaultFault>
+        ensures* refused { sem 𝓛 (RestsIfErr V.row (lent_by attempt.entry) (λ writer. (vault_of writer).ghost_name)
+            result (λ last. last ≡ (lent_by attempt.entry).now)) }
+        ensures outcome { result ≡ outcome_of attempt.entry }
+    {
+        match attempt {
+            Attempt::Accepted(writer) => Ok(writer),
+            Attempt::Refused(_, fault) => Err(fault),
+        }
     }
 
     /// Writes a sector after the others, as `add` does, and returns the writer.
     ///
-    /// If it fails, the writer is consumed. The vault is left as by a failed `add`, but no clause says so.
+    /// If it fails, the writer is consumed, and the vault is unsealed and has counted one refusal. After a header and
+    /// ascending sectors, a faithful (`telling`) vault then holds a prefix of the journal's bytes up to this sector. Call
+    /// `add` if a proof needs this: Rattle can't use the clause `refused` in the proof of a caller.
     pub fn sector(
         mut self,
         number: u32,
         bytes: &[u8; SECTOR_LEN as usize],
     ) -> Result<Writer<'a, V>, VaultFault>
         requires { (vault_seen V.state self).sealed ≡ false }
+        ensures* refused { sem 𝓛 (RestsIfErr V.row (vault_of self.entry) (λ writer. (vault_of writer).ghost_name) result
+            (λ last. Refused (vault_seen V.state self.entry) (V.state last)
+            × ((c : Content) → HasWritten V.state self.entry c
+            → HoldsPrefix (V.state last) (front (with_sector c number bytes.now))))) }
         ensures same_vault { IfOk result
             (λ writer. (vault_of writer).ghost_name ≡ (vault_of self.entry).ghost_name) }
         ensures vault { IfOk result (λ writer. Accepted (vault_seen V.state self.entry) (vault_seen V.state writer)) }
         ensures written { (c : Content) → HasWritten V.state self.entry c → MayFollow c number
             → IfOk result (λ writer. HasWritten V.state writer (with_sector c number bytes.now)) }
     {
-        self.add(number, bytes)?;
-        Ok(self)
+        Self::settled(self.added(number, bytes))
+    }
+
+    // Writes a sector after the others, as `add` does.
+    fn added(mut self, number: u32, bytes: &[u8; SECTOR_LEN as usize]) -> Attempt<'a, V>
+        requires { (vault_seen V.state self).sealed ≡ false }
+        ensures same_vault { (lent_by result).ghost_name ≡ (vault_of self.entry).ghost_name }
+        ensures refused { OnErr (outcome_of result)
+            (Refused (vault_seen V.state self.entry) (V.state (lent_by result).now)
+            × ((c : Content) → HasWritten V.state self.entry c
+            → HoldsPrefix (V.state (lent_by result).now) (front (with_sector c number bytes.now)))) }
+        ensures vault { IfOk (outcome_of result)
+            (λ writer. Accepted (vault_seen V.state self.entry) (vault_seen V.state writer)) }
+        ensures written { (c : Content) → HasWritten V.state self.entry c → MayFollow c number
+            → IfOk (outcome_of result) (λ writer. HasWritten V.state writer (with_sector c number bytes.now)) }
+    {
+        match self.add(number, bytes) {
+            Ok(()) => Attempt::Accepted(self),
+            Err(fault) => {
+                let Writer { vault, .. } = self;
+                Attempt::Refused(vault, fault)
+            }
+        }
     }
 
     // Writes a piece to the vault, and updates the digest if the vault accepts it.
