@@ -39,8 +39,8 @@ pub record EndsWithRead (start : ℕ) (answer : List ℕ) (history : List Exchan
   pub address : address_in (last_out history) ≡ start
   pub is : history ≡ replied (last_out history) answer ∷ drop 1 history
 
--- The last transaction of the history is a read of data that succeeded, and `bytes` is the part of its reply that begins
--- with the byte of the address `at`.
+-- The last transaction of the history is a read of data that succeeded, and `bytes` is the part of its reply that
+-- begins with the byte of the address `at`.
 pub record EndsWithData (at : ℕ) (bytes : List ℕ) (history : List Exchange) : Type 0 where
   pub start : ℕ
   pub answer : List ℕ

@@ -109,7 +109,8 @@ impl<B: Bus + Drop> ReadAhead<B> {
         requires len { length reply.old ≤ 65536 }
         ensures record { KeepsRecord (inside_of self.old) (inside_of self.new) }
         ensures history { history_of self.new ≡ history_of self.old }
-        ensures read { 0 < length reply.old → OnOk result (EndsWithData address reply.new (inside_of self.new).history) }
+        ensures read { 0 < length reply.old
+            → OnOk result (EndsWithData address reply.new (inside_of self.new).history) }
     {
         self.hold(address, reply.len() as u32)?;
         let at = (address - self.start) as usize;
