@@ -22,7 +22,7 @@ whole_part a bytes =
     let none : a - a ≡ 0 = omega arith in
     sym (ap (λ (k : ℕ). part bytes k (length bytes)) none ∙ take-length bytes)
 
--- For a read of data that is passed on to the bus inside.
+-- A read of data that is passed on and succeeds is the last transaction of the bus inside, and its reply is returned.
 pub passed : (out answer : List ℕ) (result : Result Unit Stopped) (old new : BusState)
     → Records out answer result old new → reads_data out ≡ true
     → OnOk result (EndsWithData (address_in out) answer new.history)
@@ -35,7 +35,7 @@ passed out answer (Ok done) old new records reads = record {
   same = whole_part (address_in out) answer;
 }
 
--- A part that ends before `len` is the same part of the first `len` bytes.
+-- A part that ends after `len` bytes at the latest is the same part of the first `len` bytes.
 pub part_of_take : (j n len : ℕ) (bytes : List ℕ) → j + n ≤ len → part bytes j n ≡ part (take len bytes) j n
 part_of_take j n len bytes fits =
     let m = len - j in
@@ -44,7 +44,7 @@ part_of_take j n len bytes fits =
     ap (λ (k : ℕ). drop j (take k bytes)) (sym whole) ∙ drop-take j m bytes in
     sym (ap (λ (xs : List ℕ). take n xs) inner ∙ take-take n m (drop j bytes) (omega (arith, fits)))
 
--- The address of a read of data that sends these bytes of a number: its last three, high byte first.
+-- An address below 2^24 is the one that a read of data sends with the last three of its four bytes, high byte first.
 pub address_sent : (address : ℕ) (bytes : List ℕ) → address ≤ 16777215
     → bytes ≡ address / 16777216 % 256 ∷ address / 65536 % 256 ∷ address / 256 % 256 ∷ address % 256 ∷ []
     → 65536 * slice_index bytes 1 + 256 * slice_index bytes 2 + slice_index bytes 3 ≡ address
@@ -52,7 +52,7 @@ address_sent address bytes below e =
     let P : List ℕ → Type 0 = λ b. 65536 * slice_index b 1 + 256 * slice_index b 2 + slice_index b 3 ≡ address in
     subst P (sym e) (omega (arith, below))
 
--- For a block whose first `len` bytes were read by a transaction of the bus inside.
+-- The first `len` bytes of a block that was just read are the reply to the last transaction of the bus inside.
 pub filled : (address len : ℕ) (bytes answer rest : List ℕ) (result : Result Unit Stopped) (old new : BusState)
     → address ≤ 16777215
     → bytes ≡ address / 16777216 % 256 ∷ address / 65536 % 256 ∷ address / 256 % 256 ∷ address % 256 ∷ []
@@ -67,7 +67,7 @@ filled address len bytes answer rest (Ok done) old new below e whole records =
     subst P (sym same)
     (read_last address _ answer old.history new.history refl (address_sent address bytes below e) records.history)
 
--- For a read of data that is answered from the block.
+-- Bytes from a block that holds the last reply of the bus inside are the bytes of this reply at the same addresses.
 pub held_reply : (at n k start len : ℕ) (block reply : List ℕ) (history : List Exchange)
     → HoldsReply block start len history → start ≤ at → at + n ≤ start + len → 0 < n → k ≡ n → length reply ≡ n
     → reply ≡ part block (at - start) k → EndsWithData at reply history

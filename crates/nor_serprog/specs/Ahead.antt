@@ -10,7 +10,7 @@ use Rattle.nor_serprog.specs.declared.ahead.ReadAhead.{ReadAhead}
 abbrev pub ahead_of : {B : Type 0} {over : Ghosts B} → ReadAhead B over → B
 ahead_of ahead = ahead.bus
 
--- The address of the first byte that is held in memory.
+-- The address of the first byte that is held in memory, if any is.
 abbrev pub begin : {B : Type 0} {over : Ghosts B} → ReadAhead B over → ℕ
 begin ahead = ahead.start
 

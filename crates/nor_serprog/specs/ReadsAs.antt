@@ -4,17 +4,17 @@ use Rattle.nor_model.specs.Bus.{BusState, unknown_bus}
 use Rattle.nor_model.specs.Exchange.{Exchange}
 use Rattle.nor_model.specs.History.{replied}
 
--- True if a transaction reads data with 03h and an address.
+-- True if a transaction that sends `out` is a read of data: 03h and the three bytes of an address.
 abbrev pub reads_data : (out : List ℕ) → Bool
 reads_data (opcode ∷ x ∷ y ∷ z ∷ []) = opcode == 0x03
 reads_data _ = false
 
--- The address of a transaction that reads data.
+-- The address after the opcode of a transaction that sends `out`, high byte first; 0 if it has no whole address.
 abbrev pub address_in : (out : List ℕ) → ℕ
 address_in (opcode ∷ x ∷ y ∷ z ∷ rest) = 65536 * x + 256 * y + z
 address_in _ = 0
 
--- The `n` bytes of `bytes` that follow the first `at`.
+-- The `n` bytes of `bytes` that follow the first `at`, or all that follow these, if there are fewer than `n`.
 abbrev pub part : (bytes : List ℕ) → (at n : ℕ) → List ℕ
 part bytes at n = take n (drop at bytes)
 

@@ -29,8 +29,8 @@ const READ_DATA: u8 = 0x03;
 /// A read over this bus may be no transaction over the bus inside, or a longer one, so this bus is not honest as `Bus`
 /// defines it, even if the bus inside is. Nobody else may modify the chip meanwhile.
 ///
-/// The history has each transaction over this bus with its reply, even a read that was answered from memory. In
-/// contracts, what was sent and the result of the last poll are those of the bus inside.
+/// The history has each transaction over this bus with its reply, even a read that was answered from memory; one that
+/// failed has none. In contracts, what was sent and the result of the last poll are those of the bus inside.
 #[derive(Drop)]
 pub struct ReadAhead<B: Bus + Drop> {
     bus: B,
@@ -118,7 +118,7 @@ impl<B: Bus + Drop> ReadAhead<B> {
         Ok(())
     }
 
-    // Reads a block that begins with these bytes, unless the block holds them.
+    // Reads a block that begins with the `len` bytes from `address` on, unless the block holds all of these.
     fn hold(&mut self, address: u32, len: u32) -> Result<(), Stopped>
         requires address { address ≤ 16777215 }
         requires len { len ≤ 65536 }
@@ -144,7 +144,7 @@ impl<B: Bus + Drop> ReadAhead<B> {
         )
     }
 
-    // Reads a block of this length.
+    // Reads a block of `len` bytes from `address` on. If that fails, the block holds no bytes.
     fn fill(&mut self, address: u32, len: u32) -> Result<(), Stopped>
         requires address { address ≤ 16777215 }
         requires len { len ≤ 65536 }
@@ -218,7 +218,8 @@ pub(crate) fn data_address(out: &[u8]) -> Option<u32>
     }
 }
 
-// Returns whether bytes fit into a block of at most this length, which ends at a multiple of 64 KiB at the latest.
+// Returns whether `len` bytes from `address` on fit into a block of at most `longest` bytes that ends at a multiple of
+// 64 KiB at the latest.
 fn is_in_block(address: u32, len: usize, longest: u32) -> bool
     requires { longest ≤ 65536 }
     ensures { result ≡ true → len ≤ 65536 }
