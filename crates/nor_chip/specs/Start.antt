@@ -26,7 +26,7 @@ pub record Starts (setup : Config) (image flags : List ℕ) (delays : Delays) (s
   pub steady : state.steady ≡ true
   pub polled_ready : state.polled_ready ≡ false
 
--- the list has the bytes of the chip
+-- the list has exactly the bytes of the chip, from address 0 on
 pub record AreChipBytes (chip : Chip) (bytes : List ℕ) : Type 0 where
   pub len : length bytes ≡ chip.config.size
   pub at : (a : ℕ) → a < chip.config.size → slice_index bytes a ≡ chip.bytes a

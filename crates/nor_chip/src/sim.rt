@@ -53,7 +53,8 @@ impl SimBus {
     ghost use Rattle.nor_chip.specs.Sim.{sim_state, fill_of, torn_of, pace_of, TornTo, WornTo, TearsOff, KeepsBus};
 
     /// Returns a bus to a chip with this configuration, these contents and these two status bytes. BUSY (bit 0 of the
-    /// first) and SUS (bit 7 of the second) are ignored. The bus carries out no transaction before `allow` is called.
+    /// first) and SUS (bit 7 of the second) are ignored. The first `delays.now` polls show BUSY, and the operation in
+    /// progress at the start is unknown. The bus carries out no transaction before `allow` is called.
     ///
     /// Returns `WrongLength` if the number of bytes differs from the chip's size.
     pub fn new(
@@ -215,7 +216,7 @@ impl Meter for SimBus {
     }
 }
 
-// Marks the sectors that an erase covers.
+// Marks the sectors that an erase covers; any other command marks none.
 fn wear(worn: &mut [bool], command: Command)
     requires length { length worn.old ≡ 4096 }
     requires targeted { HasValidAddress 16777216 command }

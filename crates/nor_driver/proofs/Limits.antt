@@ -1,4 +1,4 @@
--- Limits of what is sent, over one transaction after another.
+-- How limits on modifying commands (`Limits`) add up over transactions and calls that follow one another.
 use Rattle.std.proofs.Common.{◌≡◌, ◌≤◌, ◌+◌, ℕ, Bool, true, false, cond, List, [], ◌∷◌, ap, arith, refl, ◌∙◌}
 use Rattle.std.proofs.lemmas.Bool.Decides.{nat_tests}
 use Rattle.std.proofs.Math.Bool.{or-false}

@@ -46,7 +46,8 @@ carried_ignored out answer old new ignored carries = carried_by out answer old n
 pub looked_by : (old new : BusState) (most : ℕ) → Rested old new → old.left ≡ new.left + most → OnlyReadsHonest most old new
 looked_by old new most rested count = search (arith, unchanged_stays old new rested.unchanged)
 
--- two successive calls that only read satisfy `OnlyReadsHonest` together, with the sum of their bounds
+-- two successive calls that only read satisfy `OnlyReadsHonest` together, with the sum of their bounds, if the first
+-- one left the bus steady or not as before
 pub looked_then : (m n : ℕ) (old mid new : BusState) → mid.steady ≡ old.steady → OnlyReadsHonest m old mid
     → OnlyReadsHonest n mid new → OnlyReadsHonest (m + n) old new
 looked_then m n old mid new steady first second =
@@ -106,7 +107,7 @@ read_fails (Err stop) out answer old new records stops = record {
   };
 }
 
--- a transaction that reads is no poll
+-- a transaction for which `IsReading` holds is no poll
 no_poll : (config : Config) (out : List ℕ) → IsReading out → is_poll out ≡ false
 no_poll config (opcode ∷ []) is = elim (eqb_tells opcode 5) [
   | inl five ↦ absurd (let off = is.reading config 0 in cc)

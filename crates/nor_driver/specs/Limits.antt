@@ -42,8 +42,10 @@ limits_of out = record {
   status_writes = if begins_status_write out then 1 else 0;
 }
 
--- Between the two states the bus was asked to send nothing beyond these limits, and no transaction that the model does
--- not know.
+-- Since the state `old`, each sector that an erase or program targeted for the first time, and each pair of bytes that
+-- a status write had for the first time, is within the limits. The numbers of erases, page programs and status writes
+-- grew by at most those of the limits. A transaction that the model doesn't know was sent only if one had been sent
+-- before `old` too. Nothing is stated about sectors and pairs of bytes from before `old`.
 pub record SendsWithin (limits : Limits) (old new : BusState) : Type 0 where
   pub targeted : (s : ℕ) → (is_targeted new.sent s ≡ is_targeted old.sent s) ⊎ (limits.sectors s ≡ true)
   pub written : (one two : ℕ)
@@ -53,14 +55,15 @@ pub record SendsWithin (limits : Limits) (old new : BusState) : Type 0 where
   pub status_writes : status_writes_of new.sent ≤ status_writes_of old.sent + limits.status_writes
   pub unknown : has_unknown new.sent ≡ has_unknown old.sent
 
--- Exactly these numbers of erases, page programs and status writes were sent.
+-- Since the state `old`, the bus was asked to send exactly these numbers of transactions that begin with the opcode of
+-- an erase, of a page program and of a status write.
 pub record SendsExactly (erases programs status_writes : ℕ) (old new : BusState) : Type 0 where
   pub erased : erases_of new.sent ≡ erases_of old.sent + erases
   pub programmed : programs_of new.sent ≡ programs_of old.sent + programs
   pub wrote_status : status_writes_of new.sent ≡ status_writes_of old.sent + status_writes
 
--- At every exit of an operation, on every bus: the bus was asked to send a modifying opcode, and nothing beyond these
--- limits.
+-- At every exit of an operation, on every bus: `KeepsNature` holds, and `SendsWithin` for these limits. By now a
+-- transaction was sent that begins with a modifying opcode.
 pub record Stirs (limits : Limits) (old new : BusState) : Type 0 where
   pub nature : KeepsNature old new
   pub stirred : is_stirred new.sent ≡ true

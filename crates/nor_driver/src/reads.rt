@@ -8,7 +8,7 @@ use crate::operations::address_bytes;
 use nor_geometry::SECTOR_LEN;
 use nor_model::{Bus, Stopped};
 
-// The opcodes of these commands.
+// The opcodes of the commands that read.
 const READ_DATA: u8 = 0x03;
 
 const READ_STATUS2: u8 = 0x35;

@@ -13,7 +13,8 @@ pub record IsAddress (text : List ℕ) (address : ℕ) : Type 0 where
   pub hexadecimal : are_digits digits ≡ true
   pub address_is : digits_number digits ≡ address
 
--- True if the line is an address, a `:`, an address not below the first, one or more spaces, and a name.
+-- True if the line is an address, a `:`, an address not below the first, one or more spaces, and a name. The region has
+-- these addresses and this name.
 pub record IsLine (line : List ℕ) (region : Region) : Type 0 where
   pub start_text : List ℕ
   pub end_text : List ℕ

@@ -126,7 +126,7 @@ impl Layout {
     ///
     /// A name may be repeated. Allocates nothing.
     ///
-    /// Returns `NoRegion` if a name isn't the name of a region. An empty name never is.
+    /// Returns `NoRegion` if a name isn't the name of a region. An empty name is never the name of a region.
     pub fn include(&self, names: &str) -> Result<Ranges, LayoutFault>
         // Succeeds if and only if each name is the name of a region.
         ensures known { IsOk result ↔ IsTrue (are_known self.now names.now) }

@@ -23,7 +23,7 @@ abbrev pub IsOfArguments : Error → Fault → Type 0
 IsOfArguments error fault = ((error_kind error ≡ Kinds.OutOfMemory) × (fault ≡ end.Usage usage.Memory))
     ⊎ ((error_kind error ≢ Kinds.OutOfMemory) × (fault ≡ end.NoText))
 
--- an error of a call is a fault of the run
+-- Holds if the outcome has the value of the call, or the call's error as the fault `Refused`.
 abbrev pub IsReportedAs : {T : Type 0} → Result T Refusal → Result T Fault → Type 0
 IsReportedAs (Ok found) outcome = outcome ≡ Ok found
 IsReportedAs (Err refusal) outcome = outcome ≡ Err (end.Refused refusal)

@@ -13,8 +13,9 @@
 //! - `roles.rt`: the files that a task names, and the check that two names refer to two files
 //! - `streams.rt`: keeps the descriptors 0, 1 and 2 open, and prints by lines
 //!
-//! `specs/AnswerLines.antt` and `specs/FaultLines.antt` define each printed line, `specs/Files.antt` the faults of
-//! files, `specs/Readings.antt` and `specs/Sessions.antt` the results of the calls.
+//! `specs/AnswerLines.antt` and `specs/FaultLines.antt` define each printed line, except those of the argument parser.
+//! `specs/Files.antt` defines the faults of files, `specs/Readings.antt` and `specs/Sessions.antt` the results of the
+//! calls.
 #![tactic(auto)]
 
 mod answers;

@@ -28,7 +28,7 @@ pub enum FileFault {
 impl FileFault {
     ghost use Rattle.nor_lines.specs.Messages.{file_number};
 
-    /// Returns the number that its message contains.
+    /// Returns the number of this file fault, which its message contains.
     pub fn number(self) -> u8
         ensures { result ≡ file_number self }
     {
@@ -98,7 +98,7 @@ impl From<AllocError> for Fault<'_> {
     }
 }
 
-// Not derived, because a derived `Display` has no contract.
+// This `Display` is written by hand, because a derived one has no contract.
 impl fmt::Display for Fault<'_> {
     ghost use Rattle.nor_lines.specs.FaultLines.{text_of};
 
@@ -122,7 +122,7 @@ impl fmt::Display for Fault<'_> {
     }
 }
 
-// The part of a message that names the layout's line with the fault, if the fault is in one line.
+// The part of a message that names the layout's line with the fault. The part is empty if the fault isn't in one line.
 #[derive(Drop)]
 struct Place(Option<usize>);
 

@@ -1,7 +1,7 @@
--- Tests of addresses that hold in one range at an end of the chip, as the test whether an address is protected does.
+-- Tests of addresses that are true in one range at an end of the chip. The test whether an address is protected is one.
 use Rattle.std.specs.Prelude.{◌≡◌, ◌<◌, ◌≤◌, ◌+◌, ◌%◌, ◌⊎◌, ℕ, Bool, true, nat_lt, nat_le}
 
--- the test holds at some address from `start` to `start + len - 1`
+-- The test holds at some address from `start` to `start + len - 1`.
 pub record HoldsSomewhere (test : ℕ → Bool) (start len : ℕ) : Type 0 where
   pub place : ℕ
   pub from : start ≤ place
@@ -16,8 +16,9 @@ OnFirst size test border = (a : ℕ) → a < size → test a ≡ nat_lt a border
 abbrev pub OnLast : ℕ → (ℕ → Bool) → ℕ → Type 0
 OnLast size test border = (a : ℕ) → a < size → test a ≡ nat_le border a
 
--- The test holds exactly in a range at one end of the chip, which consists of whole KiB. If the chip's size is a
--- multiple of 256 KiB, the range consists of whole sectors, because a 64th of the chip does.
+-- The test holds on one side of a border and nowhere else on the chip: at each address below the border, or at each
+-- address of the chip from the border on. The border is a multiple of 1 KiB. If the chip's size is a multiple of 256
+-- KiB, the border is a multiple of 4 KiB (a sector).
 pub record LieAtAnEnd (size : ℕ) (test : ℕ → Bool) : Type 0 where
   pub border : ℕ
   pub within : border ≤ size

@@ -35,8 +35,7 @@ pub const ALL_KINDS: Kinds = Kinds {
 };
 
 /// The properties of a chip that never change: the ID (9Fh), the size in bytes, the erase types, whether the chip has
-/// block protection (`scheme`), the unique ID (4Bh), and the SFDP bytes. Past the end of these bytes, the SFDP reads as
-/// FFh.
+/// block protection (`scheme`), the unique ID (4Bh), and the SFDP bytes. Past these 256 bytes, the SFDP reads as FFh.
 #[derive(Clone, Copy)]
 pub struct Config {
     pub id: [u8; 3],
@@ -52,7 +51,7 @@ impl Config {
     ghost use Rattle.nor_model.specs.Makers.{HasParts, IsEmulatedWith, IsTiny64, IsW25q64fv, IsW25q128fv};
 
     /// Returns a configuration with these properties and a unique ID of zeros; `sfdp` has the SFDP bytes from address
-    /// 0. It allocates no memory.
+    /// 0. The function allocates no memory.
     ///
     /// Returns `None` if the size is not a power of two from 65,536 to 16,777,216, or if there are more than 256 SFDP
     /// bytes.
@@ -140,7 +139,7 @@ fn sfdp_of(size: u32) -> [u8; 52]
     bytes
 }
 
-// Returns the SFDP bytes, padded with FFh to 256 bytes.
+// Returns the SFDP bytes, of which there must be at most 256, padded with FFh to 256 bytes.
 fn padded(sfdp: &[u8]) -> [u8; 256]
     requires { length sfdp.now ≤ 256 }
     ensures { result ≡ sfdp.now ++ replicate (256 - length sfdp.now) 255 }

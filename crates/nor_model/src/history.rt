@@ -8,8 +8,8 @@ use std::marker::Model;
 
 /// The transactions over a bus with their replies, and the allowances that were set. The last of each comes first.
 ///
-/// A bus holds one `History`, unless its state is that of the bus inside. The bus adds each transaction that it is
-/// asked to carry out, and each allowance. Only contracts can read the history.
+/// Each bus has one `History`, except a bus around another one whose state it has as its own. The bus adds each
+/// transaction that it is asked to carry out, and each allowance. Only contracts can read the history.
 #[derive(Drop)]
 pub struct History {
     pub ghost exchanges: { List Exchange } by { exchanges_code },

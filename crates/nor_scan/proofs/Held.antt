@@ -1,4 +1,5 @@
--- The protection bits that an identification read are those of each chip with this identification.
+-- Lemmas about the status that an identification read. Each chip with this identification has the protection bits of
+-- that status, and the status of the chip is locked if and only if that status is.
 use Rattle.std.proofs.Common.{◌≡◌, ◌∷◌, [], ℕ, ◌/◌, arith}
 use Rattle.std.proofs.lemmas.Bool.Decides.{nat_tests}
 use Rattle.nor_model.specs.Chip.{Chip, KeptBits, is_locked, kept_in}

@@ -18,7 +18,7 @@ pub struct Identity {
     pub found: Found,
     pub status2: u8,
     pub unique: [u8; 8],
-    /// The number of transactions sent.
+    /// The number of transactions that the identification sent.
     pub transactions: u64,
 }
 
@@ -46,8 +46,9 @@ pub fn identify<B: Bus>(bus: &mut B, named: Option<ChipName>) -> Result<Identity
     Ok(identity)
 }
 
-/// Reads status 2 and the unique ID of the chip that was found, with two transactions. Returns `Stopped` if the bus
-/// stopped; on a well-behaved bus this means that fewer than two transactions were left.
+/// Reads status 2 and the unique ID of the chip that was found, with two transactions. `probed` must count at most
+/// 65,540 transactions. Returns `Stopped` if the bus stopped; on a well-behaved bus this means that fewer than two
+/// transactions were left.
 pub fn read_on<B: Bus>(bus: &mut B, probed: Probed) -> Result<Identity, Stopped>
     requires { probed.transactions ≤ most_probe }
     ensures leaves { OnlyReads 2 (B.state bus.old) (B.state bus.new) }

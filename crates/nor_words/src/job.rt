@@ -104,12 +104,12 @@ pub enum Wanted<'a> {
     Range { start: u32, len: u32 },
 }
 
-/// The use of a change's journal: kept in a file, or only rehearsed with.
+/// The use of the journal of a change: it is written into a file, or a rehearsal restores from it in memory.
 #[derive(Drop)]
 pub enum JournalUse<'a> {
     /// `--journal FILE`: write the journal into the named file.
     Journal { file: &'a str },
-    /// `--rehearse N,N,..`: rehearse the change. The first number stops the change after that many transactions, each
-    /// further number stops one restore.
+    /// `--rehearse N,N,..`: rehearse the change. The first number stops the change after that many transactions; each
+    /// further number stops one restore after that many. The last restore isn't stopped.
     Rehearse { stops: ArrayVec<u64, MOST_STOPS> },
 }

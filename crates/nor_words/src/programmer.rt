@@ -10,7 +10,7 @@ use nor_probe::{Part, emulated_part};
 /// A chip that the program emulates: `TINY64`, or a chip of the table.
 #[derive(Clone, Copy)]
 pub struct Emulated {
-    /// The chip type as which the chip is found.
+    /// The chip type that a probe of the chip finds.
     pub part: Part,
     pub ghost emulated: { IsEmulatedPart part },
 }
@@ -29,7 +29,7 @@ impl Emulated {
         Some(Emulated { part })
     }
 
-    /// Returns the configuration of the chip, which never changes.
+    /// Returns the configuration of the chip, with a unique ID of zeros.
     #[tactic(auto, using(nor_probe::proofs::Emulated::emulated_sized))]
     pub fn config(self) -> Config
         ensures { IsConfigOfEmulated self result }
