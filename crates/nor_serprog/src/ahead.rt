@@ -45,7 +45,7 @@ pub struct ReadAhead<B: Bus + Drop> {
     ghost below: { start ≤ 16777216 },
     ghost longest_fits: { longest ≤ 65536 },
     ghost step_fits: { step ≤ 65536 },
-    // The bytes of the block are the whole reply to the last transaction over the bus inside.
+    // If the block holds bytes, they are the whole reply to the last transaction over the bus inside.
     ghost holds: { HoldsReply block start len (B.state bus).history },
 }
 
