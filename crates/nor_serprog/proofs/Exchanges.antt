@@ -143,7 +143,7 @@ pub on_err : {T E : Type 0} (result : Result T E) (P : Type 0) → P → OnErr r
 on_err (Ok x) P p = tt
 on_err (Err e) P p = p
 
--- The port stays honest or not. On an honest port the number of calls left did not grow.
+-- The port is honest if and only if it was. On an honest port the number of calls left did not grow.
 pub record UsesCalls (old new : PortState) : Type 0 where
   pub honest : new.honest ≡ old.honest
   pub fewer : old.honest ≡ true → new.left ≤ old.left

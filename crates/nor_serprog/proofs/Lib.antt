@@ -2,3 +2,4 @@ pub mod Pauses
 pub mod SameReply
 pub mod Exchanges
 pub mod Stops
+pub mod Held

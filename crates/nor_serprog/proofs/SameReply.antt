@@ -1,4 +1,4 @@
--- A chip gives the same reply when data is read a second time.
+-- A chip returns the same reply if a read of data is sent twice in a row.
 use Rattle.std.proofs.Common.{◌≡◌, ◌∙◌, ◌<◌, ◌+◌, ◌%◌, ℕ, Bool, true, false, List, [], ◌∷◌, length, refl, sym, subst, ap, inl, inr}
 use Rattle.std.specs.Prelude.{◌==◌, if◌then◌else◌}
 use Rattle.std.proofs.lemmas.Bool.{eqb-true, false≢true}
@@ -75,7 +75,7 @@ same_reply_03 (x ∷ y ∷ z ∷ b ∷ []) old mid new first again one two len =
 same_reply_03 (x ∷ y ∷ z ∷ b ∷ c ∷ rest) old mid new first again one two len =
     alike Ignored Ignored (b ∷ c ∷ rest) old mid new first again one two len (λ i. refl)
 
--- A transaction that begins as a read of data is sent twice: if the replies have the same length, they are equal.
+-- A transaction whose first byte is 03h is sent twice in a row: if the replies have the same length, they are equal.
 pub same_reply : (out : List ℕ) (old mid new : Chip) (first again : List ℕ) → begins_read out ≡ true
     → Step old out first mid → Step mid out again new → length again ≡ length first → again ≡ first
 same_reply [] old mid new first again reads one two len = absurd (false≢true reads)
@@ -85,7 +85,8 @@ same_reply (a ∷ rest) old mid new first again reads one two len =
     let three = eqb-true a 3 reads in
     same_reply_03 rest old mid new first again (subst P three one) (subst Q three two) len
 
--- If an honest bus takes a transaction, it then takes another one that sends the same bytes and reads equally many.
+-- If an honest bus takes a transaction, it takes one with the same bytes and the same length of the reply after a call
+-- that keeps its nature.
 pub fits_again : (out : List ℕ) (m n : ℕ) (old new : BusState) → SameNature old new → n ≡ m → IsHonestFor out m old
     → IsHonestFor out n new
 fits_again out m n old new nature same fits = record {

@@ -10,7 +10,7 @@ use Rattle.nor_serprog.specs.Bus.{over_port}
 use Rattle.nor_serprog.specs.Device.{PortState, Interrupted}
 use Rattle.nor_serprog.specs.Link.{is_in_step, IsSettled}
 
--- an interrupted transaction is a stop of the bus
+-- if fewer than three calls were left, an interrupted transaction is a stop of the bus
 stops_cut : (out : List ℕ) (replies : ℕ) (old new : PortState) (history history' : List Exchange)
     → old.left < 3 → Interrupted out replies replies old new
     → Stops out (over_port old history) (over_port new history')

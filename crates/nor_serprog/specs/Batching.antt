@@ -30,7 +30,7 @@ history_of batching = batching.history.exchanges
 abbrev pub sent_of : {P C : Type 0} {over : Ghosts P C} → BatchingBus P C over → Sent
 sent_of batching = sent_in (history_of batching)
 
--- The last poll that received a reply showed that the chip is ready. False before the first such poll.
+-- True if the last poll that received a reply showed that the chip is ready. False without such a poll.
 abbrev pub polled_ready_of : {P C : Type 0} {over : Ghosts P C} → BatchingBus P C over → Bool
 polled_ready_of batching = polled_ready_in (history_of batching)
 
@@ -39,7 +39,7 @@ polled_ready_of batching = polled_ready_in (history_of batching)
 abbrev pub cause_of : {P C : Type 0} {over : Ghosts P C} → BatchingBus P C over → Option (Failure C)
 cause_of batching = batching.cause
 
--- The programmer is in step, so the bus sends the next transaction.
+-- True if the programmer is in step. Otherwise a transaction sends nothing.
 abbrev pub is_ready : {P C : Type 0} {over : Ghosts P C} → BatchingBus P C over → Bool
 is_ready batching = is_in_step batching.batch.link
 

@@ -45,7 +45,7 @@ history_of bus = bus.history.exchanges
 abbrev pub sent_of : {P C : Type 0} {over : Ghosts P C} → SerprogBus P C over → Sent
 sent_of bus = sent_in (history_of bus)
 
--- The last poll that received a reply showed that the chip is ready. False before the first such poll.
+-- True if the last poll that received a reply showed that the chip is ready. False without such a poll.
 abbrev pub polled_ready_of : {P C : Type 0} {over : Ghosts P C} → SerprogBus P C over → Bool
 polled_ready_of bus = polled_ready_in (history_of bus)
 
@@ -53,7 +53,7 @@ polled_ready_of bus = polled_ready_in (history_of bus)
 abbrev pub cause_of : {P C : Type 0} {over : Ghosts P C} → SerprogBus P C over → Option (Failure C)
 cause_of bus = bus.cause
 
--- The programmer is in step, so the bus sends the next transaction.
+-- True if the programmer is in step. Otherwise a transaction sends nothing.
 abbrev pub is_ready : {P C : Type 0} {over : Ghosts P C} → SerprogBus P C over → Bool
 is_ready bus = is_in_step bus.link
 

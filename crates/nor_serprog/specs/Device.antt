@@ -65,8 +65,8 @@ pub record CompletesOperation (bytes : List ℕ) (old : Device) : Type 0 where
   pub whole : IsFrame (old.begun ++ bytes)
   pub opcode : slice_index (old.begun ++ bytes) 0 ≡ 0x13
 
--- All bytes were sent. If they complete a frame of O_SPIOP, it is carried out. The effect of other bytes is not
--- specified here.
+-- All bytes were sent, with one call. If they complete a frame of O_SPIOP, it is carried out. The effect of other bytes
+-- is not specified here.
 pub record IsSent (bytes : List ℕ) (old new : PortState) : Type 0 where
   pub left : old.left ≡ new.left + 1
   pub done : CompletesOperation bytes old.device → OperatesFrame (old.device.begun ++ bytes) old.device new.device
@@ -87,7 +87,7 @@ pub record IsCutOff (bytes : List ℕ) (old new : PortState) : Type 0 where
   pub left : new.left ≡ 0
   pub cut : CompletesOperation bytes old.device → IsCut (out_in (old.device.begun ++ bytes)) old.device new.device
 
--- The first pending bytes were received.
+-- The first pending bytes were received, with one call. Nothing else of the device changed.
 pub record IsReceived (bytes : List ℕ) (old new : PortState) : Type 0 where
   pub left : old.left ≡ new.left + 1
   pub pending : old.device.pending ≡ bytes ++ new.device.pending
@@ -95,14 +95,14 @@ pub record IsReceived (bytes : List ℕ) (old new : PortState) : Type 0 where
   pub chip : new.device.chip ≡ old.device.chip
   pub worn : new.device.worn ≡ old.device.worn
 
--- The port failed while this number of bytes was received, and no further call succeeds. If at least this number was
--- pending, no call was left.
+-- The port failed while this number of bytes was to be received, and no further call succeeds. If at least this number
+-- was pending, no call was left. The chip may have lost its power.
 pub record IsSilent (count : ℕ) (old new : PortState) : Type 0 where
   pub none_left : count ≤ length old.device.pending → old.left ≡ 0
   pub left : new.left ≡ 0
   pub power : MayLoseDevicePower old.device new.device
 
--- ACK and these reply bytes were received, with two calls.
+-- ACK and these reply bytes were received, with two calls. Nothing else of the device changed.
 pub record TakesAnswer (reply : List ℕ) (old new : PortState) : Type 0 where
   pub left : old.left ≡ new.left + 2
   pub pending : old.device.pending ≡ 0x06 ∷ (reply ++ new.device.pending)
@@ -115,13 +115,15 @@ pub record AnswerBegins (port : PortState) : Type 0 where
   pub some : 0 < length port.device.pending
   pub ack : slice_index port.device.pending 0 ≡ 0x06
 
--- ACK and this number of reply bytes were not received. If all of these were pending, fewer than two calls were left.
+-- A call failed while ACK and this number of reply bytes were to be received. If all of these were pending, fewer than
+-- two calls were left before. Fewer than three are left afterwards, and the chip may have lost its power.
 pub record MissesAnswer (count : ℕ) (old new : PortState) : Type 0 where
   pub few_left : count < length old.device.pending → old.left < 2
   pub few : new.left < 3
   pub power : MayLoseDevicePower old.device new.device
 
--- A transaction was carried out with three calls, and the reply was received: the chip made one step.
+-- A transaction was carried out with three calls, and the reply was received: the chip made one step, and the
+-- programmer is idle.
 pub record Exchanged (out answer : List ℕ) (old new : PortState) : Type 0 where
   pub left : old.left ≡ new.left + 3
   pub idle : IsIdle new.device

@@ -9,15 +9,15 @@ use Rattle.nor_serprog.specs.Device.{PortState, IsIdle}
 abbrev pub port_of : {P C : Type 0} → Link P C → P
 port_of link = link.port
 
--- Whether the replies can be matched to the frames.
+-- The state of a link: whether the replies can be matched to the frames.
 abbrev pub sync_of : {P C : Type 0} → Link P C → Sync
 sync_of link = link.sync
 
--- Each frame had its reply, and each reply was read.
+-- True if the link is in step: each frame had its reply, and each reply was read.
 abbrev pub is_in_step : {P C : Type 0} → Link P C → Bool
 is_in_step link = elim link.sync [ InStep ↦ true | Lost ↦ false | Cut ↦ false ]
 
--- A frame may have been sent in part.
+-- True if a frame may have been sent in part.
 abbrev pub is_cut : {P C : Type 0} → Link P C → Bool
 is_cut link = elim link.sync [ InStep ↦ false | Lost ↦ false | Cut ↦ true ]
 

@@ -11,8 +11,8 @@ paced_of paced = paced.bus
 abbrev pub busy_row : {B C : Type 0} → Paced B C → ℕ
 busy_row paced = paced.busy_polls
 
--- The number of BUSY polls in a row after a transaction that sent `out` and read `answer`. Only a poll that shows BUSY
--- continues the row.
+-- The number of BUSY polls in a row after a transaction that sent `out` and read `answer`, at most 2^64 - 1. Only a
+-- poll that shows BUSY continues the row.
 abbrev pub busy_row_after : (out answer : List ℕ) → (before : ℕ) → ℕ
 busy_row_after out answer before = if polled_ready_after out answer true then 0 else min (before + 1) (2 ^ 64 - 1)
 

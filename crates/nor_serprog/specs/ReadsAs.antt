@@ -1,19 +1,20 @@
 -- Transactions that only read, and the state of a bus that replaces them by other reads.
-use Rattle.std.specs.Prelude.{◌≡◌, ◌==◌, ◌+◌, ◌*◌, ℕ, Bool, false, List, [], ◌∷◌, take, drop}
+use Rattle.std.specs.Prelude.{◌≡◌, ◌<◌, ◌≤◌, ◌==◌, ◌+◌, ◌-◌, ◌*◌, ℕ, Bool, true, false, List, [], ◌∷◌, length, take, drop}
 use Rattle.nor_model.specs.Bus.{BusState, unknown_bus}
 use Rattle.nor_model.specs.Exchange.{Exchange}
+use Rattle.nor_model.specs.History.{replied}
 
--- True if a transaction reads data with 03h and an address.
+-- True if a transaction that sends `out` is a read of data: 03h and the three bytes of an address.
 abbrev pub reads_data : (out : List ℕ) → Bool
 reads_data (opcode ∷ x ∷ y ∷ z ∷ []) = opcode == 0x03
 reads_data _ = false
 
--- The address of a transaction that reads data.
+-- The address after the opcode of a transaction that sends `out`, high byte first; 0 if it has no whole address.
 abbrev pub address_in : (out : List ℕ) → ℕ
 address_in (opcode ∷ x ∷ y ∷ z ∷ rest) = 65536 * x + 256 * y + z
 address_in _ = 0
 
--- The `n` bytes of `bytes` that follow the first `at`.
+-- The `n` bytes of `bytes` that follow the first `at`, or all that follow these, if there are fewer than `n`.
 abbrev pub part : (bytes : List ℕ) → (at n : ℕ) → List ℕ
 part bytes at n = take n (drop at bytes)
 
@@ -26,3 +27,28 @@ view_of inside history = record (unknown_bus history) { sent = inside.sent; poll
 pub record KeepsRecord (old new : BusState) : Type 0 where
   pub sent : new.sent ≡ old.sent
   pub polled_ready : new.polled_ready ≡ old.polled_ready
+
+-- The bytes that the last transaction of a history sent; no bytes if there is none.
+abbrev pub last_out : List Exchange → List ℕ
+last_out [] = []
+last_out (exchange ∷ earlier) = exchange.out
+
+-- The last transaction of the history is a read of data from the address `start` on, which succeeded with this reply.
+pub record EndsWithRead (start : ℕ) (answer : List ℕ) (history : List Exchange) : Type 0 where
+  pub reads : reads_data (last_out history) ≡ true
+  pub address : address_in (last_out history) ≡ start
+  pub is : history ≡ replied (last_out history) answer ∷ drop 1 history
+
+-- The last transaction of the history is a read of data that succeeded, and `bytes` is the part of its reply that
+-- begins with the byte of the address `at`.
+pub record EndsWithData (at : ℕ) (bytes : List ℕ) (history : List Exchange) : Type 0 where
+  pub start : ℕ
+  pub answer : List ℕ
+  pub read : EndsWithRead start answer history
+  pub begins : start ≤ at
+  pub same : bytes ≡ part answer (at - start) (length bytes)
+
+-- If `len` isn't 0, the first `len` bytes of a block are the whole reply to the last transaction of the history, a read
+-- of data from the address `start` on that succeeded.
+pub record HoldsReply (block : List ℕ) (start len : ℕ) (history : List Exchange) : Type 0 where
+  pub reply : 0 < len → EndsWithRead start (take len block) history

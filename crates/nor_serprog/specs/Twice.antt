@@ -10,7 +10,7 @@ use Rattle.nor_serprog.specs.declared.twice.ReadTwice.{ReadTwice}
 abbrev pub twice_of : {B : Type 0} → ReadTwice B → B
 twice_of twice = twice.bus
 
--- Two reads of the same bytes differed.
+-- True if two reads of the same bytes ever differed.
 abbrev pub has_differed : {B : Type 0} → ReadTwice B → Bool
 has_differed twice = twice.differed
 
@@ -18,7 +18,7 @@ has_differed twice = twice.differed
 abbrev pub expected_of : {B : Type 0} → ReadTwice B → Option (Vec ℕ Global)
 expected_of twice = twice.expected
 
--- The reply to a transaction that reads data equals the expected image at its address.
+-- An image is expected, and the reply to a transaction equals it at the transaction's address.
 abbrev pub Expects : {B : Type 0} → ReadTwice B → (out answer : List ℕ) → Type 0
 Expects twice out answer = elim twice.expected [
   | None ↦ ⊥
@@ -34,12 +34,12 @@ history_of twice = twice.history.exchanges
 abbrev pub twice_state : {B : Type 0} → (inside : B → BusState) → ReadTwice B → BusState
 twice_state inside twice = view_of (inside (twice_of twice)) (history_of twice)
 
--- True if a transaction begins with 03h, the opcode of a read of data.
+-- True if the first byte of a transaction is 03h, the opcode of a read of data, whatever follows.
 abbrev pub begins_read : (out : List ℕ) → Bool
 begins_read [] = false
 begins_read (opcode ∷ rest) = opcode == 0x03
 
--- The same reply was read twice, by two transactions.
+-- The same reply was read twice, by two transactions, one after the other.
 pub record ReadsTwice (out answer : List ℕ) (old new : BusState) : Type 0 where
   pub between : BusState
   pub first : Carries out answer old between

@@ -1,9 +1,10 @@
 //! A bus that reads ahead.
-ghost use Rattle.std.specs.Prelude.{◌≡◌, ◌≤◌, ◌+◌, ◌-◌, ◌∷◌, [], true, false, length, OnOk, OnErr, IfSome};
+ghost use Rattle.std.specs.Prelude.{◌≡◌, ◌<◌, ◌≤◌, ◌+◌, ◌-◌, ◌∷◌, [], true, false, length, take, OnOk, OnErr, IfSome};
 ghost use Rattle.std.proofs.lemmas.Bool.{false≢true};
 ghost use Rattle.nor_model.specs.Bus.{IsHonestFor, SameNature, Stops, Carries, Records};
 ghost use Rattle.nor_model.specs.History.{exchange_of};
-ghost use Rattle.nor_serprog.specs.ReadsAs.{reads_data, address_in, part, view_of, KeepsRecord};
+ghost use Rattle.nor_serprog.specs.ReadsAs.{reads_data, address_in, view_of, KeepsRecord};
+ghost use Rattle.nor_serprog.specs.ReadsAs.{HoldsReply, EndsWithRead, EndsWithData};
 
 use nor_geometry::SECTOR_LEN;
 use nor_model::{Bus, History, Stopped};
@@ -22,13 +23,16 @@ const READ_DATA: u8 = 0x03;
 /// inside can read. A transaction is passed on as it is if it is no read of data, reads more than the longest block, or
 /// reaches past a multiple of 64 KiB.
 ///
+/// If a read of data of at least one byte returns `Ok`, the last transaction over the bus inside is a read of data, and
+/// the bytes returned are those that its reply has for the same addresses.
+///
 /// A read over this bus may be no transaction over the bus inside, or a longer one, so this bus is not honest as `Bus`
 /// defines it, even if the bus inside is. Nobody else may modify the chip meanwhile.
 ///
-/// The history has each transaction over this bus with its reply, even a read that was answered from memory. In
-/// contracts, what was sent and the result of the last poll are those of the bus inside.
+/// The history has each transaction over this bus with its reply, even a read that was answered from memory; one that
+/// failed has none. In contracts, what was sent and the result of the last poll are those of the bus inside.
 #[derive(Drop)]
-pub struct ReadAhead<B> {
+pub struct ReadAhead<B: Bus + Drop> {
     bus: B,
     block: [u8; LONGEST_BLOCK as usize],
     start: u32,
@@ -41,6 +45,8 @@ pub struct ReadAhead<B> {
     ghost below: { start ≤ 16777216 },
     ghost longest_fits: { longest ≤ 65536 },
     ghost step_fits: { step ≤ 65536 },
+    // If the block holds bytes, they are the whole reply to the last transaction over the bus inside.
+    ghost holds: { HoldsReply block start len (B.state bus).history },
 }
 
 impl<B: Bus + Drop> ReadAhead<B> {
@@ -73,16 +79,18 @@ impl<B: Bus + Drop> ReadAhead<B> {
     }
 }
 
-impl<B: Bus> ReadAhead<B> {
-    ghost use Rattle.nor_serprog.specs.Ahead.{ahead_of, begin, held, block_of, history_of, ahead_state};
+impl<B: Bus + Drop> ReadAhead<B> {
+    ghost use Rattle.nor_serprog.specs.Ahead.{begin, held, history_of, inside_of, ahead_state};
 
     // Makes one transaction, and does not add it to the history. The clause `records` is about the state after the
     // caller has added it.
     fn carry(&mut self, out: &[u8], reply: &mut [u8]) -> Result<(), Stopped>
-        ensures records { Records out.now reply.new result (ahead_state B.state self.old)
-            (view_of (B.state (ahead_of self.new)) (exchange_of out.now reply.new result ∷ history_of self.old)) }
+        ensures records { Records out.now reply.new result (ahead_state self.old)
+            (view_of (inside_of self.new) (exchange_of out.now reply.new result ∷ history_of self.old)) }
         ensures history { history_of self.new ≡ history_of self.old }
         ensures forgets { reads_data out.now ≡ false → held self.new ≡ 0 }
+        ensures read { reads_data out.now ≡ true → 0 < length reply.old
+            → OnOk result (EndsWithData (address_in out.now) reply.new (inside_of self.new).history) }
     {
         match data_address(out) {
             Some(address) if is_in_block(address, reply.len(), self.longest) => {
@@ -99,10 +107,10 @@ impl<B: Bus> ReadAhead<B> {
     fn read(&mut self, address: u32, reply: &mut [u8]) -> Result<(), Stopped>
         requires address { address ≤ 16777215 }
         requires len { length reply.old ≤ 65536 }
-        ensures record { KeepsRecord (B.state (ahead_of self.old)) (B.state (ahead_of self.new)) }
+        ensures record { KeepsRecord (inside_of self.old) (inside_of self.new) }
         ensures history { history_of self.new ≡ history_of self.old }
-        ensures part { OnOk result
-            (reply.new ≡ part (block_of self.new) (address - begin self.new) (length reply.old)) }
+        ensures read { 0 < length reply.old
+            → OnOk result (EndsWithData address reply.new (inside_of self.new).history) }
     {
         self.hold(address, reply.len() as u32)?;
         let at = (address - self.start) as usize;
@@ -110,11 +118,11 @@ impl<B: Bus> ReadAhead<B> {
         Ok(())
     }
 
-    // Reads a block that begins with these bytes, unless the block holds them.
+    // Reads a block that begins with the `len` bytes from `address` on, unless the block holds all of these.
     fn hold(&mut self, address: u32, len: u32) -> Result<(), Stopped>
         requires address { address ≤ 16777215 }
         requires len { len ≤ 65536 }
-        ensures record { KeepsRecord (B.state (ahead_of self.old)) (B.state (ahead_of self.new)) }
+        ensures record { KeepsRecord (inside_of self.old) (inside_of self.new) }
         ensures history { history_of self.new ≡ history_of self.old }
         ensures begins { OnOk result (begin self.new ≤ address) }
         ensures ends { OnOk result (address + len ≤ begin self.new + held self.new) }
@@ -136,44 +144,42 @@ impl<B: Bus> ReadAhead<B> {
         )
     }
 
-    // Reads a block of this length.
+    // Reads a block of `len` bytes from `address` on. If that fails, the block holds no bytes.
     fn fill(&mut self, address: u32, len: u32) -> Result<(), Stopped>
         requires address { address ≤ 16777215 }
         requires len { len ≤ 65536 }
-        ensures record { KeepsRecord (B.state (ahead_of self.old)) (B.state (ahead_of self.new)) }
+        ensures record { KeepsRecord (inside_of self.old) (inside_of self.new) }
         ensures history { history_of self.new ≡ history_of self.old }
         ensures begins { OnOk result (begin self.new ≡ address) }
         ensures filled { OnOk result (held self.new ≡ len) }
     {
         self.len = 0;
-        let [_, high, middle, low] = address.to_be_bytes();
-        let out = [READ_DATA, high, middle, low];
-        let block = &mut self.block[..];
-        self.bus.transfer(&out, &mut block[..len as usize])?;
+        read_block(&mut self.bus, address, len, &mut self.block[..])?;
         self.start = address;
         self.len = len;
         Ok(())
     }
 }
 
-impl<B: Bus> Bus for ReadAhead<B> {
-    ghost use Rattle.nor_serprog.specs.Ahead.{ahead_of, held, ahead_state};
+impl<B: Bus + Drop> Bus for ReadAhead<B> {
+    ghost use Rattle.nor_serprog.specs.Ahead.{held, inside_of, ahead_state};
 
-    ghost state = { ahead_state B.state };
+    ghost state = { ahead_state };
 
     ghost reaches = { λ ahead honest. absurd (false≢true honest) };
 
     fn transfer(&mut self, out: &[u8], reply: &mut [u8]) -> Result<(), Stopped>
-        ensures nature { SameNature (ahead_state B.state self.old) (ahead_state B.state self.new) }
-        ensures stops { IsHonestFor out.now (length reply.old) (ahead_state B.state self.old)
-            → OnErr result (Stops out.now (ahead_state B.state self.old) (ahead_state B.state self.new)) }
-        ensures unread { IsHonestFor out.now (length reply.old) (ahead_state B.state self.old)
+        ensures nature { SameNature (ahead_state self.old) (ahead_state self.new) }
+        ensures stops { IsHonestFor out.now (length reply.old) (ahead_state self.old)
+            → OnErr result (Stops out.now (ahead_state self.old) (ahead_state self.new)) }
+        ensures unread { IsHonestFor out.now (length reply.old) (ahead_state self.old)
             → OnErr result (reply.new ≡ reply.old) }
-        ensures carries { IsHonestFor out.now (length reply.old) (ahead_state B.state self.old)
-            → OnOk result (Carries out.now reply.new (ahead_state B.state self.old) (ahead_state B.state self.new)) }
-        ensures records { Records out.now reply.new result
-            (ahead_state B.state self.old) (ahead_state B.state self.new) }
+        ensures carries { IsHonestFor out.now (length reply.old) (ahead_state self.old)
+            → OnOk result (Carries out.now reply.new (ahead_state self.old) (ahead_state self.new)) }
+        ensures records { Records out.now reply.new result (ahead_state self.old) (ahead_state self.new) }
         ensures forgets { reads_data out.now ≡ false → held self.new ≡ 0 }
+        ensures read { reads_data out.now ≡ true → 0 < length reply.old
+            → OnOk result (EndsWithData (address_in out.now) reply.new (inside_of self.new).history) }
     {
         match self.carry(out, reply) {
             Ok(()) => {
@@ -188,6 +194,18 @@ impl<B: Bus> Bus for ReadAhead<B> {
     }
 }
 
+// Reads `len` bytes of the chip into the beginning of `block`, with one transaction.
+fn read_block<B: Bus>(bus: &mut B, address: u32, len: u32, block: &mut [u8]) -> Result<(), Stopped>
+    requires address { address ≤ 16777215 }
+    requires len { len ≤ length block.old }
+    ensures record { KeepsRecord (B.state bus.old) (B.state bus.new) }
+    ensures read { OnOk result (EndsWithRead address (take len block.new) (B.state bus.new).history) }
+{
+    let [_, high, middle, low] = address.to_be_bytes();
+    let out = [READ_DATA, high, middle, low];
+    bus.transfer(&out, &mut block[..len as usize])
+}
+
 // Returns the address of a transaction that reads data, or `None` for any other.
 pub(crate) fn data_address(out: &[u8]) -> Option<u32>
     ensures reads { IfSome result (λ address. reads_data out.now ≡ true) }
@@ -200,7 +218,8 @@ pub(crate) fn data_address(out: &[u8]) -> Option<u32>
     }
 }
 
-// Returns whether bytes fit into a block of at most this length, which ends at a multiple of 64 KiB at the latest.
+// Returns whether `len` bytes from `address` on fit into a block of at most `longest` bytes that ends at a multiple of
+// 64 KiB at the latest.
 fn is_in_block(address: u32, len: usize, longest: u32) -> bool
     requires { longest ≤ 65536 }
     ensures { result ≡ true → len ≤ 65536 }

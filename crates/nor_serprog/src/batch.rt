@@ -49,11 +49,14 @@ impl<P: Port + Drop> Batch<P> {
         &self.link
     }
 
-    /// Makes one transaction, or lets it wait for the next one if it is a modifying command without a reply.
+    /// Makes one transaction. A modifying command without a reply waits for the next one instead, if its frame fits
+    /// into the serial buffer.
     ///
-    /// The frames that wait are sent first, together with this one if all fit into the serial buffer. Returns `TooLong`
-    /// if the transaction does not fit into one frame, or reads more than the programmer can; nothing was sent then,
-    /// and what waited still waits. After any other error nothing waits.
+    /// Frames that wait are sent before a transaction that is sent, in the same write if the buffer has room for all.
+    /// They are also sent if the buffer has no room for one more frame that is to wait.
+    ///
+    /// Returns `TooLong` if the transaction does not fit into one frame, or reads more than the programmer can; nothing
+    /// was sent then, and what waited still waits. After any other error nothing waits.
     pub(crate) fn transact(&mut self, out: &[u8], reply: &mut [u8]) -> Result<(), Failure<P::Cause>>
         ensures silent { is_in_step (batch_link self.old) ≡ false → self.new ≡ self.old }
         ensures was_in_step { OnOk result (is_in_step (batch_link self.old) ≡ true) }
@@ -78,7 +81,7 @@ impl<P: Port + Drop> Batch<P> {
         self.send(reply)
     }
 
-    /// Sends the frames that wait, and reads their acknowledgements. After an error nothing waits.
+    /// Sends the frames that wait, and reads their acknowledgements. Nothing waits afterwards, even after an error.
     pub(crate) fn flush(&mut self) -> Result<(), Failure<P::Cause>>
         ensures most { most_in self.new ≡ most_in self.old }
         ensures silent { is_in_step (batch_link self.old) ≡ false → batch_link self.new ≡ batch_link self.old }
@@ -104,7 +107,7 @@ impl<P: Port + Drop> Batch<P> {
         self.link.synchronize()
     }
 
-    // Sends what waits, unless a frame of this length fits into the serial buffer in addition.
+    // Sends what waits, unless this and a frame of the given length fit into the serial buffer together.
     fn make_room(&mut self, len: usize) -> Result<(), Failure<P::Cause>>
         requires in_step { is_in_step (batch_link self.old) ≡ true }
         requires len { len ≤ 267 }

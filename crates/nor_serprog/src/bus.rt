@@ -10,9 +10,10 @@ use nor_model::{Bus, History, Stopped};
 /// A bus to the chip at a serial programmer, over any port. One transaction is one O_SPIOP (serprog protocol,
 /// flashrom's Documentation/serprog-protocol.txt).
 ///
-/// Over an honest port this bus is honest, and its chip is the programmer's. Each transaction that sends at most 260
-/// bytes and reads at most 4,096 is one step of the chip, and fails only if fewer than three calls of the port are
-/// left. After such a failure the chip may have carried out any part of the transaction, and may have lost its power.
+/// Over an honest port this bus is honest, and its chip is the programmer's. A transaction that sends at most 260 bytes
+/// and reads at most 4,096 is one step of the chip if it succeeds, and fails only if fewer than three calls of the port
+/// are left. After such a failure the chip may have carried out any part of the transaction, and may have lost its
+/// power.
 ///
 /// Over any port the history has each transaction with its reply; a transaction that failed or was rejected has none. A
 /// transaction that sends more than 260 bytes, or reads more than the programmer can, is rejected, and nothing is sent.
@@ -23,8 +24,8 @@ pub struct SerprogBus<P: Port + Drop> {
     programmer: Programmer,
     cause: Option<Failure<P::Cause>>,
     history: History,
-    // If the link is in step, an honest port leads to a programmer that waits for a frame; otherwise the port has too
-    // few calls left for a transaction.
+    // Over an honest port: if the link is in step, the programmer waits for a frame and no reply is pending; otherwise
+    // the port has too few calls left for a transaction.
     ghost idle: { IsSettled P.state link },
 }
 

@@ -83,7 +83,7 @@ impl Programmer {
     /// - require that a transaction may send 260 bytes (Q_WRNMAXLEN) and read 4,096 bytes (Q_RDNMAXLEN)
     /// - without Q_WRNMAXLEN, require that 267 bytes fit into the serial buffer (Q_SERBUF)
     /// - read the name (Q_PGMNAME)
-    /// - if `hertz` is given, set the clock to at most that frequency (S_SPI_FREQ)
+    /// - if `hertz` is given, request a clock of at most that frequency (S_SPI_FREQ)
     /// - switch the pin drivers on (S_PIN_STATE)
     ///
     /// A step whose command the programmer's map lacks is skipped. It is an error, however, if `hertz` is given and the
@@ -123,7 +123,8 @@ impl Programmer {
     /// `link` must be the one to this programmer.
     ///
     /// Returns `Lacks` if the programmer lacks the command. Nothing is sent then: the programmer would take the number
-    /// for a command. Returns a `Failure` (`Refused`) if the programmer has no chip select with this number.
+    /// for a command. Returns a `Failure` if the exchange failed: `Refused` if the programmer has no chip select with
+    /// this number.
     pub fn select_chip<P: Port + Drop>(
         &self,
         link: &mut Link<P>,

@@ -1,5 +1,5 @@
-//! A bus to a SPI NOR chip that is connected to a serial programmer. It speaks the serprog protocol, version 1, over
-//! any port. The program `flashnor_serprog` uses it; the program `flashnor` does not.
+//! Buses to a SPI NOR chip that is connected to a serial programmer. They speak the serprog protocol, version 1, over
+//! any port. The program `flashnor_serprog` uses this crate; the program `flashnor` does not.
 //!
 //! - `command.rt`: commands as bytes (frames), and the first byte of a reply
 //! - `port.rt`: the contract of a port to a programmer
@@ -7,10 +7,10 @@
 //! - `handshake.rt`: identifies a programmer and prepares it for SPI
 //! - `bus.rt`: the bus; one transaction is one O_SPIOP
 //! - `batch.rt`: frames that are sent together
-//! - `batching.rt`: a bus that sends modifying commands together with the next poll
+//! - `batching.rt`: a bus that sends modifying commands together with the next transaction
 //! - `ahead.rt`: a bus that reads ahead
 //! - `paced.rt`: a bus that pauses between polls of a busy chip
-//! - `twice.rt`: a bus that reads data twice and compares
+//! - `twice.rt`: a bus that reads data twice and compares the replies
 #![tactic(auto)]
 
 mod ahead;

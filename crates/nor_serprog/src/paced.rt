@@ -19,13 +19,15 @@ const SHORT_MILLIS: u64 = 1;
 
 const LONG_MILLIS: u64 = 8;
 
-/// A bus that pauses between polls that show BUSY. Without pauses a fast bus uses up the 65,536 polls of a wait before
-/// an erase ends.
+/// A bus that pauses between polls that show BUSY. Without pauses a fast bus may use up the 65,536 polls of a wait
+/// before an erase ends.
 ///
 /// The pause before a transaction depends on how many polls in a row showed BUSY before it: none for fewer than 16, 1
-/// ms for fewer than 512, and otherwise 8 ms. The pauses of a wait whose 65,536 polls all show BUSY add up to at least
-/// 400 s. The longest operation of the known chips is the erase of a whole W25Q128FV, at most 200 s (datasheet, AC
-/// characteristics). It is not proved that `Clock::sleep` is called, or that it waits for the requested time.
+/// ms for fewer than 512, and otherwise 8 ms. It is not proved that `Clock::sleep` is called, or that it waits for the
+/// requested time.
+///
+/// The pauses of a wait whose 65,536 polls all show BUSY add up to at least 400 s. The longest operation of the known
+/// chips is the erase of a whole W25Q128FV, at most 200 s (datasheet, AC characteristics).
 ///
 /// The bus has the state of the bus inside, so it is honest if and only if the bus inside is.
 #[derive(Drop)]

@@ -13,8 +13,8 @@ ghost use Rattle.nor_serprog.specs.Device.{PortState, IsSent, IsCutOff, IsReceiv
 ///
 /// Any other call may fail, for example by a timeout or because a buffer is full. After a failure no further call
 /// succeeds. Any number of bytes may have been sent, the programmer may have carried out any part of the transaction,
-/// and the chip may then have lost its power. Nothing is assumed about any other port, except that its honesty never
-/// changes. A port of an operating system is never honest (`unknown_port`).
+/// and the chip may then have lost its power. Nothing is assumed about a port that isn't honest, and no call changes
+/// whether a port is honest. The state of a port of an operating system is `unknown_port`, which isn't honest.
 ///
 /// Each call must return, so an implementation that can block forever needs a timeout.
 pub trait Port {
@@ -31,7 +31,8 @@ pub trait Port {
         ensures cut_off { (state self.old).honest ≡ true
             → OnErr result (IsCutOff bytes.now (state self.old) (state self.new)) };
 
-    /// Fills `bytes` with what the programmer sent. After an error, any number of bytes may have been received.
+    /// Fills `bytes` with what the programmer sent. After an error, any number of bytes may have been received, and an
+    /// honest port leaves `bytes` as it was.
     fn receive(&mut self, bytes: &mut [u8]) -> Result<(), Self::Cause>
         ensures nature { (state self.new).honest ≡ (state self.old).honest }
         ensures received { (state self.old).honest ≡ true

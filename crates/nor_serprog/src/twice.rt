@@ -15,20 +15,22 @@ const LONGEST_READ: usize = 65536;
 
 const READ_DATA: u8 = 0x03;
 
-/// A bus that carries out each read of data (03h) twice, and stops if the replies differ. A poor contact flips bits in
-/// some reads. Without a second read a flipped bit gets into the journal, and a restore writes it to the chip. A read
-/// of more than 65,536 bytes is rejected.
+/// A bus that carries out each read of data (each transaction whose first byte is 03h) twice, and stops if the replies
+/// differ. A poor contact flips bits in some reads. Without a second read a flipped bit gets into the journal, and a
+/// restore writes it to the chip. A read of more than 65,536 bytes is rejected: nothing is sent.
 ///
-/// If an image is expected (`expecting`), a read whose reply equals the image at its address is carried out once. A
-/// session saves no sector that equals the image, so each sector that its journal saves was read twice.
+/// If an image is expected (`expecting`), a read whose reply equals the image at its address is carried out once. If
+/// that is the image of a session, each sector that its journal saves was read twice: a session saves no sector that
+/// equals its image.
 ///
 /// An error that is the same in both reads is not detected. A read over this bus is two transactions over the bus
 /// inside, so this bus is not honest as `Bus` defines it, even if the bus inside is. If the bus inside is honest and
 /// takes a read of this length, a read that succeeds had the same reply twice, or returned the expected bytes. A read
 /// of at most 65,536 bytes then fails only if no transaction is left afterwards.
 ///
-/// The history has each transaction over this bus with its reply. A read that the bus inside carried out twice is in
-/// the history once. In contracts, what was sent and the result of the last poll are those of the bus inside.
+/// The history has each transaction over this bus with its reply; one that failed or was rejected has none. A read that
+/// the bus inside carried out twice is in the history once. In contracts, what was sent and the result of the last poll
+/// are those of the bus inside.
 #[derive(Drop)]
 pub struct ReadTwice<B> {
     bus: B,
@@ -55,8 +57,8 @@ impl<B: Bus + Drop> ReadTwice<B> {
         }
     }
 
-    /// Returns a bus that reads data twice over `bus`, except for data that equals `image`, whose first byte is that at
-    /// address 0.
+    /// Returns a bus that reads data twice over `bus`, except for data that equals `image` at its address. The first
+    /// byte of `image` is the one at address 0.
     pub fn expecting(bus: B, image: Vec<u8>) -> ReadTwice<B>
         ensures bus { twice_of result ≡ bus }
         ensures differed { has_differed result ≡ false }
@@ -179,7 +181,8 @@ impl<B: Bus> Bus for ReadTwice<B> {
     }
 }
 
-// Returns whether a transaction begins with 03h, the opcode of a read of data.
+// Returns whether the first byte of a transaction is 03h, the opcode of a read of data. No other byte is looked at, so
+// a transaction without a whole address counts, too.
 fn reads_data(out: &[u8]) -> bool
     ensures { result ≡ begins_read out.now }
 {

@@ -42,7 +42,7 @@
 //! - `serprog_model.rt`: a port to a simulated programmer and chip
 //! - `serprog_frames.rt`: the frames of five commands, and a transaction that is too long for a frame
 //! - `serprog_handshakes.rt`: how a link is synchronized, and how a programmer is identified
-//! - `serprog_buses.rt`: transactions over the bus, and faults of the programmer and the port
+//! - `serprog_buses.rt`: transactions over the buses, commands that wait, and faults of the programmer and the port
 //! - `serprog_stops.rt`: sessions and restores over an honest port (nor_wire), which fails at each of its calls in turn
 //! - `serprog_wrappers.rt`: paced polls, and readings that are made twice
 //!
