@@ -1,4 +1,4 @@
--- The ranges that protection codes can protect, and the code that is used for each.
+-- The ranges that protection bits can protect, and the protection bits that are used for each.
 use Rattle.std.specs.Prelude.{◌≡◌, ◌<◌, ◌≤◌, ◌+◌, ◌↔◌, ℕ, true, false}
 use Rattle.nor_model.specs.Guard.{protected_by, is_undefined}
 

@@ -128,7 +128,8 @@ pub record ProbeAlways (named : Option ChipName) (old new : BusState) (result : 
   pub blames : IfErr result (BlamesName named)
   -- a chip is found only if the last poll showed that it is ready
   pub polled_ready : OnOk result (new.polled_ready ≡ true)
-  -- a chip found is what the bus replied (`IsFoundBy`): its ID, its status 1 and, without a row of the table, its SFDP
+  -- the ID and the status 1 of a chip found are what the bus replied and, without a row of the table, its size and
+  -- erase types are those of the SFDP replies (`IsFoundBy`)
   pub replied : IfOk result (IsFoundBy new.history)
   -- after a stop or a timeout nothing more was sent
   pub last_transaction : IfErr result (ProbeEndsAt new.history)

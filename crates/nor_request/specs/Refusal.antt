@@ -1,4 +1,4 @@
--- The numbers of errors, and the error of a call for each fault of the crates below.
+-- The numbers of errors, and the error of a call for a probe's fault and for an operation or wait that failed.
 use Rattle.std.specs.Prelude.{ℕ}
 use Rattle.nor_driver.specs.declared.waits.OperationError.{OperationError}
 use Rattle.nor_driver.specs.declared.waits.OperationError.TheVariants as OperationFails

@@ -58,8 +58,8 @@ more_before journal i number saved s is at =
     let more = saved_in-take_more journal i (record { number = number; bytes = saved }) s is at in
     grind (arith, nat_tests)
 
--- if a set has exactly the sectors so far that pass a test, and the next sector `n` is inserted if it passes, the set
--- has exactly the sectors up to `n` that pass
+-- if a set has exactly those of the sectors so far that pass a test, and the next sector `n` is inserted if and only if
+-- it passes, the set then has exactly those of the sectors so far and `n` that pass
 tested : (n s : ℕ) (test : ℕ → Bool) (verdict before after old new : Bool) → verdict ≡ test n
     → after ≡ ((s == n) || before) → old ≡ (before && test s) → new ≡ ((verdict && (s == n)) || old)
     → new ≡ (after && test s)
