@@ -94,7 +94,8 @@ fn a_stop_ends_each_command(rt: HostRuntime) {
 
 // The chip shows BUSY in one poll at first, and in one after each operation, so an operation has four transactions. A
 // session or restore identifies the chip with eight transactions if the chip is known by its SFDP, and with five if it
-// is in the table. Two of these (status 2 and the unique ID) aren't part of a probe; `wp_status` sends one of the two.
+// is in the table. Two of these (status 2 and the unique ID) aren't part of a probe. `wp_status` sends a probe and a
+// read of status 2.
 //
 // On the two blocks:
 //
