@@ -207,7 +207,7 @@ fn restore_behind(sent: u64) -> Option<u64> {
 type Rehearsed = (Result<Rehearsal, Refusal>, u64);
 
 // Returns the expected result of a rehearsal with the given number of stops, on a bus that stops once, after `behind`
-// transactions. If the rehearsal has no given stop for the call in which that occurs, it returns `Stopped`. Otherwise a
+// transactions. If no stop was given for the call in which the bus stops, the rehearsal returns `Stopped`. Otherwise a
 // restore follows if the vault is sealed.
 fn rehearsed(behind: u64, stops: usize) -> Rehearsed {
     let asked = behind.saturating_add(1);
