@@ -44,8 +44,8 @@ impl Meter for MeteredBus {
     }
 }
 
-// Returns the allowances of a session and of the given number of restores: their stops in turn. A call without a stop
-// is allowed the most transactions that a session on a chip of 16 MiB may need. All other entries are 0.
+// Returns the allowances of a session and of the given number of restores: their stops in turn. The allowance of a call
+// without a stop is the bound of a session on a chip of 16 MiB. All other entries are 0.
 fn stops_in_turn(stops: &[u64], restores: u32) -> [u64; MOST] {
     let mut allowances = [0; MOST];
     for (call, allowance) in allowances.iter_mut().enumerate() {

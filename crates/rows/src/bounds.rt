@@ -87,8 +87,8 @@ fn readings_on_buses_that_lie(rt: HostRuntime) {
     assert!(rt; runs == 23 * 4 * 4);
 }
 
-// Runs the row's session on each bus with a fault of the number `n`. `Lied::session` asserts the bound. Returns the
-// number of runs.
+// Runs the row's session on a bus with each of the faults `lies(n)` in turn. `Lied::session` asserts the bound. Returns
+// the number of runs.
 fn session_each(rt: &impl Abort, alloc: Global, row: Row, n: u8) -> u64 {
     let mut runs: u64 = 0;
     for spoil in lies(n) {
@@ -110,8 +110,8 @@ fn sessions_on_buses_that_lie(rt: HostRuntime) {
     assert!(rt; runs == 2 * 59 * 4);
 }
 
-// Runs the restore on each bus with a fault of the number `n`, after a session that was stopped after ten transactions.
-// `Lied::restore` asserts the bound. Returns the number of runs.
+// Runs the restore on a bus with each of the faults `lies(n)` in turn, after a session that was stopped after ten
+// transactions. `Lied::restore` asserts the bound. Returns the number of runs.
 fn restore_each(rt: &impl Abort, stopped: &Runs, n: u8) -> u64 {
     let mut runs: u64 = 0;
     for spoil in lies(n) {

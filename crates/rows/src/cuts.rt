@@ -1,5 +1,6 @@
-//! Sessions that are stopped after each number of transactions, and one restore after each stop that follows the seal
-//! and after the session's end. The rows of `undone.rt` are left out here: that file also stops their restores.
+//! Sessions that are stopped after each number of transactions from a first number on, and one restore after each stop
+//! that follows the seal and after the session's end. The rows of `undone.rt` are left out here: that file also stops
+//! their restores.
 use crate::row::{Row, Start};
 use crate::runs::Runs;
 

@@ -1,6 +1,6 @@
-//! Two sessions on one chip, one after the other, and then the two restores in reverse order. The first session is
+//! Two sessions on one chip, one after the other, and then their restores in reverse order. The first session is
 //! stopped after each number of transactions that is enough for its seal, and the second after each number of
-//! transactions. Both also run to their end.
+//! transactions. Both also run to their end. The second session is restored only if its vault is sealed.
 use crate::held::assert_held;
 use crate::row::{Row, Start};
 use crate::runs::{AMPLE, Cut, Runs};
@@ -25,7 +25,8 @@ fn write_again(rt: &impl Abort, alloc: Global, bus: SimBus, row: Row, allowed: u
 }
 
 // Restores from the journal of the second session, if its vault is sealed, and then from that of the first. The restore
-// from the second journal is allowed `allowed` transactions, and runs again if that stops it. Returns the chip.
+// from the second journal is allowed `allowed` transactions, and another one follows if it was stopped. Returns the
+// chip.
 fn undo_both(rt: &impl Abort, second: Cut, first: MemVault, allowed: u64) -> SimBus {
     let mut second = second;
     if second.vault.is_sealed() && second.restore(rt, allowed).is_none() {
@@ -44,8 +45,8 @@ fn undo_both(rt: &impl Abort, second: Cut, first: MemVault, allowed: u64) -> Sim
 }
 
 // Stops the second session after each number of transactions until it ends, on the chip that the first session left
-// after `n` transactions. Each time, asserts that the two restores leave the chip as before the first session. Returns
-// the number of transactions of the second session.
+// after `n` transactions. Each time, asserts that the restores leave the chip as before the first session. Returns the
+// number of transactions of the second session.
 fn stop_second(rt: &impl Abort, alloc: Global, runs: &Runs, other: Row, n: u64) -> u64 {
     for m in 0..AMPLE {
         let Cut { bus, vault } = runs.cut(rt, n);
@@ -66,8 +67,8 @@ fn stop_second(rt: &impl Abort, alloc: Global, runs: &Runs, other: Row, n: u64) 
 // The second session sends 23 transactions before its seal. It raises byte 0 with an erase, except if the first session
 // was stopped between its erase and its program: then the byte is FFh.
 //
-// - After its seal the second session sends three transactions for each erase and program, and one to verify. If it
-//   doesn't erase the sector, it reads the sector again before the program.
+// - After its seal the second session sends three transactions for each erase and each of its two programs, and one to
+//   verify. If it doesn't erase the sector, it reads the sector again before the first program.
 // - After the stops 23 and 24 of the first session, byte 0 is 00h: 23 + 3 * 3 + 1. After the stops 25 to 27 it is FFh:
 //   23 + 1 + 2 * 3 + 1. After 28 and 29, and at the end, it is 01h, and has to be raised again.
 const LENGTHS: [u64; 8] = [33, 33, 31, 31, 31, 33, 33, 33];

@@ -13,12 +13,12 @@
 //!
 //! Stops and power failures:
 //!
-//! - `cuts.rt`: sessions that are stopped after each number of transactions, and one restore after each stop that
-//!   follows the seal
+//! - `cuts.rt`: sessions that are stopped between two transactions, and one restore after each stop that follows the
+//!   seal
 //! - `undone.rt`: sessions that are stopped, restores that are also stopped, and a second restore
-//! - `torn.rt`: sessions and restores that are stopped inside each of their transactions
-//! - `lost.rt`: sessions and restores that lose the reply to each of their transactions
-//! - `in_turn.rt`: two successive sessions, each stopped, and their two restores in reverse order
+//! - `torn.rt`: sessions and restores that are stopped inside a transaction
+//! - `lost.rt`: sessions and restores that lose the reply to a transaction
+//! - `in_turn.rt`: two successive sessions, stopped or run to their end, and their restores in reverse order
 //! - `power.rt`: sessions and restores during which the chip loses its power
 //! - `rehearsed.rt`: rehearsals with each stop of the session and of its first restore, and rehearsals on faulty buses
 //! - `allowances.rt`: how many transactions a rehearsal allows each of its calls
@@ -49,7 +49,7 @@
 //! Single calls:
 //!
 //! - `probes.rt`: which chips are found, what a probe sends, and how long it waits
-//! - `sessions.rt`: sessions on chips with other erase types, on a busy chip, and with requests that verify or do not
+//! - `sessions.rt`: sessions on chips with different erase types, on a busy chip, and with and without verification
 //! - `kernels.rt`: nor_plan's comparisons of two slices
 //! - `sets.rt`: sets of addresses made from spans
 //! - `texts.rt`: malformed and very long layouts and journals

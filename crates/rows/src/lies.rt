@@ -123,8 +123,8 @@ fn a_restore_that_programs(rt: HostRuntime) {
     }
 }
 
-// Transactions 8 to 23 of `ABitRises` scan the chip. If one is dropped, the session takes the sector that it reads for
-// erased. Only sector 0 differs from the image, so only this sector is saved: its first byte is 00h, or FFh if
+// Transactions 8 to 23 of `ABitRises` scan the chip. If one is dropped, all bytes of its sector are read as FFh. Only
+// sector 0 differs from the image, so only this sector is saved. Its first byte in the journal is 00h, or FFh if
 // transaction 8 was dropped.
 #[test]
 fn a_lie_before_the_seal_leaves_a_journal(rt: HostRuntime) {
@@ -201,8 +201,8 @@ fn lie_to_restores(rt: &impl Abort, alloc: Global, row: Row, stop: u64, length: 
 }
 
 // Each row has the number of transactions after which the session is stopped, and the number of transactions of the
-// restore. After the five stops: a sector is erased, a byte is programmed, a sector is erased, the protection bits are
-// cleared, and they are set again.
+// restore. At the five stops, in the order of the rows: a sector is erased, a byte is programmed, a sector is erased,
+// the protection bits are cleared, and they are set again.
 const BEHIND: [(Row, u64, u64); 5] = [
     (Row::ABitRises, 25, 13),
     (Row::AByteIsProgrammed, 26, 12),

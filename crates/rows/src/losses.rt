@@ -4,8 +4,8 @@ use nor_journal::Vault;
 use std::alloc::{AllocError, Global};
 use std::io;
 
-// Saves the four bytes of `image` in a new journal. If the journal was sealed and closed, overwrites `image` in place,
-// and syncs it.
+// Saves the four bytes of `image` in a new journal, and closes the journal. If it is sealed, overwrites `image` in
+// place and syncs it.
 fn change<S: Store>(files: &mut S) -> io::Result<()> {
     let mut journal = files.vault_in_new("journal")?;
     let _ = journal.put(b"abcd");

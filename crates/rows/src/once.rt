@@ -94,7 +94,8 @@ fn a_stop_ends_each_command(rt: HostRuntime) {
 
 // The chip shows BUSY in one poll at first, and in one after each operation, so an operation has four transactions. A
 // session or restore identifies the chip with eight transactions if the chip is known by its SFDP, and with five if it
-// is in the table. Two of these (status 2 and the unique ID) aren't part of a probe; `wp_status` sends one of the two.
+// is in the table. Two of these (status 2 and the unique ID) aren't part of a probe. `wp_status` sends a probe and a
+// read of status 2.
 //
 // On the two blocks:
 //
@@ -206,7 +207,7 @@ fn restore_behind(sent: u64) -> Option<u64> {
 type Rehearsed = (Result<Rehearsal, Refusal>, u64);
 
 // Returns the expected result of a rehearsal with the given number of stops, on a bus that stops once, after `behind`
-// transactions. If the rehearsal has no given stop for the call in which that occurs, it returns `Stopped`. Otherwise a
+// transactions. If no stop was given for the call in which the bus stops, the rehearsal returns `Stopped`. Otherwise a
 // restore follows if the vault is sealed.
 fn rehearsed(behind: u64, stops: usize) -> Rehearsed {
     let asked = behind.saturating_add(1);

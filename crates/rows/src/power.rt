@@ -74,7 +74,7 @@ fn each_loss_behind_two_pages(rt: HostRuntime) {
 
 // 8 stops are before the seal, and two leave the sector as it was. Three stops after the erase leave 16 pages to
 // program, with 90 transactions: ten, and five for each page. Then three stops after each page program, and two during
-// it, leave 15, 14, .. 1 pages to program.
+// it, leave 15, 14, .. 1 other pages to program.
 //
 // Two stops interrupt the erase, so that all pages have to be programmed. Two interrupt each page program, so that its
 // page has to be programmed again: five more transactions. The bytes of the original sector are 00h. So with the fill

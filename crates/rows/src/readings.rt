@@ -8,9 +8,9 @@ use nor_read::{Protection, read_out, verify, wp_status};
 use nor_session::{Refusal, Report};
 use std::alloc::Global;
 
-// Each row has the number of the vault's call that is refused, the number of bytes that the vault keeps of it, the
-// error, and the number of bytes in the vault at the end. All sixteen sectors of the chip are one piece, so there is no
-// second call.
+// Each row has the number of the vault's call that is refused, and the most bytes that the vault keeps of that call's
+// piece. Then it has the expected error, and the expected number of bytes in the vault at the end. All sixteen sectors
+// of the chip are one piece, so there is no second call.
 const CASES: [(u64, usize, Option<Refusal>, usize); 4] = [
     (1, 0, Some(Refusal::Output { written: 0 }), 0),
     (1, 5000, Some(Refusal::Output { written: 5000 }), 5000),

@@ -30,7 +30,7 @@ fn rehearsed(
     (told, vault.is_sealed())
 }
 
-// Returns the number of transactions that the restore of `ABitRises` sends after the session was stopped after `stop`
+// Returns the number of transactions that the restore of `ABitRises` sends if the session was allowed `stop`
 // transactions. Before the seal there is no restore. A restore needs 8 transactions if the sector is as saved, and 13
 // if it programs one byte.
 fn restore_behind(stop: u64) -> Option<u64> {

@@ -77,7 +77,8 @@ pub struct Runs {
 }
 
 impl Runs {
-    /// Returns the runs of this row's session with this start. A restore's stop sends as much as the session's.
+    /// Returns the runs of this row's session with this start. A restore's stop sends as many bytes of its transaction
+    /// as the session's stop.
     pub fn new(rt: &impl Abort, alloc: Global, row: Row, start: Start) -> Runs {
         Runs {
             alloc,
@@ -177,15 +178,16 @@ impl Runs {
         stops
     }
 
-    /// Stops the session after `n` transactions. Stops the restore after each number of transactions that is too small
-    /// for it, and restores again. Asserts that each run leaves the chip as before. Returns the number of stopped
-    /// restores.
+    /// Stops the session after `n` transactions. If its vault is sealed, stops the restore after each number of
+    /// transactions that is too small for it, and restores again. Asserts that each run leaves the chip as before.
+    /// Returns the number of stopped restores.
     pub fn stop_restores(&self, rt: &impl Abort, n: u64) -> u64 {
         self.stop_restores_behind(rt, n).saturating_sub(1)
     }
 
-    // Stops the session after `n` transactions, and the restore after 0, 1, .. transactions until it ends. Asserts that
-    // each run leaves the chip as before. Returns the number of runs.
+    // Stops the session after `n` transactions. If its vault is sealed, stops the restore after 0, 1, .. transactions
+    // until it ends; after each stopped restore another one follows. Asserts that each run leaves the chip as before.
+    // Returns the number of runs, which is 1 if the vault isn't sealed.
     fn stop_restores_behind(&self, rt: &impl Abort, n: u64) -> u64 {
         for m in 0..AMPLE {
             let mut cut = self.cut(rt, n);

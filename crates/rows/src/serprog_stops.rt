@@ -19,8 +19,8 @@ const CALLS: u64 = 3;
 // More calls than a handshake and any restore of these tests take.
 const AMPLE: u64 = 100_000;
 
-// How many bytes the port sends of a transaction that it cuts: none, the opcode and the address, these and one byte of
-// data, or all.
+// How many bytes of a transaction the chip receives if the port fails while it sends the frame: none, the opcode and
+// the address, these and one byte of data, or all.
 const CUTS: [u32; 4] = [0, 4, 5, u32::MAX];
 
 // Returns a bus over this port, after the handshake.
@@ -32,8 +32,8 @@ fn open(rt: &impl Abort, port: SimPort) -> SerprogBus<SimPort> {
     SerprogBus::new(link, programmer)
 }
 
-// Returns a bus to this chip. After the handshake, `calls` calls of the port succeed; a transaction that it then cuts
-// is sent up to its first `cut` bytes.
+// Returns a bus to this chip. After the handshake, `calls` calls of the port succeed. If the next call sends a frame,
+// the chip receives only the first `cut` bytes of its transaction.
 fn bus_to(
     rt: &impl Abort,
     alloc: Global,
@@ -194,8 +194,8 @@ fn a_session_ends_with_its_last_call(rt: HostRuntime) {
     }
 }
 
-// The chip loses its power when the port cuts a transaction, after its opcode and address or after all of it. What is
-// left of a running page program or erase is 00h or FFh.
+// The chip loses its power when the port fails while it sends a frame, after the opcode and address of the transaction
+// or after all of it. Each byte that a running page program or erase works on becomes 00h or FFh.
 #[test]
 fn each_cut_of_the_port_may_cost_the_power(rt: HostRuntime) {
     for (row, start, length) in SESSIONS {

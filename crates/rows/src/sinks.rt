@@ -187,8 +187,8 @@ impl OpenFile for SmallFile {
     }
 }
 
-// Each row has the most bytes per write, the number of writes that succeed, whether `sync_all` succeeds, the result,
-// and the number of bytes in the file.
+// Each row has the most bytes per write, the most writes that succeed, whether `sync_all` succeeds, the result, and the
+// number of bytes in the file.
 const FILES: [(usize, u32, bool, Result<(), VaultFault>, usize); 9] = [
     (1, u32::MAX, true, Ok(()), 4161),
     (4096, u32::MAX, true, Ok(()), 4161),

@@ -86,8 +86,8 @@ const fn is_of_name(byte: u8) -> bool {
 }
 
 // By its contract, `Layout::read` may return out of memory for any text with a line that adds a region, after lines
-// without a fault. So the contract allows a body that does this for some names. This test rejects such a body for all
-// names of two bytes.
+// without a fault. So the contract allows a body that does this for some names. This test rejects a body that does it
+// for a name of two bytes.
 #[test]
 fn each_name_of_two_bytes(rt: HostRuntime) {
     for first in 0x21..=0x7E {

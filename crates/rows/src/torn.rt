@@ -181,9 +181,9 @@ fn each_cut_of_a_session_on_a_protected_chip(rt: HostRuntime) {
     assert!(rt; stops == SESSIONS_IN_THE_RANGE);
 }
 
-// Each row has the number of stopped restores after which the chip keeps its power, and the number after which it loses
-// it. Each restore is stopped at each of its transactions, so these are the sums of the lengths of all restores. A
-// restore's stop sends the same number of bytes (0 to 6) as its session's stop. For the row that programs a byte the
+// Each row has two numbers of stopped restores: those at which the chip keeps its power, and those at which it loses
+// its power. Each restore is stopped at each of its transactions, so these are the sums of the lengths of all restores.
+// A restore's stop sends the same number of bytes (0 to 6) as its session's stop. For the row that programs a byte the
 // sums were also calculated by hand:
 //
 // - On an idle chip the session is stopped at five transactions after the seal: read, write enable, program, poll,
@@ -234,8 +234,8 @@ fn each_cut_of_a_restore_after_a_part_of_a_page(rt: HostRuntime) {
     assert!(rt; stops == RESTORES_OF_TWO_PAGES);
 }
 
-// A restore has 8 transactions if the sector is as it was. Otherwise it has 10 transactions, and one page program for
-// each page that differs. Before these it waits for the remaining polls that show BUSY.
+// The numbers of stopped restores. A restore has 8 transactions if the sector is as it was. Otherwise it has 10, and
+// those of one page program for each page that differs. In addition it sends the polls that still show BUSY at first.
 const RESTORES_OF_PAGES: Stops = Stops {
     kept: 60_106,
     lost: 127_387,
@@ -248,10 +248,10 @@ fn each_cut_of_a_restore_that_programs_pages(rt: HostRuntime) {
     assert!(rt; stops == RESTORES_OF_PAGES);
 }
 
-// The session is stopped at only three transactions, since each run on this chip takes long: the status write that
-// lifts the protection, the page program, and the status write that restores the protection. An operation takes three
-// transactions and the polls that show BUSY. The session reads the sector before its program. No transaction sends more
-// than five bytes.
+// The numbers of stopped restores. The session is stopped at only three transactions, since each run on this chip takes
+// long: the status write that lifts the protection, the page program, and the status write that sets the protection
+// again. An operation takes three transactions and the polls that show BUSY. The session reads the sector before its
+// program. No transaction sends more than five bytes.
 const RESTORES_IN_THE_RANGE: Stops = Stops {
     kept: 172,
     lost: 408,

@@ -1,5 +1,5 @@
-//! Sessions that are stopped after each number of transactions. A restore after a stop is itself stopped after each
-//! number of its own transactions, and a second restore follows.
+//! Sessions that are stopped after each number of transactions, on the W25Q64FV from 2,049 on. A restore after a stop
+//! is itself stopped after each number of its own transactions, and a second restore follows.
 //!
 //! Each test counts its runs. A stop before the seal is one run. The end of the session counts as its last stop. After
 //! a stop that follows the seal, the restore is run with 0, 1, .. allowed transactions until it succeeds. So the number
@@ -73,8 +73,8 @@ fn each_stop_on_a_chip_with_its_latch_set(rt: HostRuntime) {
 }
 
 // The first stop is after 2,049 transactions. Three stops are before the seal. Then two leave the chip as it was, four
-// without its protection, three also with the byte programmed, and three with the byte programmed and the protection
-// set again. The restores have 5, 8, 12 and 15 transactions.
+// without its protection, three without its protection and with the byte programmed, and three with the byte programmed
+// and the protection set again. The restores have 5, 8, 12 and 15 transactions.
 #[test]
 fn each_stop_behind_a_guarded_byte(rt: HostRuntime) {
     let row = Row::AGuardedByteIsProgrammed;

@@ -46,8 +46,8 @@ fn refuse_each(rt: &impl Abort, alloc: Global, row: Row, calls: u64, kept: usize
 }
 
 // Each row has the number of calls: one for the header, one for each record, two for the end mark and the digest, and
-// the seal. The digest is shorter than 4,095 bytes. So if the refused call is the digest's and the vault keeps up to
-// 4,095 bytes of its piece, the journal is whole.
+// the seal. A vault that may keep 4,095 bytes of a refused piece keeps all 32 bytes of a digest. So if this vault
+// refuses the call for the digest, the journal is whole.
 const ROWS: [(Row, u64); 2] = [
     (Row::ABitRises, 1 + 1 + 2 + 1),
     (Row::NineSectorsAreErased, 1 + 9 + 2 + 1),

@@ -175,8 +175,8 @@ fn spans_for(alloc: Global, dice: &mut Dice, chip: &Chip) -> Result<Vec<Span>, F
     Ok(spans)
 }
 
-// Draws a span. Its greatest length is 300 bytes, one sector, 40,000 bytes, or half of the chip. About one span in 40
-// may end past the chip's end.
+// Draws a span. Its greatest length is drawn, too: 300 bytes, one sector, 40,000 bytes, or half of the chip. About one
+// span in 40 may be longer: it ends at the chip's last address or past it.
 fn span_for(dice: &mut Dice, size: u32) -> Span {
     let sector = contents::sector(dice, size / SECTOR_LEN);
     let offset = dice.pick(0, &[0, 0x800, 0xFFF, 0x100]);

@@ -24,7 +24,7 @@
 //! - `stops.rt`: compares sessions that are stopped, and the restores after them
 //! - `left.rt`: runs calls one after the other on a chip and on its model
 //! - `rehearsals.rt`: compares rehearsals with the same session and restores called one by one
-//! - `restores.rt`: compares restores on chips that differ from what the session left
+//! - `restores.rt`: compares restores of random chips from the journal of a session
 //! - `damages.rt`: checks that damaged journals are rejected
 //! - `readings.rt`: compares the calls that only read
 //! - `lies.rt`: compares calls on faulty buses

@@ -27,8 +27,8 @@ impl Pace {
         u8::from(self.busy > 0) | u8::from(self.latch) << 1
     }
 
-    /// Returns the pace after the chip carried out a transaction with this opcode. For an operation the chip must be
-    /// idle, and its write enable latch set.
+    /// Returns the pace after the chip carried out a transaction with this opcode. For a write enable or an operation
+    /// the chip must be idle, and for an operation its write enable latch must be set, too.
     pub fn behind(self, opcode: &str) -> Pace {
         match opcode {
             "05" => self.behind_poll(),

@@ -14,8 +14,8 @@ pub struct Told {
     pub k64: bool,
 }
 
-/// Draws SFDP bytes that describe a chip of this size with these erase types. Bytes that don't change the result of
-/// `read` are random or FFh.
+/// Draws SFDP bytes that describe a chip of this size with these erase types. Most bytes that don't change the result
+/// of `read` are random or FFh.
 pub fn show(dice: &mut Dice, told: Told) -> Shown {
     let mut shown = [0xFF; 256];
     let at = dice.pick(0x10, &[0x10, 0x30, 0x80]);

@@ -113,9 +113,10 @@ impl Reading {
         lies::check_reading(alloc, dice, case, self, enough)
     }
 
-    // Checks the call with a stop. If the stop is after all of these lines, the call must have its result without a
-    // stop; otherwise it must return `Stopped` after the lines before the stop. In both cases the chip's bytes and
-    // non-volatile status bits must be as before.
+    // Checks the call with a stop after `allowed` transactions. `whole` has the lines that the call sends without a
+    // stop. If the stop is after all of them, the call must have its result without a stop; otherwise it must return
+    // `Stopped` after the lines before the stop. In both cases the chip's bytes and non-volatile status bits must be as
+    // before.
     fn check_under(
         self,
         alloc: Global,
@@ -284,9 +285,9 @@ struct Copied {
     sent: Vec<u8>,
 }
 
-// Checks a readout into a vault that refuses one of its calls. The readout must return error 19 with the number of
-// bytes in the vault, which include those that the vault kept of the refused piece. Otherwise it must return the error
-// that it returns without this refusal.
+// Checks a readout into a vault that refuses one of its calls. If the readout must return an error even without this
+// refusal, it must return that error here, too. Otherwise it must return error 19 with the number of bytes in the
+// vault, which include those that the vault kept of the refused piece.
 fn check_refused_copy(alloc: Global, dice: &mut Dice, case: &Case) -> Result<(), Fault> {
     let nth = u64::from(dice.below(case.chip.sectors() / 16)).saturating_add(1);
     let kept = dice.pick(0, &[1, 4095, 65_535]);
@@ -314,8 +315,8 @@ fn copy_out(alloc: Global, case: &Case, bus: SimBus, (nth, kept): (u64, usize)) 
 }
 
 // Checks the bytes and the trace of a readout whose vault refused a call. The vault must have the first `written` bytes
-// of the copy. A readout reads and writes 16 sectors at a time. No sector must be read after the 16 that contain the
-// first byte missing from the vault.
+// of the copy. A readout reads and writes 16 sectors at a time. It must read the sectors with included addresses up to
+// the end of the 16 that contain the first byte missing from the vault, and no later sectors.
 fn check_part(alloc: Global, case: &Case, written: u64, copied: &Copied) -> Result<(), Fault> {
     check_first(alloc, case, written, copied.out.inner().bytes())?;
     let piece = u32::try_from(written / 65_536).unwrap_or(u32::MAX);

@@ -1,4 +1,4 @@
-//! Restores on chips that differ from what the session left, compared with the reference implementation.
+//! Restores of random chips from the journal of a session that succeeded, compared with the reference implementation.
 
 use crate::cases::Case;
 use crate::checks::{self, Ran};
@@ -181,8 +181,8 @@ fn check_stop(wanted: Option<Refusal>, lines: &str, ran: &Restored) -> Result<()
     traces::check_trace(ran.sent.as_slice(), lines, "a restore under a stop")
 }
 
-// Draws a chip to restore: one time in twelve an unrelated small chip, otherwise the journal's chip with other bytes.
-// For half of the latter the status bits or the unique ID are drawn, too.
+// Draws a chip to restore: one time in twelve an unrelated small chip, otherwise the original chip of the journal after
+// random changes of its bytes. For half of the latter, status bits or the unique ID are drawn, too.
 fn other_chip(alloc: Global, dice: &mut Dice, chip: &Chip) -> Result<Chip, Fault> {
     if dice.hits(1, 12) {
         return chips::small(alloc, dice);

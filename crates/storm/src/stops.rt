@@ -1,4 +1,4 @@
-//! Sessions that are stopped, and restores of the original chip.
+//! Sessions that are stopped, and the restores after them.
 
 use crate::cases::Case;
 use crate::checks::{self, Ran};
@@ -174,9 +174,9 @@ fn is_gentle(old: &[u8], new: &[u8], now: &[u8]) -> bool {
         .all(|((old, new), now)| *new & !*now == 0 && *now & !*old == 0)
 }
 
-// Runs up to four restores with stops until one succeeds, otherwise a last one without a stop, which must succeed. At
-// each stop the chip loses its power if the session's stop `first` has a fill byte. Returns `cuts` with the stops of
-// these restores inside a transaction added.
+// Runs up to four restores with stops until one succeeds. If none does, runs a last one without a stop, which must
+// succeed. At each stop the chip loses its power if the session's stop `first` has a fill byte. Returns `cuts` with the
+// stops of these restores inside a transaction added.
 fn give_back(
     alloc: Global,
     dice: &mut Dice,
@@ -210,7 +210,8 @@ fn next_stop(dice: &mut Dice, accepted: Accepted<'_>, first: Stop) -> Stop {
     }
 }
 
-// Runs a restore with a stop, and checks the chip if the restore did not succeed.
+// Runs a restore with a stop as `left::restore` does. If the restore did not succeed, also makes the checks of
+// `check_within`.
 fn give_some(
     alloc: Global,
     accepted: Accepted<'_>,

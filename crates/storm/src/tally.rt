@@ -17,9 +17,9 @@ pub struct Tally {
     pub accepted: u64,
     /// Refused sessions, by the number of their error.
     pub refused: [u64; 21],
-    /// Accepted restores on chips that differ from what the session left.
+    /// Accepted restores of the random chips of `restores.rt`.
     pub restored: u64,
-    /// Refused restores on chips that differ from what the session left, by the number of their error.
+    /// Refused restores of the random chips of `restores.rt`, by the number of their error.
     pub kept_away: [u64; 21],
     /// Accepted sessions that were also rehearsed.
     pub rehearsed: u64,
@@ -31,8 +31,9 @@ pub struct Tally {
     pub cuts: Cuts,
 }
 
-/// Stops inside a transaction, in accepted sessions and in the restores of the chips that they left. Such a stop sends
-/// a drawn number of bytes of its transaction, which may be 0 or all.
+/// Stops inside a transaction, in the accepted sessions that `stops.rt` stops and in the restores after them. Such a
+/// stop sends a drawn number of bytes of its transaction, which may be 0 or all. Stops in rehearsals, refused sessions
+/// and restores of random chips are not counted.
 #[derive(Clone, Copy)]
 pub struct Cuts {
     /// The number of these stops in sessions.
@@ -98,10 +99,10 @@ impl Tally {
         cuts: Cuts::NONE,
     };
 
-    /// True if the counts are sufficient for this number of cases. Accepted sessions, accepted restores, reading calls,
-    /// the three counts of stops inside a transaction, and sessions with each of errors 1 to 10 must each reach
-    /// `least(cases)`. No session may have another error. Rehearsals, refused restores and sessions on faulty buses are
-    /// not checked.
+    /// True if the counts are sufficient for this number of cases. Accepted sessions, accepted restores of random
+    /// chips, cases whose chip was read, the three counts of stops inside a transaction, and sessions with each of
+    /// errors 1 to 10 must each reach `least(cases)`. No session may have another error. Rehearsals, refused restores
+    /// and sessions on faulty buses are not checked.
     pub fn is_sufficient(&self, cases: u64) -> bool {
         let least = least(cases);
         let mut refused = self.refused.iter().enumerate();
@@ -124,8 +125,7 @@ impl Tally {
         }
     }
 
-    /// Counts a restore that was accepted, or refused with this error, on a chip that differs from what the session
-    /// left.
+    /// Counts a restore of a random chip (`restores.rt`) that was accepted, or refused with this error.
     pub fn count_restore(&mut self, refusal: Option<Refusal>) {
         match refusal {
             None => self.restored = self.restored.wrapping_add(1),

@@ -10,8 +10,8 @@ use nor_session::Refusal;
 /// The opcodes of the modifying commands, as a trace shows them.
 const CHANGING: [&str; 7] = ["06", "01", "02", "20", "52", "d8", "c7"];
 
-/// Checks that the trace `sent` has exactly the lines `wanted`. Returns `Sends` with the number of the first line that
-/// differs, counted from 1.
+/// Checks that the trace `sent` has exactly the lines `wanted`. Otherwise returns `Sends` with the number of the first
+/// line that differs, is missing or is additional, counted from 1.
 pub fn check_lines(sent: &str, wanted: &str, call: &'static str) -> Result<(), Fault> {
     let mut number = 1_u64;
     for (line, other) in sent.lines().zip(wanted.lines()) {

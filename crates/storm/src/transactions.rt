@@ -234,8 +234,8 @@ fn erase_half(lines: &mut Lines, chip: &Chip, wanted: &Wanted, first: u32) {
     }
 }
 
-/// Appends step 6 for one sector. A sector that wasn't erased is read first. One operation programs each page that
-/// differs from the target.
+/// Appends step 6 for one sector. A sector that wasn't erased is read first. Each page that then differs from the
+/// target is programmed with one operation of its own.
 pub fn program_sector(lines: &mut Lines, chip: &Chip, wanted: &Wanted, number: u32) {
     let is_erased = wanted.raises_all(number, 1);
     if !is_erased {
