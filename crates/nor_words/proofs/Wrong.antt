@@ -1,5 +1,5 @@
 -- Which values of options can't be parsed, given the results of their parsers.
-use Rattle.std.proofs.Common.{◌≡◌, ◌&&◌, ◌||◌, ℕ, false, List, Option, Some, None, is_some}
+use Rattle.std.proofs.Common.{◌≡◌, ◌&&◌, ◌||◌, ℕ, Bool, false, List, Option, Some, None, is_some}
 use Rattle.std.proofs.Common.{not, option_map, refl, sym}
 use Rattle.std.specs.Prelude.{option_and_then}
 use Rattle.std.specs.Borrow.{Bor}
@@ -18,6 +18,11 @@ abbrev pub Means : Option Text → Option Programmer → Type 0
 Means text found = MatchOption found (passes_test is_programmer_text text ≡ false)
     (λ programmer. IsSomeAnd text (λ t. IsProgrammer t programmer))
 
+-- an option without a value has no value that can't be parsed
+pub none-wrong : (test : Text → Bool) (text : Option (Bor Text)) → is_some text ≡ false → is_no test (text_at text) ≡ false
+none-wrong test None none = refl
+none-wrong test (Some t) none = cc
+
 pub wrong-programmer : (text : Option (Bor Text)) (found : Option Programmer) → Means (text_at text) found
     → (is_some text && not (is_some found)) ≡ is_no is_programmer_text (text_at text)
 wrong-programmer None None means = refl
@@ -31,25 +36,23 @@ wrong-read f None found means = refl
 wrong-read f (Some t) found means = rw means refl
 
 -- the programmer has a `stop=` if and only if its text has one
-stops-beside : (text : Option Text) (found : Option Programmer) → Means text found
+pub stops-beside : (text : Option Text) (found : Option Programmer) → Means text found
     → option_map_or (λ programmer. is_some programmer.stop) found false ≡ passes_test has_stop text
 stops-beside None None means = refl
 stops-beside None (Some p) means = absurd means
 stops-beside (Some t) None means = rw means refl
 stops-beside (Some t) (Some p) means = rw (means.sound, means.stop) refl
 
-is_some-viewed : {S U : Type 0} (v : S → U) (found : Option S) → is_some (option_map v found) ≡ is_some found
+pub is_some-viewed : {S U : Type 0} (v : S → U) (found : Option S) → is_some (option_map v found) ≡ is_some found
 is_some-viewed v None = refl
 is_some-viewed v (Some x) = refl
 
 pub wrong-stops : {S : Type 0} (v : S → List ℕ) (rehearse : Option (Bor Text)) (programmer : Option Text)
-    (found : Option Programmer) (stops : Option S) → Means programmer found
-    → option_and_then stops_of (text_at rehearse) ≡ option_map v stops
-    → (is_some rehearse && (not (is_some stops) || option_map_or (λ programmer. is_some programmer.stop) found false))
+    (stops : Option S) → option_and_then stops_of (text_at rehearse) ≡ option_map v stops
+    → (is_some rehearse && (not (is_some stops) || passes_test has_stop programmer))
     ≡ (is_no (reads stops_of) (text_at rehearse) || (is_some (text_at rehearse) && passes_test has_stop programmer))
-wrong-stops v None programmer found stops means read = refl
-wrong-stops v (Some t) programmer found stops means read =
-    rw (read, is_some-viewed v stops, stops-beside programmer found means) refl
+wrong-stops v None programmer stops read = refl
+wrong-stops v (Some t) programmer stops read = rw (read, is_some-viewed v stops) refl
 
 -- ---- the result of `and_then` with a parser
 
