@@ -1,6 +1,5 @@
 //! Scans the chip and, before anything is changed, saves what the session will change.
-ghost use Rattle.std.specs.Prelude.{◌≡◌, ◌/◌, true, length, IfOk, IfErr, OnOk, OnErr, IsTrue};
-ghost use Rattle.nor_model.specs.Size.{is_chip_size};
+ghost use Rattle.std.specs.Prelude.{◌≡◌, ◌/◌, true, length, IfOk, IfErr, OnOk, OnErr};
 ghost use Rattle.nor_model.specs.History.{KeepsReplies, begins_with};
 ghost use Rattle.nor_journal.specs.Saved.{JournalSaves};
 ghost use Rattle.nor_scan.specs.Replied.{bytes_read};
@@ -47,7 +46,6 @@ pub fn save<B: Bus, V: Vault>(
     identity: &Identity,
     code: u8,
 ) -> Result<SavedScan, Refusal>
-    requires sized { IsTrue (is_chip_size identity.now.found.size) }
     requires whole { is_data request.now.what ≡ true → length image.old ≡ identity.now.found.size }
     requires fresh { IsFresh (V.state vault.old) }
     ensures leaves { OnlyReads (scanned_sectors request.now identity.now.found.size)

@@ -1,9 +1,8 @@
 //! The steps of a restore before it changes anything: it identifies the chip, which the journal must fit, reads the
 //! saved sectors, and finds out which changes are needed.
-ghost use Rattle.std.specs.Prelude.{◌≡◌, ◌<◌, ◌≤◌, ◌/◌, true, None, length, IfOk, IfErr, OnOk, OnErr, MatchBool, IsTrue};
-ghost use Rattle.nor_model.specs.Size.{is_chip_size};
+ghost use Rattle.std.specs.Prelude.{◌≡◌, ◌<◌, ◌≤◌, true, None, length, IfOk, IfErr, OnOk, OnErr, MatchBool};
 ghost use Rattle.nor_driver.specs.OnlyReads.{OnlyReads, HasStopped};
-ghost use Rattle.nor_plan.specs.SectorSet.{has, LiesBelow};
+ghost use Rattle.nor_plan.specs.SectorSet.{has};
 ghost use Rattle.nor_scan.specs.Identity.{ReadsIdentity, most_identity};
 ghost use Rattle.nor_request.specs.declared.refusal.Refusal.TheVariants as Refusals;
 ghost use Rattle.nor_session.specs.Bounds.{most_reads};
@@ -165,8 +164,6 @@ fn judge_changes(
     identity: &Identity,
     scanned: &Scanned,
 ) -> Result<Changes, Refusal>
-    requires sized { IsTrue (is_chip_size identity.now.found.size) }
-    requires below { LiesBelow scanned.now.touched (identity.now.found.size / 4096) }
     ensures changes { IfOk result (AreChanges journal.now identity.now scanned.now) }
     ensures locked { IfErr result (λ refusal. refusal ≡ Refusals.StatusLocked) }
     ensures accepts { MakesChanges journal.now identity.now (has scanned.now.touched) result }
