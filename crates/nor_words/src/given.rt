@@ -121,6 +121,7 @@ impl<'a> Given<'a> {
     }
 
     // Returns the programmer that `-p` describes, or `None` if `-p` is missing or describes none.
+    #[tactic(auto, using(crate::proofs::Wrong::means_read))]
     fn parsed_programmer(&self) -> Option<Programmer<'a>>
         ensures { MatchOption result (passes_test is_programmer_text (texts_of self.now).programmer ≡ false)
             (λ programmer. IsSomeAnd (texts_of self.now).programmer (λ text. IsProgrammer text programmer)) }
@@ -129,6 +130,7 @@ impl<'a> Given<'a> {
     }
 
     // Returns the range that `--wp-range` gives, or `None` if the option is missing or its value can't be parsed.
+    #[tactic(auto, using(crate::proofs::Begins::and_then_read))]
     fn parsed_range(&self) -> Option<(u32, u32)>
         ensures { option_and_then range_of (texts_of self.now).wp_range ≡ result }
     {
@@ -136,6 +138,7 @@ impl<'a> Given<'a> {
     }
 
     // Returns the stops that `--rehearse` gives, or `None` if the option is missing or its value can't be parsed.
+    #[tactic(auto, using(crate::proofs::Wrong::viewed_read))]
     fn parsed_stops(&self) -> Option<ArrayVec<u64, MOST_STOPS>>
         ensures { option_and_then stops_of (texts_of self.now).rehearse ≡ option_map (λ stops. stops.items) result }
     {

@@ -1,9 +1,7 @@
 use Rattle.std.proofs.Common.{arith}
 use Rattle.std.proofs.lemmas.Bool.Decides.{nat_tests}
 use Rattle.nor_words.specs.Given.{texts_of}
-use Rattle.nor_words.specs.Stops.{stops_of}
-use Rattle.nor_words.specs.Text.{reads}
-use Rattle.nor_words.proofs.Wrong.{wrong-stops, none-wrong}
+use Rattle.nor_words.proofs.Wrong.{wrong-stops}
 use Rattle.nor_words.proofs.given.Given.has_wrong_stops.Goals as goal
 
 pub returns-then-is_none : goal.returns-then-is_none
@@ -17,7 +15,3 @@ returns-else-is_none c =
     let wrong = wrong-stops (λ stops. stops.items) c.args.self.now.rehearse (texts_of c.args.self.now).programmer
     c.parsed_stops.result c.parsed_stops.ensures in
     grind (arith, nat_tests)
-
-pub returns-else-is_some : goal.returns-else-is_some
-returns-else-is_some c =
-    grind (arith, nat_tests, none-wrong (reads stops_of) c.args.self.now.rehearse)
