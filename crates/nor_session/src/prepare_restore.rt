@@ -11,6 +11,7 @@ ghost use Rattle.nor_session.specs.PrepareRestore.{IsDeviceRefusal, FitsIdentity
 ghost use Rattle.nor_session.specs.PrepareRestore.{AcceptsDevice, RefusesDevice, PlansSaved, ScansSaved};
 ghost use Rattle.nor_session.specs.PrepareRestore.{AreChanges, MakesChanges, RefusesShut, IsPreparedRestore, PrepareErrors};
 
+use crate::sources::as_sector;
 use nor_apply::Changes;
 use nor_driver::read_sector;
 use nor_geometry::SECTOR_LEN;
@@ -135,7 +136,7 @@ fn scan_saved<B: Bus>(bus: &mut B, journal: &Journal<'_>) -> Result<Scanned, Sto
     let mut bytes = [0; SECTOR_LEN as usize];
     for i in 0..journal.count() {
         let (sector, saved) = journal.sector(i);
-        let plan = plan_saved(bus, sector, saved, &mut bytes)?;
+        let plan = plan_saved(bus, sector, as_sector(saved), &mut bytes)?;
         scanned.mark(sector, plan);
     }
     Ok(scanned)
@@ -145,11 +146,10 @@ fn scan_saved<B: Bus>(bus: &mut B, journal: &Journal<'_>) -> Result<Scanned, Sto
 fn plan_saved<B: Bus>(
     bus: &mut B,
     sector: u32,
-    saved: &[u8],
+    saved: &[u8; SECTOR_LEN as usize],
     bytes: &mut [u8; SECTOR_LEN as usize],
 ) -> Result<SectorPlan, Stopped>
-    requires reachable { sector < 4096 }
-    requires whole { length saved.now ≡ 4096 }
+    requires { sector < 4096 }
     ensures leaves { OnlyReads 1 (B.state bus.old) (B.state bus.new) }
     ensures plans { IfOk result (PlansSaved sector saved.now bytes.new (B.state bus.old) (B.state bus.new)) }
     ensures stops { OnErr result (HasStopped 1 (B.state bus.old) (B.state bus.new)) }
