@@ -7,7 +7,7 @@ import sys
 import tempfile
 
 from sources import TOP
-from texts import cells_of, finish, help_text, manual, only, printed, printed_by, quoted, read, rows_of, running
+from texts import cells_of, differs, finish, help_text, manual, only, printed, printed_by, quoted, read, rows_of, running
 from texts import same, strings, tags, tokens
 
 OPTION = r"(?<![^\s(`|])--?[a-zA-Z][-a-z]*"
@@ -90,7 +90,8 @@ def take_chips(told, page, program):
 
 
 def take_versions(told):
-    """Compares the version, which the program prints in its help, and the kit, if one is installed."""
+    """Compares the version, which the program prints in its help, and the kit, if one is installed. README names the
+    kits with which the gate passed; they have one logic."""
     makefile = printed_by("make", "-s", "--no-print-directory", "--eval", "told: ; @echo $(VERSION)", "told")
     same("version", parser=re.findall(r"(?m)^flashnor ([\d.]+):", "\n".join(strings("nor_words/src/options.rt"))),
          help=re.findall(r"\Aflashnor ([^:]*):", told), Makefile=[makefile.strip()],
@@ -100,7 +101,10 @@ def take_versions(told):
         kit = printed_by("rt", "version")
     except FileNotFoundError:
         return
-    same("kit", rt=[kit.strip()], README=re.findall(r"rattle-kit-[^`]*", read("README.md")))
+    known = read("README.md")
+    same("the kit's logic", rt=re.findall(r"logic (\w+)", kit), README=re.findall(r"logic `(\w+)`", known))
+    if not set(re.findall(r"rattle-kit-\w+", kit)) <= set(re.findall(r"rattle-kit-\w+", known)):
+        differs(f"kit: README doesn't name '{kit.strip()}'")
 
 
 def main():

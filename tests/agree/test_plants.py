@@ -275,7 +275,9 @@ PLANTS = {
 
 if shutil.which("rt"):
     PLANTS["another kit"] = (
-        WORDS, "README.md", r"rattle-kit-\w+", "rattle-kit-none", "kit: README has 'rattle-kit-none .*', rt hasn't")
+        WORDS, "README.md", r"`rattle-kit-\w+`.*logic", "`rattle-kit-none`, logic", "README doesn't name 'rattle-kit-")
+    PLANTS["a kit with another logic"] = (
+        WORDS, "README.md", r"logic `\w+`", "logic `none`", "the kit's logic: README has 'none', rt hasn't")
 
 # Changes of the sources' layout that change no meaning: the file, the pattern, and the text that replaces the match.
 HARMLESS = {

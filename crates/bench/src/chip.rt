@@ -8,7 +8,7 @@ use nor_driver::{Erase, EraseBlock, erase, program_page, read_sector};
 use std::alloc::{AllocError, Global};
 use std::rt::Clock;
 
-/// The size of a W25Q128FV in bytes. It has `MOST_SECTORS` sectors.
+/// The size of a W25Q128FV in bytes. The chip has `MOST_SECTORS` sectors.
 const CHIP: usize = 16777216;
 
 const PAGES: u32 = 65536;
@@ -36,9 +36,9 @@ const PROGRAMS: Measurement = Measurement {
     rounds: 301,
 };
 
-/// Prints the time of the simulated chip's reads, erases and programs, each as a ratio to a reference that copies 16
-/// MiB sector by sector. The reference for reads copies each sector of memory to a buffer. The reference for erases and
-/// programs copies a buffer to each sector. Returns a checksum of all results.
+/// Prints the times of the simulated chip's reads, erases and programs, each as a ratio to the time of a reference that
+/// copies 16 MiB sector by sector. The reference for reads copies each sector of memory to a buffer. The reference for
+/// erases and programs copies a buffer to each sector. Returns a checksum of all results.
 pub fn measure<R: Clock + Print + AllocGlobal>(rt: &R) -> Result<u64, Fault> {
     let mut bus = open_bus(rt.alloc())?;
     let mut memory = erased_bytes(rt.alloc())?;

@@ -10,7 +10,7 @@ use std::io;
 /// The reason why a run has no result.
 #[derive(Debug, Drop)]
 pub enum Fault {
-    /// The clock can't be read, or a line can't be printed.
+    /// The arguments or the clock can't be read, or a line can't be printed.
     System(io::Error),
     /// The program is out of memory.
     Memory,

@@ -11,7 +11,7 @@ use sha2::{Digest, Sha256};
 use std::alloc::Global;
 use std::rt::Clock;
 
-/// The size of the chip in bytes. It has `MOST_SECTORS` sectors.
+/// The size of the chip in bytes. The chip has `MOST_SECTORS` sectors.
 const CHIP: u32 = 16777216;
 
 const WRITING: Measurement = Measurement {
@@ -28,8 +28,8 @@ const READING: Measurement = Measurement {
     rounds: 15,
 };
 
-/// Prints the times of writing and of reading the journal, as ratios to a SHA-256 digest of all its bytes. Returns a
-/// checksum of all results.
+/// Prints the times of writing and of reading the journal, each as a ratio to the time of a SHA-256 digest of all its
+/// bytes. Returns a checksum of all results.
 pub fn measure<R: Clock + Print + AllocGlobal>(rt: &R) -> Result<u64, Fault> {
     let alloc = rt.alloc();
     let mut vault = MemVault::new(alloc);

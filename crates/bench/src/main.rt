@@ -1,5 +1,6 @@
 //! Measures parts of this project. Each measurement prints a line with the ratio of a piece of work's time to that of a
-//! simpler reference, measured in the same run, and the greatest ratio that is acceptable.
+//! simpler reference, measured in the same run, and the greatest ratio that is acceptable. A greater ratio is marked in
+//! the line.
 //!
 //! - `main.rt`: runs the measurement that the argument selects
 //! - `words.rt`: the arguments

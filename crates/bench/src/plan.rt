@@ -24,8 +24,8 @@ const BOUNDS: Measurement = Measurement {
     rounds: 10001,
 };
 
-/// Prints the time of `differs` and of `bounds`, each as a ratio to copies of the same number of sectors. Returns a
-/// checksum of all results.
+/// Prints the times of `differs` and of `bounds`, each as a ratio to the time of copies of the same number of sectors.
+/// Returns a checksum of all results.
 pub fn measure<R: Clock + Print + AllocGlobal>(rt: &R) -> Result<u64, Fault> {
     let mut copies = Copies(Sectors::new(rt.alloc())?);
     let mut work = Differs(Sectors::new(rt.alloc())?);

@@ -25,8 +25,8 @@ const VERIFYING: Measurement = Measurement {
     rounds: 31,
 };
 
-/// Prints the times of reading out and of verifying, as ratios to a reference that copies the same number of bytes into
-/// newly allocated memory, as reading out does. Returns a checksum of all results.
+/// Prints the times of reading out and of verifying, each as a ratio to the time of a reference. The reference copies
+/// the same number of bytes into newly allocated memory, as reading out does. Returns a checksum of all results.
 pub fn measure<R: Clock + Print + AllocGlobal>(rt: &R) -> Result<u64, Fault> {
     let alloc = rt.alloc();
     let image = bytes(alloc)?;

@@ -50,8 +50,8 @@ const TOUCHING: Measurement = Measurement {
     rounds: 15,
 };
 
-/// Prints the times of three sessions and a restore, each as a ratio to a digest of the journal or a copy of the chip.
-/// Returns a checksum of all results.
+/// Prints the times of three sessions and a restore, each as a ratio to the time of a SHA-256 digest of the journal or
+/// of a copy of the chip. Returns a checksum of all results.
 pub fn measure<R: Clock + Print + AllocGlobal>(rt: &R) -> Result<u64, Fault> {
     let alloc = rt.alloc();
     let image = scattered(alloc)?;
@@ -106,7 +106,7 @@ fn chip_of(bytes: Vec<u8>) -> Result<SimBus, Fault> {
     Ok(bus)
 }
 
-// Returns the journal of a session that erased a chip with these contents.
+// Returns a vault with the journal of a session that erased a chip with these contents.
 fn saved(alloc: Global, bytes: &[u8]) -> Result<MemVault, Fault> {
     let mut bus = chip_of(bytes.to_vec(alloc)?)?;
     let mut image = vec![in alloc; 0; CHIP]?;

@@ -84,7 +84,8 @@ pub fn answer<R: Print>(rt: &R) -> Result<(), Fault> {
 }
 
 /// Times `work` and its reference `plain` in turn, each `measurement.rounds` times, and prints the ratio of their
-/// shortest times. A slow moment of the machine then affects both. Returns the sum of all their results, modulo 2^64.
+/// shortest times. Since the two alternate, a slow phase of the machine affects both. Returns the sum of all their
+/// results, modulo 2^64.
 pub fn compare<R: Clock + Print, W: Work, P: Work>(
     rt: &R,
     measurement: Measurement,

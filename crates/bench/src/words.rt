@@ -23,8 +23,8 @@ pub enum Request {
     Unknown,
 }
 
-/// Returns the job that the arguments `words` select. They don't include the program's name. Returns `Request::Unknown`
-/// for more than one argument.
+/// Returns the job that the arguments `words` select, without the program's name. Returns `Request::Usage` without an
+/// argument, and `Request::Unknown` for more than one argument or one that selects no job.
 pub fn request_of(words: &[String]) -> Request
     ensures { result ≡ request_of (map string_bytes words.now) }
 {

@@ -38,7 +38,6 @@ use Rattle.flashnor.proofs.Traced.{reads_before}
 
 -- ---- the chip and the journal after the call
 
--- a journal in a file is kept while another file is written
 pub kept_after : {file : Text} {vault : VaultState} {s2 s3 : FilesState} → KeepsFile file s2 s3 → IsKeptFile file vault s2
     → IsKeptFile file vault s3
 kept_after stays kept = record {
@@ -47,7 +46,7 @@ kept_after stays kept = record {
   settled = λ is. settled_after stays (kept.settled is);
 }
 
--- a change leaves the chip's configuration as it was
+-- A change that isn't a rehearsal leaves the chip's configuration as it was.
 setup_kept : {request : Request} {image : List ℕ} {old new : BusState} {after : FilesState}
     {outcome : Result Answer Refusal} (before : View) (kept : JournalUse) → keeps_journal kept ≡ true
     → HasMadeChange request image kept old new before after outcome → new.chip.config ≡ old.chip.config
@@ -66,7 +65,7 @@ setup_done (task.Change change) amid after programmer named old new outcome puts
 setup_done (task.Restore journal) amid after programmer named old new outcome puts does = does.restored.config
 setup_done _ amid after programmer named old new outcome puts does = absurd cc
 
--- a journal is kept while the chip's files are written
+-- The result of a call still holds after the chip's files are written, because the journal's file is none of them.
 module _ (programmer : Programmer) (s2 s3 : FilesState) (nature : s3.view.nature ≡ s2.view.nature)
     (last : is_lawful s2.view ≡ true → StayApart programmer.image programmer.status s2 s3) where
   kept_in_after : (kept : JournalUse) (vault vault' : VaultState)

@@ -18,7 +18,7 @@ use Rattle.flashnor.proofs.Stays.{known_at_rest}
 
 -- ---- what a run reads of a file is what may be left of it
 
--- a file of exactly `len` bytes is read completely
+-- If a read of at most `len` + 1 bytes returns exactly `len` bytes, these are the whole file.
 whole_seen : (len : ℕ) (seen found : Found) → found ≡ option_map (take (len + 1)) seen
     → IfSome found (λ all. length all ≡ len) → found ≡ seen
 whole_seen len seen found is whole = grind (arith, take_all, length-take)
@@ -35,7 +35,6 @@ whole_of : (found : Found) (n m : ℕ) → n ≡ m → IsSomeAnd found (λ all. 
 whole_of None n m same many = absurd many
 whole_of (Some all) n m same many = many ∙ same
 
--- if no file is named, no contents are found
 pub none_found : (view : View) (name : Option (Bor Text)) (len : ℕ) (found : Found) → IsFileFound view name len found
     → name ≡ None → found ≡ None
 none_found view None len found is none = is
@@ -43,8 +42,7 @@ none_found view (Some name) len found is none = absurd cc
 
 -- ---- a file that is moved aside
 
--- a file that a run found keeps its length; a file that the run did not find, and that was missing at first, may be
--- moved aside again
+-- the case of `pick` in which the file was missing at first and was moved aside
 aside_of : (other : Bor Text) (was found left : Found) (len : ℕ) (mid new : FilesState) → AreAtRest mid
     → ((name : Name) → new.may_leave name (new.view.seen name)) → IsFileFound mid.view (Some other) len found
     → IfSome found (λ all. length all ≡ len) → LeavesAsLong (Some other) mid new → (was ≡ None) × (left ≡ None)
@@ -60,7 +58,8 @@ aside_of other was (Some all) left len mid new rest unsent is whole long aside =
       inr aside,
     )
 
--- the contents found are contents that a run may have left, or there are none if there was no file at first
+-- Both `left` and `kept` may be found of the files `new`: `left` if the file was as `was` at first, `kept` if it was as
+-- `found` before the restore. The two are equal, or the file was missing at first and `left` is `None`.
 pub pick : (one other : Option (Bor Text)) (was found left : Found) (len : ℕ) (mid new : FilesState) → NameOne one other
     → AreAtRest mid → ((name : Name) → new.may_leave name (new.view.seen name)) → IsFileFound mid.view other len found
     → IfSome found (λ all. length all ≡ len) → LeavesAsLong other mid new → MayFind one was left new
@@ -75,8 +74,8 @@ pick (Some one) (Some other) was found left len mid new same rest unsent is whol
 pick None (Some other) was found left len mid new same rest unsent is whole long can fits = absurd same
 pick (Some one) None was found left len mid new same rest unsent is whole long can fits = absurd same
 
--- A chip is restorable if each of its bytes is that of a restorable chip or of the original chip, and its non-volatile
--- status bits are those of one of them.
+-- An idle chip with the original chip's configuration is restorable, if each byte and the non-volatile status bits are
+-- those of a restorable chip or of the original chip.
 pub mixed_back : (journal : Journal) (first : Chip) (state later : BusState) → CanRestore journal first state
     → later.chip.config ≡ first.config
     → ((a : ℕ) → (later.chip.bytes a ≡ state.chip.bytes a) ⊎ (later.chip.bytes a ≡ first.bytes a))

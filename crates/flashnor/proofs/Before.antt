@@ -1,4 +1,4 @@
--- The files after a run that ends before its call, or whose task does not change the chip.
+-- The files after a run that ends before its call to the engine, or whose task does not change the chip.
 use Rattle.std.proofs.Common.{◌≡◌, ◌∙◌, Option, None, Some, arith, false, inl, inr, refl, subst, sym, true, true≢false}
 use Rattle.std.specs.Borrow.{Bor}
 use Rattle.nor_files.specs.Calls.{LeaveNoMore, LeavesNoMore, LeavesOrEmpty}
@@ -19,7 +19,6 @@ use Rattle.nor_lines.specs.Tasks.{journal_of, made_by}
 use Rattle.flashnor.proofs.Stays.{StayApart, apart, known_after, known_at_rest, not_after, not_that}
 use Rattle.nor_lines.proofs.Lent.{stays_same}
 
--- a promise about all files holds for the file that is named, if one is
 pub leaves_of : (old new : FilesState) (name : Option (Bor Text)) → LeaveNoMore old new → LeavesNoMoreOf name old new
 leaves_of old new None leave = tt
 leaves_of old new (Some name) leave = leave name.now
@@ -96,7 +95,7 @@ module _ (programmer : Programmer) (old new : FilesState) (image : LeavesNoMoreO
   })
   keeps_unmade _ unsent leave source empty = unsent refl
 
--- a run that changed no file keeps what its task must keep of the files
+-- A run that changed no file keeps the promise of its task about the files.
 pub keeps_still : (files : FilesState) (programmer : Programmer) (done : Task) → KeepsFiles programmer done files files
 keeps_still files programmer done =
     let same = λ (name : Name). stays_same name files in
@@ -109,7 +108,7 @@ keeps_still files programmer done =
     })
     (λ any _ _. (same any).leaves) (λ journal _. (same journal.now).leaves) (λ file _ left can. inl can)
 
--- a task that creates a journal changes the chip
+-- A task that creates a journal writes the chip back.
 puts_journal : (done : Task) (file : Bor Text) → journal_by done ≡ Some file → puts_back done ≡ true
 puts_journal done file is = grind arith
 
@@ -133,7 +132,8 @@ keeps_existing job old new file is own stay =
 
 module _ (old mid new : FilesState) (rest : AreAtRest old) (nature : mid.view.nature ≡ old.view.nature)
     (known : KnownStay old mid) (first : LeaveNoMore old mid) where
-  -- if creating a journal fails, its file is left as it was, or empty if it was missing
+  -- `MakesNothing`, claimed for the files after the chip's files were locked, gives `LeavesOrEmpty` for the files at
+  -- the start.
   or_empty : (named : Option (Bor Text)) (file : Bor Text) → named ≡ Some file → MakesNothing named mid new
       → LeavesOrEmpty file.now old new
   or_empty named file is makes left can =
@@ -144,7 +144,8 @@ module _ (old mid new : FilesState) (rest : AreAtRest old) (nature : mid.view.na
         | inr empty ↦ inr (sym same ∙ empty.0, empty.1)
       ]
 
-  -- the call was not made, because of a fault of its trace or of a file of its task
+  -- The promise of a task that writes the chip back holds if its call was not made, because of a fault of the trace or
+  -- of the task's files.
   pub keeps_before : (job : ChipJob) → FilesHaveOneRole old.view.nature job → puts_back job.task ≡ true
       → StayApart job.programmer.trace (made_by job.task) mid new → MakesNothing (journal_by job.task) mid new
       → KeepsFiles job.programmer job.task old new

@@ -39,7 +39,6 @@ pub does_change : (view : View) (after : FilesState) (chip : Emulated) (named : 
 does_change view after chip named change request ranges image old new outcome same included buffer changed =
     record { ranges = ranges; included = included; image = image; buffer = buffer; changed = rw same at changed }
 
--- the result of reading the chip into a file, in the ranges of a layout
 pub does_read : (view after : View) (named : Option ChipName) (file : Text) (regions : Option Regions)
     (ranges : Option (List Span)) (old new : BusState) (result : Result (Result Answer Refusal) Fault)
     → AreRangesOf view regions ranges → IfOk result (HasReadOut named file ranges old new after)
@@ -48,19 +47,18 @@ does_read view after named file regions ranges old new (Ok outcome) included rea
     record { ranges = ranges; included = included; read = read }
 does_read view after named file regions ranges old new (Err fault) included read = tt
 
--- after errors 1 to 11 the chip is as before
 stays : (old new : BusState) (refusal : Refusal)
     → HonestErrors (most_of 4096) (λ refusal. refusal_number refusal ≤ 11) old new refusal → refusal_number refusal ≤ 11
     → IsSame old.chip new.chip
 stays old new refusal errors early = grind arith
 
--- what `HasKeptChange` says of a session on a modelled bus
+-- `HasKeptChange` for a session on a modelled bus that is steady or whose chip is idle
 module _ (request : Request) (image : List ℕ) (old new : BusState) (vault vault' : VaultState)
     (modelled : IsModelled old) (is : IsChip old.chip) (steady_or_idle : IsSteadyOrIdle old) where
   same : (vault'.sealed ≡ false → OnlyReads 69638 old new) → vault'.sealed ≡ false → IsSame old.chip new.chip
   same only_reads unsealed = (((only_reads unsealed).honest_reads modelled.honest).stays.steady_or_idle steady_or_idle)
 
-  -- `HasKeptChange` holds for a session that succeeded, and for one that returned an error
+  -- `HasKeptChange` for a session with either outcome: an answer, or an error
   kept : (vault'.sealed ≡ false → OnlyReads 69638 old new)
       → (vault'.sealed ≡ true → CanBeUndone request image old new vault') → (outcome : Result Answer Refusal)
       → MatchResult outcome (ReportsChange request image old new) (FailsSession request image old new vault vault')
@@ -92,7 +90,7 @@ module _ (request : Request) (image : List ℕ) (old new : BusState) (vault vaul
     unused = always.answers.unused;
   })) (λ ok. cc)
 
--- a session with its journal in a file, as a change of a job
+-- A session with its journal in a file is a change of a job (`HasMadeChange`), by what `session_in_file` promises.
 pub made_in_file : (request : Request) (image : List ℕ) (file : Bor Text) (before : View) (after : FilesState)
     (old new : BusState) (result : Result (Result Answer Refusal) Fault) → IsModelled old → IsChip old.chip
     → IsSteadyOrIdle old → IfOk result (HasRunInFile request image file.now before after old new)
@@ -108,7 +106,6 @@ made_in_file request image file before after old new (Ok outcome) modelled is st
 }
 made_in_file request image file before after old new (Err fault) modelled is steady_or_idle made = tt
 
--- a journal's file that could not be created: nothing of it may be left, or an empty file
 pub unmade_file : (name : Text) (old new : FilesState) (result : Result (Result Answer Refusal) Fault)
     → OnErr result (BorrowsNone name old new)
     → OnErr result (IsKnownFile name old.view → LeavesOrEmpty name old new)

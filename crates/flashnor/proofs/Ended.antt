@@ -62,7 +62,7 @@ module _ (files after : FilesState) (on_chip : ChipJob) (unwritten : Unwritten) 
 
 -- ---- what the files hold
 
--- `HoldsResult` claims nothing for a call that returned an error
+-- `HoldsResult` needs a proof only for a call that returned an answer, since it claims nothing after an error.
 pub holds_told : (on_chip : ChipJob) (unwritten : Unwritten) (outcome : Result Answer Refusal)
     (returned : Result Answer Fault) (old new : FilesState) → IsReportedAs outcome returned
     → ((found : Answer) → outcome ≡ Ok found → unwritten ≡ all_written
@@ -100,7 +100,7 @@ holds_looked on_chip (Err fault) old new only_reads = tt
 -- ---- runs
 
 module _ (files after : FilesState) (words : List Text) where
-  -- a run without a fault succeeds
+  -- A run that wrote all files and printed its answer or help succeeds.
   succeeds_by : (outcome : Result Answer Fault) (out out' : Option (List ℕ))
       → AnswersArguments files after words outcome all_written → PrintsAnswer outcome out out'
       → RunSucceeds files after words out out'
@@ -136,7 +136,7 @@ module _ (files after : FilesState) (words : List Text) where
       prints = prints;
     }
 
--- a run that had no memory for its arguments changed no file
+-- `IsStatus` holds for a run that had no memory for its arguments: it changes no file, and prints that fault.
 pub is_without_memory : (files : FilesState) (words : List Text) (out out' err err' : Option (List ℕ)) (ending : Ending)
     → HasPrinted (Err (end.Usage usage.Memory)) all_written out out' err err' ending → IsStatus files files words out out' err err' ending
 is_without_memory files words out out' err err' ending prints =

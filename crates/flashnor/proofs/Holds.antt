@@ -1,4 +1,5 @@
--- The files after the chip's files were read.
+-- Files of the chip that were locked and read: the absence of a missing file is durable, and a fault of the second file
+-- is one that the files had at the start.
 use Rattle.std.proofs.Common.{◌≡◌, ◌+◌, ◌∙◌, ℕ, Bool, Option, None, Some, Ok, IsSomeAnd, ap, arith, false, inl, inr}
 use Rattle.std.proofs.Common.{is_some, option_map, refl, sym, take}
 use Rattle.std.specs.Borrow.{Bor}

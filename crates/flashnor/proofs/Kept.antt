@@ -67,7 +67,8 @@ module _ (job : ChipJob) (held : Held) (s0 s1 s2 : FilesState) (bus bus' : BusSt
   status_many : length held.content.status ≡ 2
   status_many = as_many s0.view job.programmer.status 2 _ _ read.status refl
 
-  -- a file that was locked and read is ready to be written, unless it is the trace or the file that the task creates
+  -- A file of the chip is ready to be written with as many bytes as were read from it. Its name is apart from the
+  -- trace's and from that of the file that the task creates.
   ready : (name : Option (Bor Text)) (there : Bool) (had put : List ℕ)
       → AreTwo s0.view.nature name job.programmer.trace → AreTwo s0.view.nature name (made_by job.task)
       → MakesDurable name (was there had) s1 → length had ≡ length put
@@ -82,7 +83,7 @@ module _ (job : ChipJob) (held : Held) (s0 s1 s2 : FilesState) (bus bus' : BusSt
         as_many = many;
       }
 
-  -- both files are ready to be written with the chip after the call
+  -- both files of the chip are ready to be written with the chip after the call
   pub ready_both : AreReady job.programmer held.image_there held.status_there held.content.bytes.items
       held.content.status bus'.chip s2
   ready_both = record {
@@ -113,7 +114,8 @@ module _ (job : ChipJob) (held : Held) (s0 s1 s2 : FilesState) (bus bus' : BusSt
         as_long job.programmer.status held.status_there _ _ s0 s1 s3 is_touched_protected.stay is_touched_protected.status status_many
         is_amid.status
 
-    -- each byte of a chip that is opened from what may be left is that of the old or the new chip
+    -- A chip that a later run may open is between the old and the new one (`IsWrittenOver`), even if a file that was
+    -- missing at first was moved aside.
     over : (image status : Found) (later : BusState) → MayFind job.programmer.image read.bytes.found image s3
         → MayFind job.programmer.status read.status.found status s3 → IsOpenedFrom image status bus.chip.config later.chip
         → IsWrittenOver bus.chip bus'.chip later.chip
@@ -153,13 +155,11 @@ module _ (job : ChipJob) (held : Held) (s0 s1 s2 : FilesState) (bus bus' : BusSt
           idle = from.idle;
         }
 
-    -- all files except the trace and the created one stay from the locking of the chip's files to the end of the call
     call_stays : (made : Option (Bor Text)) → StayApart job.programmer.trace made s1 s2 → (name : Text)
         → IsNot s0.view.nature job.programmer.trace name → IsNot s0.view.nature made name → KeepsFile name s1 s2
     call_stays made stay' name traced other =
         stay' name (not_after job.programmer.trace name nature1 traced) (not_after made name nature1 other)
 
-    -- all files except the chip's stay from the end of the call on
     last_stays : (name : Text) → IsNot s0.view.nature job.programmer.image name
         → IsNot s0.view.nature job.programmer.status name → KeepsFile name s2 s3
     last_stays name image status =
@@ -179,7 +179,7 @@ module _ (job : ChipJob) (held : Held) (s0 s1 s2 : FilesState) (bus bus' : BusSt
         stays_on (is_touched_protected.stay name)
         (stays_on (call_stays made stay' name none.trace other) (last_stays name none.image none.status))
 
-    -- a sealed journal can restore the original chip, and is durable in its file
+    -- After a change that sealed its vault, the journal in its file can restore the original chip, and is durable.
     leads_kept : {request : Request} {image : List ℕ} {outcome : Result Answer Refusal} (file : Bor Text)
         → (made : HasMadeChange request image (uses.Journal file) bus bus' amid s2 outcome)
         → IsKeptFile file.now made.vault' s3 → made.vault'.sealed ≡ true

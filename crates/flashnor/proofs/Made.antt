@@ -14,7 +14,8 @@ use Rattle.nor_lines.proofs.Lent.{apart_after, lawful_after, stays_on}
 
 -- ---- calls on one file
 
--- The effect of calls on one file: the nature of the files and all other files stay.
+-- The effect of calls on one file: the nature of the files stays. On lawful files, each file whose name is apart from
+-- this one is as it was, and a vault or log in this file is borrowed if and only if it was before.
 pub record WorkOn (name : Name) (old new : FilesState) : Type 0 where
   pub nature : new.view.nature ≡ old.view.nature
   pub out : is_lawful old.view ≡ true → new.view.out name ≡ old.view.out name
@@ -49,7 +50,7 @@ with_its_length len has is =
     let none : len - length has ≡ 0 = omega arith in
     rw (take_all len has (omega arith), none) (append-nil has)
 
--- bytes of the same length overwrite everything
+-- bytes as many as `had` has overwrite all of `had`
 all_over : (had bytes : List ℕ) → length had ≡ length bytes → written_over bytes had ≡ bytes
 all_over had bytes as_many = rw (drop_all (length bytes) had (omega arith)) (append-nil bytes)
 
@@ -67,7 +68,7 @@ module _ {T E : Type 0} {name : Name} {had bytes : List ℕ} {a b : FilesState} 
         (has, same, rw (same_Some first had (ready.settled.leaves (Some first) was)) at mix)
   ]
 
-  -- what a host crash may leave of the file while its length is set
+  -- what a host crash may leave of an overwritten file after its length was set, or setting it failed
   pub amid_cut : {result : Result T E} {c : FilesState} → SetsLength name (length bytes) result b c
       → LeavesFileAmid name true had bytes c
   amid_cut sets left can = elim (sets.leaves left can) [
@@ -80,7 +81,7 @@ module _ {T E : Type 0} {name : Name} {had bytes : List ℕ} {a b : FilesState} 
         (has, is ∙ ap Some uncut, mix)
   ]
 
-  -- what a host crash may leave of the file after it was synced, or its sync failed
+  -- what a host crash may leave of an overwritten file after it was synced, or its sync failed
   pub amid_over : {two : T} {c : FilesState} (d : FilesState) (result : Result T E)
       → SetsLength {E = E} name (length bytes) (Ok two) b c → Syncs name result c d
       → LeavesFileAmid name true had bytes d
@@ -102,7 +103,7 @@ module _ {T E : Type 0} {name : Name} {had bytes : List ℕ} {a b : FilesState} 
 abbrev pub blank : List ℕ → List ℕ
 blank bytes = with_length (length bytes + 1) []
 
--- the contents of a new file after it is overwritten
+-- the contents of a new file after it is overwritten with `bytes`: these, and one byte of the value 0
 abbrev pub filled : List ℕ → List ℕ
 filled bytes = written_over bytes (blank bytes)
 
@@ -131,8 +132,9 @@ longer bytes content more same = absurd (omega (arith, more, same))
 
 -- ---- states of the file
 
--- Holds after calls on a file that was ready to be created with these bytes. The last call may have failed. If it
--- succeeded, the file has this content.
+-- Holds after calls on a file, if the last one had this result. If the file was ready to be created with `bytes`
+-- (`IsReadyFile`), a host crash leaves only what `IsAmid` allows, and after success the file has this content. Content
+-- as long as `bytes` is `bytes`.
 pub record IsChanged {T E : Type 0} (name : Name) (bytes content : List ℕ) (result : Result T E)
     (old new : FilesState) : Type 0 where
   pub work : WorkOn name old new
@@ -141,7 +143,8 @@ pub record IsChanged {T E : Type 0} (name : Name) (bytes content : List ℕ) (re
   pub seen : (one : T) → result ≡ Ok one → (had : List ℕ) → IsReadyFile name false had bytes old
       → new.view.seen name ≡ Some content
 
--- Holds if the file exists with this content, and a host crash leaves either this content or no file.
+-- Holds after calls on a file that all succeeded. If the file was ready to be created with `bytes` (`IsReadyFile`), it
+-- has this content, and a host crash leaves this content or no file. Content as long as `bytes` is `bytes`.
 pub record IsNew (name : Name) (bytes content : List ℕ) (old new : FilesState) : Type 0 where
   pub work : WorkOn name old new
   pub whole : length content ≡ length bytes → content ≡ bytes
@@ -151,7 +154,7 @@ pub record IsNew (name : Name) (bytes content : List ℕ) (old new : FilesState)
 
 -- ---- the calls in sequence
 
--- a call that creates the file of this name, sets its length, overwrites it or syncs it
+-- the clauses of `Store` for a call that creates the file of this name, sets its length, overwrites it or syncs it
 module _ {T E : Type 0} (F : Type 0) (name : Name) (result : Result T E) (old new : FilesState) where
   abbrev Keeps : Type 0
   Keeps = new.view.nature ≡ old.view.nature
@@ -195,7 +198,6 @@ made {bytes = bytes} make = record {
   ];
 }
 
--- a host crash may leave nothing of a new file, or contents that are complete if their length is right
 of_new : {name : Name} {bytes content : List ℕ} {old new : FilesState} → IsNew name bytes content old new
     → (had : List ℕ) → IsReadyFile name false had bytes old → LeavesFileAmid name false had bytes new
 of_new {content = content} is had ready left can = elim (is.leaves had ready left can) [
@@ -275,7 +277,7 @@ module _ {T E F : Type 0} {name : Name} {bytes content : List ℕ} {one : T} {ol
     seen = λ one ok. absurd cc;
   }
 
--- the directory of the file was synced, or the sync failed
+-- the last call of `make_with`: the sync of the file's directory, which may fail
 module _ {T E : Type 0} {name : Name} {bytes : List ℕ} {old mid : FilesState} (is : IsNew name bytes bytes old mid)
     (new : FilesState) (had : List ℕ) (ready : IsReadyFile name false had bytes old) where
   pub amid_placed : (result : Result T E) → (IsKnownFile name mid.view → Places name result mid new)

@@ -14,7 +14,7 @@ use Rattle.nor_lines.specs.declared.messages.Fault.{Fault}
 use Rattle.nor_lines.specs.declared.messages.Fault.TheVariants as end
 use Rattle.flashnor.specs.declared.printing.Ending.{Ending}
 
--- if the first line is known, it and the lines after it were printed
+-- The print of a line, and after it that of other lines, append both, if the first line is known.
 pub tells_both : (line : Option (List ℕ)) (a b c : Option (List ℕ)) (others : List ℕ) → IfSome line (Appends a b) → Appends b c others
     → IfSome (option_append line (Some others)) (Appends a c)
 tells_both None a b c others one two = tt

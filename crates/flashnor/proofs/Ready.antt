@@ -1,4 +1,4 @@
--- A ready bus to the emulated chip is modelled, and identification on it finds that chip.
+-- A ready bus to the emulated chip is modelled, and an identification that succeeds on it finds that chip.
 use Rattle.std.proofs.Common.{◌≡◌, ◌∙◌, ◌<◌, ℕ, Option, None, Some, Ok, arith, inr, is_none, refl, subst, sym, true}
 use Rattle.nor_model.specs.Bus.{Allows, BusState}
 use Rattle.nor_model.specs.Chip.{Chip, IsSame}
@@ -38,7 +38,7 @@ shows programmer bus part ready shown =
     let both = sym (shown_with programmer.chip programmer.unique bus.chip.config ready.config) ∙ shown in
     cc
 
--- a probe that succeeds finds the emulated chip, with the requested name
+-- On a ready bus, a probe that succeeds finds the emulated chip, with the requested name if one is requested.
 pub finds_ready : (programmer : Programmer) (named : Option ChipName) (old new : BusState) (found : Found)
     → IsReady programmer old → IsWanted named found.name → Finds old new found
     → IsEmulatedFound named programmer.chip found
@@ -60,7 +60,8 @@ refuses_ready programmer named old new _ ready errors =
     let bad = sym (shown_with programmer.chip programmer.unique old.chip.config ready.config) ∙ errors.0 in
     cc
 
--- the bus is ready after it got its contents, then the setting for power cuts, then its number of transactions
+-- The bus that `start` returns is ready: it gets its contents first, then the setting for power cuts, then its number
+-- of transactions.
 pub opens_held : (programmer : Programmer) (content : Content) (allowed : ℕ) (first last : BusState)
     → HoldsFiles programmer content first → allowed ≡ allowance_of programmer
     → Allows allowed (record first { steady = is_none programmer.power }) last → OpensChip programmer content last

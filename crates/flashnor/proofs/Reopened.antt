@@ -1,4 +1,4 @@
--- The chip that a later run opens, from any files that may be left.
+-- The chip that a later run opens, from any contents of its files that a host crash may leave.
 use Rattle.std.proofs.Common.{◌≡◌, ◌∙◌, ℕ, Bool, List, Option, None, Some}
 use Rattle.std.proofs.Common.{◌⊎◌, IfSome, ap, arith, false, inl, inr, length, refl}
 use Rattle.std.proofs.Common.{slice_index, sym, true, unwrap_or}
@@ -16,12 +16,10 @@ use Rattle.flashnor.proofs.Shown.{size_with}
 
 -- ---- files of the right length
 
--- if no file is named, the bytes are those that stand for a missing file
 pub of_none : (view : View) (name : Option (Bor Text)) (len : ℕ) (missing bytes : List ℕ) → name ≡ None
     → AreOfFile view name len missing bytes → bytes ≡ missing
 of_none view name len missing bytes none are = grind arith
 
--- if the file that is named was not found, the bytes are those that stand for a missing file
 pub of_gone : {view : View} {name : Option (Bor Text)} {len : ℕ} {missing bytes : List ℕ}
     → (are : AreOfFile view name len missing bytes) → are.found ≡ None → bytes ≡ missing
 of_gone {missing = missing} are gone = are.same ∙ ap (λ (found : Found). unwrap_or found missing) gone
@@ -32,7 +30,7 @@ as_many view name len missing bytes are many = ap length are.same
     ∙ (elim are.found as (λ f. IfSome f (λ all. length all ≡ len) → length (unwrap_or f missing) ≡ len)
     [ None ↦ λ _. many | Some all ↦ λ whole. whole ]) are.whole
 
--- the sizes of an opened chip and of its files
+-- the size of an opened chip, and the number of the bytes that were read from its image
 module _ {programmer : Programmer} {files : FilesState} (first : Opened programmer files) where
   pub opened_size : first.bus.chip.config.size ≡ (emulated_part programmer.chip).size
   opened_size = size_with programmer.chip programmer.unique first.bus.chip.config first.opens.ready.config
@@ -43,7 +41,7 @@ module _ {programmer : Programmer} {files : FilesState} (first : Opened programm
 
 -- ---- what is opened from the files that may be left
 
--- Holds if each byte is that of `had` or that of `bytes`
+-- Holds if each byte of `has` is the byte of `had` or of `bytes` at the same position.
 abbrev pub IsEither : (had bytes has : List ℕ) → Type 0
 IsEither had bytes has = (i : ℕ) → (slice_index has i ≡ slice_index had i) ⊎ (slice_index has i ≡ slice_index bytes i)
 
@@ -56,7 +54,8 @@ left_either had bytes missing false left stood amid whole i = elim amid [
   | inr made ↦ inr (rw made.1 (ap (λ (l : List ℕ). slice_index l i) (made.2 (rw made.1 at whole))))
 ]
 
--- each byte of what a later run may find is old or new, even if a file that was missing is moved aside
+-- `over` in Kept.antt needs this for the image and for the status file. A file that was moved aside has the old bytes,
+-- too: they are what stands for a missing file.
 pub found_either : (had bytes missing : List ℕ) (named : Option (Bor Text)) (there : Bool) (files : FilesState)
     (was' left : Found) → (there ≡ false → had ≡ missing) → (named ≡ None → had ≡ missing)
     → (was' ≡ None → had ≡ missing) → LeavesAmid named there had bytes files → MayFind named was' left files
@@ -68,7 +67,8 @@ found_either had bytes missing (Some name) there files was' left stood unnamed m
   | inr aside ↦ inl (rw (aside.1, moved aside.0) refl)
 ]
 
--- if an existing file is overwritten in place with as many bytes as it has, a host crash leaves it with the same length
+-- A file of the chip that existed keeps its length. It is overwritten in place with as many bytes as it had, and a mix
+-- of the old and the new bytes has that length.
 pub as_long : (name : Option (Bor Text)) (there : Bool) (had put : List ℕ) (s0 s1 s3 : FilesState) → AllStay s0 s1
     → MakesDurable name (was there had) s1 → length had ≡ length put → LeavesAmid name there had put s3
     → LeavesAsLong name s0 s3

@@ -8,7 +8,7 @@ use Rattle.flashnor.specs.Found.{emulated_part}
 use Rattle.nor_words.specs.Programmer.{IsConfigOfEmulated}
 use Rattle.nor_words.specs.declared.programmer.Emulated.{Emulated}
 
--- an emulated chip with another unique ID is the emulated chip in all else
+-- A configuration with a given unique ID is that of the emulated chip, except for the unique ID.
 made_with : (chip : Emulated) (number : Option (List ℕ)) (config : Config) → IsConfigWith chip number config
     → (unique : List ℕ) × IsConfigOfEmulated chip (record config { unique = unique })
 made_with chip None config is = (config.unique, is)

@@ -17,26 +17,24 @@ pub not_after : {old new : Nature} (one : Option (Bor Text)) (any : Text) → ne
     → IsNot new one any
 not_after one any same not = subst (λ (n : Nature). IsNot n one any) (sym same) not
 
--- `AreTwo` with a file's name says that this name is apart from the other
 pub not_that : (nature : Nature) (one : Option (Bor Text)) (file : Bor Text) → AreTwo nature one (Some file)
     → IsNot nature one file.now
 not_that nature None file two = tt
 not_that nature (Some one) file two = apart_swapped nature file.now one.now two
 
--- Holds if each file stays whose name is apart from these two, if they are given.
+-- Holds if each file is as it was whose name is apart from `one` and `other`, as far as these are given.
 abbrev pub StayApart : (one other : Option (Bor Text)) → (old new : FilesState) → Type 0
 StayApart one other old new = (any : Name) → IsNot old.view.nature one any → IsNot old.view.nature other any
     → KeepsFile any old new
 
--- If `Holds` is true of `None`, and of each file whose name is apart from two names, it is true of a name that is apart
--- from both.
+-- `Holds` is true of `name` if it is true of `None`, and of each file whose name is apart from `one` and `other`, and
+-- if `name` is apart from both.
 pub apart : (nature : Nature) (Holds : Option (Bor Text) → Type 0) → Holds None
     → (name one other : Option (Bor Text)) → AreTwo nature name one → AreTwo nature name other
     → ((file : Bor Text) → IsNot nature one file.now → IsNot nature other file.now → Holds (Some file)) → Holds name
 apart nature Holds none None one other first second each = none
 apart nature Holds none (Some file) one other first second each = each file first second
 
--- no file is created if the files are as they were
 pub nothing_same : (name : Option (Bor Text)) (files : FilesState) → MakesNothing name files files
 nothing_same None files = tt
 nothing_same (Some name) files = λ known left can. inl can

@@ -1,4 +1,4 @@
--- The call of a job after its trace was created, in terms of the files from before that.
+-- The call of a job after its trace was created, in terms of the files before the trace was created.
 use Rattle.std.proofs.Common.{◌≡◌, ◌∙◌, ℕ, Option, None, Some, IsSomeAnd, ap, arith, inl, inr, option_map, sym, take, true}
 use Rattle.std.specs.Borrow.{Bor}
 use Rattle.nor_files.specs.Calls.{ReadsFile}
@@ -20,7 +20,6 @@ view_but trace name old mid is nature others = record {
   stays = λ any not known. let stays = others known.lawful any (rw is at not) in (stays.out, stays.seen);
 }
 
--- if creating the trace keeps all other files, `IsViewBut` holds
 pub view_apart : (trace : Option (Bor Text)) (old mid : FilesState) → mid.view.nature ≡ old.view.nature
     → (is_lawful old.view ≡ true → (name : Name) → IsNot old.view.nature trace name → KeepsFile name old mid)
     → IsViewBut trace old.view mid.view
@@ -29,7 +28,8 @@ view_apart trace old mid nature others = record {
   stays = λ any not known. let stays = others known.lawful any not in (stays.out, stays.seen);
 }
 
--- if a first step keeps all known files, and a second one all except the trace, both together keep all except the trace
+-- If a first step keeps all known files, and a second one each known file whose name is apart from the trace's, both
+-- together keep each known file whose name is apart from the trace's.
 pub view_before : (trace : Option (Bor Text)) (old mid : FilesState) (amid : View) → mid.view.nature ≡ old.view.nature
     → KnownStay old mid → IsViewBut trace mid.view amid → IsViewBut trace old.view amid
 view_before trace old mid amid nature stay but = record {
@@ -40,7 +40,8 @@ view_before trace old mid amid nature stay but = record {
       (same.0 ∙ stays.out, same.1 ∙ stays.seen);
 }
 
--- a read after the trace was created returns what a read before would have returned, if the file isn't the trace
+-- A read after the trace was created returns what a read before would have returned, if the file's name is apart from
+-- the trace's.
 pub reads_before : (trace : Option (Bor Text)) (file : Text) (most : ℕ) (found : Found) (old amid : View)
     → IsNot old.nature trace file
     → IsViewBut trace old amid → ReadsFile file most found amid → ReadsFile file most found old
@@ -49,15 +50,15 @@ reads_before trace file most found old amid not but reads = λ known.
     reads (record { lawful = lawful_after but.nature known.lawful; in_store = same.0 ∙ known.in_store })
     ∙ ap (option_map (take most)) same.1
 
--- a file other than the trace that is missing after the trace was created was missing before
+-- A file that is missing after the trace was created was missing before, if its name is apart from the trace's.
 pub missing_before : (trace : Option (Bor Text)) (file : Bor Text) (old amid : View) → IsNot old.nature trace file.now
     → IsViewBut trace old amid → IsMissing (Some file) amid → IsMissing (Some file) old
 missing_before trace file old amid not but gone = λ known.
     let same = but.stays file.now not known in
     sym same.1 ∙ gone (record { lawful = lawful_after but.nature known.lawful; in_store = same.0 ∙ known.in_store })
 
--- if a host crash may leave of a journal only what it could leave after the trace was created, that is also what it
--- could leave before the trace was created
+-- `MakesNothing` of a journal, claimed for the files after the trace was created, also holds for the files before,
+-- because creating the trace leaves the journal's file as it was.
 pub makes_nothing_before : (name : Bor Text) (journal : Option (Bor Text)) (old mid new : FilesState)
     → mid.view.nature ≡ old.view.nature → IsNot old.view.nature journal name.now
     → (is_lawful old.view ≡ true → OthersStay name.now old mid) → MakesNothing journal mid new

@@ -1,5 +1,5 @@
--- Runs that follow one another: the journal can restore the original chip after each restore, and a restore that
--- succeeds leaves it.
+-- Runs that follow one another: the journal can restore the original chip after each run that restores from it, and
+-- such a run that succeeds leaves the original chip.
 use mathlib.Core.HLevel.{is_prop→PathP}
 use Rattle.std.proofs.Common.{◌≡◌, ◌<◌, ◌∙◌, ◌++◌, ◌∷◌, [], ℕ, Bool, List, Option, None, Some, Result}
 use Rattle.std.proofs.Common.{Ok, ◌⊎◌, IfSome, IsTrue, ap, arith, drop, inl, inr, length, option_map, refl, replicate}
@@ -70,7 +70,8 @@ same_with chip (Some number) one other a b =
 
 -- ---- names
 
--- if two programmers name the same file, the same contents may be found of both
+-- If two programmers name the same file, or neither names one, a later run that may find some contents under the name
+-- of one may also find them under the name of the other (`MayFind`).
 found_one : (one other : Option (Bor Text)) (was left : Found) (files : FilesState) → NameOne one other
     → MayFind other was left files → MayFind one was left files
 found_one None None was left files same can = can
@@ -115,7 +116,8 @@ same_journal journal other n sound is reads =
 
 module _ (programmer : Programmer) (file : Text) (start : FilesState) (first : Opened programmer start)
     (other : Programmer) (same : HaveOneChip programmer other) where
-  -- if no more may be found of the files than before, the journal can still restore the original chip from them
+  -- If a host crash can leave no more of the journal than before, and no more may be found of the chip's files than
+  -- before, the journal can still restore the original chip.
   leads_less : (old new : FilesState) → LeavesNoMore file old new
       → ((found : Found) → MayFind programmer.image first.read.bytes.found found new
       → MayFind programmer.image first.read.bytes.found found old)
@@ -129,7 +131,7 @@ module _ (programmer : Programmer) (file : Text) (start : FilesState) (first : O
     back = λ i s opened can_i can_s from. leads.back i s opened (image i can_i) (status s can_s) from;
   }
 
-  -- if the image was missing at first, the original chip has the bytes that stand for a missing image
+  -- if no image was found at first, the original chip has the bytes that stand for a missing image
   first_byte : first.read.bytes.found ≡ None → (a : ℕ)
       → slice_index (replicate first.bus.chip.config.size 255) a ≡ first.bus.chip.bytes a
   first_byte none a =
@@ -148,7 +150,7 @@ module _ (programmer : Programmer) (file : Text) (start : FilesState) (first : O
         same_journal leads.journal journal 16793662 leads.sound is (reads (known_at_rest rest file)
         ∙ ap (option_map (take 16793662)) (leads.left (mid.view.seen file) (unsent file)))
 
-    -- the run opened this chip from files that may be left
+    -- the chip that a run opens from the files `mid`
     module _ (found : Opened other mid) where
       one_setup : found.bus.chip.config ≡ first.bus.chip.config
       one_setup =
@@ -178,7 +180,7 @@ module _ (programmer : Programmer) (file : Text) (start : FilesState) (first : O
           (found_one programmer.status other.status _ _ mid same.status
           (left_seen mid rest unsent other.status _ _ found.read.status.is_found found.read.status.whole _)) from)
 
-    -- contents of the files that may be found after a restore
+    -- the contents `image` and `status` of the chip's files, which a later run may find after a restore
     module _ (new : FilesState) (unsent' : (name : Name) → new.may_leave name (new.view.seen name))
         (kept : LeavesRestorable other file mid new) (image status : Found) (later : BusState)
         (can_image : MayFind programmer.image first.read.bytes.found image new)
@@ -252,7 +254,7 @@ module _ (programmer : Programmer) (file : Text) (start : FilesState) (first : O
           ])
           is.idle
 
-    -- `IsRestorableFrom` holds at every exit of a restore
+    -- `IsRestorableFrom` still holds for the files that a restore leaves at any exit.
     leads_restored : (new : FilesState) → ((name : Name) → new.may_leave name (new.view.seen name))
         → KeepsRestorable other file mid new → IsRestorableFrom file first new
     leads_restored new unsent' (inl none) =
@@ -270,7 +272,8 @@ module _ (programmer : Programmer) (file : Text) (start : FilesState) (first : O
   -- files that durably hold the original chip open to that chip
   module _ (chip : Chip) (new : FilesState) (lawful : is_lawful new.view ≡ true) (is : IsSame first.bus.chip chip)
       (put : ArePutBack other chip None None new) where
-    -- the contents left of a named file are those that were written; a file that was missing at first may be missing
+    -- What may be found of a file of the chip is what was written to it; or nothing is found, and no file is named or
+    -- the file was missing at first.
     settled : (name given : Option (Bor Text)) (was : Found) (bytes : List ℕ) (left : Found) → (given ≡ None → was ≡ None)
         → NameOne given name → ArePut name bytes None new → MayFind given was left new
         → ((was ≡ None) × (left ≡ None)) ⊎ (left ≡ Some bytes)

@@ -14,11 +14,13 @@ use Rattle.nor_lines.specs.Stored.{ArePut, AreTwo, Happens, IsNot, IsReportedOf}
 use Rattle.flashnor.proofs.Stays.{known_after, not_after, not_that, settled_after}
 use Rattle.nor_lines.proofs.Lent.{lawful_after}
 
--- Holds if, provided that the files obey their contract, each file stays whose name is apart from the given one.
+-- Holds if, provided that the files obey their contract, each file is as it was whose name is apart from the given one,
+-- if one is given.
 abbrev OthersOf : Option (Bor Text) → (old new : FilesState) → Type 0
 OthersOf name old new = is_lawful old.view ≡ true → (any : Name) → IsNot old.view.nature name any → KeepsFile any old new
 
--- Holds after the named file was written or could not be written, or if no file is named.
+-- the clauses of `put_back` for a file, if one is named; `failed` is the name that is returned if the file could not be
+-- written
 abbrev PutsBack : Option (Bor Text) → (there : Bool) → (bytes : List ℕ) → (failed : Option (Bor Text))
     → (old new : FilesState) → Type 0
 PutsBack name there bytes failed old new = record {
@@ -44,7 +46,7 @@ ready_still one (Some name) there had bytes a b two same others ready =
       as_many = ready.as_many;
     }
 
--- a write to the other file keeps the contents of this file, and the contents that may be left of it
+-- A write to the other file keeps two promises about this file: `MakesDurable` and `LeavesAmid`.
 unsent : (there : Bool) (had bytes : List ℕ) (a b c : FilesState) (one other : Option (Bor Text))
     → AreTwo a.view.nature one other → b.view.nature ≡ a.view.nature → OthersOf other b c
     → IsReadyIfNamed one there had bytes a

@@ -36,13 +36,13 @@ use Rattle.nor_lines.specs.declared.answers.Answer.TheVariants as answer
 
 -- ---- sessions
 
--- Holds if the session succeeded, and the chip is the one that the request asks for.
+-- Holds if the session succeeded, and the chip is the one that the request asks for (`IsDone`).
 abbrev pub ReportsChange : Request → List ℕ → (old new : BusState) → Answer → Type 0
 ReportsChange request image old new (answer.Done report) = IsDone request image old new report
 ReportsChange request image old new _ = ⊥
 
--- Holds after a session returned an error. After errors 1 to 11 the chip is as before. After errors 1 to 8 the vault is
--- as before, too.
+-- Holds after a session returned an error, which is one that is possible on a modelled bus (`SessionErrors`). After
+-- errors 1 to 11 the chip is as before. After errors 1 to 8 the vault is as before, too.
 pub record FailsSession (request : Request) (image : List ℕ) (old new : BusState)
     (vault vault' : VaultState) (refusal : Refusal) : Type 0 where
   pub refuses : SessionErrors request image old new vault vault' refusal
@@ -57,8 +57,8 @@ pub record IsSafe (old opened : BusState) (vault : VaultState) : Type 0 where
   pub back : vault.sealed ≡ true → vault.telling ≡ true
       → (journal : Journal) → IsContent journal → vault.bytes ≡ text journal → CanRestore journal old.chip opened
 
--- Holds for a session, with its journal in a vault, at every exit. Until the vault is sealed the chip is as before.
--- After that the chip changed only as `CanBeUndone` says, and a faithful vault holds the journal that can undo the
+-- Holds for a session, with its journal in a vault, at every exit. If the vault isn't sealed, the chip is as before. If
+-- it is sealed, the chip changed only as `CanBeUndone` says, and a faithful vault holds the journal that can undo the
 -- session. `over`: `IsSafe` holds for each chip that may be left if writing the new chip to the old chip's files is
 -- interrupted.
 pub record HasKeptChange (request : Request) (image : List ℕ) (old new : BusState) (vault vault' : VaultState)
@@ -75,17 +75,18 @@ pub record HasKeptChange (request : Request) (image : List ℕ) (old new : BusSt
 pub record IsRehearsed (request : Request) (image stops : List ℕ) (chip : Chip)
     (vault : VaultState) (rehearsal : Rehearsal) : Type 0 where
   pub counts : IsRehearsal (length stops) vault rehearsal
-  -- The session ended if it was allowed the bound of all sessions on a chip of this size; and only if its request is
-  -- accepted, and it was allowed at least a lower bound on its transactions (`CanEnd`).
+  -- The session ended if it was allowed at least the bound of all sessions on a chip of this size. It ended only if its
+  -- request is accepted, and it was allowed at least a lower bound on its transactions (`CanEnd`).
   pub ended : most_of (chip.config.size / 4096) ≤ first_allowance stops → rehearsal.ended ≡ true
   pub enough : rehearsal.ended ≡ true → CanEnd request image (first_allowance stops) chip
-  -- The journal was sealed if the identification and the scan were allowed their bound; and only if the request is
-  -- accepted, and the shortest identification and the scan were allowed. A sealed journal saves the touched sectors.
+  -- The journal was sealed if the identification and the scan were allowed at least their bound. It was sealed only if
+  -- the request is accepted, and the shortest identification and the scan were allowed. A sealed journal saves exactly
+  -- the touched sectors.
   pub fits : SealFits request (first_allowance stops) chip rehearsal.sealed
   pub accepted : rehearsal.sealed ≡ true → IsAccepted request image chip
   pub saves : rehearsal.sealed ≡ true
       → JournalSaves (header_of chip) chip.bytes (is_touched chip.bytes (wanted request image chip)) vault.bytes
-  -- The restores were run with the remaining stops in turn.
+  -- The restores were run with the stops after the first, in turn.
   pub restores : rehearsal.sealed ≡ true
       → AreRestores (sector_count (is_touched chip.bytes (wanted request image chip))) (drop 1 stops) rehearsal.restores
 
@@ -95,15 +96,16 @@ ReportsRehearsal request image stops chip vault (answer.Rehearsed rehearsal) =
     IsRehearsed request image stops chip vault rehearsal
 ReportsRehearsal request image stops chip vault _ = ⊥
 
--- Holds for a rehearsal at every exit: the chip is as before.
+-- Holds for a rehearsal at every exit: the chip is as before, and the result is a rehearsal that `IsRehearsed`
+-- describes, or an error that `RehearsalErrors` allows.
 pub record HasRehearsed (request : Request) (image stops : List ℕ) (old new : BusState) (vault vault' : VaultState)
     (outcome : Result Answer Refusal) : Type 0 where
   pub same : IsSame old.chip new.chip
   pub returned : MatchResult outcome (ReportsRehearsal request image stops old.chip vault')
       (RehearsalErrors request image old.chip vault vault')
 
--- Holds if the journal is in the file, provided that the files obey their contract; or, in a rehearsal, if it is in
--- memory, in a faithful vault.
+-- Holds if the bytes of the vault `vault'` are in the file, provided that the files obey their contract. Holds for a
+-- rehearsal if its vault, which is in memory, is faithful.
 abbrev pub IsKeptIn : JournalUse → (vault vault' : VaultState) → FilesState → Type 0
 IsKeptIn (uses.Journal file) vault vault' files =
     is_lawful files.view ≡ true → IsKeptFile file.now vault' files
@@ -130,18 +132,19 @@ pub record HasMadeChange (request : Request) (image : List ℕ) (kept : JournalU
 
 -- ---- restores
 
--- Holds if the restore succeeded, and the chip is the one that the journal saves.
+-- Holds if the restore succeeded, and the chip is the one that the journal saves (`IsRestored`).
 abbrev pub ReportsRestore : Journal → (old new : BusState) → Answer → Type 0
 ReportsRestore journal old new (answer.Done report) = IsRestored journal old new report
 ReportsRestore journal old new _ = ⊥
 
--- Holds if the identification returned this error, for the name or for another reason.
+-- Holds if the error is one that the identification, for the given name if there is one, may return on a well-behaved
+-- bus (`ProbeErrors`).
 abbrev pub ProbeRefuses : Option ChipName → (old new : BusState) → Refusal → Type 0
 ProbeRefuses named old new refusal =
     (fault : ProbeFault) × (refusal ≡ of_probe fault) × ProbeErrors named old new fault
 
 -- Holds after a restore returned an error: the restore does not accept the chip, which is then as before, or the bus
--- stopped.
+-- stopped (`RestoreErrors`).
 pub record RestoreRefuses (journal : Journal) (old new : BusState) (refusal : Refusal) : Type 0 where
   pub refuses : RestoreErrors journal old new refusal
   pub same : IsCheckedFirst refusal → IsSame old.chip new.chip

@@ -32,9 +32,9 @@ IsConfigWith chip (Some unique) config =
 abbrev pub allowance_of : Programmer → ℕ
 allowance_of programmer = unwrap_or programmer.stop 18446744073709551615
 
--- Holds for a well-behaved (`honest`) bus to the emulated chip, which is idle; nothing was sent yet. The bus carries
--- out the number of transactions that `stop=` gives (`allowance_of`). If `power=` is given, the bus is not steady: a
--- stop cuts the chip's power.
+-- Holds for a well-behaved (`honest`) bus to the emulated chip, which is idle; no modifying command was sent yet. The
+-- bus carries out the number of transactions that `stop=` gives (`allowance_of`). It is steady if and only if `power=`
+-- is not given.
 pub record IsReady (programmer : Programmer) (bus : BusState) : Type 0 where
   pub config : IsConfigWith programmer.chip programmer.unique bus.chip.config
   pub idle : bus.chip.busy ≡ 0
@@ -43,8 +43,9 @@ pub record IsReady (programmer : Programmer) (bus : BusState) : Type 0 where
   pub steady : bus.steady ≡ is_none programmer.power
   pub unsent : bus.sent ≡ []
 
--- Holds for the contents of the chip's files. FFh stands for a missing or unnamed image, clear status bytes for a
--- missing or unnamed status file.
+-- Holds for the contents that are read from the chip's files (`AreOfFile`): an image with as many bytes as the chip,
+-- and a status file of two bytes. FFh stands for a missing or unnamed image, clear status bytes for a missing or
+-- unnamed status file.
 pub record IsContentOf (view : View) (programmer : Programmer) (content : Content) : Type 0 where
   pub bytes : AreOfFile view programmer.image (emulated_part programmer.chip).size
       (replicate (emulated_part programmer.chip).size 255) content.bytes.items
@@ -56,13 +57,13 @@ pub record HasContent (content : Content) (chip : Chip) : Type 0 where
   pub kept : chip.kept ≡ kept_in content.status
   pub latch : chip.latch ≡ (slice_index content.status 0 / 2 % 2 == 1)
 
--- Holds if the bus is ready, and the chip has the contents of its files.
+-- Holds if the bus is ready (`IsReady`), and its chip has these contents.
 pub record OpensChip (programmer : Programmer) (content : Content) (bus : BusState) : Type 0 where
   pub ready : IsReady programmer bus
   pub holds : HasContent content bus.chip
 
--- Holds for a well-behaved bus to the emulated chip, which is idle and has these contents; nothing was sent yet. How
--- many transactions are allowed, and whether a stop cuts the power, is set later.
+-- Holds for a well-behaved bus to the emulated chip, which is idle and has these contents; no modifying command was
+-- sent yet. Nothing is said about how many transactions are allowed, or about the effect of a stop.
 pub record HoldsFiles (programmer : Programmer) (content : Content) (bus : BusState) : Type 0 where
   pub config : IsConfigWith programmer.chip programmer.unique bus.chip.config
   pub idle : bus.chip.busy ≡ 0
@@ -73,7 +74,8 @@ pub record HoldsFiles (programmer : Programmer) (content : Content) (bus : BusSt
   pub latch : bus.chip.latch ≡ (slice_index content.status 0 / 2 % 2 == 1)
 
 -- Holds for a simulated bus that opens the chip. After each operation the chip is busy for the number of polls that
--- `busy=` gives, or none without it; a power cut leaves bytes of the value of `power=`.
+-- `busy=` gives, or none without it. If `power=` is given, a stop cuts the chip's power, and an interrupted erase or
+-- program leaves bytes of that value.
 pub record StartsBus (programmer : Programmer) (content : Content) (bus : SimBus) : Type 0 where
   pub opens : OpensChip programmer content (sim_state bus)
   pub pace : pace_of bus ≡ unwrap_or programmer.busy 0
@@ -92,8 +94,8 @@ FailsToHold view programmer fault = (fault ≡ end.Refused Memory)
     ⊎ IsSomeAnd programmer.status (λ name. IsLockingFault view name.now 2 fault))
 
 -- Holds for the chip's files after the chip was written back. If the files obey their contract, a file that is named
--- and was written has durably the chip's bytes or status bytes. A file whose name is given as `image` or `status` could
--- not be written.
+-- and was written durably has the chip's bytes or status bytes. A file whose name is given as `image` or `status` may
+-- have failed to be written.
 pub record ArePutBack (programmer : Programmer) (chip : Chip) (image status : Option (Bor Text))
     (files : FilesState) : Type 0 where
   pub bytes : List ℕ

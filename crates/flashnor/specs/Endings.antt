@@ -16,19 +16,19 @@ use Rattle.nor_lines.specs.declared.messages.Fault.TheVariants as end
 use Rattle.nor_lines.specs.declared.messages.FileFault.TheVariants as file
 use Rattle.flashnor.specs.declared.printing.Ending.{Ending}
 
--- every file was written
+-- the value that says that every file was written
 abbrev pub all_written : Unwritten
 all_written = record { image = None; status = None; trace = None }
 
--- the lines of the run's fault, if there is one, followed by those of files that could not be written; `None` if the
+-- the line of the run's fault, if there is one, followed by those of files that could not be written; `None` if the
 -- fault's line isn't known
 abbrev pub lines_printed : Result Answer Fault → Unwritten → Option (List ℕ)
 lines_printed (Ok found) unwritten = Some (lines_of_unwritten unwritten)
 lines_printed (Err fault) unwritten = option_append (line_of fault) (Some (lines_of_unwritten unwritten))
 
--- The end of a run without a fault of its own, after its answer or help was printed or could not be printed. Standard
--- error gets only the lines of files that could not be written. The status is 0 if and only if the answer or help was
--- printed and every file was written.
+-- The end of a run that has an answer or help; `is_printed` says whether that was printed. The status is 0 if it was
+-- printed and every file was written, and otherwise 1. If the lines of files that could not be written were printed
+-- (`returned`), they were appended to standard error. If every file was written, standard error is as it was.
 pub record EndsWell (is_printed : Bool) (unwritten : Unwritten) (err err' : Option (List ℕ))
     (ending : Ending) : Type 0 where
   pub few : ending.status ≤ 1
@@ -37,7 +37,8 @@ pub record EndsWell (is_printed : Bool) (unwritten : Unwritten) (err err' : Opti
   pub returned : ending.returned ≡ true → Appends err err' (lines_of_unwritten unwritten)
   pub silent : unwritten ≡ all_written → err' ≡ err
 
--- The end of a run with a fault: the lines of the fault and of files that could not be written. The status is 1.
+-- The end of a run with a fault. The status is 1. If the line of the fault and those of files that could not be written
+-- were printed (`returned`), they were appended to standard error, unless the fault's line isn't known.
 pub record EndsBadly (fault : Fault) (unwritten : Unwritten) (err err' : Option (List ℕ))
     (ending : Ending) : Type 0 where
   pub status : ending.status ≡ 1
@@ -50,12 +51,13 @@ pub record HasPrinted (outcome : Result Answer Fault) (unwritten : Unwritten) (o
   -- the status is 0 or 1, and 0 if and only if the answer or the help was printed and every file was written
   pub few : ending.status ≤ 1
   pub exact : (ending.status ≡ 0) ↔ ((ending.printed ≡ true) × (unwritten ≡ all_written))
-  -- If the answer was printed, its lines were appended to standard output; the text of help isn't known. If each line
-  -- of a fault was printed, these lines were appended to standard error, unless one of them isn't known (`line_of`).
+  -- If an answer was printed, its lines were appended to standard output; the text of help isn't known. If the lines of
+  -- the fault and of files that could not be written were printed, they were appended to standard error, unless the
+  -- fault's line isn't known (`line_of`).
   pub printed : ending.printed ≡ true → PrintsAnswer outcome out out'
   pub returned : ending.returned ≡ true → IfSome (lines_printed outcome unwritten) (Appends err err')
-  -- a run without an answer or help prints nothing to standard output, and one without a fault nothing to standard
-  -- error
+  -- A run without an answer or help prints nothing to standard output. A run that has an answer or help and wrote every
+  -- file prints nothing to standard error.
   pub no_output : (IsAnswered outcome → ⊥) → out' ≡ out
   pub silent : IsAnswered outcome → unwritten ≡ all_written → err' ≡ err
 
@@ -69,8 +71,8 @@ pub record IsUnread (error : Error) (out out' err err' : Option (List ℕ)) (end
   pub of_words : IsOfArguments error fault
   pub prints : HasPrinted (Err fault) all_written out out' err err' ending
 
--- The end of a run that could not keep the descriptors of the standard streams in use: it has the fault of a file that
--- can't be read.
+-- The end of a run that could not keep the descriptors of the standard streams in use. The run has the fault of a file
+-- that can't be read, and its status is 1.
 pub record IsWithoutStreams (out out' err err' : Option (List ℕ)) (ending : Ending) : Type 0 where
   pub name : Bor Text
   pub prints : HasPrinted (Err (end.File file.Read name)) all_written out out' err err' ending

@@ -6,15 +6,15 @@ use Rattle.nor_probe.specs.declared.table.ChipName.{ChipName}
 use Rattle.nor_probe.specs.declared.table.Part.{Part}
 use Rattle.nor_words.specs.declared.programmer.Emulated.{Emulated}
 
--- the chip type as which an emulated chip is found
+-- the chip type that an emulated chip is identified as
 abbrev pub emulated_part : Emulated → Part
 emulated_part chip = chip.part
 
--- Holds if the given name, if one is given, is that of the emulated chip.
+-- Holds if no name is given, or if the given name is that of the emulated chip.
 abbrev pub HasName : Option ChipName → Emulated → Type 0
 HasName named chip = IsWanted named (emulated_part chip).name
 
--- Holds if the emulated chip was found, with the given name if one is given.
+-- Holds if the chip that was found is the emulated chip, and that chip has the given name, if one is given.
 pub record IsEmulatedFound (named : Option ChipName) (chip : Emulated) (found : Found) : Type 0 where
   pub part : part_in found ≡ emulated_part chip
   pub name : HasName named chip

@@ -11,18 +11,18 @@ use Rattle.nor_words.specs.Text.{Text}
 use Rattle.flashnor.specs.Found.{emulated_part}
 use Rattle.flashnor.specs.declared.holding.Held.{Held}
 
--- Holds if no file is named, or if the named file durably has these contents.
+-- Holds if no file is named, or if the named file durably has these contents (for `None`: is durably missing).
 abbrev pub MakesDurable : Option (Bor Text) → Found → FilesState → Type 0
 MakesDurable None content files = ⊤
 MakesDurable (Some name) content files = IsDurable name.now content files
 
--- Holds after a file of the chip was read, if one is named. No file has changed, and the contents that were read are
--- durable.
+-- Holds after a file of the chip was read, if one is named. No file has changed. The contents that were read are
+-- durable, as is the absence of a missing file.
 pub record IsHeld (name : Option (Bor Text)) (found : Found) (old new : FilesState) : Type 0 where
   pub stay : AllStay old new
   pub settled : MakesDurable name found new
 
--- the contents of a file that exists if `there` is true, and otherwise is missing
+-- the contents of a file: these bytes if it exists (`there`), otherwise `None`
 abbrev pub was : (there : Bool) → List ℕ → Found
 was true bytes = Some bytes
 was false bytes = None
@@ -34,14 +34,16 @@ pub record AreHeld (programmer : Programmer) (held : Held) (old new : FilesState
   pub image : MakesDurable programmer.image (was held.image_there held.content.bytes.items) new
   pub status : MakesDurable programmer.status (was held.status_there held.content.status) new
 
--- Holds if the right contents stand for missing files: FFh, and clear status bytes.
+-- Holds if FFh stands for each byte of an image that is missing or not named, and clear status bytes stand for a status
+-- file that is missing or not named.
 pub record StandsFor (programmer : Programmer) (held : Held) : Type 0 where
   pub image : held.image_there ≡ false
       → held.content.bytes.items ≡ replicate (emulated_part programmer.chip).size 255
   pub status : held.status_there ≡ false → held.content.status ≡ 0 ∷ 0 ∷ []
 
--- Holds for the contents that a host crash may leave of a file that is overwritten or created. Each byte of an
--- overwritten file is old or new. A created file is missing, has a wrong length, or is complete.
+-- Holds for the contents that a host crash may leave of a file that is overwritten or created. A file that existed
+-- (`there`) has a mix of the old bytes `had` and the new `bytes` (`IsMixed`). A created file is missing, has another
+-- length than `bytes`, or has exactly `bytes`.
 abbrev pub IsAmid : (there : Bool) → (had bytes : List ℕ) → Found → Type 0
 IsAmid true had bytes left = (has : List ℕ) × (left ≡ Some has) × IsMixed had bytes has
 IsAmid false had bytes left = (left ≡ None)
@@ -56,7 +58,9 @@ abbrev pub LeavesAmid : Option (Bor Text) → (there : Bool) → (had bytes : Li
 LeavesAmid None there had bytes files = ⊤
 LeavesAmid (Some name) there had bytes files = LeavesFileAmid name.now there had bytes files
 
--- Holds if a file durably has the contents that were read from it, and is to get the same number of bytes.
+-- Holds if the named file is ready to be written with `bytes`. The files obey their contract, no vault or log in this
+-- file is borrowed (`IsKnownFile`), and the file durably has the bytes `had` or is durably missing. `had` (for a
+-- missing file, what stands for it) has as many bytes as `bytes`.
 pub record IsReadyFile (name : Text) (there : Bool) (had bytes : List ℕ) (files : FilesState) : Type 0 where
   pub known : IsKnownFile name files.view
   pub settled : IsDurable name (was there had) files
@@ -67,15 +71,15 @@ abbrev pub IsReadyIfNamed : Option (Bor Text) → (there : Bool) → (had bytes 
 IsReadyIfNamed None there had bytes files = ⊤
 IsReadyIfNamed (Some name) there had bytes files = IsReadyFile name.now there had bytes files
 
--- Holds if both files of the chip durably have the contents that were read from them, and are to get the same number of
--- bytes: those of the chip `new`.
+-- Holds if each file of the chip that is named is ready to be written (`IsReadyFile`) with the bytes or the status
+-- bytes of the chip `new`.
 pub record AreReady (programmer : Programmer) (image_there status_there : Bool) (bytes bits : List ℕ) (new : Chip)
     (files : FilesState) : Type 0 where
   pub image : (put : List ℕ) → AreChipBytes new put → IsReadyIfNamed programmer.image image_there bytes put files
   pub status : IsReadyIfNamed programmer.status status_there bits (status_of new) files
 
--- Holds if a host crash leaves each byte of a file that existed as it was, or as that of the chip `new`. A file that is
--- created is missing, has a wrong length, or has the bytes of `new`.
+-- Holds if a host crash may leave only contents that `IsAmid` allows, of each file of the chip that is named. The file
+-- is overwritten or created with the bytes or the status bytes of the chip `new`.
 pub record AreAmid (programmer : Programmer) (image_there status_there : Bool) (had bits : List ℕ) (new : Chip)
     (files : FilesState) : Type 0 where
   pub put : List ℕ

@@ -12,26 +12,27 @@ use Rattle.flashnor.specs.Found.{HasName, IsEmulatedFound, emulated_part}
 use Rattle.nor_lines.specs.declared.answers.Answer.{Answer}
 use Rattle.nor_lines.specs.declared.answers.Answer.TheVariants as answer
 
--- Holds for the errors that the identification of an emulated chip may return on a ready bus (`IsReady`): error 3 only
--- if the chip's name isn't the given one, error 12 only if the bus carries out fewer than `most_probe` transactions. It
--- returns no other error.
+-- Holds for the errors that the identification of an emulated chip may return on a ready bus (`IsReady`). Error 3
+-- occurs only if the chip's name isn't the given one, and error 12 only if the bus carries out fewer than `most_probe`
+-- transactions. No other error occurs.
 abbrev pub FindRefuses : Programmer → Option ChipName → Refusal → Type 0
 FindRefuses programmer named OtherName = HasName named programmer.chip → ⊥
 FindRefuses programmer named Stopped = allowance_of programmer < most_probe
 FindRefuses programmer named _ = ⊥
 
--- Holds if the answer is the chip, which has the given name if one is given.
+-- Holds if the answer is the emulated chip, which has the given name if one is given.
 abbrev pub ReportsEmulated : Programmer → Option ChipName → Answer → Type 0
 ReportsEmulated programmer named (answer.Found found) = IsEmulatedFound named programmer.chip found
 ReportsEmulated programmer named _ = ⊥
 
--- Holds if the answer is the size of the chip, which has the given name if one is given.
+-- Holds if the answer is the size of the emulated chip, which has the given name if one is given.
 abbrev pub ReportsEmulatedSize : Programmer → Option ChipName → Answer → Type 0
 ReportsEmulatedSize programmer named (answer.Size size) =
     HasName named programmer.chip × (size ≡ (emulated_part programmer.chip).size)
 ReportsEmulatedSize programmer named _ = ⊥
 
--- Holds after the identification of the chip, which sends no modifying command: the chip was found or refused.
+-- Holds after the identification of the emulated chip. No modifying command was sent (`OnlyReads`). The result is an
+-- answer for which `reports` holds, or an error that `FindRefuses` allows.
 pub record IdentifiesEmulated (reports : Answer → Type 0) (programmer : Programmer) (named : Option ChipName)
     (old new : BusState) (outcome : Result Answer Refusal) : Type 0 where
   pub only_reads : OnlyReads most_probe old new

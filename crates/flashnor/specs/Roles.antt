@@ -12,9 +12,10 @@ use Rattle.nor_lines.specs.declared.messages.Fault.{Fault}
 use Rattle.flashnor.specs.declared.roles.Role.{Role}
 use Rattle.flashnor.specs.declared.roles.Role.TheVariants as role
 
--- Holds if the pairs of files that must be apart are apart. If the task changes the chip, its image and its status file
--- differ from each other and from the files that are only read. Each file that is always written differs from every
--- other file. The image to write may be the chip's image.
+-- Holds if the roles that need different files have names that are apart. If the task writes the chip back
+-- (`puts_back`), the chip's image is apart from its status file and the layout, and the status file from the layout and
+-- the image to write. The trace, the output and the journal are apart from every other file of the job. No task names
+-- an output together with a journal or an image to write or compare.
 pub record FilesHaveOneRole (nature : Nature) (job : ChipJob) : Type 0 where
   pub status : puts_back job.task ≡ true → AreTwo nature job.programmer.image job.programmer.status
   pub image_layout : puts_back job.task ≡ true → AreTwo nature job.programmer.image (named_by job.task).layout
@@ -35,7 +36,7 @@ pub record FilesHaveOneRole (nature : Nature) (job : ChipJob) : Type 0 where
   pub wanted_journal : AreTwo nature (named_by job.task).wanted (named_by job.task).journal
 
 -- Holds if the trace's name is apart from those of the chip's files, the layout, the image to compare or write, and the
--- journal.
+-- journal, as far as the job names them.
 pub record HasOwnTrace (nature : Nature) (job : ChipJob) : Type 0 where
   pub image : AreTwo nature job.programmer.image job.programmer.trace
   pub status : AreTwo nature job.programmer.status job.programmer.trace
@@ -55,7 +56,7 @@ file_with_role job role.Wanted = (named_by job.task).wanted
 file_with_role job role.Output = (named_by job.task).output
 file_with_role job role.Journal = (named_by job.task).journal
 
--- the order of roles: a fault names the file of the later of two
+-- the position of a role in the order of roles; if two roles have one file, the fault names the file of the later role
 abbrev pub order_of : Role → ℕ
 order_of role.Image = 0
 order_of role.Status = 1
@@ -65,8 +66,8 @@ order_of role.Wanted = 4
 order_of role.Output = 5
 order_of role.Journal = 6
 
--- True if the file in that role is written. A journal counts as written, even in a restore: its file may have no second
--- role.
+-- True if the file in that role is written. A journal counts as written even in a restore, so that its file has no
+-- second role.
 abbrev pub is_written : ChipJob → Role → Bool
 is_written job role.Image = puts_back job.task
 is_written job role.Status = puts_back job.task
@@ -74,8 +75,8 @@ is_written job role.Layout = false
 is_written job role.Wanted = false
 is_written job _ = true
 
--- True if the two roles need different files: at least one of them is written, and they are not the chip's image and
--- the image to write.
+-- True if the two roles need different files: `earlier` comes before `later` (`order_of`), at least one of them is
+-- written, and they are not the chip's image and the image to write or compare.
 abbrev pub must_differ : ChipJob → (earlier later : Role) → Bool
 must_differ job role.Image role.Wanted = false
 must_differ job earlier later =

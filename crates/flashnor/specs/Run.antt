@@ -60,7 +60,8 @@ use Rattle.flashnor.specs.declared.printing.Ending.{Ending}
 
 -- ---- calls
 
--- Describes the result of a change or rehearsal, with the ranges of the regions and with the image that was read.
+-- Describes the result of a change or rehearsal, with the ranges of the regions and with the session's buffer
+-- (`IsBufferOf`).
 pub record ChangesChip (view : View) (after : FilesState) (chip : Emulated) (named : Option ChipName)
     (change : Change) (old new : BusState) (outcome : Result Answer Refusal) : Type 0 where
   pub ranges : Option (List Span)
@@ -86,7 +87,7 @@ pub record DoesVerify (view : View) (named : Option ChipName) (file : Text) (reg
   pub read : IsRead view file 16777217 image
   pub verified : HasVerified named ranges image old new outcome
 
--- Describes the result of a restore from the journal in the file. At most one byte more is read than the longest
+-- Describes the result of a restore from the valid journal in the file. At most one byte more is read than the longest
 -- journal has.
 pub record DoesRestore (view : View) (named : Option ChipName) (file : Text) (old new : BusState)
     (outcome : Result Answer Refusal) : Type 0 where
@@ -114,8 +115,8 @@ DoesJob view after programmer named (task.Change change) old new outcome =
 DoesJob view after programmer named (task.Restore journal) old new outcome =
     DoesRestore view named journal.now old new outcome
 
--- Holds if each given name is that of a file of the chip that could not be written. No name is given if the task does
--- not write the chip back.
+-- Holds if `unwritten` names as image or status file at most the programmer's own, and only a file for which a failure
+-- to write is possible (`Happens`). If the task does not write the chip back, `unwritten` names neither.
 abbrev pub AreReported : Bool → Programmer → Unwritten → View → Type 0
 AreReported true programmer unwritten view =
     IsReportedOf programmer.image unwritten.image view × IsReportedOf programmer.status unwritten.status view
@@ -128,15 +129,16 @@ pub record IsViewBut (trace : Option (Bor Text)) (old amid : View) : Type 0 wher
   pub stays : (name : Name) → IsNot old.nature trace name → IsKnownFile name old
       → (amid.out name ≡ old.out name) × (amid.seen name ≡ old.seen name)
 
--- Holds if the call was made after the trace was created; the other files of the job were read after that.
+-- Holds if the call had this outcome, with the layout, the image and the journal of the task as a read shows them after
+-- the trace was created (`amid`).
 abbrev pub DoesTraced : (files after : FilesState) → ChipJob → (old new : BusState) → Result Answer Refusal → Type 0
 DoesTraced files after job old new outcome = (amid : View) × IsViewBut job.programmer.trace files.view amid
     × DoesJob amid after job.programmer job.named job.task old new outcome
 
 -- Holds if the call was made, and the roles that need different files have them. The bus was started as the programmer
--- says, to the chip that its files hold. `left`: if the files were at rest and the task writes the chip back, each of
--- its files was written or is named in `unwritten`. `traced`: the only trace that may have lost a line is the
--- programmer's.
+-- says, to the chip that the programmer's files hold. `left`: if the files were at rest and the task writes the chip
+-- back, each named file of the chip was written or is named in `unwritten`. `traced`: the only trace that may have lost
+-- a line is the programmer's.
 pub record IsCalled (files after : FilesState) (job : ChipJob) (unwritten : Unwritten)
     (outcome : Result Answer Refusal) : Type 0 where
   pub roles : FilesHaveOneRole files.view.nature job
@@ -160,7 +162,7 @@ FailsToReadImage view (wanted.Write image) fault = IsReadingFault view image.now
 FailsToReadImage view wanted.Erase fault = fault ≡ end.Refused Memory
 FailsToReadImage view (wanted.Range start len) fault = ⊥
 
--- Holds for the faults of creating the journal of a change.
+-- Holds for the faults of creating the journal of a change. A rehearsal creates none, and has no such fault.
 abbrev pub FailsToKeep : View → JournalUse → Fault → Type 0
 FailsToKeep view (uses.Journal file) fault = IsMaking view file.now fault
 FailsToKeep view (uses.Rehearse stops) fault = ⊥
@@ -183,20 +185,20 @@ FailsTask view (task.Change change) fault =
 FailsTask view (task.Restore journal) fault = FailsToRestore view journal.now fault
 FailsTask view _ fault = ⊥
 
--- Holds for the faults of opening the chip's files. If the task changes the chip, the files are locked too.
+-- Holds for the faults of opening the chip's files and, if the task writes the chip back (`true`), of locking them.
 abbrev pub FailsToStart : Bool → View → Programmer → Fault → Type 0
 FailsToStart true view programmer fault = FailsToHold view programmer fault
 FailsToStart false view programmer fault = FailsToOpen view programmer fault
 
--- Holds for the faults of creating a trace, and for those after it and before the call. The trace's file is compared
--- with the others after it was created.
+-- Holds for the faults of creating the trace, if one is named, of comparing the job's files after that, and of the task
+-- before its call.
 abbrev pub FailsTraced : View → ChipJob → Fault → Type 0
 FailsTraced view on_chip fault = IsSomeAnd on_chip.programmer.trace (λ name. IsMaking view name.now fault)
     ⊎ (FailsFileRoles view.nature on_chip fault
     ⊎ ((amid : View) × IsViewBut on_chip.programmer.trace view amid × FailsTask amid on_chip.task fault))
 
--- Holds for the faults of a job that occur before its call: those of the roles of its files, of the chip's files, of
--- the trace, and of its task.
+-- Holds for the faults of a job that occur before its call: those of comparing its files, of opening the chip's files,
+-- of the trace, and of its task.
 abbrev pub FailsJob : View → ChipJob → Fault → Type 0
 FailsJob view on_chip fault = FailsFileRoles view.nature on_chip fault
     ⊎ (FailsToStart (puts_back on_chip.task) view on_chip.programmer fault
@@ -212,14 +214,14 @@ pub record StayBut (programmer : Programmer) (made : Option (Bor Text)) (old new
   pub others : (name : Name) → IsNot old.view.nature programmer.trace name → IsNot old.view.nature made name
       → KeepsFile name old new
 
--- Holds for a change. With a journal in a file, one of two cases holds: nothing was changed or created except the trace
--- and an empty file for the journal; or the original chip can be restored. A rehearsal leaves the files as they were,
--- except the trace.
+-- The promise of a change about the files. If its journal is in a file, the original chip is not lost
+-- (`KeepsOriginalFiles`). A rehearsal leaves the files as they were, except the trace (`StayBut`).
 abbrev pub KeepsChange : Programmer → JournalUse → (old new : FilesState) → Type 0
 KeepsChange programmer (uses.Journal file) old new = KeepsOriginalFiles programmer file.now old new
 KeepsChange programmer (uses.Rehearse stops) old new = StayBut programmer None old new
 
--- The promise of each task about the files, at every exit.
+-- The promise of each task about the files, at every exit. A contract that states this promise has the premise that the
+-- files were at rest at the start.
 abbrev pub KeepsFiles : Programmer → Task → (old new : FilesState) → Type 0
 KeepsFiles programmer (task.Change change) old new = KeepsChange programmer change.journal_use old new
 KeepsFiles programmer (task.Restore journal) old new = KeepsRestorable programmer journal.now old new
@@ -227,41 +229,44 @@ KeepsFiles programmer done old new = StayBut programmer (made_by done) old new
 
 -- ---- the files after a run that ends with an answer
 
--- Holds after a change ended with this answer, and all files were written. The chip's files hold the requested chip.
--- The journal's file holds one journal, which can restore the original chip. A host crash loses neither.
+-- Holds after a change ended with this answer, and all files were written. If the files obey their contract, the chip's
+-- files durably hold the target chip (`held`). The journal's file durably holds one journal, which can restore the
+-- original chip from each chip that a later run may open (`leads`).
 pub record HoldsTarget (programmer : Programmer) (named : Option ChipName) (change : Change) (file : Text)
     (found : Answer) (old new : FilesState) : Type 0 where
   pub first : Opened programmer old
   pub last : BusState
-  -- the requested chip, in the ranges of the regions and with the image
+  -- the chip of `last` is the target chip, for the ranges of the regions and the session's buffer
   pub ranges : Option (List Span)
   pub included : AreRangesOf old.view change.regions ranges
   pub image : List ℕ
   pub buffer : IsBufferOf old.view programmer.chip change.wanted image
   pub target : ReportsChange (request_for change named ranges) image first.bus last found
-  -- the files hold the requested chip and the journal
+  -- the files hold the target chip and the journal
   pub held : ArePutBack programmer last.chip None None new
   pub leads : IsRestorableFrom file first new
   pub settled : IsDurable file (Some (text leads.journal)) new
 
--- Holds after a restore ended with this answer, and all files were written. The chip's files hold the chip that the
--- journal restores, and a host crash does not lose it. The journal's file is as it was.
+-- Holds after a restore ended with this answer, and all files were written. If the files obey their contract, the
+-- chip's files durably hold the chip that the journal restores (`held`). The journal's file is as it was.
 pub record HoldsRestored (programmer : Programmer) (file : Text) (found : Answer) (old new : FilesState) : Type 0 where
   pub opened : Opened programmer old
   pub last : BusState
   pub journal : Journal
   pub sound : IsContent journal
   pub read : IsRead old.view file 16793662 (text journal)
-  -- after the identification for the name, if one is given, the chip was made what the journal saves
+  -- `probed` is the bus after the identification for the name, if one is given; its chip is as before. After that, the
+  -- restore made the chip what the journal saves. If the journal could restore an original chip from the opened one,
+  -- the chip of `last` is that original chip.
   pub probed : BusState
   pub same : IsSame opened.bus.chip probed.chip
   pub target : ReportsRestore journal probed last found
   pub back : (first : Chip) → CanRestore journal first opened.bus → IsSame first last.chip
-  -- the files hold the restored chip and the journal
+  -- the chip's files hold the restored chip, and the journal's file is as it was
   pub held : ArePutBack programmer last.chip None None new
   pub stays : KeepsFile file old new
 
--- The result of a change with a journal in a file. Nothing is claimed for a rehearsal.
+-- The result of a change in the files, if its journal is in a file. Nothing is claimed for a rehearsal.
 abbrev pub HoldsChange : Programmer → Option ChipName → Change → JournalUse → Answer → (old new : FilesState) → Type 0
 HoldsChange programmer named change (uses.Journal file) found old new =
     HoldsTarget programmer named change file.now found old new
@@ -275,8 +280,8 @@ HoldsTask programmer named (task.Restore journal) found old new =
     HoldsRestored programmer journal.now found old new
 HoldsTask programmer named done found old new = ⊤
 
--- Holds if the files hold the result of the task, when the run ended with an answer and all files were written. Nothing
--- is claimed after a fault.
+-- Holds if the files hold the result of the task (`HoldsTask`). Nothing is claimed after a fault, or if a file could
+-- not be written.
 abbrev pub HoldsResult : ChipJob → Unwritten → Result Answer Fault → (old new : FilesState) → Type 0
 HoldsResult job unwritten (Ok found) old new = unwritten ≡ all_written
     → HoldsTask job.programmer job.named job.task found old new
@@ -291,7 +296,8 @@ EndsChipJob files after on_chip unwritten (Err (end.Refused refusal)) =
     IsCalled files after on_chip unwritten (Err refusal) ⊎ FailsJob files.view on_chip (end.Refused refusal)
 EndsChipJob files after on_chip unwritten (Err fault) = FailsJob files.view on_chip fault
 
--- Holds if the result is one of this job. Only the job of listing the chips has their list as its answer.
+-- Holds if the result is one of this job. Listing the chips has their list as its only result, and changes no file. For
+-- a job on a chip, what is promised about the files requires that they were at rest at the start.
 abbrev pub AnswersJob : (files after : FilesState) → Job → Unwritten → Result Answer Fault → Type 0
 AnswersJob files after job.List unwritten (Ok answer.Chips) = (unwritten ≡ all_written) × AllStay files after
 AnswersJob files after job.List unwritten _ = ⊥
@@ -299,16 +305,18 @@ AnswersJob files after (job.Chip on_chip) unwritten outcome = EndsChipJob files 
     × (AreAtRest files → KeepsFiles on_chip.programmer on_chip.task files after)
     × (AreAtRest files → HoldsResult on_chip unwritten outcome files after)
 
--- Holds if the arguments lead to this result. A usage fault is one that the arguments have, and no file is changed.
--- Every other result is that of the job given by the arguments, with the names of the files that could not be written.
+-- Holds if the arguments lead to this result. A usage fault, or the request for help, is one that the arguments may
+-- have (`IsFault`), and no file is changed. Every other result is that of the job given by the arguments, with the
+-- names of the files that could not be written.
 abbrev pub AnswersArguments : (files after : FilesState) → List Text → Result Answer Fault → Unwritten → Type 0
 AnswersArguments files after words (Err (end.Usage fault)) unwritten =
     IsFault words fault × (unwritten ≡ all_written) × AllStay files after
 AnswersArguments files after words outcome unwritten =
     (asked : Job) × IsJob words asked × AnswersJob files after asked unwritten outcome
 
--- Holds for a run without a fault. The arguments ask for help, or for a job that was done; then each file was written,
--- and exactly the lines of the answer went to standard output.
+-- Holds for a run without a fault, in one of two cases: the arguments ask for help, or their job was done. If the job
+-- was done, each file was written, and exactly the lines of the answer were appended to standard output, as far as its
+-- contents are known.
 abbrev pub RunSucceeds : (files after : FilesState) → List Text → (out out' : Option (List ℕ)) → Type 0
 RunSucceeds files after words out out' = IsAmong kind.DisplayHelp (refusals_of words)
     ⊎ ((found : Answer) × AnswersArguments files after words (Ok found) all_written × Prints (AreLines found) out out')
@@ -317,8 +325,8 @@ RunSucceeds files after words out out' = IsAmong kind.DisplayHelp (refusals_of w
 abbrev pub arguments_of : IntoIter (String Global) Global → List Text
 arguments_of args = map string_bytes (drop 1 (into_iter_items args))
 
--- Describes how a run ended, and what the streams hold before and after, if known. The status is 0 or 1. It is 1 if the
--- arguments ask neither for a job nor for help, and 0 only if the run succeeds.
+-- Describes how a run ended, and what the streams hold before and after, if known. The status is 0 or 1. The status is
+-- 1 if the arguments ask neither for a job nor for help, and 0 only if the run succeeds.
 pub record IsStatus (files after : FilesState) (words : List Text) (out out' err err' : Option (List ℕ))
     (ending : Ending) : Type 0 where
   pub few : ending.status ≤ 1

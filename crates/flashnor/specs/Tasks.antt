@@ -20,7 +20,7 @@ puts_back (task.Change change) = keeps_journal change.journal_use
 puts_back (task.Restore journal) = true
 puts_back _ = false
 
--- the file of the journal that a task creates
+-- the name of the journal's file, if the task creates a journal
 abbrev pub journal_by : Task → Option (Bor Text)
 journal_by (task.Change change) = journal_of change.journal_use
 journal_by _ = None

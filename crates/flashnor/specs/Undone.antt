@@ -16,9 +16,10 @@ use Rattle.nor_lines.specs.declared.answers.Answer.{Answer}
 use Rattle.flashnor.specs.declared.holding.Unwritten.{Unwritten}
 use Rattle.nor_lines.specs.declared.messages.Fault.{Fault}
 
--- Holds for the files that a run finds after an earlier run ended, was killed, or was interrupted by a host crash. No
--- file is open for a vault or a log. The journal's file has contents that may be left of it, and so does each file of
--- the chip. A file of the chip that was missing at first may have been moved aside instead.
+-- Holds for the files `new` that a run finds after an earlier run left the files `old`, even if that run was killed or
+-- the host crashed. The files `new` are at rest. A host crash can leave nothing of the journal's file that it couldn't
+-- leave before. The contents of the chip's files that may be found (`MayFind`) could be found before; a file that was
+-- missing at first may have been moved aside.
 pub record Follows {programmer : Programmer} {start : FilesState} (file : Text) (first : Opened programmer start)
     (old new : FilesState) : Type 0 where
   pub rest : AreAtRest new
@@ -28,13 +29,14 @@ pub record Follows {programmer : Programmer} {start : FilesState} (file : Text) 
   pub status : (found : Found) → MayFind programmer.status first.read.status.found found new
       → MayFind programmer.status first.read.status.found found old
 
--- Holds if both name no file, or both name the same file.
+-- Holds if neither name is given, or if both are given and equal.
 abbrev pub NameOne : (one other : Option (Bor Text)) → Type 0
 NameOne None None = ⊤
 NameOne (Some one) (Some other) = other.now ≡ one.now
 NameOne _ _ = ⊥
 
--- Holds if the two programmers have the same chip and files; trace, `stop=`, `busy=` and `power=` may differ.
+-- Holds if the two programmers have the same chip, unique ID, image and status file; trace, `stop=`, `busy=` and
+-- `power=` may differ.
 pub record HaveOneChip (one other : Programmer) : Type 0 where
   pub chip : other.chip ≡ one.chip
   pub unique : other.unique ≡ one.unique
@@ -46,7 +48,8 @@ abbrev pub Restores : Text → Task → Type 0
 Restores file (task.Restore journal) = journal.now ≡ file
 Restores file _ = ⊥
 
--- Holds if a run restores from a journal that can restore the original chip, with this result.
+-- Holds if a run restores from a journal that can restore the original chip. The files `old` leave that journal, the
+-- run finds the files `mid`, and has this result and leaves the files `new`.
 pub record RestoresFirst {programmer : Programmer} {start : FilesState} (file : Text)
     (first : Opened programmer start) (on_chip : ChipJob) (unwritten : Unwritten) (returned : Result Answer Fault)
     (old mid new : FilesState) : Type 0 where
@@ -56,6 +59,7 @@ pub record RestoresFirst {programmer : Programmer} {start : FilesState} (file : 
   pub restores : Restores file on_chip.task
   pub answers : AnswersJob mid new (job.Chip on_chip) unwritten returned
 
--- Holds if a later run that opens the chip's files opens the original chip, even if the host crashes before it.
+-- Holds if each later run that opens the chip's files opens the original chip, even if the host crashes before that
+-- run.
 abbrev pub LeavesFirst : {programmer : Programmer} {start : FilesState} → Opened programmer start → FilesState → Type 0
 LeavesFirst first files = LeavesOnly first (λ opened. IsSame first.bus.chip opened.chip) files

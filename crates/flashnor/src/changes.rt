@@ -25,7 +25,10 @@ use nor_probe::ChipName;
 use nor_session::{Refusal, Request, rehearse, restore};
 use nor_words::{Change, Emulated, JournalUse, Wanted};
 
-/// Changes the chip, or rehearses the change. Returns a fault if one occurred before the session.
+/// Changes the chip, or rehearses the change in memory. Writes the journal of a change to a new file.
+///
+/// Returns the result of the call to the engine, or the fault that occurred before it: of the layout, of the image to
+/// write, of the journal's file, or error 18 if memory runs out.
 #[tactic(auto, using(crate::proofs::Doing::does_change))]
 pub fn change_chip<'a, R: Store, B: Meter>(
     rt: &mut R,
@@ -54,7 +57,9 @@ pub fn change_chip<'a, R: Store, B: Meter>(
 }
 
 /// Returns the buffer of a session: the image for a write, FFh for each byte of the chip for an erase, nothing for a
-/// protection range.
+/// protection range. At most one byte more of the image is read than the largest chip has.
+///
+/// Returns file fault 1 if the image is missing or can't be read, or error 18 if memory runs out.
 pub fn read_wanted<'a, R: Store>(
     rt: &R,
     chip: Emulated,
@@ -116,8 +121,11 @@ fn rehearse_change<B: Meter>(
     Ok(Answer::Rehearsed(rehearsal))
 }
 
-/// Restores the chip from the journal in the file of this name, which is locked against runs that would write it.
-/// Returns a fault if one occurred before the restore, for example error 15 for an invalid journal.
+/// Restores the chip from the journal in the file of this name, which is locked against runs that would write it. If
+/// `named` is given, the chip must have that name.
+///
+/// Returns the result of the restore, or the fault that occurred before it: error 15 for an invalid journal, or a fault
+/// of locking or reading the file.
 pub fn restore_chip<'a, R: Store, B: Bus>(
     rt: &mut R,
     bus: &mut B,
@@ -136,7 +144,7 @@ pub fn restore_chip<'a, R: Store, B: Bus>(
     }
 }
 
-// Restores the chip from a journal. If `named` is given, the chip must have that name.
+// Restores the chip from a journal. If `named` is given, the chip must have that name, which is checked first.
 fn restore_named<B: Bus>(bus: &mut B, named: Option<ChipName>, journal: &Journal<'_>) -> Outcome
     ensures { IsModelled (B.state bus.old) → IsSteadyOrIdle (B.state bus.old)
         → HasRestoredNamed journal.now named (B.state bus.old) (B.state bus.new) result }

@@ -21,7 +21,7 @@ pub struct Content {
 }
 
 /// Reads the chip's files. FFh stands for the bytes of an image that is missing or not named, and clear status bytes
-/// for a status file that is missing or not named.
+/// for a status file that is missing or not named. Returns the faults of `read_whole`, or error 18 if memory runs out.
 pub fn read_content<'a, R: Store>(rt: &R, programmer: &Programmer<'a>) -> Result<Content, Fault<'a>>
     ensures len { IfOk result (λ content. vec_len content.bytes ≡ (emulated_part programmer.now.chip).size) }
     ensures ok { IfOk result (IsContentOf (R.state rt.now).view programmer.now) }
@@ -34,7 +34,8 @@ pub fn read_content<'a, R: Store>(rt: &R, programmer: &Programmer<'a>) -> Result
 }
 
 /// Returns the contents of a chip of `size` bytes: the given bytes and status bytes, or FFh and clear status bytes for
-/// those that are missing.
+/// those that are missing. A given image must have `size` bytes, given status bytes must be two. The error is that
+/// memory ran out.
 pub fn content_of(
     alloc: Global,
     size: u32,
@@ -60,7 +61,8 @@ pub fn content_of(
     Ok(Content { bytes, status })
 }
 
-/// Reads a file of the chip, which must have `len` bytes, if one is named and it exists.
+/// Reads a file of the chip, which must have `len` bytes. Returns `None` if no file is named or the named file is
+/// missing.
 ///
 /// Returns one of these faults:
 ///
@@ -97,7 +99,7 @@ pub fn read_whole<'a, R: Store>(
     Ok(Some(bytes))
 }
 
-/// Returns a bus to the emulated chip with these contents, idle.
+/// Returns a bus to the emulated chip with these contents, idle. `content` must have as many bytes as the chip.
 ///
 /// The bus carries out the number of transactions that `stop=` gives, or `u64::MAX` without it. After each operation
 /// the chip is busy for the number of polls that `busy=` gives, or for none without it. If `power=` is given, a stop
@@ -112,8 +114,8 @@ pub fn start(programmer: &Programmer<'_>, content: Content) -> SimBus
     bus
 }
 
-// Returns a bus to the emulated chip with these contents. It carries out no transaction yet, and a stop keeps the
-// chip's power.
+// Returns a bus to the emulated chip with these contents, idle. The bus carries out no transaction yet, and a stop
+// keeps the chip's power.
 fn hold(programmer: &Programmer<'_>, content: Content) -> SimBus
     requires { vec_len content.bytes ≡ (emulated_part programmer.now.chip).size }
     ensures held { HoldsFiles programmer.now content (⟦<SimBus as Bus>⟧.state result) }

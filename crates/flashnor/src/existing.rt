@@ -1,4 +1,5 @@
-//! Sessions whose journal already exists: the run ends with a fault, before any call, and the journal stays as it is.
+//! Sessions whose journal already exists: the run ends with a fault, before any call to the engine, and the journal
+//! stays as it is.
 ghost use Rattle.std.specs.Prelude.{◌≡◌, IfErr, IfSome, IsSome, IsSomeAnd, Some, true};
 ghost use Rattle.nor_files.specs.Files.{AreAtRest, Name, KeepsFile, is_lawful};
 ghost use Rattle.nor_files.specs.Files.Failure.{There};
@@ -15,7 +16,7 @@ use nor_files::Store;
 use nor_lines::{Fault, FileFault, create_log, read_included};
 use nor_words::{Change, ChipJob, JournalUse, Task};
 
-/// Returns the file of the task's journal, if the task is to create it and it already exists.
+/// Returns the name of the task's journal, if the task is to create its file and that file already exists.
 pub fn existing_journal<'a, R: Store>(rt: &R, task: &Task<'a>) -> Option<&'a str>
     ensures { IfSome result (λ file. (journal_by task.now ≡ Some file)
         × Happens (R.state rt.now).view (There file.now)) }
@@ -33,9 +34,12 @@ pub fn existing_journal<'a, R: Store>(rt: &R, task: &Task<'a>) -> Option<&'a str
 
 /// Returns the first fault of a session whose journal exists.
 ///
-/// The role of the trace is checked first. Then everything that a session reads before it creates its journal is read,
-/// and the trace is created or truncated. The first fault of these steps is returned, or file fault 4 if there is none.
-/// The run creates or truncates only the trace, if the trace's name is apart from those of the job's other files.
+/// The trace is first compared with the other files of the job. Then everything that a session reads before it creates
+/// its journal is read, and the trace is created or truncated. The first fault of these steps is returned, or file
+/// fault 4 if there is none.
+///
+/// The run creates or truncates no other file than the trace; and it leaves the trace too, if its name isn't apart from
+/// those of the job's other files.
 pub fn fault_before<'a, R: Store>(rt: &mut R, job: &ChipJob<'a>, journal: &'a str) -> Fault<'a>
     requires makes { journal_by job.now.task ≡ Some journal }
     requires there { Happens (R.state rt.old).view (There journal.now) }
@@ -56,7 +60,8 @@ pub fn fault_before<'a, R: Store>(rt: &mut R, job: &ChipJob<'a>, journal: &'a st
     }
 }
 
-// Reads what a session reads before it creates its journal, and creates or truncates the trace, in the same order.
+// Reads what a session reads before it creates its journal, and creates or truncates the trace, in the order of a
+// session.
 fn read_all<'a, R: Store>(rt: &mut R, job: &ChipJob<'a>) -> Result<(), Fault<'a>>
     requires { IsSome (journal_by job.now.task) }
     ensures fails { IfErr result (FailsJob (R.state rt.old).view job.now) }

@@ -31,6 +31,15 @@ pub struct Held {
 ///
 /// If the files obey the contract of `Store` and none is open for a vault or a log (`AreAtRest`), the contents that
 /// were read are durable: a host crash leaves them.
+///
+/// Returns one of these faults:
+///
+/// - file fault 1 if a file can't be read, or reading may block without end, or the file was removed after it was
+///   locked
+/// - file fault 2 if a file can't be opened for overwriting, locked or synced, or its directory can't be synced
+/// - file fault 3 if the image has another length than the chip, or the status file does not have two bytes
+/// - file fault 5 if another process has locked a file
+/// - error 18 if memory runs out
 pub fn hold_content<'a, R: Store>(
     rt: &mut R,
     programmer: &Programmer<'a>,
@@ -57,8 +66,8 @@ pub fn hold_content<'a, R: Store>(
     })
 }
 
-// Locks and reads a file of the chip, which must have `len` bytes, if one is named and it exists; then syncs it. Syncs
-// its directory even if the file is missing.
+// Locks and reads a file of the chip, which must have `len` bytes, if one is named and it exists; then syncs the file.
+// Syncs the directory of a named file even if the file is missing.
 fn hold_whole<'a, R: Store>(
     rt: &mut R,
     name: Option<&'a str>,
@@ -89,7 +98,7 @@ fn hold_whole<'a, R: Store>(
 }
 
 // Reads a file of the chip, which exists and must have `len` bytes, and syncs it. Syncs its directory too, since a run
-// that created the file may have been killed before it did so.
+// that created the file may have been killed before it synced the directory.
 fn read_held<'a, R: Store>(rt: &mut R, name: &'a str, len: u32) -> Result<Vec<u8>, Fault<'a>>
     ensures nature { (R.state rt.new).view.nature ≡ (R.state rt.old).view.nature }
     ensures len { IfOk result (λ bytes. vec_len bytes ≡ len) }
@@ -121,8 +130,10 @@ pub struct Unwritten<'a> {
     pub trace: Option<&'a str>,
 }
 
-/// Writes the chip's bytes and status bytes to the files that are named. Writes the status file even if the image could
-/// not be written. Returns the name of the image and that of the status file, each if the file could not be written.
+/// Writes the chip's bytes and status bytes to the files that are named. `image_there` and `status_there` say which of
+/// them existed: such a file is overwritten in place, another one is created. Writes the status file even if the image
+/// could not be written. Returns the name of the image and that of the status file, each if the file could not be
+/// written.
 pub fn write_back<'a, R: Store>(
     rt: &mut R,
     programmer: &Programmer<'a>,
@@ -152,7 +163,8 @@ pub fn write_back<'a, R: Store>(
     (image, status)
 }
 
-// Writes `bytes` to the file of this name, if one is given. Returns the name if that fails.
+// Writes `bytes` to the file of this name, if one is given: overwrites it if it existed (`there`), or creates it.
+// Returns the name if that fails.
 fn put_back<'a, R: Store>(
     rt: &mut R,
     name: Option<&'a str>,
@@ -197,7 +209,8 @@ fn write_over<R: Store>(rt: &mut R, name: &str, bytes: &[u8]) -> io::Result<()>
 }
 
 // Creates a file with these bytes. Until all of them are synced the file is empty, or has one byte more than `bytes`.
-// Therefore a host crash never leaves other bytes in a file of the right length.
+// Therefore, if the files obey the contract of `Store`, a host crash leaves no other bytes in a file of the right
+// length.
 fn make_with<R: Store>(rt: &mut R, name: &str, bytes: &[u8]) -> io::Result<()>
     ensures nature { (R.state rt.new).view.nature ≡ (R.state rt.old).view.nature }
     ensures others { is_lawful (R.state rt.old).view ≡ true → OthersStay name.now (R.state rt.old) (R.state rt.new) }

@@ -14,10 +14,13 @@ use nor_files::Store;
 
 /// Proves that the original chip of a change can be restored, however often a restore is interrupted.
 ///
-/// `leads`: if the journal can restore the original chip from any files that may be left, it still can after each run
-/// that restores from it, wherever that run was interrupted. `ends`: the first of these runs that returns an answer and
-/// writes all files leaves the original chip, even if the host then crashes. Between two runs a file of the chip that
-/// was missing before the change may be moved aside.
+/// `leads`: suppose that the journal can restore the original chip from all contents of the chip's files that a host
+/// crash may leave (`IsRestorableFrom`). Then the journal can still restore that chip after each run that restores from
+/// it, wherever that run was interrupted.
+///
+/// `ends`: the first of these runs that returns an answer and writes all files leaves the original chip, even if the
+/// host then crashes. Between two runs a file of the chip that was missing before the change may be moved aside. Each
+/// run must find the files at rest (`AreAtRest`), which requires that they obey the contract of `Store`.
 ///
 /// The contract of `run_over` supplies the premise: on files at rest, a change leaves at every exit files from which
 /// the journal can restore the original chip, or files that open to the original chip.

@@ -6,8 +6,8 @@
 //!
 //! - `run.rt`: a run of the program, from its arguments to its exit status
 //! - `existing.rt`: ends a run if the file for its new journal already exists
-//! - `roles.rt`: checks that no file that a job writes has a second role, or is a standard stream (only the image to
-//!   write may be the chip's own image)
+//! - `roles.rt`: checks that no file that a job writes has a second role (except an image that is both the chip's and
+//!   the one to write), or is one that the program prints to
 //! - `holding.rt`: opens, locks, reads and syncs the chip's files if the job writes them, and writes them back
 //! - `chips.rt`: reads the chip's files, and makes the simulated bus
 //! - `readings.rt`: the jobs that leave a chip as it is
@@ -15,7 +15,7 @@
 //! - `laws.rt`: the law about a change and the restores that follow it
 //! - `printing.rt`: prints the end of a run, and chooses the exit status
 //!
-//! The crate `nor_lines` has the code for what `flashnor_serprog` prints and reads in the same way.
+//! The crate `nor_lines` has the code that this program shares with `flashnor_serprog`: what both print and read.
 #![tactic(auto)]
 
 mod changes;

@@ -15,7 +15,7 @@ pub struct Ending {
     pub status: u8,
     /// True if the answer or the help was printed.
     pub printed: bool,
-    /// True if each line of a fault was printed.
+    /// True if the line of the fault, if there is one, and that of each file that could not be written were printed.
     pub returned: bool,
 }
 
@@ -47,7 +47,7 @@ pub fn print_end<O: Write, E: Write>(
     }
 }
 
-// Prints the line of the run's fault, and those of files that could not be written.
+// Prints the line of the run's fault, and those of files that could not be written. The status is 1.
 #[tactic(auto, using(crate::proofs::Printed::tells_both))]
 fn end_badly<W: Write>(errors: &mut W, fault: &Fault<'_>, unwritten: Unwritten<'_>) -> Ending
     ensures { EndsBadly fault.now unwritten.entry (W.contents errors.old) (W.contents errors.new) result }
@@ -62,7 +62,7 @@ fn end_badly<W: Write>(errors: &mut W, fault: &Fault<'_>, unwritten: Unwritten<'
 }
 
 // Prints the lines of files that could not be written, after the answer. The status is 0 if the answer or help was
-// printed and all files were written.
+// printed and all files were written, and otherwise 1.
 fn end_well<W: Write>(errors: &mut W, printed: bool, unwritten: Unwritten<'_>) -> Ending
     ensures { EndsWell printed unwritten.entry (W.contents errors.old) (W.contents errors.new) result }
 {
@@ -91,7 +91,8 @@ fn print_unwritten<W: Write>(errors: &mut W, unwritten: Unwritten<'_>) -> bool
     image && status && trace
 }
 
-// Prints the line of a file that could not be written, if `name` is given. Returns whether it was printed.
+// Prints the line of a file that could not be written, if `name` is given. Returns false if a line could not be
+// printed.
 fn print_unwritten_file<W: Write>(errors: &mut W, name: Option<&str>) -> bool
     ensures returned { IsTrue result
         → Appends (W.contents errors.old) (W.contents errors.new) (line_of_unwritten name.entry) }

@@ -21,7 +21,7 @@ use nor_probe::{ChipName, Found, probe};
 use nor_session::Refusal;
 use nor_words::Regions;
 
-/// Identifies the chip.
+/// Identifies the chip, and returns the chip that was found. Returns the errors of `find`.
 pub fn find_chip<B: Bus>(bus: &mut B, named: Option<ChipName>) -> Outcome
     ensures { (programmer : Programmer) → IsReady programmer (B.state bus.old)
         → IdentifiesEmulated (ReportsEmulated programmer named) programmer named
@@ -31,7 +31,7 @@ pub fn find_chip<B: Bus>(bus: &mut B, named: Option<ChipName>) -> Outcome
     Ok(Answer::Found(found))
 }
 
-/// Returns the chip's size in bytes.
+/// Returns the chip's size in bytes. Returns the errors of `find`.
 pub fn report_size<B: Bus>(bus: &mut B, named: Option<ChipName>) -> Outcome
     ensures { (programmer : Programmer) → IsReady programmer (B.state bus.old)
         → IdentifiesEmulated (ReportsEmulatedSize programmer named) programmer named
@@ -41,7 +41,11 @@ pub fn report_size<B: Bus>(bus: &mut B, named: Option<ChipName>) -> Outcome
     Ok(Answer::Size(found.size))
 }
 
-/// Identifies the chip. Returns error 3 if `named` is given and the chip has another name.
+/// Identifies the chip.
+///
+/// Returns error 1 if there is no chip, error 2 if the chip is unknown, or error 3 if `named` is given and the chip has
+/// another name. Returns error 12 if the bus stopped, or error 13 if the chip stayed busy, which doesn't occur on a
+/// well-behaved bus.
 #[tactic(auto, using(crate::proofs::Ready::finds_ready))]
 pub fn find<B: Bus>(bus: &mut B, named: Option<ChipName>) -> Result<Found, Refusal>
     ensures only_reads { OnlyReads most_probe (B.state bus.old) (B.state bus.new) }
@@ -55,7 +59,8 @@ pub fn find<B: Bus>(bus: &mut B, named: Option<ChipName>) -> Result<Found, Refus
     Ok(probe(bus, named)?)
 }
 
-/// Reads the chip into the file of this name. Returns a fault if one occurred before the chip was read.
+/// Reads the chip into the file of this name, at the addresses of the regions if any are given. Returns a fault if one
+/// occurred before the chip was read: of the layout, of the file, or error 18 if memory runs out.
 pub fn read_chip<'a, R: Store, B: Bus>(
     rt: &mut R,
     bus: &mut B,
@@ -76,7 +81,8 @@ pub fn read_chip<'a, R: Store, B: Bus>(
     read_to_file(rt, bus, named, file, included.as_ref())
 }
 
-/// Compares the chip with the image in the file of this name. Returns a fault if one occurred before the comparison.
+/// Compares the chip with the image in the file of this name, at the addresses of the regions if any are given. Returns
+/// a fault if one occurred before the comparison: of the layout, of the image, or error 18 if memory runs out.
 pub fn verify_chip<'a, R: Store, B: Bus>(
     rt: &R,
     bus: &mut B,

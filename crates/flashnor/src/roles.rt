@@ -1,4 +1,4 @@
-//! Checks that the roles of a run which need different files have them.
+//! Checks that roles of a job which need different files have them.
 ghost use Rattle.std.specs.Prelude.{◌≡◌, true, IfErr, OnOk};
 ghost use Rattle.flashnor.specs.Roles.{FailsFileRoles, FilesHaveOneRole, HasOwnTrace, file_with_role, is_written};
 ghost use Rattle.flashnor.specs.Roles.{must_differ};
@@ -113,7 +113,8 @@ fn file_with_role<'a>(job: &ChipJob<'a>, role: Role) -> Option<&'a str>
     }
 }
 
-// Checks that two roles which need two files have them, if the job names both. Otherwise the fault names the later one.
+// Checks that two roles which need different files have them, if the job names both files. If the two have one file,
+// the fault names the file of the later role.
 #[tactic(auto, using(crate::proofs::OneRole::pair_fails))]
 fn check_pair<'a, R: Store>(
     rt: &R,

@@ -57,8 +57,8 @@ where
     ending.status
 }
 
-/// Ends a run that could not keep the descriptors of the standard streams in use. Opens no file, prints the fault, and
-/// returns the exit status, which is 1.
+/// Ends a run that could not keep the descriptors of the standard streams in use. Opens no file, prints file fault 1,
+/// and returns the exit status, which is 1.
 pub fn end_without_streams<O: Write, E: Write>(output: &mut O, errors: &mut E) -> u8
     ensures { EndsWith (IsWithoutStreams (O.contents output.old) (O.contents output.new)
         (E.contents errors.old) (E.contents errors.new)) result }
@@ -67,7 +67,7 @@ pub fn end_without_streams<O: Write, E: Write>(output: &mut O, errors: &mut E) -
     ending.status
 }
 
-// Performs the job of the program's arguments over any store of files.
+// Performs the job of the program's arguments over any store of files, and prints its result.
 #[tactic(auto, using(crate::proofs::Ended::is_without_memory))]
 fn run_given<R: Store, O: Write, E: Write>(
     rt: &mut R,
@@ -91,7 +91,7 @@ fn arguments_after_name(alloc: Global, args: Args) -> Result<Vec<String>, AllocE
     args.skip(1).collect(alloc)
 }
 
-// Ends a run without a call: prints `fault`.
+// Ends a run that made no call to the engine: prints `fault`.
 fn end_before<O: Write, E: Write>(fault: Fault<'_>, output: &mut O, errors: &mut E) -> Ending
     ensures { HasPrinted (Err fault.entry) all_written (O.contents output.old) (O.contents output.new)
         (E.contents errors.old) (E.contents errors.new) result }
@@ -100,7 +100,8 @@ fn end_before<O: Write, E: Write>(fault: Fault<'_>, output: &mut O, errors: &mut
     print_end(output, errors, answer, unwritten)
 }
 
-/// Performs the job given by `words`, the arguments without the program's name, over any store of files.
+/// Performs the job given by `words`, the arguments without the program's name, over any store of files. Prints the
+/// result and the faults, and returns the exit status and what was printed.
 #[tactic(auto, using(crate::proofs::Ended::is_status))]
 pub fn run_over<R: Store, O: Write, E: Write>(
     rt: &mut R,
@@ -125,7 +126,7 @@ struct Work<'a> {
 }
 
 impl<'a> Work<'a> {
-    // Returns the work of a run that made no call.
+    // Returns the work of a run that made no call to the engine.
     fn before(answer: Result<Answer, Fault<'a>>) -> Work<'a>
         ensures answer { result.answer ≡ answer.entry }
         ensures none { result.unwritten ≡ all_written }
@@ -154,7 +155,8 @@ fn run<'a, R: Store>(rt: &mut R, words: &'a [String]) -> Work<'a>
     }
 }
 
-// Performs the job's task on its chip. Returns a fault if one occurred before the call to the engine.
+// Performs the job's task on its chip, and writes the chip back if the task changes it. Returns a fault if one occurred
+// before the call to the engine.
 #[tactic(auto, using(crate::proofs::Ended::holds_looked))]
 fn work_on_chip<'a, R: Store>(rt: &mut R, job: &ChipJob<'a>) -> Result<Work<'a>, Fault<'a>>
     ensures ok { IfOk result (λ work.
@@ -176,7 +178,7 @@ fn work_on_chip<'a, R: Store>(rt: &mut R, job: &ChipJob<'a>) -> Result<Work<'a>,
     }
 }
 
-// Reads the chip's files and performs a task that leaves them as they are.
+// Reads the chip's files, and performs a task that does not write them back.
 fn look_at_files<'a, R: Store>(rt: &mut R, job: &ChipJob<'a>) -> Result<Work<'a>, Fault<'a>>
     requires only_reads { puts_back job.now.task ≡ false }
     requires roles { FilesHaveOneRole (R.state rt.old).view.nature job.now }
@@ -258,7 +260,8 @@ impl<'a> Called<'a> {
     }
 }
 
-// Performs the job's task, with a trace if one is requested. Returns a fault if one occurred before the call.
+// Performs the job's task, with a trace if one is requested. Returns a fault if one occurred before the call to the
+// engine.
 fn call_on<'a, R: Store>(
     rt: &mut R,
     mut bus: SimBus,
@@ -294,7 +297,7 @@ fn call_on<'a, R: Store>(
     Ok(Called::of_traced(traced, name, outcome))
 }
 
-// Performs the job's task on its chip. Returns a fault if one occurred before the call.
+// Performs the job's task on its chip. Returns a fault if one occurred before the call to the engine.
 fn do_task<'a, R: Store, B: Meter>(
     rt: &mut R,
     bus: &mut B,

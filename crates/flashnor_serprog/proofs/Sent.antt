@@ -34,7 +34,8 @@ reads_on old mid new one other = other ∙ one
 unsent : (old new : BusState) → new ≡ old → KeepsSent old new
 unsent old new same = ap (λ (bus : BusState). bus.sent) same
 
--- limits on what a call sent hold since an earlier state, too, if nothing that may modify a chip was sent in between
+-- The limits of `SendsSaved` also hold for a call from an earlier state on, if nothing that may modify a chip was sent
+-- between that state and the call.
 sends_after : (IsCode : ℕ → Type 0) (journal : Journal) (old mid new : BusState) → KeepsSent old mid
     → SendsSaved IsCode 1 journal mid new → SendsSaved IsCode 1 journal old new
 sends_after IsCode journal old mid new same sends = record {
@@ -45,7 +46,7 @@ sends_after IsCode journal old mid new same sends = record {
   unknown = rw same at sends.unknown;
 }
 
--- a session, which sends no modifying command before its journal is sealed
+-- A session sends no modifying command before its journal is sealed, nor does anything before the session (`same`).
 module _ (request : Request) (image : List ℕ) (file : Text) (before : View) (after : FilesState)
     (old found new : BusState) (outcome : Result Answer Refusal)
     (ran : HasRunInFile request image file before after found new outcome) (same : KeepsSent old found) where

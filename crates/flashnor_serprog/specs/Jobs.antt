@@ -1,4 +1,5 @@
--- The effect of a job on a chip, on every bus: its call to the engine, its result, and the faults before the call.
+-- The effect of a job on a chip, on every bus: its call to the engine, the result of that call, and the faults before
+-- the call.
 use Rattle.std.specs.Prelude.{◌≡◌, ◌⊎◌, ℕ, true, List, Option, None, Some, Result, Ok, Err, IfOk, replicate}
 use Rattle.nor_model.specs.Bus.{BusState}
 use Rattle.nor_files.specs.Files.{FilesState, View}
@@ -37,12 +38,12 @@ use Rattle.nor_lines.specs.declared.messages.Fault.TheVariants as end
 
 -- ---- identification
 
--- the chip that was found, or the error for the probe's fault
+-- the result is the chip that was found, or the error for the probe's fault
 abbrev pub IsProbed : Result Found ProbeFault → Result Found Refusal → Type 0
 IsProbed (Ok found) result = result ≡ Ok found
 IsProbed (Err fault) result = result ≡ Err (of_probe fault)
 
--- The chip was identified, or the identification returned an error. It kept all promises of `probe`.
+-- The chip was identified, or the identification returned an error. The identification kept all promises of `probe`.
 pub record HasIdentified (named : Option ChipName) (old new : BusState) (result : Result Found Refusal) : Type 0 where
   pub probed : Result Found ProbeFault
   pub always : ProbeAlways named old new probed
@@ -72,8 +73,8 @@ abbrev pub FailsToFind : Option ChipName → (old new : BusState) → Fault → 
 FailsToFind named old new fault =
     (refusal : Refusal) × HasIdentified named old new (Err refusal) × (fault ≡ end.Refused refusal)
 
--- after the identification, and before anything else was sent, the file of this name could not be created or truncated,
--- existed but must not, or was locked by another process; or memory ran out
+-- The identification found a chip, and nothing else was sent. Then the file of this name could not be created or
+-- truncated, existed but must be new, is a journal, or was locked by another process; or memory ran out.
 abbrev pub FailsToMake : Option ChipName → Text → View → (old new : BusState) → Fault → Type 0
 FailsToMake named file view old new fault =
     (chip : Found) × HasIdentified named old new (Ok chip) × IsMaking view file fault
@@ -102,13 +103,14 @@ IsBufferOf named wanted.Erase bytes old new image =
     (chip : Found) × HasIdentified named old new (Ok chip) × (image ≡ replicate chip.size 255)
 IsBufferOf named _ bytes old new image = (new ≡ old) × (image ≡ bytes)
 
--- the buffer of an erase could not be made: the identification failed, or memory ran out
+-- the buffer of an erase could not be made: the identification returned an error, or memory ran out
 abbrev pub FailsToFill : Option ChipName → Wanted → (old new : BusState) → Fault → Type 0
 FailsToFill named wanted.Erase old new fault = FailsToFind named old new fault
     ⊎ ((chip : Found) × HasIdentified named old new (Ok chip) × (fault ≡ end.Refused Memory))
 FailsToFill named _ old new fault = ⊥
 
--- The session of a change was run with its journal in a new file. Only the job `-E` identifies the chip before.
+-- The session of a change was run with its journal in a new file. Only for an erase (`-E`) the chip was identified
+-- before the session.
 pub record HasRunChange (named : Option ChipName) (change : Change) (ranges : Option (List Span)) (bytes : List ℕ)
     (file : Text) (before : View) (after : FilesState) (old new : BusState)
     (outcome : Result Answer Refusal) : Type 0 where
@@ -117,7 +119,7 @@ pub record HasRunChange (named : Option ChipName) (change : Change) (ranges : Op
   pub buffer : IsBufferOf named change.wanted bytes old found image
   pub ran : HasRunInFile (request_for change named ranges) image file before after found new outcome
 
--- The session of a change was run with its journal in a new file (`HasChanged`). Never holds for a rehearsal, since
+-- The session of a change was run with its journal in a new file (`HasRunChange`). Never holds for a rehearsal, since
 -- this program rehearses nothing.
 abbrev pub HasChangedBy : Option ChipName → Change → Option (List Span) → (bytes : List ℕ) → JournalUse
     → (before : View) → (after : FilesState) → (old new : BusState) → Result Answer Refusal → Type 0
@@ -125,7 +127,8 @@ HasChangedBy named change ranges bytes (uses.Journal file) before after old new 
     HasRunChange named change ranges bytes file.now before after old new outcome
 HasChangedBy named change ranges bytes (uses.Rehearse stops) before after old new outcome = ⊥
 
--- The faults of a change before its session. Nothing was sent, except by the job `-E`, which identifies the chip first.
+-- The faults of a change before its session. Nothing was sent, except for an erase (`-E`), which identifies the chip
+-- first. A rehearsal always has a usage fault.
 abbrev pub FailsToChange : Option ChipName → Wanted → JournalUse → View → (old new : BusState) → Fault → Type 0
 FailsToChange named wanted (uses.Rehearse stops) view old new fault =
     (new ≡ old) × (fault ≡ end.Usage usage.Journal)
@@ -135,7 +138,7 @@ FailsToChange named _ (uses.Journal file) view old new fault = (new ≡ old) × 
 
 -- ---- restores
 
--- A restore ended or returned an error. It kept all promises of `restore`.
+-- A restore ended or returned an error. The restore kept all promises of `restore`.
 pub record HasRunRestore (journal : Journal) (old new : BusState) (outcome : Result Answer Refusal) : Type 0 where
   pub result : Result Report Refusal
   pub restores_original : IsModelled old → RestoresOriginal journal old new result
@@ -144,12 +147,12 @@ pub record HasRunRestore (journal : Journal) (old new : BusState) (outcome : Res
   pub modelled : IsModelled old → RestoreModelled journal old new result
   pub returned : AnswersCall TellsReport result outcome
 
--- the chip was identified and has the name, if one is given; otherwise nothing was sent
+-- if a name is given, the chip was identified and has this name; otherwise nothing was sent
 abbrev pub IsNamedFirst : Option ChipName → (old new : BusState) → Type 0
 IsNamedFirst None old new = new ≡ old
 IsNamedFirst (Some name) old new = (chip : Found) × HasIdentified (Some name) old new (Ok chip)
 
--- The bytes are a journal, and a restore from it was run, after the chip's name was checked if one is given.
+-- The bytes are a journal. A restore from that journal was run, after the chip's name was checked if a name is given.
 pub record HasRestored (named : Option ChipName) (bytes : List ℕ) (old new : BusState)
     (outcome : Result Answer Refusal) : Type 0 where
   pub journal : Journal

@@ -40,8 +40,8 @@ abbrev pub HasPrinted : Result Answer Fault → (out out' : Option (List ℕ)) �
 HasPrinted (Ok found) out out' = Prints (AreLines found) out out'
 HasPrinted (Err fault) out out' = ⊥
 
--- A run of a job on a chip, with the states of the bus before and after it. The status is 0 or 1, and 0 only if the job
--- ended with an answer and the answer's lines were printed.
+-- A run of a job on a chip, with the states of the bus before and after it. The run sent only what its job may send
+-- (`SendsOnly`). The status is 0 or 1, and 0 only if the job ended with an answer and the answer's lines were printed.
 pub record HasRun (operation : Operation) (ranges : Option (List Span)) (bytes : List ℕ) (before : View)
     (after : FilesState) (out out' : Option (List ℕ)) (status : ℕ) : Type 0 where
   pub first : BusState
@@ -65,6 +65,7 @@ pub record HasDoneJob (files after : FilesState) (out out' : Option (List ℕ)) 
   pub prepared : IsPrepared files.view operation ranges bytes
   pub ran : HasRun operation ranges bytes files.view after out out' 0
 
--- a run with status 0: help was requested, or the job was done
+-- a run with status 0: some fault is a request for help, or the job was done; nothing says that the arguments have that
+-- fault
 abbrev pub HasSucceeded : (files after : FilesState) → (out out' : Option (List ℕ)) → Type 0
 HasSucceeded files after out out' = ((ended : Trouble) × AsksForHelp ended) ⊎ HasDoneJob files after out out'

@@ -25,7 +25,8 @@ use Rattle.nor_lines.specs.declared.messages.FileFault.TheVariants as file
 
 -- ---- roles
 
--- The device differs from each file of the job, and each file that is written differs from every other.
+-- The name of the device is apart from that of each file of the job. The name of the output or the journal is apart
+-- from those of all other files of the job. No task has an output together with a journal or an image.
 pub record HaveOneRole (nature : Nature) (device : Bor Text) (job : Task) : Type 0 where
   pub device_layout : AreTwo nature (Some device) (named_by job).layout
   pub device_wanted : AreTwo nature (Some device) (named_by job).wanted
@@ -35,14 +36,14 @@ pub record HaveOneRole (nature : Nature) (device : Bor Text) (job : Task) : Type
   pub layout_journal : AreTwo nature (named_by job).layout (named_by job).journal
   pub wanted_journal : AreTwo nature (named_by job).wanted (named_by job).journal
 
--- the fault of comparing the device with the files of a job
+-- the faults of comparing the device with the files of a job
 abbrev pub FailsDevice : Nature → Bor Text → Task → Fault → Type 0
 FailsDevice nature device job fault = FailsApart nature (Some device) (named_by job).layout fault
     ⊎ (FailsApart nature (Some device) (named_by job).wanted fault
     ⊎ (FailsApart nature (Some device) (named_by job).output fault
     ⊎ FailsApart nature (Some device) (named_by job).journal fault))
 
--- the fault of comparing the files of a job with each other
+-- the faults of comparing the files of a job with each other
 abbrev pub FailsFiles : Nature → Task → Fault → Type 0
 FailsFiles nature job fault = FailsApart nature (named_by job).layout (named_by job).output fault
     ⊎ (FailsApart nature (named_by job).layout (named_by job).journal fault
@@ -56,7 +57,8 @@ FailsRoles nature device job fault = FailsDevice nature device job fault
 
 -- ---- sources
 
--- the bytes of the image that a change writes; at most one byte more is read than the largest chip has
+-- the bytes of the image that a change writes, of which at most one byte more is read than the largest chip has; no
+-- bytes if the change writes no image
 abbrev pub IsImage : View → Wanted → List ℕ → Type 0
 IsImage view (wanted.Write image) bytes = IsRead view image.now 16777217 bytes
 IsImage view _ bytes = bytes ≡ []
@@ -77,12 +79,12 @@ abbrev pub FailsImage : View → Wanted → Fault → Type 0
 FailsImage view (wanted.Write image) fault = IsReadingFault view image.now 16777217 fault
 FailsImage view _ fault = ⊥
 
--- the journal of a change exists already, and is left as it is
+-- the fault is that the journal of a change already exists
 abbrev pub IsThere : View → JournalUse → Fault → Type 0
 IsThere view (uses.Journal name) (end.File file.Exists of) = (of.now ≡ name.now) × Happens view (There name.now)
 IsThere view _ fault = ⊥
 
--- the journal could not be locked or read, or is invalid, which is error 15
+-- the fault is that the journal could not be locked or read, or is invalid (error 15)
 abbrev pub FailsJournal : View → Text → Fault → Type 0
 FailsJournal view name (end.Refused (BadJournal why)) =
     (bytes : List ℕ) × IsRead view name 16793662 bytes × HasFault bytes why

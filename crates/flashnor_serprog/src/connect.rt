@@ -17,11 +17,11 @@ pub type ChipBus<'a> = Shown<
     ReadAhead<ReadTwice<Paced<BatchingBus<DevicePort>, &'a HostRuntime>>>,
 >;
 
-/// Opens and locks the device, identifies the programmer, and sets its chip select if `cs=` is given. Sends no
-/// transaction.
+/// Opens and locks the device, identifies the programmer, sets its clock if `spispeed=` is given, and sets its chip
+/// select if `cs=` is given. Sends no transaction. Returns a programmer fault from 1 to 11 if one of these steps fails.
 ///
-/// If `image` is given, data that equals it is read once. It must be the image that the job writes or compares: then no
-/// data that was read once gets into a journal.
+/// If `image` is given, data that equals `image` is read once. It must be the image that the job writes or compares:
+/// then no data that was read once gets into a journal.
 pub fn connect<'a>(
     rt: &'a HostRuntime,
     setting: Setting<'_>,

@@ -26,8 +26,8 @@ use std::alloc::Global;
 /// occurred before the job's call to the engine.
 ///
 /// The clauses hold on every bus: the promises of each call (`DoesTask`), and the faults before the call with the
-/// commands sent until then (`FailsBefore`). If the files obey the contract of `Store`, only the file that the task
-/// creates or truncates is changed.
+/// commands sent until then (`FailsBefore`). If the files obey the contract of `Store`, each file is as it was whose
+/// name is apart from that of the file that the task creates or truncates.
 ///
 /// A read identifies the chip before it empties its file, so a file is kept if there is no chip. An erase identifies
 /// the chip to know its size, before its journal is created.
@@ -58,7 +58,7 @@ pub fn perform<'a, R: Store, B: Bus>(
     }
 }
 
-// Identifies the chip.
+// Identifies the chip, and returns the chip that was found.
 fn find_chip<B: Bus>(bus: &mut B, named: Option<ChipName>) -> Outcome
     ensures { HasLookedUp ReportsFound named (B.state bus.old) (B.state bus.new) result }
 {
@@ -81,7 +81,7 @@ fn find<B: Bus>(bus: &mut B, named: Option<ChipName>) -> Result<Found, Refusal>
     Ok(probe(bus, named)?)
 }
 
-// Identifies the chip before a call that needs more than this.
+// Identifies the chip before a call that does more. An error of the identification is the fault of the run.
 fn find_first<'a, B: Bus>(bus: &mut B, named: Option<ChipName>) -> Result<Found, Fault<'a>>
     ensures ok { IfOk result (λ found. HasIdentified named (B.state bus.old) (B.state bus.new) (Ok found)) }
     ensures err { IfErr result (FailsToFind named (B.state bus.old) (B.state bus.new)) }
@@ -107,7 +107,7 @@ fn read_chip<'a, R: Store, B: Bus>(
     read_to_file(rt, bus, named, file, included)
 }
 
-// Compares the chip with an image.
+// Compares the chip with an image, at the addresses of the included regions.
 fn verify_chip<B: Bus>(bus: &mut B, named: Option<ChipName>, sources: Sources) -> Outcome
     ensures { HasVerified named sources.included sources.bytes.items (B.state bus.old) (B.state bus.new) result }
 {
@@ -115,7 +115,8 @@ fn verify_chip<B: Bus>(bus: &mut B, named: Option<ChipName>, sources: Sources) -
     verify_image(bus, named, &bytes, included.as_ref())
 }
 
-// Changes the chip, with its journal in a new file.
+// Changes the chip, with its journal in a new file. Returns a usage fault for a rehearsal, which this program doesn't
+// perform.
 fn change_chip<'a, R: Store, B: Bus>(
     rt: &mut R,
     bus: &mut B,

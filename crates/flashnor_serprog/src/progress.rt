@@ -58,7 +58,7 @@ impl Step {
     }
 }
 
-// The lines before the first modifying command, of a session and of a restore.
+// The line before the first modifying command of a session. That of a restore is `CHANGED`.
 const SEALED: &str = "SEALED: the chip is changed from here on.";
 
 const CHANGED: &str = "The chip is changed from here on.";
@@ -70,8 +70,8 @@ const LINE_EACH: u64 = 256;
 /// after that. It prints nothing if standard error is not a character device.
 ///
 /// A step is recognized by the opcode of a transaction. Before the first modifying command a line says that the chip is
-/// changed from here on. In a session it begins with `SEALED`, since a session sends none before its journal is sealed.
-/// The bus has the state of the bus inside.
+/// changed from here on. In a session that line begins with `SEALED`, since a session sends no modifying command before
+/// its journal is sealed. In contracts, the state of this bus is that of the bus inside.
 #[derive(Drop)]
 pub struct Shown<'a, B> {
     bus: B,
@@ -115,7 +115,8 @@ fn is_terminal(rt: &HostRuntime) -> bool {
 }
 
 impl<B> Shown<'_, B> {
-    // Prints a line if this transaction is number 1, 257, 513, .. of its step.
+    // If `visible` is set, prints a line before the first modifying command, and one if this transaction is number 1,
+    // 257, 513, .. of its step.
     fn show(&mut self, out: &[u8])
         ensures { self.new.bus ≡ self.old.bus }
     {

@@ -27,7 +27,7 @@ use std::io;
 use std::io::Write;
 
 /// Performs the job given by the program's arguments, prints results to `output` and faults to `errors`, and returns
-/// the exit status: 0, or 1 after any fault.
+/// the exit status: 0, or 1 after any fault or if not all results could be printed.
 ///
 /// The first of the arguments is the program's name, which is skipped. If the system could not provide the arguments,
 /// `given` is an error, which is printed as a fault too.
@@ -49,7 +49,7 @@ pub fn run_words<O: Write, E: Write>(
     }
 }
 
-/// Ends a run that could not keep descriptors 0, 1 and 2 open. Opens no file, prints the fault, and returns the exit
+/// Ends a run that could not keep descriptors 0, 1 and 2 open. Opens no file, prints file fault 1, and returns the exit
 /// status, which is 1.
 pub fn end_without_streams<E: Write>(errors: &mut E) -> u8
     ensures { result ≡ 1 }
@@ -88,8 +88,8 @@ fn run_over<R: Store, O: Write, E: Write>(
     }
 }
 
-// Prints the reason why a run ended before its first transaction, a fault, to `errors`; or the help to `output`, if the
-// arguments ask for it. Returns the exit status.
+// Ends a run before its first transaction. Prints the fault to `errors`; or the help to `output`, if the arguments ask
+// for it. Returns the exit status.
 fn end_early<O: Write, E: Write>(output: &mut O, errors: &mut E, trouble: &Trouble<'_>) -> u8
     ensures few { result ≤ 1 }
     ensures help { result ≡ 0 → AsksForHelp trouble.now }
@@ -146,7 +146,7 @@ fn prepare<'a, 'b, R: Store>(
     }
 }
 
-// Returns the programmer and the operation that the arguments ask for, or the first of their usage faults.
+// Returns the programmer and the operation that the arguments ask for, or the first fault of the arguments.
 fn read_words<'a>(
     alloc: Global,
     words: &'a [String],
@@ -159,7 +159,7 @@ fn read_words<'a>(
     Ok((setting, operation?))
 }
 
-// Performs a job and prints its result.
+// Performs a job, prints its answer or its fault, and returns the exit status.
 fn run_prepared<R: Store, O: Write, E: Write>(
     files: &mut R,
     prepared: Prepared<'_, '_>,
@@ -220,7 +220,7 @@ fn changes(task: &Task<'_>) -> bool
     matches!(task, Task::Change(_) | Task::Restore { .. })
 }
 
-// Prints the line that follows error 12: the cause, and advice.
+// Prints the line that follows error 12: the cause, and advice. `changes` is true if the job may change the chip.
 fn print_cause<E: Write>(errors: &mut E, bus: &ChipBus<'_>, changes: bool) {
     let twice = bus.inner().inner();
     let line = StopLine {

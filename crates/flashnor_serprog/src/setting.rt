@@ -73,8 +73,8 @@ impl<'a> Settings<'a> {
     }
 }
 
-// Returns a clock in hertz, or `None` if the value isn't one. 0 isn't one: serprog has no such clock. A number with
-// leading zeros is decimal.
+// Returns a clock in hertz, or `None` if the value is no number from 1 to 4,294,967,295: serprog has no clock of 0 Hz.
+// A number with leading zeros is decimal.
 fn read_hertz(value: &str) -> Option<u32> {
     let hertz = u32::try_from(read_number(value)?).ok()?;
     if hertz == 0 { None } else { Some(hertz) }

@@ -40,7 +40,7 @@ impl Sources {
 /// Reads the files that a task needs: the layout, then the image or the journal. Each file is as it was.
 ///
 /// Returns the faults of `read_included`, `read_file` and `read_journal`, error 15 for an invalid journal, or file
-/// fault 4 if the journal of a change exists.
+/// fault 4 if the journal of a change already exists.
 pub fn read_sources<'a, R: Store>(rt: &mut R, task: &Task<'a>) -> Result<Sources, Fault<'a>>
     ensures same { AreUntouched (R.state rt.old) (R.state rt.new) }
     ensures ok { IfOk result (λ sources.
@@ -70,7 +70,7 @@ fn without_bytes<R: Store>(rt: &R, included: Option<Ranges>) -> Sources
     Sources { included, bytes }
 }
 
-// Reads the layout and the image of a change. The journal must not exist yet.
+// Reads the layout and the image of a change. Returns file fault 4 if the change's journal already exists.
 fn read_for_change<'a, R: Store>(rt: &R, change: &Change<'a>) -> Result<Sources, Fault<'a>>
     ensures ok { IfOk result (λ sources. AreRangesOf (R.state rt.now).view change.now.regions sources.included
         × IsImage (R.state rt.now).view change.now.wanted sources.bytes.items) }
@@ -100,7 +100,7 @@ fn read_image<'a, R: Store>(rt: &R, wanted: Wanted<'a>) -> Result<Vec<u8>, Fault
     }
 }
 
-// Locks and reads a journal, and checks that it is valid.
+// Locks and reads a journal. Returns error 15 if the journal is invalid.
 fn read_for_restore<'a, R: Store>(rt: &mut R, name: &'a str) -> Result<Sources, Fault<'a>>
     ensures same { AreUntouched (R.state rt.old) (R.state rt.new) }
     ensures ok { IfOk result (λ sources. IsRead (R.state rt.old).view name.now 16793662 sources.bytes.items) }

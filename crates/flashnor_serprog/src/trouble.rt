@@ -193,7 +193,7 @@ impl fmt::Display for Advice<'_> {
     }
 }
 
-// The printed text of a failed exchange. For a silent programmer it replaces the text of nor_serprog.
+// The printed text of a failed exchange. For a silent programmer this text replaces that of nor_serprog.
 #[derive(Drop)]
 struct FailureText<'a>(&'a Failure<PortFault>);
 

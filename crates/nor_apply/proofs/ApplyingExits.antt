@@ -40,7 +40,7 @@ abbrev pub and_more : Numbers → (erases programs : ℕ) → Numbers
 and_more n erases programs =
     record { erases = n.erases + erases; programs = n.programs + programs; status_writes = n.status_writes }
 
--- Holds after the first part: the protection bits were cleared, if that was requested.
+-- States `SoFar` for the first part: the protection bits were cleared, if that was requested.
 abbrev pub Lifted : Changes → (ℕ → ℕ) → (old now : BusState) → Tally → Type 0
 Lifted changes wanted old now tally =
     SoFar changes wanted old.chip.bytes old.worn (code_once changes) (lifting changes) 0 most_operation old now tally
@@ -70,7 +70,8 @@ lifted changes {old} wanted leaves does =
       status_writes = omega arith;
     }) (omega arith) (omega arith) (omega arith)
 
--- Holds after the second part: the protection bits were cleared, if that was requested, and the raised sectors erased.
+-- States `SoFar` for the first two parts: the protection bits were cleared, if that was requested, and the raised
+-- sectors were erased.
 abbrev pub Erased : Changes → (ℕ → ℕ) → (erases : ℕ) → (old now : BusState) → Tally → Type 0
 Erased changes wanted erases old now tally =
     SoFar changes wanted (once_erased (raised_in changes) old.chip.bytes) (λ s. old.worn s || raised_in changes s)
@@ -141,8 +142,8 @@ module _ {changes : Changes} {wanted : ℕ → ℕ} {old mid new : BusState} {do
       (λ honest can.
       let is = so.stands honest can in stands_changed is (does.done (now_honest so honest) (can_erase_all can is)))
 
--- Holds after the third part: the protection bits were cleared, if that was requested, the raised sectors erased, and
--- the touched sectors programmed.
+-- States `SoFar` for the first three parts: the protection bits were cleared, if that was requested, the raised sectors
+-- were erased, and the touched sectors programmed.
 abbrev pub Programmed : Changes → (ℕ → ℕ) → (erases programs : ℕ) → (old now : BusState) → Tally → Type 0
 Programmed changes wanted erases programs old now tally =
     SoFar changes wanted

@@ -1,4 +1,4 @@
--- Some of the changes of `apply`, after others: their effect so far, and their transactions.
+-- The parts of `apply` one after another: the effect of the parts so far, and the number of their transactions.
 use Rattle.std.proofs.Common.{ℕ, zero, suc, ◌≡◌, ◌≤◌, ◌+◌, ◌∙◌, Bool, true, arith, inl, inr}
 use Rattle.std.specs.Prelude.{◌&&◌, if◌then◌else◌}
 use Rattle.std.proofs.lemmas.Bool.{cases_Bool}
@@ -47,7 +47,7 @@ abbrev pub code_limits : Changes → (needed : Bool) → (code : ℕ) → Limits
 code_limits changes needed code =
     writing (λ one two. needed && is_status_with_code changes.status code one two) (if needed then 1 else 0)
 
--- ---- some of the changes, after others
+-- ---- one part after others
 
 -- The numbers of erases, page programs and status writes that were sent.
 pub record Numbers : Type 0 where
@@ -69,7 +69,9 @@ pub record SoFar (changes : Changes) (wanted bytes : ℕ → ℕ) (worn : ℕ �
       → MayChange (touched_in changes) (raised_in changes) wanted old now
   pub stands : old.honest ≡ true → CanApply changes wanted old.chip → Stands bytes worn code old now
 
--- Holds at every exit of one part of the changes, which led from `mid` to `new`. All changes began at `old`.
+-- Holds at every exit of one part of the changes, which led from `mid` to `new`, if all changes began at `old`. The
+-- part sends only what `limits` allow. On a well-behaved bus at most `most` of its transactions are carried out. If
+-- `CanApply` held at the start of all changes, too, the part changed the chip only as `MayChange` allows.
 pub record Leaves (changes : Changes) (wanted : ℕ → ℕ) (most : ℕ) (limits : Limits) (old mid new : BusState) : Type 0
   where
     pub spends : Spends most mid new
@@ -77,7 +79,8 @@ pub record Leaves (changes : Changes) (wanted : ℕ → ℕ) (most : ℕ) (limit
     pub may : old.honest ≡ true → CanApply changes wanted old.chip
         → MayChange (touched_in changes) (raised_in changes) wanted mid new
 
--- Holds if all changes end with this error because one part returned it.
+-- Holds if the clauses of `apply` for an exit with this error are true: `LeavesApply`, `OperationFails` and
+-- `NamesChange`.
 abbrev pub Halted : (changes : Changes) (wanted : ℕ → ℕ) (old new : BusState) → OperationError → Type 0
 Halted changes wanted old new halt =
     LeavesApply changes wanted old new × OperationFails (most_applied (sector_count (touched_in changes))) old new halt
@@ -124,7 +127,7 @@ module _ {changes : Changes} {wanted bytes : ℕ → ℕ} {worn : ℕ → Bool} 
           stands = stands;
         }
 
-  -- the part is a status write
+  -- For a part that is a status write.
   module _ {needed : Bool} {code' : ℕ} {new : BusState}
       (writable : needed ≡ true → CanApply changes wanted old.chip → is_writable old.chip ≡ true)
       (leaves : LeavesCode changes.status code' needed mid new) where
@@ -157,7 +160,8 @@ module _ {changes : Changes} {wanted bytes : ℕ → ℕ} {worn : ℕ → Bool} 
         (λ honest can.
         stands_code can (λ writes. writable writes can) (so.stands honest can) (now_honest honest) leaves does)
 
--- a timeout names 0 for a status write, or an address in a touched sector
+-- For a status write, `NamesChange` follows from `FailsWriting`, if the changes need a status write whenever this part
+-- sends one.
 pub names_writing : (changes : Changes) (needed : Bool) (halt : OperationError) → (needed ≡ true → 1 ≤ status_writes changes)
     → FailsWriting needed halt → NamesChange changes halt
 names_writing changes needed halt counts returned = grind arith

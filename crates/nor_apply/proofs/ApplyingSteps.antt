@@ -23,7 +23,8 @@ use Rattle.nor_apply.specs.Applying.{touched_in, raised_in, writes_code, CanAppl
 use Rattle.nor_apply.proofs.Kept.{code_cleared, coded_again, fixed_coded, locked_same, told_coded, writable_same}
 use Rattle.nor_apply.proofs.Changing.{can_after, same_change, status_change}
 
--- the protection bits that were read (`code_read`), and those at the erases (`code_once`): 0 after an unlock
+-- the protection bits that were read (`code_read`), and those during the erases and programs (`code_once`), which are 0
+-- after an unlock and else those that were read
 abbrev pub code_read : Changes → ℕ
 code_read changes = code_of (kept_in (bytes_of changes.status))
 
@@ -40,7 +41,8 @@ pub record Stands (bytes : ℕ → ℕ) (worn : ℕ → Bool) (code : ℕ) (old 
   pub idle : new.chip.busy ≡ 0
   pub latch : new.chip.latch ≡ true → old.chip.latch ≡ true
 
--- erases or programs after earlier steps lead to another intermediate state
+-- After erases or programs the state has the target bytes of that part in its sectors, and its erased sectors in
+-- addition.
 pub stands_changed : {t e worn : ℕ → Bool} {w bytes : ℕ → ℕ} {code : ℕ} {old mid new : BusState}
     → Stands bytes worn code old mid → HasChanged t w e mid new
     → Stands (λ a. if t (a / 4096) then w a else bytes a) (λ s. worn s || e s) code old new
@@ -102,7 +104,8 @@ module _ {changes : Changes} {wanted : ℕ → ℕ} {old : BusState} (can : CanA
   -- ---- what erases and programs need
 
   module _ {bytes : ℕ → ℕ} {worn : ℕ → Bool} {mid : BusState} (is : Stands bytes worn (code_once changes) old mid) where
-    -- after the unlock, if it was requested, no touched address is protected
+    -- After the unlock, if one was requested, and before the last status write, no address in a touched sector is
+    -- protected: without an unlock by `CanApply`, and after an unlock because all protection bits are clear.
     free : (a : ℕ) → touched_in changes (a / 4096) ≡ true → is_protected mid.chip a ≡ false
     free a touched =
         let before = kept_read can in let cleared = code_cleared old.chip.kept in

@@ -70,21 +70,22 @@ can_after {old} new within can config kept idle =
 
 -- ---- every exit
 
--- `MayChange` holds if the chip and its erased sectors are as they were, and the chip is idle
+-- `MayChange` holds for any sectors if the chip and its erased sectors are as they were, and the chip is idle.
 pub same_change : {t r : ℕ → Bool} {w : ℕ → ℕ} {old new : BusState} → IsSame old.chip new.chip → new.chip.busy ≡ 0
     → ((s : ℕ) → new.worn s ≡ old.worn s) → MayChange t r w old new
 same_change {t} {old} {new} same idle worn =
     search (same_within (addresses_of t) old.chip new same idle, same.bytes, inl)
 
--- if `MayChange` holds for each of two successive parts, it holds for both together
+-- If `MayChange` holds for each of two successive parts, it holds for both together, provided that the bus is steady
+-- between them if and only if it was so at the start.
 pub change_then : {t r : ℕ → Bool} {w : ℕ → ℕ} {old mid new : BusState} → mid.steady ≡ old.steady
     → MayChange t r w old mid → MayChange t r w mid new → MayChange t r w old new
 change_then {t} {old} {mid} {new} steadily before after =
     let within = within_then (addresses_of t) old.chip mid new before.within after.within in
     grind (arith, within, before.gentle, after.gentle, before.worn, after.worn)
 
--- a change of some sectors is a change of a larger set, if the target bytes agree at touched addresses outside the
--- raised sectors
+-- `MayChange` stays true for more touched sectors `t'`, more raised sectors `r'` and other target bytes `w'`. In the
+-- sectors that `t` has and `r'` doesn't have, `w'` must equal `w`.
 pub change_as : {t r t' r' : ℕ → Bool} {w w' : ℕ → ℕ} {old new : BusState} → ((s : ℕ) → t s ≡ true → t' s ≡ true)
     → ((s : ℕ) → r s ≡ true → r' s ≡ true) → ((a : ℕ) → r' (a / 4096) ≡ false → t (a / 4096) ≡ true → w a ≡ w' a)
     → MayChange t r w old new → MayChange t' r' w' old new
@@ -92,7 +93,8 @@ change_as {t} {t' = t'} {old} {new} more raised wanted change =
     let within = within_wider (addresses_of t) (addresses_of t') old.chip new (λ a. more (a / 4096)) change.within in
     grind (arith, within, raised, wanted, change.gentle, change.within.bytes, change.worn)
 
--- `MayChange` holds for a status write, even if it was interrupted, to a chip whose status can be written
+-- `MayChange` holds for any sectors after a status write, even if it was interrupted, to a chip whose status can be
+-- written.
 pub status_change : {t r : ℕ → Bool} {w : ℕ → ℕ} {code : ℕ} {old new : BusState} → is_writable old.chip ≡ true
     → MayWriteStatus code old new → MayChange t r w old new
 status_change {code = code} {old = old} writable wrote =
@@ -110,7 +112,7 @@ pub record HasMade (places : ℕ → Bool) (wanted : ℕ → ℕ) (erased : ℕ 
   pub idle : new.chip.busy ≡ 0
   pub latch : new.chip.latch ≡ true → old.chip.latch ≡ true
 
--- a completed change of sectors is one of all addresses in them
+-- `HasChanged` for sectors is `HasMade` for all addresses in them.
 pub made_of : {t e : ℕ → Bool} {w : ℕ → ℕ} {old new : BusState} → HasChanged t w e old new
     → HasMade (addresses_of t) w e old new
 made_of has = assumption
@@ -143,7 +145,8 @@ made_same {w = w} {old = old} same spared has =
     let worn = λ (s : ℕ). has.worn s ∙ ap (λ (b : Bool). old.worn s || b) (spared s) in
     assumption
 
--- two successive parts make one, if the later part's bytes are the target ones
+-- `HasMade` holds for two successive parts together, with the addresses and the erased sectors of both. The target
+-- bytes of the second, `v`, must equal those of the whole, `w`, at the second part's addresses.
 pub made_then : {p q t e f g : ℕ → Bool} {v w : ℕ → ℕ} {old mid new : BusState} → ((a : ℕ) → t a ≡ (p a || q a))
     → ((s : ℕ) → g s ≡ (e s || f s)) → ((a : ℕ) → q a ≡ true → v a ≡ w a)
     → HasMade p w e old mid → HasMade q v f mid new → HasMade t w g old new

@@ -31,8 +31,8 @@ use Rattle.nor_apply.proofs.InTurn.{Listed, listed_none, listed_halted, listed_m
 use Rattle.nor_apply.proofs.Changing.{can_after, change_then, HasMade, changed_of, made_may, made_none, made_same, made_then}
 use Rattle.nor_apply.proofs.Targeting.{unit_aims}
 
--- Holds for an erase of the plan: it lies in the set of sectors and covers at least one of them, on a chip of `total`
--- sectors.
+-- Holds for an erase of the plan on a chip of `total` sectors: it is one that the chip offers (`IsErase`), erases at
+-- least one sector, and erases only sectors of the set.
 record IsOfPlan (kinds : Kinds) (total : ℕ) (set : ℕ → Bool) (unit : Erase) : Type 0 where
   pub is : IsErase kinds total unit
   pub some : 1 ≤ sectors_in total unit.unit
@@ -63,7 +63,8 @@ module _ {kinds : Kinds} {size : ℕ} {set done : ℕ → Bool} {unit : Erase} {
   sectors_same : sectors_of mid.chip ≡ size / 4096
   sectors_same = rw (has.config, can.sized.same) refl
 
-  -- an erase of the plan can be carried out after the erases before it
+  -- An erase of the plan can be carried out after the erases before it, if `CanEraseAll` held at the start. By
+  -- `HasMade` these leave the configuration and the non-volatile status bits as they were, and an idle chip.
   can_erase : CanErase unit mid.chip
   can_erase =
       let able = can_after mid.chip (λ s is. is) can.can has.config has.kept has.idle in
@@ -122,7 +123,8 @@ module _ {kinds : Kinds} {size : ℕ} {set : ℕ → Bool} {units left : List Er
       sym (so.covers.union s)
       ∙ rw (← so.listed.split, list_any-append (erases_sector (size / 4096) s) units left, erased) refl
 
-  -- limits of `n` erases are part of the limits of one erase per sector, if `n` is at most the number of sectors
+  -- the limits of `n` erases are part of the limits of one erase per sector of the set, if `n` is at most the number of
+  -- sectors in the set
   within_count : {n : ℕ} → n ≤ sector_count set
       → IsPartOf (erasing (may_target set size) n) (erasing (may_target set size) (sector_count set))
   within_count few = record {
@@ -133,7 +135,7 @@ module _ {kinds : Kinds} {size : ℕ} {set : ℕ → Bool} {units left : List Er
     status_writes = omega arith;
   }
 
-  -- every planned erase was sent
+  -- For the exit at which every planned erase was sent.
   module _ (none : left ≡ []) where
     pub does_ended : DoesErases set kinds size old mid tally
     does_ended =
@@ -155,7 +157,7 @@ module _ {kinds : Kinds} {size : ℕ} {set : ℕ → Bool} {units left : List Er
       reached = λ honest can. made_may (λ a. erased_inside (a / 4096)) erased_inside (so.done honest can);
     }
 
-  -- the erase `unit` is next
+  -- For the point at which `unit` is the next erase.
   module _ {unit : Erase} {rest : List Erase} (next : left ≡ unit ∷ rest) where
     pub few_units : tally.count < 4096
     few_units = omega (arith, come_fewer so.listed next, so.few, count_below-most 4096 set)

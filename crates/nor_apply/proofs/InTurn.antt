@@ -17,8 +17,8 @@ use Rattle.nor_apply.specs.Spending.{Spends, Tallies}
 
 -- ---- parts that ran
 
--- Holds if a part of a change succeeded. It sent exactly the numbers of operations in `limits`, only what they allow,
--- and at most `readings` reads.
+-- Holds if a part of a change succeeded. It sent exactly the numbers of operations in `limits`, and only operations
+-- that `limits` allows. Its transactions, with at most `readings` reads, are counted in `tally` (`Tallies`).
 pub record Ran (limits : Limits) (readings : ℕ) (old new : BusState) (tally : Tally) : Type 0 where
   pub nature : KeepsNature old new
   pub sends : SendsWithin limits old new
@@ -119,7 +119,7 @@ module _ {A : Type 0} {all done left : List A} {limits : ℕ → Limits} {old mi
     come_fewer = omega (arith, ap length come_before, length-append done (x ∷ rest), listed.count)
 
     module _ {one : Limits} {new : BusState} (stirs : Stirs one mid new) where
-      -- the next operation returned an error
+      -- The bounds at an exit at which the next operation returned an error.
       pub listed_halted : {halt : OperationError} (most : ℕ) → AreParts (limits tally.count) one (limits (length all))
           → (mid.honest ≡ true → Falls most_operation mid new)
           → OperationFails most_operation mid new halt → most_operation * length all ≤ most
@@ -130,7 +130,7 @@ module _ {A : Type 0} {all done left : List A} {limits : ℕ → Limits} {old mi
         halts_after listed.ran fails (omega (arith, come_fewer)),
       )
 
-      -- the next operation succeeded
+      -- `Listed` for one more element, if the next operation succeeded.
       pub listed_more : {sent : ℕ} {more : Tally} → IsSum (limits tally.count) one (limits more.count)
           → SendsExactly one.erases one.programs one.status_writes mid new → EndsWaiting mid new sent
           → more.count ≡ tally.count + 1

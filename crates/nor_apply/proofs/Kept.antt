@@ -6,7 +6,7 @@ use Rattle.nor_model.specs.Guard.{code_of}
 use Rattle.nor_driver.specs.StatusWrites.{fixed_of, with_code}
 use Rattle.nor_apply.specs.Within.{is_writable}
 
--- ---- another code
+-- ---- other protection bits
 
 pub fixed_coded : (code : ℕ) (kept : KeptBits) → fixed_of (with_code code kept) ≡ fixed_of kept
 fixed_coded code kept =
@@ -20,7 +20,7 @@ coded_again code later kept =
     let high : (64 * (code / 32) + kept.two % 64) % 64 ≡ kept.two % 64 = omega arith in
     rw (low, high) refl
 
--- writing code 0 clears all protection bits
+-- after `code` 0 was written, all protection bits are clear
 pub code_cleared : (kept : KeptBits) → code_of (with_code 0 kept) ≡ 0
 code_cleared kept = omega arith
 

@@ -61,8 +61,8 @@ page_inside : (sector first a : ℕ) → first < 4096 → is_in_page (4096 * sec
     → only sector (a / 4096) ≡ true
 page_inside sector first a below page = grind (arith, nat_tests)
 
--- `MayChange` holds for a program, even if it was interrupted, if the complete program would leave each byte as it was
--- or as the target one
+-- `MayChange` holds for a program, even if it was interrupted, if its page lies in the sector, and the complete program
+-- would leave each byte as it was or as the target one.
 span_change : (sector at : ℕ) (sent : List ℕ) (wanted : ℕ → ℕ) (now new : BusState)
     → ((a : ℕ) → is_in_page at a ≡ true → only sector (a / 4096) ≡ true)
     → ((a : ℕ) → (programmed at sent now.chip.bytes a ≡ now.chip.bytes a)
@@ -93,7 +93,7 @@ module _ {sector : ℕ} {old wanted : List ℕ} {span : PageSpan} (spanned : Spa
 
   module _ (spans : List PageSpan) {first now : BusState} (can : CanProgramSpans sector old wanted first.chip)
       (filled : HasFilled sector wanted spans first now) where
-    -- the chip can program the span
+    -- After the programs of other spans the chip can program this span, if `CanProgramSpans` held at the start.
     can_span : CanProgram (4096 * sector + span.first) (length (part wanted span)) now.chip
     can_span =
         let able = can_after now.chip (λ s is. is) can.can filled.config filled.kept filled.idle in
@@ -123,7 +123,7 @@ module _ {sector : ℕ} {old wanted : List ℕ} {span : PageSpan} (spanned : Spa
         (can.falls (a - 4096 * sector) (omega arith)) in
         rw sent (fallen (either_byte (in_spans sector spans a) (filled.bytes a)) falls)
 
-    -- the program gives the span's addresses the target bytes
+    -- The program gives the span's addresses the target bytes, and leaves all other bytes as they were.
     span_bytes : (a : ℕ) → programmed (4096 * sector + span.first) (part wanted span) now.chip.bytes a
         ≡ (if in_spans sector (span ∷ []) a then byte_of sector wanted a else now.chip.bytes a)
     span_bytes a = rw (sent_places a) (elim (cases_Bool (in_spans sector (span ∷ []) a)) [
@@ -144,7 +144,8 @@ module _ {sector : ℕ} {old wanted : List ℕ} {span : PageSpan} (spanned : Spa
           ∙ and-or_distrib_right (spanned_by spans (a - 4096 * sector)) _ _ in
           made_then joined (λ s. refl) (λ a is. refl) filled made
 
-      -- `MayChange` holds for a program, even if it was interrupted, that follows the programs of other spans
+      -- `MayChange` holds for the programs of `spans` and one that follows them, even if that one was interrupted. The
+      -- bus must be steady before it if and only if it was so at the start.
       span_may : now.steady ≡ first.steady → MayProgram (4096 * sector + span.first) (part wanted span) now new
           → MayChange (only sector) none (byte_of sector wanted) first new
       span_may steadily may =
@@ -228,8 +229,8 @@ pages_other content sector old wanted whole shown =
 
 -- ---- one span after another
 
--- Holds if the programs of the spans `spans` of a sector succeeded, and nothing else was sent. The spans `left` are not
--- programmed yet.
+-- Holds if the programs of the spans `spans` of a sector succeeded, and no other operation was sent. The spans `left`
+-- are not programmed yet.
 pub record SpansSoFar (sector : ℕ) (old wanted : List ℕ) (spans left : List PageSpan) (first now : BusState)
     (tally : Tally) : Type 0 where
   pub whole : length old ≡ 4096
@@ -262,7 +263,7 @@ module _ {sector : ℕ} {old wanted : List ℕ} {spans left : List PageSpan} {fi
     status_writes = omega arith;
   }
 
-  -- every span was programmed
+  -- For the exit at which every span was programmed.
   module _ (none : left ≡ []) where
     pub does_ended : DoesSpans sector old wanted first now tally
     does_ended =
@@ -283,7 +284,7 @@ module _ {sector : ℕ} {old wanted : List ℕ} {spans left : List PageSpan} {fi
       reached = λ honest can. changed_may (does_ended.done honest can);
     }
 
-  -- the span `span` is next
+  -- For the point at which `span` is the next span.
   module _ {span : PageSpan} {rest : List PageSpan} (next : left ≡ span ∷ rest) where
     spanned : Spanned sector old wanted span
     spanned = record {

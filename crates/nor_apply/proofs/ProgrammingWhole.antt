@@ -56,7 +56,8 @@ module _ {sector : ℕ} {erased : Bool} {bytes bytes' : List ℕ} {reads : ℕ} 
 
   module _ {wanted : List ℕ} (blank : (i : ℕ) → i < 4096 → slice_index bytes i ≡ 255) (honest : first.honest ≡ true)
       (can : CanProgramSector sector wanted erased first.chip) where
-    -- on a well-behaved bus, if the sector can be programmed, its bytes are known and the chip is as it was
+    -- On a well-behaved bus, if `CanProgramSector` held and the buffer was blank: after loading, the buffer has the
+    -- sector's bytes, and the chip is as it was.
     has_loaded : HasMade (λ a. false) (byte_of sector wanted) none first mid × IsSectorOf mid.chip.bytes sector bytes'
     has_loaded = elim (cases_Bool erased) [
       | inl is ↦
@@ -134,7 +135,9 @@ before_more touched n is s = grind (arith, nat_tests)
 before_skip : (touched : ℕ → Bool) (n : ℕ) → touched n ≡ false → (s : ℕ) → before touched n s ≡ before touched (n + 1) s
 before_skip touched n free s = grind (arith, nat_tests)
 
--- Holds if the touched sectors below `n` were programmed. Only their programs and at most one read of each were sent.
+-- Holds if the touched sectors below `n` were programmed. Only programs in touched sectors were sent, and at most one
+-- read per touched sector below `n`. On a well-behaved bus, if `CanProgramAll` held at the start, the touched sectors
+-- below `n` have the target bytes, and one program was sent for each of their pages that differed.
 pub record SectorsSoFar (touched raised : ℕ → Bool) (wanted : ℕ → ℕ) (n : ℕ) (first now : BusState)
     (tally : Tally) : Type 0 where
   pub ran : Ran (programming touched tally.count) (count_below n touched) first now tally
@@ -179,11 +182,11 @@ page_same page {now} {before} {wanted} {wanted'} same same_wanted =
     any_below-same 256 (λ i. is_other (now (at i)) (wanted (at i))) (λ i. is_other (before (at i)) (wanted' (at i)))
     (λ i below. rw (same (at i) (omega arith), same_wanted (at i) (omega arith)) refl)
 
--- if sector `n` is touched, fewer sectors are touched below it than in all
+-- If sector `n`, below 4,096, is touched, fewer sectors are touched below it than in all.
 pub room : (touched : ℕ → Bool) (n : ℕ) → n < 4096 → touched n ≡ true → count_below n touched + 1 ≤ sector_count touched
 room touched n below is = count_below-next 4096 n touched below is
 
--- Holds if sector `n` is touched, and has these target bytes.
+-- Holds if sector `n` is touched, below 4,096, and has these target bytes.
 pub record IsTouched (touched : ℕ → Bool) (wanted : ℕ → ℕ) (n : ℕ) (bytes : List ℕ) : Type 0 where
   pub is : touched n ≡ true
   pub below : n < 4096

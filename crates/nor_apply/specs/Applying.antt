@@ -38,17 +38,17 @@ writes_code changes = not ((if changes.unlock then 0 else code_of (kept_in (byte
 abbrev pub status_writes : Changes → ℕ
 status_writes changes = (if changes.unlock then 1 else 0) + (if writes_code changes then 1 else 0)
 
--- True if the changes ask for a status write of these two bytes. They are the status that was read, with BUSY, WEL and
--- SUS clear and with other protection bits: all clear if protection is lifted first, or the target ones if these are
--- written at the end.
+-- True if the changes ask for a status write of these two bytes: one that clears all protection bits at the start, or
+-- one that writes the target protection bits at the end. The other bits are as in the status that was read, except that
+-- BUSY, WEL and (for target bits below 64) SUS are clear.
 abbrev pub is_status_asked : Changes → (one two : ℕ) → Bool
 is_status_asked changes one two =
     (changes.unlock && is_status_with_code changes.status 0 one two)
     || (writes_code changes && is_status_with_code changes.status changes.code one two)
 
--- limits of these changes: targets are only the touched sectors and, if these are the whole chip, sectors past its end
--- (`may_target`); status writes are only those for which the changes ask; and the numbers of erases, page programs and
--- status writes are at most these
+-- The limits of these changes. Erases and programs may target the touched sectors and, if these are the whole chip,
+-- sectors past its end (`may_target`). Status writes may only be those for which the changes ask. The numbers of
+-- erases, page programs and status writes are at most the given ones.
 abbrev pub sending : Changes → (erases programs status_writes : ℕ) → Limits
 sending changes erases programs status_writes = record {
   sectors = may_target (touched_in changes) changes.size;
@@ -72,10 +72,11 @@ pub record AreConsistent (changes : Changes) : Type 0 where
   pub small : changes.size ≤ 16777216
   pub six_bits : changes.code < 64
 
--- Holds if the changes can be made. The chip is idle, and has the size, the erase types and the status that `changes`
--- name. The touched sectors lie on it, and have a protected address only if all protection bits are cleared first. If
--- the changes need a status write, the chip's status can be written. The raised sectors are touched, the target bytes
--- are below 256, and in a touched sector that isn't raised no bit must go from 0 to 1.
+-- Holds if the changes can be made. The chip is idle, and has the size, the erase types and the non-volatile status
+-- bits that `changes` names. The touched sectors lie on it, and have a protected address only if all protection bits
+-- are cleared first. If the changes need a status write, the chip's status can be written. The raised sectors are
+-- touched, the target bytes of touched sectors are below 256, and in a touched sector that isn't raised no bit must go
+-- from 0 to 1.
 pub record CanApply (changes : Changes) (wanted : ℕ → ℕ) (chip : Chip) : Type 0 where
   pub idle : chip.busy ≡ 0
   pub sized : IsSized changes.size changes.kinds chip
@@ -105,18 +106,20 @@ abbrev pub most_applied : ℕ → ℕ
 most_applied touched = touched + most_operation * (17 * touched + 2)
 
 -- Holds at every exit of `apply`. On every bus, erases and programs target only touched sectors, or if these are the
--- whole chip, also sectors past its end; no more operations are sent than `most_sent` allows. On a well-behaved bus, if
--- `CanApply` held at the start, the chip changes only as `MayChange` allows.
+-- whole chip, also sectors past its end; no more operations are sent than `most_sent` allows (`SendsWithin`). On a
+-- well-behaved bus at most `most_applied` transactions are carried out. If `CanApply` held at the start, too, the chip
+-- changes only as `MayChange` allows.
 pub record LeavesApply (changes : Changes) (wanted : ℕ → ℕ) (old new : BusState) : Type 0 where
   pub spends : Spends (most_applied (sector_count (touched_in changes))) old new
   pub sends : SendsWithin (most_sent changes) old new
   pub reached : old.honest ≡ true → CanApply changes wanted old.chip
       → MayChange (touched_in changes) (raised_in changes) wanted old new
 
--- Holds if `apply` returned the counts `work`. On every bus it sent exactly these numbers of erases, page programs and
--- status writes (`SendsExactly`); if no sector is touched and no status write is needed, it sent no modifying command.
--- On a well-behaved bus, if `CanApply` held at the start, the changes are complete, and one program was sent for each
--- page of a touched sector that differed from the target after the erases.
+-- Holds if `apply` returned the counts `work`. On every bus it sent exactly these numbers of erases and page programs,
+-- and the status writes that the changes need. If the changes touch no sector and need no status write, it sent no
+-- modifying command. The number of erases is that of the plan. On a well-behaved bus, if `CanApply` held at the start,
+-- the changes are complete, and one program was sent for each page of a touched sector that differed from the target
+-- after the erases.
 pub record DoesApply (changes : Changes) (wanted : ℕ → ℕ) (old new : BusState) (work : Work) : Type 0 where
   pub erases : work.erases ≡ length (planned changes.kinds (changes.size / 4096) (raised_in changes))
   pub fewer_erases : work.erases ≤ sector_count (raised_in changes)

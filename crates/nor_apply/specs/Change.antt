@@ -22,9 +22,10 @@ pub record IsSized (size : ℕ) (kinds : Kinds) (chip : Chip) : Type 0 where
 abbrev pub OnlyFalls : (sectors : ℕ → Bool) → (wanted content : ℕ → ℕ) → Type 0
 OnlyFalls sectors wanted content = (a : ℕ) → sectors (a / 4096) ≡ true → bit_and (wanted a) (content a) ≡ wanted a
 
--- Holds at every exit of a change. Bytes outside the touched sectors and the bits that are never changed are as they
--- were; so are the protection bits, if they can't be written. On a steady bus each byte of a sector that isn't raised
--- is the old or the target one. Only raised sectors were erased.
+-- Holds at every exit of a change. The chip differs from that at the start only as `IsWithin` allows. So bytes outside
+-- the touched sectors and the bits that are never changed are as they were, and so are the protection bits if they
+-- couldn't be written. On a steady bus each byte of a sector that isn't raised is the old or the target one. Only
+-- raised sectors were erased.
 pub record MayChange (touched raised : ℕ → Bool) (wanted : ℕ → ℕ) (old new : BusState) : Type 0 where
   pub within : IsWithin (addresses_of touched) old.chip new
   pub gentle : old.steady ≡ true → (a : ℕ) → raised (a / 4096) ≡ false

@@ -16,17 +16,19 @@ pub record CanEraseAll (sectors : ℕ → Bool) (kinds : Kinds) (size : ℕ) (ch
   pub can : CanChange sectors chip
   pub sized : IsSized size kinds chip
 
--- Holds at every exit of the erases. On every bus they target only these sectors, or if these are the whole chip, also
--- sectors past its end. On a well-behaved bus, if `CanEraseAll` held at the start, the chip changes only as `MayChange`
--- allows: the bytes of these sectors may have any value.
+-- Holds at every exit of the erases. On every bus at most one erase per sector is sent, and the erases target only
+-- these sectors, or if these are the whole chip, also sectors past its end (`SendsWithin`). On a well-behaved bus at
+-- most 65,538 transactions per sector are carried out. If `CanEraseAll` held at the start, too, the chip changes only
+-- as `MayChange` allows: the bytes of these sectors may have any value.
 pub record LeavesErases (sectors : ℕ → Bool) (kinds : Kinds) (size : ℕ) (old new : BusState) : Type 0 where
   pub spends : Spends (most_operation * sector_count sectors) old new
   pub sends : SendsWithin (erasing (may_target sectors size) (sector_count sectors)) old new
   pub reached : old.honest ≡ true → CanEraseAll sectors kinds size old.chip → MayChange sectors sectors blank old new
 
--- Holds after the erases succeeded. Their number is the length of the planned list, which is the shortest that erases
--- exactly these sectors. If there was no erase, the record of modifying commands is as it was. On a well-behaved bus,
--- if `CanEraseAll` held at the start, all bytes of the sectors are FFh.
+-- Holds after the erases succeeded. On every bus exactly `tally.count` erases were sent, which is the length of the
+-- planned list; if it is 0, the record of modifying commands is as it was. On a well-behaved bus, if `CanEraseAll` held
+-- at the start, all bytes of the sectors are FFh and all else is as `HasChanged` says. nor_plan's `fewest_is_least`
+-- proves that no shorter list erases exactly these sectors, if they lie on a chip of at most 4,096 sectors.
 pub record DoesErases (sectors : ℕ → Bool) (kinds : Kinds) (size : ℕ) (old new : BusState)
     (tally : Tally) : Type 0 where
   pub count : tally.count ≡ length (planned kinds (size / 4096) sectors)

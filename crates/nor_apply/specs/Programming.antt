@@ -58,8 +58,9 @@ pub record CanProgramSector (sector : ℕ) (wanted : List ℕ) (erased : Bool) (
   pub blank : erased ≡ true → (a : ℕ) → a / 4096 ≡ sector → chip.bytes a ≡ 255
   pub falls : OnlyFalls (only sector) (byte_of sector wanted) chip.bytes
 
--- Holds after a sector was loaded into `bytes'`. It was read once, except if it was erased: then nothing was sent, and
--- the bytes are as they were. On a well-behaved bus with an idle chip that has the sector, the bytes read are its own.
+-- Holds after a sector was loaded into `bytes'`. The returned number of reads is 1, or 0 if the sector was erased: then
+-- the bytes and the bus are as they were. On a well-behaved bus with an idle chip that has the sector, the bytes read
+-- are the chip's.
 pub record LoadsOk (sector : ℕ) (erased : Bool) (bytes bytes' : List ℕ) (reads : ℕ) (old new : BusState) : Type 0 where
   pub reads_once : reads ≡ (if erased then 0 else 1)
   pub polled_ready : new.polled_ready ≡ old.polled_ready
@@ -74,8 +75,8 @@ abbrev pub LoadEnds : ℕ → Bool → (bytes bytes' : List ℕ) → Result ℕ 
 LoadEnds sector erased bytes bytes' (Ok reads) old new = LoadsOk sector erased bytes bytes' reads old new
 LoadEnds sector erased bytes bytes' (Err stopped) old new = HasStopped 1 old new
 
--- Holds at every exit of loading a sector: at most one transaction was sent, a read, and the result is as `LoadEnds`
--- says.
+-- Holds at every exit of loading a sector: no modifying command was sent, on a well-behaved bus at most one transaction
+-- was carried out, and the result is as `LoadEnds` says.
 pub record Loads (sector : ℕ) (erased : Bool) (bytes bytes' : List ℕ) (outcome : Result ℕ Stopped)
     (old new : BusState) : Type 0 where
   pub only_reads : OnlyReads 1 old new
@@ -103,15 +104,16 @@ pub record DoesSector (sector : ℕ) (wanted : List ℕ) (erased : Bool) (old ne
 
 -- ---- all touched sectors
 
--- Holds if the touched sectors can be changed, those that were erased are blank, and no bit must go from 0 to 1.
+-- Holds if the touched sectors can be changed, the raised ones among them are blank, since they were erased, and no bit
+-- of a touched sector must go from 0 to 1.
 pub record CanProgramAll (touched raised : ℕ → Bool) (wanted : ℕ → ℕ) (chip : Chip) : Type 0 where
   pub can : CanChange touched chip
   pub blank : (a : ℕ) → touched (a / 4096) ≡ true → raised (a / 4096) ≡ true → chip.bytes a ≡ 255
   pub falls : OnlyFalls touched wanted chip.bytes
 
--- Holds at every exit of the programs. On every bus they target only the touched sectors. On a well-behaved bus, if
--- `CanProgramAll` held at the start, the chip changes only as `MayChange` allows: on a steady bus each byte is the old
--- or the target one.
+-- Holds at every exit of the programs. On every bus at most sixteen programs per touched sector are sent, and they
+-- target only touched sectors (`SendsWithin`). On a well-behaved bus, if `CanProgramAll` held at the start, the chip
+-- changes only as `MayChange` allows: if the bus is also steady, each byte is the old or the target one.
 pub record LeavesPrograms (touched raised : ℕ → Bool) (wanted : ℕ → ℕ) (old new : BusState) : Type 0 where
   pub spends : Spends (most_sector * sector_count touched) old new
   pub sends : SendsWithin (programming touched (16 * sector_count touched)) old new

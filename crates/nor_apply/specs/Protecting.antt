@@ -10,9 +10,9 @@ use Rattle.nor_driver.specs.Limits.{writing, SendsWithin, SendsExactly}
 use Rattle.nor_driver.specs.Operations.{most_operation}
 use Rattle.nor_apply.specs.Spending.{Spends}
 
--- Holds at every exit. If no status write is needed, nothing was sent. Otherwise on every bus at most one status write
--- was sent, with these protection bits and otherwise the bits of `status`. On a well-behaved bus, if `CanWriteStatus`
--- held at the start, the chip changes only as `MayWriteStatus` allows.
+-- Holds at every exit of `write_code`. If no status write is needed, nothing was sent. Otherwise on every bus at most
+-- one status write was sent, with these protection bits and the bits of `status` that are never changed. On a
+-- well-behaved bus, if `CanWriteStatus` held at the start, the chip changes only as `MayWriteStatus` allows.
 pub record LeavesCode (status : Status) (code : ℕ) (needed : Bool) (old new : BusState) : Type 0 where
   pub spends : Spends (if needed then most_operation else 0) old new
   pub sends : SendsWithin
@@ -20,9 +20,9 @@ pub record LeavesCode (status : Status) (code : ℕ) (needed : Bool) (old new : 
   pub unsent : needed ≡ false → new ≡ old
   pub reached : needed ≡ true → old.honest ≡ true → CanWriteStatus status old.chip → MayWriteStatus code old new
 
--- Holds after success. Exactly one status write was sent if it is needed, and otherwise none. If it is needed, on a
--- well-behaved bus the chip is idle, and if `CanWriteStatus` held at the start, the chip has these protection bits
--- (`HasWrittenStatus`).
+-- Holds after `write_code` succeeded. On every bus exactly one status write was sent if it is needed, and otherwise
+-- none. If it is needed, on a well-behaved bus the chip is idle, and if `CanWriteStatus` held at the start, the chip
+-- has these protection bits (`HasWrittenStatus`).
 pub record DoesCode (status : Status) (code : ℕ) (needed : Bool) (old new : BusState) (sent : ℕ) : Type 0 where
   pub few : sent ≤ (if needed then most_operation else 0)
   pub least : (if needed then 3 else 0) ≤ sent
@@ -32,7 +32,7 @@ pub record DoesCode (status : Status) (code : ℕ) (needed : Bool) (old new : Bu
   pub idle : needed ≡ true → old.honest ≡ true → new.chip.busy ≡ 0
   pub done : needed ≡ true → old.honest ≡ true → CanWriteStatus status old.chip → HasWrittenStatus code old new
 
--- Holds on every bus: an error occurs only if the status write is needed, and a timeout names address 0.
+-- Holds if the status write is needed, and the error is a stop or a timeout with address 0.
 pub record FailsWriting (needed : Bool) (halt : OperationError) : Type 0 where
   pub is : needed ≡ true
   pub names : NamesTimeout 0 halt

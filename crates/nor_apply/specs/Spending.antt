@@ -11,7 +11,7 @@ use Rattle.nor_plan.specs.Planned.{holds_run}
 use Rattle.nor_apply.specs.declared.tally.Tally.{Tally}
 
 -- Holds at every exit of a part: what never changes about the bus and its chip is as it was (`KeepsNature`), and on a
--- well-behaved bus at most `most` transactions were sent.
+-- well-behaved bus at most `most` transactions were carried out.
 pub record Spends (most : ℕ) (old new : BusState) : Type 0 where
   pub nature : KeepsNature old new
   pub falls : old.honest ≡ true → Falls most old new
@@ -22,14 +22,15 @@ pub record Spends (most : ℕ) (old new : BusState) : Type 0 where
 abbrev pub may_target : (sectors : ℕ → Bool) → (size s : ℕ) → Bool
 may_target sectors size s = sectors s || (nat_le (size / 4096) s && holds_run sectors 0 (size / 4096))
 
--- Holds on every bus: a timeout names an address in one of these sectors.
+-- Holds for every stop, and for a timeout that names an address in one of these sectors.
 abbrev pub NamesTimeoutIn : (ℕ → Bool) → OperationError → Type 0
 NamesTimeoutIn sectors Stopped = ⊤
 NamesTimeoutIn sectors (Timeout address) = sectors (address / 4096) ≡ true
 
--- Holds after a part succeeded, with `tally.count` operations and at most `readings` reads. If the last poll before it
--- showed that the chip is ready, so does the last poll after it. On a well-behaved bus `tally.transactions` fewer
--- transactions are left, and a chip that was idle is idle again.
+-- Holds after a part succeeded, with `tally.count` operations and at most `readings` reads. It took at least 3
+-- transactions per operation, and at most 65,538 per operation and one per read. If the last poll before it showed that
+-- the chip is ready, so does the last poll after it. On a well-behaved bus `tally.transactions` fewer transactions are
+-- left, and a chip that was idle is idle again.
 pub record Tallies (readings : ℕ) (old new : BusState) (tally : Tally) : Type 0 where
   pub least : 3 * tally.count ≤ tally.transactions
   pub few : tally.transactions ≤ readings + most_operation * tally.count

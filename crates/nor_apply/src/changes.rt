@@ -51,20 +51,21 @@ pub struct Work {
     pub transactions: u64,
 }
 
-/// Changes the touched sectors to the bytes of `source` and the protection bits to `changes.code`. It clears the
-/// protection bits if `changes.unlock` is set, erases the raised sectors with the fewest erases, and programs the
-/// touched sectors. Then it writes the protection bits if they are not the target ones.
+/// Changes the touched sectors to the bytes of `source` and the protection bits to `changes.code`. `apply` first clears
+/// the protection bits if `changes.unlock` is set. Then it erases the raised sectors with the fewest erases, and
+/// programs the touched sectors. At the end it writes the protection bits if they are not the target ones.
 ///
 /// The changes must fit each other (`AreConsistent`): the touched sectors lie below `changes.size`, which is at most
 /// 16 MiB; every raised sector is touched; and `changes.code` is below 64. `source` must have every touched sector. On
 /// any bus, erases and programs target only touched sectors; if these are the whole chip, they may target addresses
 /// past its end, too.
 ///
-/// On a well-behaved bus, after success the changes are complete if `CanApply` held for the chip at the start:
+/// On a well-behaved bus, after success the changes are complete if `CanApply` held at the start. Besides the
+/// conditions above and target bytes below 256, `CanApply` requires:
 ///
-/// - The chip is idle, and has the size, the erase types and the status that `changes` names.
+/// - The chip is idle, and has the size, the erase types and the non-volatile status bits that `changes` names.
 /// - If a status write is needed, the chip has block protection and its status isn't locked.
-/// - If `unlock` isn't set, no touched address is protected.
+/// - If `unlock` isn't set, no address in a touched sector is protected.
 /// - In touched sectors that aren't raised, no bit must go from 0 to 1.
 ///
 /// Returns `Stopped` if the bus stopped. Returns `Timeout` with an address in a touched sector, or 0 for a status

@@ -13,8 +13,8 @@ use nor_model::{Bus, Kinds};
 use nor_plan::{SectorSet, erases};
 
 /// Erases the raised sectors of a chip of `size` bytes that has these erase types, with the fewest erases. Returns the
-/// numbers of erases and transactions. On a well-behaved bus, the sectors are proved to be FFh afterwards if the chip
-/// has this size and these erase types, is idle, and protects none of them.
+/// numbers of erases and transactions. On a well-behaved bus, after success the sectors are FFh if at the start the
+/// chip had this size and these erase types, was idle, and protected none of the sectors.
 ///
 /// The sectors must lie below `size`, which is at most 16 MiB. Returns `Stopped` if the bus stopped, and `Timeout` with
 /// an address in the set if the chip stayed busy for 65,536 polls. On a well-behaved bus there is no timeout. On any

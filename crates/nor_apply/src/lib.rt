@@ -1,5 +1,5 @@
 //! Changes sectors and protection bits of a flash chip to the target: unlock, erases, programs, status write. Sessions
-//! and restores use it.
+//! and restores use this crate.
 //!
 //! ```rust
 //! ghost use Rattle.std.specs.Prelude.{◌%◌, true, slice_index};

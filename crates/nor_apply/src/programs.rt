@@ -15,8 +15,9 @@ use nor_model::{Bus, Stopped};
 use nor_plan::{SectorSet, spans};
 
 /// Programs the touched sectors, in ascending order, with the bytes of `source`, which must have every touched sector.
-/// A raised sector counts as blank, because it was erased, and is not read. Returns the numbers of programs and
-/// transactions.
+/// A raised sector counts as blank, because it was erased, and is not read. Returns the number of programs, and the
+/// number of transactions including reads. On a well-behaved bus, after success the touched sectors have the target
+/// bytes if `CanProgramAll` held at the start.
 ///
 /// Returns `Stopped` if the bus stopped, and `Timeout` with an address in a touched sector if the chip stayed busy for
 /// 65,536 polls. On a well-behaved bus there is no timeout. On any bus nothing is sent after the transaction at which

@@ -58,7 +58,7 @@ stops_at (Some count) (Some fill) out old new reached steady torn lost worn = re
   unsent = λ is. absurd (true≢false (sym is ∙ steady));
 }
 
--- the history does not affect a stop
+-- what `AtStop` states for a simulated bus doesn't depend on the history of the bus before the stop
 pub stops_as : (out : List ℕ) (old : SimBus) (history : History) (new : BusState)
     → AtStop out (sim_state (record old { history = history })) new → AtStop out (sim_state old) new
 stops_as out old history new stop = record {

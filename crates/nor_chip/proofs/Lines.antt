@@ -11,7 +11,7 @@ encode_with-append t [] ys = refl
 encode_with-append t (b ∷ rest) ys =
     ap (λ (l : List ℕ). slice_index t (b / 16) ∷ slice_index t (b % 16) ∷ l) (encode_with-append t rest ys)
 
--- if no byte is left to write, nothing needs to be appended
+-- if no byte is left to write, an unchanged log counts as one to which the digits were appended
 pub Appends-none_left : (known : Option (List ℕ)) (rest : List ℕ) → length rest ≡ 0 → Appends known known (encode_lower rest)
 unfolding encode_with
 Appends-none_left known [] none = Appends-nil known

@@ -8,15 +8,15 @@ use Rattle.nor_model.specs.Step.{last_for, lowered}
 use Rattle.nor_model.proofs.PageBytes.{last_for-apart, last_for-at}
 use Rattle.nor_chip.specs.Cells.{HasPageProgrammed}
 
--- the first `done` sent bytes were ANDed into the list from index `from`; all other bytes are as they were
+-- the first `done` bytes of `sent` were ANDed into the list from index `from`; all other items are as they were
 pub record ClearsFrom (from done : ℕ) (sent old new : List ℕ) : Type 0 where
   pub inside : (i : ℕ) → i < done
       → slice_index new (from + i) ≡ bit_and (slice_index old (from + i)) (slice_index sent i)
   pub below : (a : ℕ) → a < from → slice_index new a ≡ slice_index old a
   pub above : (a : ℕ) → from + done ≤ a → slice_index new a ≡ slice_index old a
 
--- Only the last 256 bytes sent have an effect. The first of these are programmed up to the end of the page, and the
--- others from its beginning on.
+-- `skipped` is the number of bytes of `sent` that have no effect: those before the last 256. `front` has the next
+-- bytes, up to the end of the page. `back` has the last bytes, from the start of the page on.
 pub record IsParted (at : ℕ) (sent : List ℕ) (skipped : ℕ) (front back : List ℕ) : Type 0 where
   pub skips : skipped ≡ length sent - 256
   pub front_len : length front ≡ min (length sent - skipped) (256 - (at + skipped) % 256)
@@ -50,7 +50,7 @@ module _ (at : ℕ) (sent : List ℕ) (skipped : ℕ) (front back old mid new : 
         ]
       ]
 
-  -- programming both parts has the effect of one program of the page
+  -- ANDing `front` and then `back` into the list has the effect of one program of the page
   pub programmed : HasPageProgrammed at sent old new
   programmed a = elim (eqb_tells (a / 256) (at / 256)) [
     | inl same ↦ rw same.0 (in_page a same.1)
@@ -60,7 +60,7 @@ module _ (at : ℕ) (sent : List ℕ) (skipped : ℕ) (front back old mid new : 
     ])
   ]
 
--- a program only clears bits
+-- after a program each byte of the list is at most its old value (`IsProgrammed-le`)
 lowered-le : (here : Bool) (old : ℕ) (sent : Option ℕ) → (if here then lowered old sent else old) ≤ old
 lowered-le true old (Some byte) = and_le_l old byte
 lowered-le _ old _ = omega arith

@@ -1,14 +1,14 @@
--- The effect of a program and an erase on a list of bytes.
+-- The effect of a program and of a fill on a list of bytes.
 use Rattle.std.specs.Prelude.{◌≡◌, ◌/◌, ◌+◌, ◌==◌, ◌&&◌, ℕ, List, nat_lt, nat_le, slice_index, if◌then◌else◌}
 use Rattle.nor_model.specs.Step.{last_for, lowered}
 
--- The page that holds `at` was programmed with the bytes sent. All other bytes are as they were.
+-- The page that holds `at` was programmed with the bytes `sent`, from `at` on. All other bytes are as they were.
 abbrev pub HasPageProgrammed : ℕ → (sent old new : List ℕ) → Type 0
 HasPageProgrammed at sent old new =
     (a : ℕ) → slice_index new a
     ≡ (if a / 256 == at / 256 then lowered (slice_index old a) (last_for at sent a) else slice_index old a)
 
--- The bytes from `start` to `start + len - 1` are this byte. All others are as they were.
+-- The items from `start` to `start + len - 1` are `byte`, and all other items are as they were.
 abbrev pub IsFilled : (byte start len : ℕ) → (old new : List ℕ) → Type 0
 IsFilled byte start len old new =
     (a : ℕ) → slice_index new a ≡ (if nat_le start a && nat_lt a (start + len) then byte else slice_index old a)

@@ -18,8 +18,8 @@ chip_of flash = record {
   running = flash.running;
 }
 
--- An operation begins: the chip is busy for the given number of polls. The write enable latch is clear if that number
--- is 0, otherwise set. Bytes, configuration and non-volatile bits are as they were.
+-- The operation `runs` begins: the chip is busy for the given number of polls. The write enable latch is clear if that
+-- number is 0, otherwise set. Bytes, configuration and non-volatile bits are as they were.
 pub record Begins (runs : Running) (polls : ℕ) (old new : Chip) : Type 0 where
   pub config : new.config ≡ old.config
   pub bytes : (a : ℕ) → new.bytes a ≡ old.bytes a
@@ -31,14 +31,15 @@ pub record Begins (runs : Running) (polls : ℕ) (old new : Chip) : Type 0 where
 -- The operation in progress was interrupted. Each byte that a program or an erase works on is `fill`, and all other
 -- bytes are as they were. With an even `fill` a status write was undone: the non-volatile bits are those from before
 -- it. With an odd `fill` it is complete: the non-volatile bits keep the values that it wrote. Any other operation
--- leaves these bits as they were.
+-- leaves these bits as they were. Nothing is stated about the latch, `busy` and `running`.
 pub record CutsOff (fill : ℕ) (old new : Chip) : Type 0 where
   pub config : new.config ≡ old.config
   pub bytes : (a : ℕ)
       → new.bytes a ≡ (if is_known_running old.running && is_in_work old.running a then fill else old.bytes a)
   pub kept : new.kept ≡ (if fill % 2 == 0 then kept_before old else old.kept)
 
--- The number of polls that show BUSY after each operation stays the same, and an operation sets `busy` to that number.
+-- The number of polls that show BUSY after each operation stays the same. If the command is an operation, `busy` is set
+-- to that number.
 pub record Paces (command : Command) (old new : Flash) : Type 0 where
   pub each : new.each ≡ old.each
   pub busy : is_operation command ≡ true → new.busy ≡ old.each

@@ -27,11 +27,12 @@ sim_state bus = record {
   polled_ready = polled_ready_in bus.history.exchanges;
 }
 
--- the fill that `lose` set: the effect of a power failure at a stop
+-- the setting of `lose`: the fill of a power failure at a stop, or `None` if a stop keeps the power
 abbrev pub fill_of : SimBus → Option ℕ
 fill_of bus = bus.fill
 
--- the number of bytes that `tear` set: how many of the first bytes of its transaction a stop sends
+-- the setting of `tear`: the number of first bytes of its transaction that a stop sends (`count`), or `None` if it
+-- sends none
 abbrev pub torn_of : SimBus → Option ℕ
 torn_of bus = bus.torn
 
@@ -39,18 +40,19 @@ torn_of bus = bus.torn
 abbrev pub pace_of : SimBus → ℕ
 pace_of bus = bus.flash.each
 
--- The chip after a stop, except for a power failure: nothing of the transaction was sent, or its first `count` bytes.
+-- The chip `new` after a stop, before any power failure: with `None` nothing of the transaction was sent, with
+-- `Some count` the first `count` bytes.
 abbrev pub TornTo : (torn : Option ℕ) → (out : List ℕ) → (old new : Chip) → Type 0
 TornTo None out old new = new ≡ old
 TornTo (Some count) out old new = Step old (take count out) [] new
 
--- The chip after a stop: it kept its power, or lost it with this fill.
+-- The chip `new` after a stop, which was `old` before any power failure: with `None` it kept its power, with
+-- `Some fill` it lost its power with this fill.
 abbrev pub LostTo : (fill : Option ℕ) → (old new : Chip) → Type 0
 LostTo None old new = new ≡ old
 LostTo (Some fill) old new = PowerLostWith fill old new
 
--- The bytes that a stop sends, and the loss of power after them, keep the settings of the bus, the number of
--- transactions left, and the history.
+-- The settings of the bus, the number of transactions left and the history are as they were.
 pub record KeepsBus (old new : SimBus) : Type 0 where
   pub fill : fill_of new ≡ fill_of old
   pub torn : torn_of new ≡ torn_of old
@@ -58,7 +60,8 @@ pub record KeepsBus (old new : SimBus) : Type 0 where
   pub left : new.left ≡ old.left
   pub history : new.history ≡ old.history
 
--- the sectors that are recorded as erased after a stop
+-- The sectors that are recorded as erased after a stop: those recorded before the stop, and with `Some count` also
+-- those that the first `count` bytes of the transaction erased.
 abbrev pub WornTo : (torn : Option ℕ) → (out : List ℕ) → Chip → (old new : ℕ → Bool) → Type 0
 WornTo None out chip old new = (s : ℕ) → new s ≡ old s
 WornTo (Some count) out chip old new = (s : ℕ) → new s ≡ (old s || wears (done_of chip (take count out) 0) s)
@@ -71,7 +74,8 @@ pub record TearsOff (torn fill : Option ℕ) (out : List ℕ) (old new : Chip) :
   pub lost : LostTo fill reached new
 
 -- The effect of a transaction of a simulated bus, in addition to the contract of a bus. The settings stay. After an
--- operation the chip is busy for the number of polls that was set. After a stop the chip is as `tear` and `lose` set.
+-- operation that the chip carried out, the chip is busy for `pace_of` polls. After a stop the chip is as the settings
+-- of `tear` and `lose` state (`TearsOff`).
 pub record Simulates (out answer : List ℕ) (outcome : Result Unit Stopped) (old new : SimBus) : Type 0 where
   pub fill : fill_of new ≡ fill_of old
   pub torn : torn_of new ≡ torn_of old

@@ -17,18 +17,18 @@ bus_in bus = bus.bus
 abbrev pub spoil_of : {B : Type 0} → SpoiltBus B → Spoil
 spoil_of bus = bus.spoil
 
--- the transactions that the faulty bus was asked to carry out, each with the reply that it returned
+-- the transactions that the faulty bus was asked to carry out, each with the reply that the faulty bus returned, or
+-- without a reply if the bus inside stopped
 abbrev pub history_of : {B : Type 0} → SpoiltBus B → List Exchange
 history_of bus = bus.history.exchanges
 
--- the number of transactions that succeeded; it stays at the greatest u64
+-- the number of transactions that succeeded; a count that reaches the greatest u64 stays there
 abbrev pub succeeded_of : {B : Type 0} → SpoiltBus B → ℕ
 succeeded_of bus = bus.sent
 
 -- The state of a faulty bus, which isn't honest. Its history has each transaction that it was asked to carry out, even
--- a dropped one, with the reply that the faulty bus returned. What was sent and the result of the last poll follow
--- from this history. The allowances are those that were set on the faulty bus. All else is the state of the bus
--- inside.
+-- a dropped one, with the reply that the faulty bus returned. `sent` and `polled_ready` follow from this history. The
+-- allowances are those that were set on the faulty bus. All else is the state of the bus inside.
 abbrev pub spoilt_state : {B : Type 0} → (B → BusState) → SpoiltBus B → BusState
 spoilt_state state bus = record (state bus.bus) {
   honest = false;
@@ -38,26 +38,27 @@ spoilt_state state bus = record (state bus.bus) {
   polled_ready = polled_ready_in (history_of bus);
 }
 
--- If the bus drops the transaction that follows the first `sent` ones, the value of each of its reply bytes; otherwise
--- `None`.
+-- After `sent` transactions that succeeded: the value of each reply byte of the next transaction if the bus drops it,
+-- otherwise `None`.
 abbrev pub withheld : Spoil → ℕ → Option ℕ
 withheld (Fill byte) sent = Some byte
 withheld (BusyFrom first) sent = None
 withheld (Drop number) sent = if sent + 1 == number then Some 255 else None
 withheld (Low bit) sent = None
 
--- the value of each reply byte if the bus drops the next transaction, otherwise `None`
+-- if the bus drops the next transaction, the value of each of its reply bytes; otherwise `None`
 abbrev pub withheld_of : {B : Type 0} → SpoiltBus B → Option ℕ
 withheld_of bus = withheld (spoil_of bus) (succeeded_of bus)
 
--- the reply byte that the bus returns in place of `byte`, in the transaction that follows the first `sent` ones
+-- after `sent` transactions that succeeded: the reply byte that the bus returns in place of `byte` in the next
+-- transaction, if it passes this transaction on
 abbrev pub spoilt_byte : Spoil → ℕ → List ℕ → ℕ → ℕ
 spoilt_byte (Fill fill) sent out byte = byte
 spoilt_byte (BusyFrom first) sent out byte = if nat_le first (sent + 1) && is_poll out then bit_or byte 1 else byte
 spoilt_byte (Drop number) sent out byte = byte
 spoilt_byte (Low bit) sent out byte = if nat_lt bit 8 then bit_and byte (255 - 2 ^ bit) else byte
 
--- The transaction was dropped: the bus inside is as it was, and each reply byte is `byte`.
+-- The transaction was dropped: it succeeded, the bus inside is as it was, and each reply byte is `byte`.
 pub record IsWithheld {B : Type 0} (byte : ℕ) (asked answer : List ℕ) (outcome : Result Unit Stopped)
     (old new : B) : Type 0 where
   pub answered : IsOk outcome
@@ -79,7 +80,9 @@ GoesThrough byte_for out asked answer (Ok done) old new = IsPassedOn byte_for ou
 GoesThrough byte_for out asked answer (Err stopped) old new =
     IsHonestFor out (length asked) old → (answer ≡ asked) × Stops out old new
 
--- The effect of a transaction of a faulty bus. A transaction at which the bus inside stops isn't counted.
+-- The effect of a transaction of a faulty bus: the way in which the bus fails is as it was, and the transaction was
+-- dropped (`IsWithheld`) or passed on (`GoesThrough`). A transaction that succeeds is counted; a count that reaches the
+-- greatest u64 stays there. A transaction at which the bus inside stops isn't counted.
 pub record Spoils {B : Type 0} (state : B → BusState) (out asked answer : List ℕ) (outcome : Result Unit Stopped)
     (old new : SpoiltBus B) : Type 0 where
   pub spoil : spoil_of new ≡ spoil_of old

@@ -1,4 +1,4 @@
--- The start of a simulated bus, and what it shows of its chip.
+-- The state of a simulated bus at its start, and the contents of its chip.
 use Rattle.std.specs.Prelude.{◌≡◌, ◌<◌, ◌/◌, ◌%◌, ◌==◌, [], ℕ, List, true, false, length, slice_index}
 use Rattle.nor_model.specs.declared.config.Config.{Config}
 use Rattle.nor_chip.specs.declared.sim.Delays.{Delays}
@@ -26,7 +26,7 @@ pub record Starts (setup : Config) (image flags : List ℕ) (delays : Delays) (s
   pub steady : state.steady ≡ true
   pub polled_ready : state.polled_ready ≡ false
 
--- the list has the bytes of the chip
+-- the list has exactly the bytes of the chip, from address 0 on
 pub record AreChipBytes (chip : Chip) (bytes : List ℕ) : Type 0 where
   pub len : length bytes ≡ chip.config.size
   pub at : (a : ℕ) → a < chip.config.size → slice_index bytes a ≡ chip.bytes a

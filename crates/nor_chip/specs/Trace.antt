@@ -13,12 +13,12 @@ traced_by traced = traced.bus
 abbrev pub log_of : {B L : Type 0} → TraceBus B L → L
 log_of traced = traced.log
 
--- whether a line was lost, or a flush failed
+-- true if a line was lost or a flush failed
 abbrev pub has_lost : {B L : Type 0} → TraceBus B L → Bool
 has_lost traced = traced.lost
 
--- the end of a line, for the bytes received: their hexadecimal digits, their number if there are more than three, or
--- nothing if there are none
+-- The end of a line: empty if no byte was received, otherwise ` > ` and the hexadecimal digits of the bytes received.
+-- If these are more than three, their number and ` bytes` replace the digits.
 abbrev pub reply_digits : List ℕ → List ℕ
 reply_digits answer =
     if length answer == 0 then []
@@ -29,8 +29,9 @@ reply_digits answer =
 abbrev pub traced_line : (out answer : List ℕ) → List ℕ
 traced_line out answer = encode_lower out ++ reply_digits answer ++ codes "\n"
 
--- The effect of a transaction on the log. At a stop the log is as it was. If the bus inside carried the transaction out
--- and no line is lost, its line was appended to the log's contents, if these are known. A lost line stays recorded.
+-- The effect of a transaction on the log. If the bus inside stops, the log is as it was, and `has_lost` too. If the
+-- transaction succeeded and `has_lost` is false after it, the line was appended to the log's contents, if these are
+-- known. Once true, `has_lost` stays true.
 pub record Traces {B L : Type 0} (contents : L → Option (List ℕ)) (out answer : List ℕ) (outcome : Result Unit Stopped)
     (old new : TraceBus B L) : Type 0 where
   pub still_lost : has_lost old ≡ true → has_lost new ≡ true

@@ -1,5 +1,5 @@
-//! Buses to test with: a simulated chip in memory, a bus that traces, and a faulty bus. The model of the chip and the
-//! contract of a bus are in nor_model, whose items are exported here too, except `is_protected` and `Kinds`.
+//! Buses for emulation and tests: a simulated chip in memory, a bus that logs, and a faulty bus. The model of the chip
+//! and the contract of a bus are in nor_model, whose items are exported here too, except `is_protected` and `Kinds`.
 //!
 //! ```rust
 //! use nor_chip::{Bus, Config, Delays, Meter, SimBus};

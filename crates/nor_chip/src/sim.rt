@@ -32,8 +32,8 @@ impl fmt::Display for WrongLength {
 
 impl std::error::Error for WrongLength {}
 
-/// An honest bus to a chip that is simulated in memory. After it has carried out the number of transactions that
-/// `allow` set, it stops.
+/// An honest bus to a chip that is simulated in memory. After the bus has carried out the number of transactions that
+/// the last `allow` set, it stops at each further one.
 #[derive(Drop)]
 pub struct SimBus {
     flash: Flash,
@@ -53,7 +53,8 @@ impl SimBus {
     ghost use Rattle.nor_chip.specs.Sim.{sim_state, fill_of, torn_of, pace_of, TornTo, WornTo, TearsOff, KeepsBus};
 
     /// Returns a bus to a chip with this configuration, these contents and these two status bytes. BUSY (bit 0 of the
-    /// first) and SUS (bit 7 of the second) are ignored. The bus carries out no transaction before `allow` is called.
+    /// first) and SUS (bit 7 of the second) are ignored. The first `delays.now` polls show BUSY, and the operation in
+    /// progress at the start is unknown. The bus carries out no transaction before `allow` is called.
     ///
     /// Returns `WrongLength` if the number of bytes differs from the chip's size.
     pub fn new(
@@ -148,8 +149,8 @@ impl SimBus {
         }
     }
 
-    // Performs a stop: sends the first bytes of the transaction, and makes the chip lose its power, if `tear` and
-    // `lose` set that.
+    // Performs a stop: sends the first bytes of the transaction if `tear` set that, and then makes the chip lose its
+    // power if `lose` set that.
     fn cut(&mut self, out: &[u8])
         ensures at_stop { AtStop out.now (sim_state self.old) (sim_state self.new) }
         ensures torn_off { TearsOff (torn_of self.old) (fill_of self.old) out.now
@@ -215,7 +216,7 @@ impl Meter for SimBus {
     }
 }
 
-// Marks the sectors that an erase covers.
+// Marks the sectors that an erase covers; any other command marks none.
 fn wear(worn: &mut [bool], command: Command)
     requires length { length worn.old ≡ 4096 }
     requires targeted { HasValidAddress 16777216 command }

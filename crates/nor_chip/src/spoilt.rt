@@ -7,14 +7,16 @@ ghost use Rattle.nor_chip.specs.Spoilt.{bus_in, spoil_of, succeeded_of, history_
 
 use nor_model::{Bus, History, Meter, Stopped};
 
-/// The way in which a faulty bus fails. Its transactions are counted from 1.
+/// The way in which a faulty bus fails. The number of a transaction is one more than the number of transactions that
+/// succeeded before it (`SpoiltBus::sent`), so it is at least 1.
 #[derive(Clone, Copy, Debug, PartialEq, Eq)]
 pub enum Spoil {
-    /// No transaction is carried out, and each reply byte is this one.
+    /// No transaction is carried out. Each transaction succeeds, and each reply byte is this one.
     Fill(u8),
-    /// From the transaction with this number on, bit 0 (BUSY) is set in each reply byte of a poll.
+    /// In the transaction with this number and in each later one, bit 0 (BUSY) is set in each reply byte of a poll.
     BusyFrom(u64),
-    /// The transaction with this number isn't carried out, and each of its reply bytes is FFh.
+    /// The transaction with this number isn't carried out. It succeeds, and each of its reply bytes is FFh. The number
+    /// 0 has no effect.
     Drop(u64),
     /// The bit with this number is clear in each reply byte. A number above 7 has no effect.
     Low(u8),
@@ -31,7 +33,8 @@ pub struct SpoiltBus<B> {
 }
 
 impl<B: Bus> SpoiltBus<B> {
-    /// Returns a bus that applies `spoil` to the transactions of `inner`.
+    /// Returns a bus that applies `spoil` to the transactions of `inner`. The new bus isn't honest, and its own history
+    /// begins empty.
     pub fn new(inner: B, spoil: Spoil) -> SpoiltBus<B>
         ensures inner { bus_in result ≡ inner }
         ensures spoil { spoil_of result ≡ spoil }
@@ -54,7 +57,7 @@ impl<B: Bus> SpoiltBus<B> {
     }
 
     /// Returns the number of transactions that succeeded so far, whether they were carried out or dropped. A
-    /// transaction at which the bus inside stops isn't counted. The number stays at the greatest `u64`.
+    /// transaction at which the bus inside stops isn't counted. A count that reaches the greatest `u64` stays there.
     pub fn sent(&self) -> u64
         ensures { result ≡ succeeded_of self.now }
     {
@@ -133,8 +136,8 @@ fn withheld(spoil: Spoil, sent: u64) -> Option<u8>
     }
 }
 
-// Returns the reply byte that replaces `byte` in the next transaction. `sent` is the number of transactions counted
-// before it.
+// Returns the reply byte that replaces `byte` in the next transaction that is passed on. `sent` is the number of
+// transactions counted before it.
 fn spoilt_byte(spoil: Spoil, sent: u64, out: &[u8], byte: u8) -> u8
     ensures { result ≡ spoilt_byte spoil sent out.now byte }
 {

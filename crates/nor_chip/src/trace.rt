@@ -8,7 +8,7 @@ ghost use Rattle.nor_chip.specs.Trace.{traced_by, log_of, has_lost, traced_line,
 use nor_model::{Bus, Meter, Stopped};
 use std::io::{self, Write};
 
-// The number of bytes that are converted to digits at a time.
+// The greatest number of bytes that are converted to digits at a time.
 const PIECE: usize = 64;
 
 /// A bus that writes one line to a log for each transaction that the bus inside carries out. A line has the bytes sent,
@@ -16,7 +16,7 @@ const PIECE: usize = 64;
 /// received, ` > `, their number and ` bytes`.
 ///
 /// A transaction at which the bus inside stops has no line, even if some or all of its bytes were sent to the chip
-/// before it was cut.
+/// before it was cut. A line that can't be written completely counts as `lost`; the transaction still succeeds.
 ///
 /// The bus allocates no memory and buffers nothing. If each write costs a system call, use a log with a buffer, such as
 /// `BufWriter`.

@@ -15,7 +15,8 @@ use Rattle.nor_driver.specs.Waits.{HasWaited, latch_when_idle}
 use Rattle.nor_driver.specs.Operations.{operation_of, AsksForOperation, MayOperate, HasOperated}
 use Rattle.nor_driver.proofs.Readings.{Wore, no_operation}
 
--- On an honest bus, after write enable: an idle chip has its latch set, and nothing else changed.
+-- On an honest bus, after write enable: an idle chip has its latch set, a busy chip has it as before, and nothing else
+-- changed.
 pub record IsEnabled (old new : BusState) : Type 0 where
   pub unchanged : Unchanged old new
   pub busy : new.chip.busy ≡ old.chip.busy
@@ -29,7 +30,8 @@ enabled old new [] none carries =
     grind (arith, nothing, carries.step, carries.worn)
 enabled old new (byte ∷ rest) none carries = absurd (omega arith)
 
--- after write enable, the chip carries out the command that `operation_of` returns, if the bytes ask for an operation
+-- if the bytes satisfy `AsksForOperation`: after write enable, the chip carries out the command that `operation_of`
+-- returns
 pub then_done : (out : List ℕ) (old ready : BusState) → AsksForOperation out → IsEnabled old ready
     → done_of ready.chip out 0 ≡ operation_of old.chip out
 then_done out old ready asks enabling = elim (eqb_tells old.chip.busy 0) [
@@ -37,7 +39,7 @@ then_done out old ready asks enabling = elim (eqb_tells old.chip.busy 0) [
   | inr busy ↦ grind (arith, asks.whole old.chip.config)
 ]
 
--- after write enable, the chip carries out for a prefix of the command's bytes the command's operation, or nothing
+-- after write enable, a prefix of the command's bytes makes the chip carry out the command's operation, or nothing
 pub part_done : (out : List ℕ) (old ready : BusState) (count replies : ℕ) → AsksForOperation out
     → IsEnabled old ready → (done_of ready.chip (take count out) replies ≡ Ignored)
     ⊎ (done_of ready.chip (take count out) replies ≡ operation_of old.chip out)
@@ -89,7 +91,8 @@ pub may-before : (command : Command) (sent : List ℕ) (old new : BusState) → 
     → MayOperate command sent old new
 may-before command sent old new idle stays = grind (arith, stays.steady_or_idle (inr idle))
 
--- a call that began the operation, and then only waited, satisfies `MayOperate`
+-- a call that began the operation, did not change whether the bus is steady, and then only waited, satisfies
+-- `MayOperate`
 pub may-after : (command : Command) (sent : List ℕ) (old begun new : BusState) → is_operation command ≡ true
     → begun.steady ≡ old.steady → HasBegun command sent old begun → KeepsChip begun new → MayOperate command sent old new
 may-after command sent old begun new is steady has stays =

@@ -30,8 +30,8 @@ unchanged_stays old new unchanged =
     let kept = kept_cut-stay old.chip.running old.chip.kept new.chip.kept same.kept in
     search same.bytes
 
--- if two successive calls satisfy `KeepsChip`, and the first one left the bus steady or not as before, both together
--- satisfy it
+-- if two successive calls satisfy `KeepsChip`, and the first one did not change whether the bus is steady, both
+-- together satisfy `KeepsChip`
 pub stays_then : (old mid new : BusState) → mid.steady ≡ old.steady → KeepsChip old mid → KeepsChip mid new → KeepsChip old new
 stays_then old mid new steady first second =
     let cut = cut_again old.chip.running old.chip.kept mid.chip.kept new.chip.kept first.kept in

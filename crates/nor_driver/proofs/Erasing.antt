@@ -63,23 +63,24 @@ named unit sector x y z names below s is =
     let first : 0 ≡ sector / 4096 * 4096 = omega (arith, below) in
     grind (arith, nat_tests)
 
--- after a write enable, the chip carries out an erase of an erase block if it is idle, has the erase type and protects
--- no address of the block
+-- after a write enable, the chip carries out an erase of an erase block if it is idle, has the erase type (`has`), and
+-- `is_block_protected` is false for the block; otherwise it ignores the erase
 erased_where : (chip : Chip) (has : Bool) (start start' len len' : ℕ) → start ≡ start' → len ≡ len'
     → (let command = cond has (Commands.Erase start len) Commands.Ignored in
     cond (is_carried_out (record chip { latch = true }) command) command Commands.Ignored)
     ≡ cond (is_idle chip && has && not (is_block_protected chip start' len')) (Commands.Erase start' len') Commands.Ignored
 erased_where chip has start start' len len' same long = grind (arith, and-false)
 
--- on the chip, the first address of an aligned block stays the same if it is rounded down to a multiple of the block's
--- length
+-- The first address of an aligned block on the chip stays the same if it is taken modulo the chip's size and then
+-- rounded down to a multiple of the block's length.
 unit_start : (config : Config) (x y z sector len : ℕ) → 65536 * x + 256 * y + z ≡ 4096 * sector
     → 4096 * sector < config.size → 4096 * sector / len * len ≡ 4096 * sector
     → address_of config x y z / len * len ≡ 4096 * sector
 unit_start config x y z sector len names below aligned =
     rw (same_address config x y z (4096 * sector) names below) aligned
 
--- an erase command with the first address of a block that lies on the chip erases that block, if the chip accepts it
+-- after a write enable, an erase command with the first address of a block that lies on the chip erases that block if
+-- the chip takes the erase, and is otherwise ignored
 erase_command : (chip : Chip) (unit : EraseBlock) (sector x y z : ℕ) → 65536 * x + 256 * y + z ≡ 4096 * sector
     → (let erase : Erase = record { unit = unit; sector = sector } in IsOnChip erase chip
     → operation_of chip (erase_bytes unit x y z)

@@ -21,7 +21,8 @@ use Rattle.nor_driver.proofs.Readings.{carried_ignored}
 use Rattle.nor_driver.proofs.Begun.{IsEnabled, enabled, then_done, part_done, operation-ignored, idle-takes, HasBegun, operation-begins, may-before, may-after, may-shaky, operated, latch-kept}
 
 module _ (out : List ℕ) (asks : AsksForOperation out) (old : BusState) where
-  -- an exit at which the command wasn't carried out
+  -- at an exit at which the command was not carried out, `LeavesOperation` follows from `Stirs`, `Falls` and
+  -- `KeepsChip`
   not_begun : (new : BusState) → Stirs (limits_of out) old new
       → (old.honest ≡ true → Falls most_operation old new) → (old.honest ≡ true → KeepsChip old new)
       → LeavesOperation out old new
@@ -38,7 +39,7 @@ module _ (out : List ℕ) (asks : AsksForOperation out) (old : BusState) where
   enabled_stirs : (new : BusState) → Sends (6 ∷ []) old new → is_stirred new.sent ≡ true
   enabled_stirs new sends = sends.sent.stirred ∙ or-true (is_stirred old.sent)
 
-  -- an exit at the write enable: the bus stopped there
+  -- if the bus stops at the write enable, the exit satisfies `LeavesOperation`
   pub leaves-at_enable : (new : BusState) → Sends (6 ∷ []) old new
       → (IsHonestFor (6 ∷ []) 0 old → Stops (6 ∷ []) old new)
       → LeavesOperation out old new
@@ -56,7 +57,8 @@ module _ (out : List ℕ) (asks : AsksForOperation out) (old : BusState) where
     honest-unsent : old.honest ≡ true → ready.honest ≡ true
     honest-unsent honest = sends.nature.honest ∙ honest
 
-    -- an exit at the command: the limits of what was sent hold
+    -- if the bus was asked to send the command after a write enable that succeeded, `Stirs` holds with the command's
+    -- limits
     stirs-by : (new : BusState) → Sends out ready new → Stirs (limits_of out) old new
     stirs-by new sends' =
         let nature = nature_then old ready new sends'.nature sends.nature in
@@ -66,8 +68,8 @@ module _ (out : List ℕ) (asks : AsksForOperation out) (old : BusState) where
           sends = command_sends out old ready new asks.known sends sends';
         }
 
-    -- If the bus stopped at the command, the bytes that were sent asked for no operation, or for the command's
-    -- operation.
+    -- The bus stopped at the command. The bytes that were sent asked for no operation, or for the command's operation:
+    -- the effect on the chip in both cases.
     module _ (honest : old.honest ≡ true) (new : BusState) where
       stays-before : KeepsChip ready new → KeepsChip old new
       stays-before stays = stays_after old ready new sends.nature.steady (enabling honest).unchanged stays

@@ -1,4 +1,4 @@
--- Limits of what is sent, over one transaction after another.
+-- How limits on modifying commands (`Limits`) add up over transactions and calls that follow one another.
 use Rattle.std.proofs.Common.{◌≡◌, ◌≤◌, ◌+◌, ℕ, Bool, true, false, cond, List, [], ◌∷◌, ap, arith, refl, ◌∙◌}
 use Rattle.std.proofs.lemmas.Bool.Decides.{nat_tests}
 use Rattle.std.proofs.Math.Bool.{or-false}
@@ -84,7 +84,8 @@ exactly_then erases programs status before after = record {
   wrote_status = omega (arith, status, before.wrote_status, after.wrote_status);
 }
 
--- limits are also kept with the exact numbers of erases, page programs and status writes that were sent
+-- limits are still kept if their numbers are replaced by the exact numbers of erases, page programs and status writes
+-- that were sent
 pub sends_exactly : {limits : Limits} {e p w : ℕ} {old new : BusState} → SendsWithin limits old new
     → SendsExactly e p w old new
     → SendsWithin (record limits { erases = e; programs = p; status_writes = w }) old new

@@ -20,7 +20,8 @@ pub same_address : (config : Config) (x y z at : ℕ) → 65536 * x + 256 * y + 
     → address_of config x y z ≡ at
 same_address config x y z at names below = rw names (mod-eq_of_lt below)
 
--- 02h with an address on the chip and at least one data byte programs there, if the chip accepts it
+-- after a write enable, 02h with an address on the chip and at least one data byte programs from there if the chip
+-- takes a program, and is otherwise ignored
 program_command : (chip : Chip) (x y z at : ℕ) (sent : List ℕ) → 65536 * x + 256 * y + z ≡ at → at < chip.config.size
     → 0 < length sent → operation_of chip (0x02 ∷ x ∷ y ∷ z ∷ sent) ≡ cond (takes_program chip at) (Program at) Ignored
 program_command chip x y z at [] names below some = absurd (omega arith)

@@ -46,7 +46,8 @@ carried_ignored out answer old new ignored carries = carried_by out answer old n
 pub looked_by : (old new : BusState) (most : ℕ) → Rested old new → old.left ≡ new.left + most → OnlyReadsHonest most old new
 looked_by old new most rested count = search (arith, unchanged_stays old new rested.unchanged)
 
--- two successive calls that only read satisfy `OnlyReadsHonest` together, with the sum of their bounds
+-- two successive calls that only read satisfy `OnlyReadsHonest` together, with the sum of their bounds, if the first
+-- one did not change whether the bus is steady
 pub looked_then : (m n : ℕ) (old mid new : BusState) → mid.steady ≡ old.steady → OnlyReadsHonest m old mid
     → OnlyReadsHonest n mid new → OnlyReadsHonest (m + n) old new
 looked_then m n old mid new steady first second =
@@ -68,11 +69,11 @@ looked_at (Ok done) out answer old new is stops carries =
     looked_by old new 1 read.rested read.count
 looked_at (Err stopped) out answer old new is stops carries = looked_at_stop out old new 1 is.quiet stops
 
--- every honest bus takes a poll
+-- every honest bus takes a poll with one reply byte
 pub poll_fits : (bus : BusState) → bus.honest ≡ true → IsHonestFor (5 ∷ []) 1 bus
 poll_fits bus honest = record { honest = honest; fits = inr (omega arith, omega arith) }
 
--- every honest bus takes a transaction that only reads (`IsReading`), and no more than a sector
+-- every honest bus takes a transaction that only reads (`IsReading`) and receives at most 4,096 bytes
 pub read_fits : (out asked : List ℕ) (bus : BusState) → IsReading out → length asked ≤ 4096 → bus.honest ≡ true
     → IsHonestFor out (length asked) bus
 read_fits out asked bus is short honest = record { honest = honest; fits = inr (is.short, short) }
@@ -93,7 +94,7 @@ pub read_does : {T E : Type 0} (outcome : Result T E) (out answer : List ℕ) (o
 read_does outcome out answer old new is history carries =
     grind (arith, history, carries, carried_reading out answer old new is)
 
--- if the bus stopped at a transaction, it was the last one, and an honest bus ran out of transactions
+-- if the bus stopped at a transaction, that transaction was the last one, and an honest bus ran out of transactions
 pub read_fails : (outcome : Result Unit Stopped) (out answer : List ℕ) (old new : BusState)
     → Records out answer outcome old new → (old.honest ≡ true → OnErr outcome (Stops out old new))
     → OnErr outcome (HasStopped 1 old new)
@@ -106,7 +107,7 @@ read_fails (Err stop) out answer old new records stops = record {
   };
 }
 
--- a transaction that reads is no poll
+-- a transaction for which `IsReading` holds is no poll
 no_poll : (config : Config) (out : List ℕ) → IsReading out → is_poll out ≡ false
 no_poll config (opcode ∷ []) is = elim (eqb_tells opcode 5) [
   | inl five ↦ absurd (let off = is.reading config 0 in cc)

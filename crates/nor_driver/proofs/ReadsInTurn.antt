@@ -7,8 +7,7 @@ use Rattle.nor_driver.proofs.Readings.{looked_then, looked_more}
 pub use Rattle.nor_driver.proofs.Cuts.{same_then}
 use Rattle.nor_driver.proofs.Cuts.{unchanged_none, unchanged_stays}
 
--- if two successive calls only read, with at most `m` and `n` transactions, both together only read, with at most `m +
--- n`
+-- if two successive calls only read, with the bounds `m` and `n`, both together only read, with the sum of these bounds
 pub looks_then : (m n : ℕ) (old mid new : BusState) → OnlyReads m old mid → OnlyReads n mid new → OnlyReads (m + n) old new
 looks_then m n old mid new first second =
     let nature = nature_then old mid new second.nature first.nature in
@@ -23,7 +22,7 @@ looks_none state = search (nature_refl state, unchanged_stays state state (uncha
 pub looks_more : (m n : ℕ) (old new : BusState) → m ≤ n → OnlyReads m old new → OnlyReads n old new
 looks_more m n old new fits only_reads = search (looked_more old new m n fits, only_reads.honest_reads)
 
--- two calls that only read, with a bound for both
+-- two successive calls that only read satisfy `OnlyReads` together, with each bound that is at least the sum of theirs
 pub looks_on : {m n : ℕ} (most : ℕ) {old mid new : BusState} → m + n ≤ most → OnlyReads m old mid → OnlyReads n mid new
     → OnlyReads most old new
 looks_on {m} {n} most {old} {mid} {new} fits first second =

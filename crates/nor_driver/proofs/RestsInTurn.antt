@@ -9,7 +9,9 @@ use Rattle.nor_driver.proofs.ReadsInTurn.{looks_then, looks_more}
 use Rattle.nor_driver.proofs.Readings.{looked_by}
 pub use Rattle.nor_driver.proofs.Readings.{rested_none, rested_then}
 
--- `reads` transactions that only read succeeded. On every bus they add nothing to what was sent.
+-- Holds after `reads` transactions that only read succeeded. On every bus, no transaction that may modify a chip was
+-- sent, and `KeepsNature` and `StaysReady` hold. On an honest bus the chip is as `Rested` says, and exactly `reads`
+-- fewer transactions are left.
 pub record HasLooked (reads : ℕ) (old new : BusState) : Type 0 where
   pub nature : KeepsNature old new
   pub same_sent : new.sent ≡ old.sent

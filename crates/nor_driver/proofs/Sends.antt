@@ -8,7 +8,7 @@ use Rattle.nor_model.specs.Bus.{BusState, SameNature, KeepsNature, Records}
 use Rattle.nor_model.proofs.Nature.{nature_by}
 use Rattle.nor_model.proofs.Noted.{notes_by}
 
--- One transaction kept the bus as `KeepsNature` says, and had the effect `Notes` on what was sent.
+-- One transaction kept the bus as `KeepsNature` says, and had the effect `Notes` on the list `sent` of the bus.
 pub record Sends (out : List ℕ) (old new : BusState) : Type 0 where
   pub nature : KeepsNature old new
   pub sent : Notes out old.sent new.sent
@@ -20,13 +20,13 @@ sends_by same records = record {
   sent = notes_by records.sent;
 }
 
--- the history after a transaction that succeeded
+-- if a transaction succeeded, the history is the earlier one with this transaction and its reply
 pub answered_by : (outcome : Result Unit Stopped) (out answer : List ℕ) (old new : BusState)
     → Records out answer outcome old new → OnOk outcome (new.history ≡ replied out answer ∷ old.history)
 answered_by (Ok done) out answer old new records = records.history
 answered_by (Err stop) out answer old new records = tt
 
--- the history after a stop
+-- if a transaction returned `Stopped`, the history ends with a transaction at which the bus stopped
 pub stopped_by : (outcome : Result Unit Stopped) (out answer : List ℕ) (old new : BusState)
     → Records out answer outcome old new → OnErr outcome (EndsStopped new.history)
 stopped_by (Ok done) out answer old new records = tt

@@ -1,4 +1,5 @@
--- The effect of a status write that leaves the bits that are never changed follows from the effect of an operation.
+-- The effect of a status write that keeps the bits that flashnor never changes. It follows from the effect of an
+-- operation.
 use Rattle.std.proofs.Common.{◌≡◌, ◌<◌, ◌+◌, ◌*◌, ◌/◌, ◌%◌, ◌∙◌, ℕ, Bool, true, cond, List, [], ◌∷◌, length, slice_index, ap, sym, refl, arith}
 use Rattle.std.specs.Prelude.{◌==◌, bit_and, bit_or}
 use Rattle.std.specs.List.{list_all, range_with_len}
@@ -21,11 +22,12 @@ use Rattle.nor_driver.specs.StatusWrites.{fixed_of, with_code, is_status_with_co
 use Rattle.nor_driver.proofs.Limits.{IsPartOf, stirs_more, in_none}
 use Rattle.nor_driver.proofs.Taken.{may_taken, has_taken, may_refused, has_refused}
 
--- the non-volatile bits of status 2 after a status write
+-- the non-volatile bits of status 2, which were `kept`, after a status write whose second byte is `sent`
 abbrev written : ℕ → ℕ → ℕ
 written kept sent = bit_or (bit_and sent 0b1000011) (bit_or (bit_and kept 0b0111100) (bit_and sent 0b0111000))
 
--- if the low six bits of the sent byte are those of status 2, so are bits 2 to 5, which a status write does not clear
+-- if the low six bits of the sent byte are those of status 2, their bits 2 to 5, which a status write doesn't clear,
+-- agree
 held_as : (kept sent : ℕ) → kept % 64 ≡ sent % 64 → bit_and kept 60 ≡ bit_and sent 60
 held_as kept sent same =
     sym (and_assoc 60 kept 63) ∙ rw (and_mask kept 6, same, ← and_mask sent 6) (and_assoc 60 sent 63)
@@ -37,8 +39,8 @@ every test n i all small =
     let below : i < length (range_with_len 0 n) = omega (arith, length-range_with_len 0 n) in
     ap test (omega (arith, at)) ∙ AllPass-from_list_all test (range_with_len 0 n) all i 0 below
 
--- if the low six bits agree and bit 7 of the sent byte is clear, status 2 is the sent byte after the write; the proof
--- checks all 128 values of that byte
+-- If the low six bits of status 2 and of the sent byte agree, and bit 7 of the sent byte is clear, status 2 is the sent
+-- byte after the write. The proof checks all 128 values of the sent byte.
 written_as : (kept sent : ℕ) → sent < 128 → kept % 64 ≡ sent % 64 → written kept sent ≡ sent
 written_as kept sent small same =
     rw (held_as kept sent same)
@@ -51,7 +53,7 @@ module _ (status : Status) (code : ℕ) (below : code < 64) where
   abbrev two : ℕ
   two = status.two.0 % 64 + 64 * (code / 32)
 
-  -- 01h writes the status, if the chip accepts it
+  -- after a write enable, 01h writes these two bytes if the chip takes a status write, and is otherwise ignored
   asked : (chip : Chip)
       → operation_of chip (1 ∷ one ∷ two ∷ []) ≡ cond (takes_status chip) (WriteStatus one two) Ignored
   asked chip = rw (and-true (is_idle chip)) refl
@@ -61,7 +63,8 @@ module _ (status : Status) (code : ℕ) (below : code < 64) where
 
   module _ (old new : BusState) where
     module _ (fixed : fixed_of old.chip.kept ≡ fixed_of (kept_in (bytes_of status))) where
-      -- the non-volatile bits after the status write are those from before with the new protection bits
+      -- if the bits that flashnor never changes are those of `status`: the non-volatile bits after the status write are
+      -- those from before it, with the protection bits of `code`
       code_there : new.chip.kept ≡ record { one = one / 4; two = written old.chip.kept.two two }
           → new.chip.kept ≡ with_code code old.chip.kept
       code_there kept =

@@ -1,4 +1,5 @@
--- An operation that the chip carries out if one test holds, and otherwise ignores: its effect in both cases.
+-- An operation that the chip carries out if one test holds, and otherwise ignores: its effect in both cases, on an
+-- honest bus.
 use Rattle.std.proofs.Common.{◌≡◌, ◌∙◌, ℕ, Bool, true, false, cond, List, drop, ap, subst}
 use Rattle.nor_model.specs.declared.command.Command.{Command}
 use Rattle.nor_model.specs.declared.command.Command.TheVariants.{Ignored}

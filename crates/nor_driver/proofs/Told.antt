@@ -11,7 +11,7 @@ use Rattle.nor_model.specs.Chip.{sfdp_byte}
 use Rattle.nor_model.specs.Bus.{BusState}
 use Rattle.nor_driver.specs.Reads.{Replies, unique_of, shown, ReadsUnique, ReadsSfdp, ReadsSector}
 
--- bytes that equal the SFDP byte at each address in turn are `shown`
+-- `len` bytes are the list `shown` if they equal the SFDP bytes from the address `at % config.size` on
 reply_shown : (config : Config) (at len : ℕ) (bytes : List ℕ) → length bytes ≡ len
     → ((i : ℕ) → i < length bytes → slice_index bytes i ≡ sfdp_byte config (at % config.size + i))
     → bytes ≡ shown config at len
@@ -31,7 +31,7 @@ reads_sfdp old new x y z at len answer named long replies = record {
       (λ i below. replies.replied honest i below ∙ rw (idle, named) refl);
 }
 
--- the address that the chip reads for byte `i` of a sector that lies on the chip
+-- for byte `i` of a sector that lies on the chip, the chip reads the address `4096 * sector + i`
 place_in : (size at sector i : ℕ) → at ≡ 4096 * sector → 4096 * (sector + 1) ≤ size → i < 4096
     → (at % size + i) % size ≡ 4096 * sector + i
 place_in size at sector i names inside small =

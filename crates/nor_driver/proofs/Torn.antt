@@ -82,7 +82,7 @@ enable_stays old new stops = elim (still_or_torn _ old new stops.at_stop) [
 
 -- ---- a reading
 
--- a command that begins no operation and does not set the write enable latch
+-- true if the command begins no operation and does not set the write enable latch
 abbrev pub is_quiet : Command → Bool
 is_quiet WriteEnable = false
 is_quiet (WriteStatus one two) = false
@@ -110,7 +110,8 @@ quiet_done : (chip : Chip) (count : ℕ) (out : List ℕ) (replies : ℕ) → be
     → is_quiet (done_of chip (take count out) replies) ≡ true
 quiet_done chip count out replies quiet = grind (arith, quiet_part chip.config count out replies quiet)
 
--- a quiet command is no operation, and does not set the write enable latch
+-- a quiet command (`is_quiet`) isn't an operation (`is_operation`), and does not set the write enable latch
+-- (`quiet_latch`)
 quiet_is_none : (command : Command) → is_quiet command ≡ true → is_operation command ≡ false
 quiet_is_none command quiet = grind arith
 

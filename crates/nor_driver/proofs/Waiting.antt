@@ -10,28 +10,28 @@ use Rattle.nor_driver.specs.Waits.{Polls}
 use Rattle.nor_driver.proofs.Readings.{looked_by}
 use Rattle.nor_driver.proofs.ReadsInTurn.{looks_then, looks_more}
 
--- a list of one byte
+-- a list of one byte is the list of its item 0
 pub one_byte : (bytes : List ℕ) → length bytes ≡ 1 → bytes ≡ slice_index bytes 0 ∷ []
 one_byte bytes one = ext_get_or 0 bytes (slice_index bytes 0 ∷ []) one
     (λ i below. let first : i ≡ 0 = omega (arith, one, below) in rw first refl)
 
--- a transaction with a reply of one byte
+-- the one-byte reply of the last transaction is the list of its item 0
 pub replied_byte : (out answer : List ℕ) (old new : List Exchange) → length answer ≡ 1
     → new ≡ replied out answer ∷ old → new ≡ replied out (slice_index answer 0 ∷ []) ∷ old
 replied_byte out answer old new one is =
     subst (λ (bytes : List ℕ). new ≡ replied out bytes ∷ old) (one_byte answer one) is
 
--- a poll that succeeded
+-- a poll that succeeded satisfies `Answered`
 pub poll_answered : {old new : BusState} {status : ℕ} → Polls old new status
     → Answered is_poll old.history new.history (status ∷ [])
 poll_answered polls = record { out = 0x05 ∷ []; asks = refl; history = polls.history }
 
--- a poll that showed BUSY
+-- after a poll that showed BUSY, the history ends with that poll (`EndsBusy`)
 pub ends_busy : {old new : BusState} {status : ℕ} → Polls old new status → status % 2 ≡ 1 → EndsBusy new.history
 ends_busy {old} {new} {status} polls busy =
     record { status = status; earlier = old.history; is = polls.history; busy = busy }
 
--- `polls` polls that succeeded, and one more
+-- after `polls` polls that succeeded, and one more poll that may fail, `OnlyReads` holds with each bound above `polls`
 pub polled_leaves : (polls most : ℕ) (old mid new : BusState) → polls < most → KeepsNature old mid
     → mid.sent ≡ old.sent → (old.honest ≡ true → Rested old mid) → (old.honest ≡ true → old.left ≡ mid.left + polls)
     → OnlyReads 1 mid new → OnlyReads most old new

@@ -32,29 +32,29 @@ pub record CanErase (erase : Erase) (chip : Chip) : Type 0 where
   pub offered : has_block chip.config erase.unit ≡ true
   pub free : is_block_protected chip (4096 * erase.sector) (block_length chip erase) ≡ false
 
--- the chip carries out this erase after a write enable: it is idle, has the erase type, and protects no address of the
--- block
+-- true if the chip carries out this erase of a block that lies on it, after a write enable: the chip is idle, has the
+-- erase type, and protects no address of the block
 abbrev pub takes_erase : Chip → Erase → Bool
 takes_erase chip erase =
     is_idle chip && has_block chip.config erase.unit
     && not (is_block_protected chip (4096 * erase.sector) (block_length chip erase))
 
--- the sector `s` is in the erase block
+-- true if the sector `s` is in the erase block
 abbrev pub is_sector_in_block : Erase → Chip → ℕ → Bool
 is_sector_in_block erase chip s = erases_sector (sectors_of chip) s erase
 
--- the address `a` is in the erase block
+-- true if the address `a` is in the erase block
 abbrev pub is_address_in_block : Erase → Chip → ℕ → Bool
 is_address_in_block erase chip a = is_sector_in_block erase chip (a / 4096)
 
--- the sector is in the aligned block that the erase command addresses; for C7h that is all 4,096 sectors of the largest
--- chip
+-- true if the sector is in the aligned block that the erase command addresses; for C7h that is all 4,096 sectors of the
+-- largest chip
 abbrev pub is_sector_named : Erase → ℕ → Bool
 is_sector_named erase s = is_in_targeted (block_targeted (sectors_in 4096 erase.unit) erase.sector) s
 
--- On an honest bus, at every exit of an erase that the chip can carry out: bytes and erased sectors outside the erase
--- block, and the non-volatile bits, are as they were. On a steady bus each byte in the block is as it was or FFh; on
--- any other bus it may have any value. A chip that is still busy executes this erase.
+-- On an honest bus, at every exit of an erase that the chip can carry out: bytes and records of erased sectors outside
+-- the erase block, and the non-volatile bits, are as they were. On a steady bus each byte in the block is as it was or
+-- FFh; on any other bus it may have any value. A chip that is still busy executes this erase.
 pub record MayErase (erase : Erase) (old new : BusState) : Type 0 where
   pub config : new.chip.config ≡ old.chip.config
   pub bytes : ChangesOnly old.steady (is_address_in_block erase old.chip) (λ _. 255) old.chip.bytes new.chip.bytes
@@ -71,14 +71,18 @@ pub record HasErased (erase : Erase) (old new : BusState) : Type 0 where
   pub worn : (s : ℕ) → new.worn s ≡ (old.worn s || is_sector_in_block erase old.chip s)
   pub latch : new.chip.latch ≡ false
 
--- The effect of an erase at every exit, depending on whether the chip can carry it out or ignores it.
+-- The effect of an erase at every exit: `Stirs` on every bus, and `Falls` on an honest one. On an honest bus, if
+-- `CanErase` holds, the chip can carry the erase out, and `MayErase` holds. On an honest bus, if the block lies on the
+-- chip and `takes_erase` is false, the chip would ignore the erase, and `KeepsChip` holds.
 pub record LeavesErase (erase : Erase) (old new : BusState) : Type 0 where
   pub stirs : Stirs (erasing (is_sector_named erase) 1) old new
   pub falls : old.honest ≡ true → Falls most_operation old new
   pub reached : old.honest ≡ true → CanErase erase old.chip → MayErase erase old new
   pub ignored : old.honest ≡ true → IsOnChip erase old.chip → takes_erase old.chip erase ≡ false → KeepsChip old new
 
--- The effect of an erase that succeeded, depending on whether the chip can carry it out or ignores it.
+-- The effect of an erase that succeeded, after `sent` transactions: on every bus `EndsWaiting` and `SendsExactly` hold,
+-- for one erase. On an honest bus, if `CanErase` holds, the chip took the erase, and `HasErased` holds. On an honest
+-- bus, if the block lies on the chip and `takes_erase` is false, the chip ignored the erase, and `HasIgnored` holds.
 pub record Erases (erase : Erase) (old new : BusState) (sent : ℕ) : Type 0 where
   pub ends : EndsWaiting old new sent
   pub sends : SendsExactly 1 0 0 old new

@@ -1,10 +1,10 @@
--- Limits on the modifying commands that a call sends, on every bus.
+-- Limits on the erases, page programs and status writes that a call sends, on every bus.
 use Rattle.std.specs.Prelude.{◌≡◌, ◌≤◌, ◌+◌, ◌⊎◌, ℕ, Bool, true, false, List, if◌then◌else◌}
 use Rattle.nor_model.specs.Sent.{targets, begins_erase, begins_program, begins_status_write, writes_status, is_targeted, has_written, has_unknown, is_stirred, erases_of, programs_of, status_writes_of}
 use Rattle.nor_model.specs.Bus.{BusState, KeepsNature}
 
 -- Limits on modifying commands: the sectors that erases and page programs may target, the two bytes that a status write
--- may have, and the greatest numbers of erases, page programs and status writes.
+-- may have, and the greatest numbers of erases, page programs and status writes. Write enables are not limited.
 pub record Limits : Type 0 where
   pub sectors : ℕ → Bool
   pub status : (one two : ℕ) → Bool
@@ -12,11 +12,11 @@ pub record Limits : Type 0 where
   pub programs : ℕ
   pub status_writes : ℕ
 
--- no sector
+-- the empty set of sectors
 abbrev pub no_sector : ℕ → Bool
 no_sector s = false
 
--- no bytes of a status write
+-- the empty set of pairs of status bytes
 abbrev pub no_status : (one two : ℕ) → Bool
 no_status one two = false
 
@@ -42,8 +42,11 @@ limits_of out = record {
   status_writes = if begins_status_write out then 1 else 0;
 }
 
--- Between the two states the bus was asked to send nothing beyond these limits, and no transaction that the model does
--- not know.
+-- Since the state `old`, each sector that an erase or program targeted for the first time, and each pair of bytes that
+-- a status write had for the first time, is within the limits. The numbers of erases, page programs and status writes
+-- grew by at most those of the limits. A transaction that the model doesn't know was sent only if one had been sent
+-- before `old` too. Sectors that were already targeted before `old` may be targeted again, and pairs of bytes that were
+-- already written may be written again, even outside the limits.
 pub record SendsWithin (limits : Limits) (old new : BusState) : Type 0 where
   pub targeted : (s : ℕ) → (is_targeted new.sent s ≡ is_targeted old.sent s) ⊎ (limits.sectors s ≡ true)
   pub written : (one two : ℕ)
@@ -53,14 +56,15 @@ pub record SendsWithin (limits : Limits) (old new : BusState) : Type 0 where
   pub status_writes : status_writes_of new.sent ≤ status_writes_of old.sent + limits.status_writes
   pub unknown : has_unknown new.sent ≡ has_unknown old.sent
 
--- Exactly these numbers of erases, page programs and status writes were sent.
+-- Since the state `old`, the bus was asked to send exactly these numbers of transactions that begin with the opcode of
+-- an erase, of a page program and of a status write.
 pub record SendsExactly (erases programs status_writes : ℕ) (old new : BusState) : Type 0 where
   pub erased : erases_of new.sent ≡ erases_of old.sent + erases
   pub programmed : programs_of new.sent ≡ programs_of old.sent + programs
   pub wrote_status : status_writes_of new.sent ≡ status_writes_of old.sent + status_writes
 
--- At every exit of an operation, on every bus: the bus was asked to send a modifying opcode, and nothing beyond these
--- limits.
+-- At every exit of an operation, on every bus: `KeepsNature` holds, and `SendsWithin` for these limits. The bus has
+-- been asked to send at least one transaction that begins with a modifying opcode, in this call or before it.
 pub record Stirs (limits : Limits) (old new : BusState) : Type 0 where
   pub nature : KeepsNature old new
   pub stirred : is_stirred new.sent ≡ true

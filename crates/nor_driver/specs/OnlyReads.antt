@@ -5,20 +5,23 @@ use Rattle.nor_model.specs.Power.{is_in_work, KeptCut}
 use Rattle.nor_model.specs.History.{EndsStopped}
 use Rattle.nor_model.specs.Bus.{BusState, KeepsNature}
 
--- The bus is steady or the chip is idle, so a stop can't interrupt an operation from before the call.
+-- The bus is steady or the chip is idle, so on an honest bus a stop can't interrupt an operation from before the call.
 abbrev pub IsSteadyOrIdle : BusState → Type 0
 IsSteadyOrIdle state = (state.steady ≡ true) ⊎ (state.chip.busy ≡ 0)
 
--- On an honest bus, if no operation was interrupted: bytes, non-volatile bits, erased sectors and the operation in
--- progress are as they were, and the chip is busy for no longer than before.
+-- The effect, on an honest bus, of a call that neither began nor interrupted an operation. Bytes, non-volatile bits,
+-- erased sectors and the operation in progress are as they were, and at most as many polls will show BUSY as before.
 pub record Unchanged (old new : BusState) : Type 0 where
   pub same : IsSame old.chip new.chip
   pub running : new.chip.running ≡ old.chip.running
   pub busy : new.chip.busy ≤ old.chip.busy
   pub worn : (s : ℕ) → new.worn s ≡ old.worn s
 
--- On an honest bus, at every exit of a call that began no operation. An operation from before the call may have been
--- interrupted; apart from that, bytes, non-volatile bits and erased sectors are as they were.
+-- The effect, on an honest bus and at every exit, of a call that began no operation. If `IsSteadyOrIdle` held before
+-- the call, bytes and non-volatile bits are as they were. Otherwise a stop may have interrupted the operation in
+-- progress: the bytes on which it works may then have any value, and the non-volatile bits are as `KeptCut` states.
+-- Erased sectors are as they were. A chip that is still busy executes the same operation, for at most as many polls as
+-- before.
 pub record KeepsChip (old new : BusState) : Type 0 where
   pub config : new.chip.config ≡ old.chip.config
   pub steady_or_idle : IsSteadyOrIdle old → IsSame old.chip new.chip
@@ -40,17 +43,18 @@ pub record Falls (most : ℕ) (old new : BusState) : Type 0 where
   pub fell : new.left ≤ old.left
   pub bound : old.left ≤ new.left + most
 
--- On an honest bus, at every exit of a call that only reads. The write enable latch is set only if it was set before.
--- If the chip was idle and the bus is steady, the latch is as it was.
+-- The effect, on an honest bus and at every exit, of a call that only reads: `KeepsChip` holds, and at most `most`
+-- transactions were carried out. The write enable latch is set only if it was set before. If the chip was idle and the
+-- bus is steady, the latch is as it was.
 pub record OnlyReadsHonest (most : ℕ) (old new : BusState) : Type 0 where
   pub stays : KeepsChip old new
   pub latch : new.chip.latch ≡ true → old.chip.latch ≡ true
   pub idle_latch : old.steady ≡ true → old.chip.busy ≡ 0 → new.chip.latch ≡ old.chip.latch
   pub falls : Falls most old new
 
--- On every bus, at every exit: the bus was asked to send no transaction that may modify a chip, its history continues
--- the earlier one, and no allowance was set. On an honest bus `OnlyReadsHonest` holds, so at most `most` transactions
--- were carried out.
+-- On every bus, at every exit: the bus was asked to send no transaction that may modify a chip, and `KeepsNature`
+-- holds, so its history continues the earlier one and no allowance was set. On an honest bus `OnlyReadsHonest` holds,
+-- so at most `most` transactions were carried out.
 pub record OnlyReads (most : ℕ) (old new : BusState) : Type 0 where
   pub nature : KeepsNature old new
   pub sent : new.sent ≡ old.sent

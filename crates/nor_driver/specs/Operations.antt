@@ -16,7 +16,7 @@ use Rattle.nor_driver.specs.Limits.{limits_of, Stirs, SendsExactly}
 abbrev pub most_operation : ℕ
 most_operation = 65538
 
--- the first three bytes are the address `at`, high byte first
+-- the first three of these bytes are the address `at`, high byte first
 abbrev pub BytesNameAddress : ℕ → List ℕ → Type 0
 BytesNameAddress at bytes = 65536 * slice_index bytes 0 + 256 * slice_index bytes 1 + slice_index bytes 2 ≡ at
 
@@ -33,9 +33,9 @@ is_operation_or_none (Erase start len) = true
 is_operation_or_none Ignored = true
 is_operation_or_none _ = false
 
--- For every chip these bytes are an operation, or are ignored. Each prefix of them is the same operation or is ignored,
--- regardless of how many reply bytes are read after it. The transaction is one that the model knows, and short enough
--- for every honest bus.
+-- For every chip, the bytes `out` ask for an operation or for nothing, if no reply byte is read. Each prefix of them
+-- asks for the same command or for nothing, for any number of reply bytes. The transaction is one that the model knows,
+-- and short enough for every honest bus.
 pub record AsksForOperation (out : List ℕ) : Type 0 where
   pub known : is_unknown_to_model out ≡ false
   pub whole : (config : Config) → is_operation_or_none (command_of config out 0) ≡ true
@@ -43,15 +43,15 @@ pub record AsksForOperation (out : List ℕ) : Type 0 where
       ⊎ (command_of config (take count out) replies ≡ command_of config out 0)
   pub short : length out ≤ 260
 
--- Each byte is as it was, except at these addresses. There a byte may have changed: on a steady bus to `wanted`, on any
--- other bus to any value.
+-- Each byte is as it was, except at addresses in `places`. At such an address the byte may have changed: on a steady
+-- bus to the byte of `wanted`, on any other bus to any value.
 abbrev pub ChangesOnly : Bool → (ℕ → Bool) → (wanted old new : ℕ → ℕ) → Type 0
 ChangesOnly steady places wanted old new =
     (a : ℕ) → (new a ≡ old a) ⊎ ((places a ≡ true) × (steady ≡ true → new a ≡ wanted a))
 
--- On an honest bus, an operation that the chip ignored has ended. Bytes, non-volatile bits and erased sectors are as
--- they were. The write enable latch is set if the chip was idle before, and clear if the chip was busy with another
--- operation, which has ended too.
+-- The effect, on an honest bus, of an operation that the chip ignored and whose wait succeeded. Configuration, bytes,
+-- non-volatile bits and erased sectors are as they were. The write enable latch is set if the chip was idle before the
+-- operation, and clear if the chip was busy.
 pub record HasIgnored (old new : BusState) : Type 0 where
   pub same : IsSame old.chip new.chip
   pub worn : (s : ℕ) → new.worn s ≡ old.worn s
@@ -71,8 +71,10 @@ pub record EndsWaiting (old new : BusState) (sent : ℕ) : Type 0 where
 abbrev pub operation_of : Chip → List ℕ → Command
 operation_of chip out = done_of (record chip { latch = true }) out 0
 
--- On an honest bus, at every exit of an operation of an idle chip: the operation had its whole effect, had none, or was
--- interrupted. A chip that is still busy executes this operation.
+-- The effect, on an honest bus and at every exit, of an operation of an idle chip. Bytes on which the operation doesn't
+-- work are as they were. On a steady bus each other byte is as before or as after the operation; on any other bus it
+-- may have any value. The non-volatile bits are those from before or those from after the operation. A chip that is
+-- still busy executes this operation. Only sectors that the operation erases may be newly recorded as erased.
 pub record MayOperate (command : Command) (sent : List ℕ) (old new : BusState) : Type 0 where
   pub config : new.chip.config ≡ old.chip.config
   pub bytes : ChangesOnly old.steady (is_in_work (running_after old.chip command))
@@ -81,7 +83,8 @@ pub record MayOperate (command : Command) (sent : List ℕ) (old new : BusState)
   pub runs : new.chip.busy ≢ 0 → new.chip.running ≡ running_after old.chip command
   pub worn : (s : ℕ) → wears command s ≡ false → new.worn s ≡ old.worn s
 
--- On an honest bus, an operation of an idle chip has ended, with its whole effect.
+-- On an honest bus, an operation that an idle chip carried out has ended, with its whole effect on bytes, non-volatile
+-- bits and erased sectors. The write enable latch is clear.
 pub record HasOperated (command : Command) (sent : List ℕ) (old new : BusState) : Type 0 where
   pub config : new.chip.config ≡ old.chip.config
   pub bytes : (a : ℕ) → new.chip.bytes a ≡ byte_after old.chip command sent a
@@ -89,7 +92,9 @@ pub record HasOperated (command : Command) (sent : List ℕ) (old new : BusState
   pub worn : (s : ℕ) → new.worn s ≡ (old.worn s || wears command s)
   pub latch : new.chip.latch ≡ false
 
--- The state that an operation leaves at every exit.
+-- The state that an operation leaves at every exit: `Stirs` on every bus. On an honest bus at most 65,538 transactions
+-- were carried out; `MayOperate` holds if the chip can carry the operation out, and `KeepsChip` if it would ignore the
+-- operation.
 pub record LeavesOperation (out : List ℕ) (old new : BusState) : Type 0 where
   pub stirs : Stirs (limits_of out) old new
   pub falls : old.honest ≡ true → Falls most_operation old new
@@ -97,7 +102,9 @@ pub record LeavesOperation (out : List ℕ) (old new : BusState) : Type 0 where
       → MayOperate (operation_of old.chip out) (drop 4 out) old new
   pub ignored : old.honest ≡ true → is_operation (operation_of old.chip out) ≡ false → KeepsChip old new
 
--- The state that an operation leaves if it succeeds.
+-- The state that an operation leaves if it succeeds, after `sent` transactions, on every bus (`EndsWaiting`,
+-- `SendsExactly`). On an honest bus `HasOperated` holds if the chip carries the operation out, and `HasIgnored` if it
+-- ignores the operation.
 pub record Operates (out : List ℕ) (old new : BusState) (sent : ℕ) : Type 0 where
   pub ends : EndsWaiting old new sent
   pub sends : SendsExactly (if begins_erase out then 1 else 0) (if begins_program out then 1 else 0)

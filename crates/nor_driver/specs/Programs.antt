@@ -16,20 +16,22 @@ pub record CanProgram (at len : ℕ) (chip : Chip) : Type 0 where
   pub inside : at + len ≤ chip.config.size
   pub free : is_protected chip at ≡ false
 
--- the chip carries out a program at this address after a write enable: it is idle and does not protect the address
+-- true if the chip carries out a program at this address, which must be on the chip, after a write enable: the chip is
+-- idle and does not protect the address
 abbrev pub takes_program : Chip → ℕ → Bool
 takes_program chip at = is_idle chip && not (is_protected chip at)
 
--- the byte at `a` after `sent` was programmed from `at`: ANDed with the byte that was sent for it, if any
+-- the byte at the address `a` after `sent` was programmed from `at` on, within one page: the old byte, ANDed with the
+-- byte that was sent for this address, if any
 abbrev pub programmed : ℕ → List ℕ → (ℕ → ℕ) → ℕ → ℕ
 programmed at sent old a =
     if nat_le at a && nat_lt a (at + length sent) then bit_and (old a) (slice_index sent (a - at)) else old a
 
--- the sector `s` holds the address `at`
+-- true if the sector `s` holds the address `at`
 abbrev pub is_sector_of : (at s : ℕ) → Bool
 is_sector_of at s = is_in_targeted (block_targeted 1 (at / 4096)) s
 
--- the address `a` is in the page that holds `at`
+-- true if the address `a` is in the page that holds `at`
 abbrev pub is_in_page : (at a : ℕ) → Bool
 is_in_page at a = a / 256 == at / 256
 
@@ -52,14 +54,19 @@ pub record HasProgrammed (at : ℕ) (sent : List ℕ) (old new : BusState) : Typ
   pub worn : (s : ℕ) → new.worn s ≡ old.worn s
   pub latch : new.chip.latch ≡ false
 
--- The effect of a program at every exit, depending on whether the chip can carry it out or ignores it.
+-- The effect of a program at every exit: `Stirs` on every bus, and `Falls` on an honest one. On an honest bus, if
+-- `CanProgram` holds, the chip can carry the program out, and `MayProgram` holds. On an honest bus, if `at` is on the
+-- chip and `takes_program` is false, the chip would ignore the program, and `KeepsChip` holds.
 pub record LeavesProgram (at : ℕ) (sent : List ℕ) (old new : BusState) : Type 0 where
   pub stirs : Stirs (programming (is_sector_of at) 1) old new
   pub falls : old.honest ≡ true → Falls most_operation old new
   pub reached : old.honest ≡ true → CanProgram at (length sent) old.chip → MayProgram at sent old new
   pub ignored : old.honest ≡ true → at < old.chip.config.size → takes_program old.chip at ≡ false → KeepsChip old new
 
--- The effect of a program that succeeded, depending on whether the chip can carry it out or ignores it.
+-- The effect of a program that succeeded, after `sent` transactions: on every bus `EndsWaiting` and `SendsExactly`
+-- hold, for one page program. On an honest bus, if `CanProgram` holds, the chip took the program, and `HasProgrammed`
+-- holds. On an honest bus, if `at` is on the chip and `takes_program` is false, the chip ignored the program, and
+-- `HasIgnored` holds.
 pub record Programs (at : ℕ) (bytes : List ℕ) (old new : BusState) (sent : ℕ) : Type 0 where
   pub ends : EndsWaiting old new sent
   pub sends : SendsExactly 0 1 0 old new

@@ -11,7 +11,7 @@ use Rattle.nor_model.specs.History.{Answered, replied, begins_with, names}
 use Rattle.nor_model.specs.Bus.{BusState}
 use Rattle.nor_driver.specs.OnlyReads.{Rested}
 
--- a command that changes nothing, not even the write enable latch or `busy`
+-- true if the command changes nothing, not even the write enable latch or `busy`
 abbrev pub changes_nothing : Command → Bool
 changes_nothing ReadStatus2 = true
 changes_nothing (ReadData at) = true
@@ -56,7 +56,7 @@ unique_of config = map (λ (i : ℕ). slice_index_or config.unique i 255) (0 ∷
 unfoldable pub shown : Config → (at len : ℕ) → List ℕ
 shown config at len = map (sfdp_byte config) (range_with_len (at % config.size) len)
 
--- the first 4,096 of these bytes are those of the sector in `content`
+-- the first 4,096 of these bytes are those of the sector `sector` of `content`
 pub record IsSectorOf (content : ℕ → ℕ) (sector : ℕ) (bytes : List ℕ) : Type 0 where
   pub byte : (i : ℕ) → i < 4096 → slice_index bytes i ≡ content (4096 * sector + i)
 

@@ -1,5 +1,5 @@
--- The effect of a status write that sends the given protection bits, and the bits that flashnor never changes as they
--- are.
+-- The effect of a status write that sends the protection bits of `code`, and the bits that flashnor never changes as in
+-- `status`.
 use Rattle.std.specs.Prelude.{◌≡◌, ◌≢◌, ◌+◌, ◌*◌, ◌/◌, ◌%◌, ◌==◌, ◌&&◌, ◌⊎◌, ℕ, Bool, true, false, not}
 use Rattle.nor_model.specs.declared.running.Running.TheVariants as Runs
 use Rattle.nor_model.specs.declared.status.Status.{Status}
@@ -20,8 +20,8 @@ fixed_of kept = (kept.one / 32, kept.two % 64)
 abbrev pub with_code : (code : ℕ) → KeptBits → KeptBits
 with_code code kept = record { one = 32 * (kept.one / 32) + code % 32; two = 64 * (code / 32) + kept.two % 64 }
 
--- the bytes `one` and `two` of a status write are `status` with the protection bits of `code`: the bits that flashnor
--- never changes are as in `status`, and BUSY, WEL and (for a code below 64) SUS are clear
+-- True if the bytes `one` and `two` of a status write are `status` with the protection bits of `code`. The bits that
+-- flashnor never changes are as in `status`. BUSY, WEL and (for a code below 64) SUS are clear.
 abbrev pub is_status_with_code : Status → (code one two : ℕ) → Bool
 is_status_with_code status code one two =
     one == 128 * (status.one.0 / 128) + 4 * (code % 32) && two == status.two.0 % 64 + 64 * (code / 32)
@@ -32,7 +32,7 @@ pub record CanWriteStatus (status : Status) (chip : Chip) : Type 0 where
   pub open_to : is_locked chip.kept ≡ false
   pub fixed : fixed_of chip.kept ≡ fixed_of (kept_in (bytes_of status))
 
--- the chip carries out a status write after a write enable: it is idle and its status isn't locked
+-- true if the chip carries out a status write after a write enable: it is idle and its status isn't locked
 abbrev pub takes_status : Chip → Bool
 takes_status chip = is_idle chip && not (is_locked chip.kept)
 
@@ -55,14 +55,19 @@ pub record HasWrittenStatus (code : ℕ) (old new : BusState) : Type 0 where
   pub worn : (s : ℕ) → new.worn s ≡ old.worn s
   pub latch : new.chip.latch ≡ false
 
--- The effect of a status write at every exit, depending on whether the chip can carry it out or ignores it.
+-- The effect of a status write at every exit: `Stirs` on every bus, and `Falls` on an honest one. On an honest bus, if
+-- `CanWriteStatus` holds, the chip can carry the write out, and `MayWriteStatus` holds. On an honest bus, if
+-- `takes_status` is false, the chip would ignore the write, and `KeepsChip` holds.
 pub record LeavesStatusWrite (status : Status) (code : ℕ) (old new : BusState) : Type 0 where
   pub stirs : Stirs (writing (is_status_with_code status code) 1) old new
   pub falls : old.honest ≡ true → Falls most_operation old new
   pub reached : old.honest ≡ true → CanWriteStatus status old.chip → MayWriteStatus code old new
   pub ignored : old.honest ≡ true → takes_status old.chip ≡ false → KeepsChip old new
 
--- The effect of a status write that succeeded, depending on whether the chip can carry it out or ignores it.
+-- The effect of a status write that succeeded, after `sent` transactions: on every bus `EndsWaiting` and `SendsExactly`
+-- hold, for one status write. On an honest bus, if `CanWriteStatus` holds, the chip took the write, and
+-- `HasWrittenStatus` holds. On an honest bus, if `takes_status` is false, the chip ignored the write, and `HasIgnored`
+-- holds.
 pub record WritesStatus (status : Status) (code : ℕ) (old new : BusState) (sent : ℕ) : Type 0 where
   pub ends : EndsWaiting old new sent
   pub sends : SendsExactly 0 0 1 old new

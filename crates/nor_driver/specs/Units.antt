@@ -19,21 +19,22 @@ sectors_in total Block32 = 8
 sectors_in total Block64 = 16
 sectors_in total Chip = total
 
--- a chip with this configuration has this erase type
+-- true if a chip with this configuration has this erase type
 abbrev pub has_block : Config → EraseBlock → Bool
 has_block config Sector = true
 has_block config Block32 = config.kinds.k32
 has_block config Block64 = config.kinds.k64
 has_block config Chip = true
 
--- the block may begin at this sector: a 32 or 64 KiB block at a multiple of its size, the chip at 0
+-- true if the block may begin at this sector: a 32 or 64 KiB block at a multiple of its size, the chip at 0, a 4 KiB
+-- block at any sector
 abbrev pub is_aligned : EraseBlock → (sector : ℕ) → Bool
 is_aligned Sector sector = true
 is_aligned Block32 sector = sector % 8 == 0
 is_aligned Block64 sector = sector % 16 == 0
 is_aligned Chip sector = sector == 0
 
--- on a chip of `total` sectors the erase sets this sector to FFh
+-- true if, on a chip of `total` sectors, this sector is in the block of the erase
 abbrev pub erases_sector : (total sector : ℕ) → Erase → Bool
 erases_sector total sector erase =
     nat_le erase.sector sector && nat_lt sector (erase.sector + sectors_in total erase.unit)

@@ -10,8 +10,8 @@ use Rattle.nor_driver.specs.declared.waits.OperationError.TheVariants.{Stopped, 
 use Rattle.nor_driver.specs.declared.waits.Waited.{Waited}
 use Rattle.nor_driver.specs.OnlyReads.{Rested, RanOut}
 
--- On an honest bus, one poll read status 1. A busy chip is then busy for one poll fewer, and the poll that shows the
--- last BUSY clears the write enable latch.
+-- On an honest bus, one poll read status 1 as it was before the poll. A busy chip is then busy for one poll fewer, and
+-- the poll that shows the last BUSY clears the write enable latch.
 pub record HasPolled (old new : BusState) (status : ℕ) : Type 0 where
   pub rested : Rested old new
   pub status1 : status ≡ status1_of old.chip
@@ -24,11 +24,13 @@ pub record Polls (old new : BusState) (status : ℕ) : Type 0 where
   pub history : new.history ≡ replied (0x05 ∷ []) (status ∷ []) ∷ old.history
   pub done : old.honest ≡ true → HasPolled old new status
 
--- the write enable latch of a chip after a wait: an operation that was running has ended and cleared it
+-- the write enable latch of a chip after a wait: as before if the chip was idle, otherwise clear, because the operation
+-- that was running has ended
 abbrev pub latch_when_idle : Chip → Bool
 latch_when_idle chip = if chip.busy == 0 then chip.latch else false
 
--- On an honest bus, a wait polled until the chip was idle: once for each BUSY, and once more.
+-- On an honest bus, a wait polled until the chip was idle: once for each poll that the chip was still busy for
+-- (`busy`), and once more. Status 1 is that of the chip after the wait.
 pub record HasWaited (old new : BusState) (waited : Waited) : Type 0 where
   pub rested : Rested old new
   pub idle : new.chip.busy ≡ 0
@@ -37,9 +39,10 @@ pub record HasWaited (old new : BusState) (waited : Waited) : Type 0 where
   pub polls : waited.polls ≡ old.chip.busy + 1
   pub count : old.left ≡ new.left + waited.polls
 
--- A wait succeeded. On every bus its last poll received this status, which shows that the chip is ready, and the last
--- replies to transactions other than polls are as before (`KeepsReplies`). On an honest bus the effect of the wait is
--- `HasWaited`.
+-- A wait succeeded. On every bus its last poll received this status, which shows that the chip is ready, and the number
+-- of polls is from 1 to 65,536. For each test that is false for every poll, the last reply to a transaction that passes
+-- the test is as before (`only_polls`); that leaves open whether transactions other than polls were sent. On an honest
+-- bus the effect of the wait is `HasWaited`.
 pub record Waits (old new : BusState) (waited : Waited) : Type 0 where
   pub only_polls : KeepsReplies is_poll old.history new.history
   pub status : last_reply is_poll new.history ≡ waited.status1 ∷ []
@@ -49,13 +52,13 @@ pub record Waits (old new : BusState) (waited : Waited) : Type 0 where
   pub polled_ready : new.polled_ready ≡ true
   pub done : old.honest ≡ true → HasWaited old new waited
 
--- on every bus, a timeout contains this address
+-- on every bus, an error that is a timeout contains the address `at`
 abbrev pub NamesTimeout : ℕ → OperationError → Type 0
 NamesTimeout at Stopped = ⊤
 NamesTimeout at (Timeout address) = address ≡ at
 
--- The last transaction of a call that returned this error: the bus stopped at it, or it was a poll that showed BUSY.
--- Nothing was sent after it.
+-- The last transaction of a call that returned this error. For `Stopped` the bus stopped at it, for `Timeout` it was a
+-- poll that showed BUSY.
 abbrev pub EndsAt : OperationError → List Exchange → Type 0
 EndsAt Stopped history = EndsStopped history
 EndsAt (Timeout address) history = EndsBusy history
@@ -68,8 +71,8 @@ pub record OperationFails (needed : ℕ) (old new : BusState) (halt : OperationE
   pub stopped : old.honest ≡ true → halt ≡ Stopped
   pub ran_out : old.honest ≡ true → RanOut needed old new
 
--- A wait returned an error. On an honest bus that is a stop, and fewer transactions were left than the wait needed,
--- which is never more than 65,536.
+-- A wait returned an error. On every bus a timeout contains the address `at`. On an honest bus the error is a stop, and
+-- fewer transactions were left than the wait needed, which is never more than 65,536.
 pub record WaitFails (at : ℕ) (old new : BusState) (halt : OperationError) : Type 0 where
   pub returned : NamesTimeout at halt
   pub fails : OperationFails 65536 old new halt

@@ -1,5 +1,5 @@
 //! The commands to a flash chip, over any bus: a function for each read, for polls and waits, and for each operation
-//! with its write enable and wait. The other crates of the engine send no opcodes.
+//! with its write enable and wait. The other crates of the engine send commands only through these functions.
 //!
 //! ```rust
 //! use nor_chip::{Config, Delays, Meter, SimBus};

@@ -85,8 +85,8 @@ pub fn write_status<B: Bus>(bus: &mut B, status: Status, code: u8) -> Result<u32
     operation(bus, &[WRITE_STATUS, one, two], 0)
 }
 
-// Performs one operation: write enable, the command, a wait. Returns the number of transactions. A timeout contains
-// `address`.
+// Performs one operation: write enable, the command, a wait. The command must satisfy `AsksForOperation`. Returns the
+// number of transactions. A timeout contains `address`.
 fn operation<B: Bus>(bus: &mut B, command: &[u8], address: u32) -> Result<u32, OperationError>
     requires { AsksForOperation command.now }
     ensures leaves { LeavesOperation command.now (B.state bus.old) (B.state bus.new) }
@@ -109,7 +109,8 @@ pub(crate) fn address_bytes(address: u32) -> [u8; 3]
     [high, middle, low]
 }
 
-// Returns the bytes of a page program: the opcode, three address bytes and the data.
+// Returns the bytes of a page program: the opcode, three address bytes and the data, of which there must be at most 256
+// bytes.
 fn program_command(address: u32, bytes: &[u8]) -> ArrayVec<u8, 260>
     requires reachable { address < 2 ^ 24 }
     requires short { length bytes.now ≤ 256 }

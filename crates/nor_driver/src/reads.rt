@@ -8,7 +8,7 @@ use crate::operations::address_bytes;
 use nor_geometry::SECTOR_LEN;
 use nor_model::{Bus, Stopped};
 
-// The opcodes of these commands.
+// The opcodes of the commands that read, except for polls.
 const READ_DATA: u8 = 0x03;
 
 const READ_STATUS2: u8 = 0x35;
@@ -92,7 +92,7 @@ pub fn read_sector<B: Bus>(bus: &mut B, sector: u32, bytes: &mut [u8]) -> Result
     read(bus, &[READ_DATA, high, middle, low], bytes)
 }
 
-// Performs one transaction that only reads.
+// Performs one transaction, which must satisfy `IsReading` and receive at most 4,096 bytes.
 fn read<B: Bus>(bus: &mut B, out: &[u8], reply: &mut [u8]) -> Result<(), Stopped>
     requires reading { IsReading out.now }
     requires short { length reply.old ≤ 4096 }

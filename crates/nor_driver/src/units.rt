@@ -47,8 +47,8 @@ impl Erase {
         SECTOR_LEN * u32::from(self.sector)
     }
 
-    /// Returns whether the block may begin at its sector: a 32 or 64 KiB block at a multiple of its size, the chip at
-    /// 0.
+    /// Returns whether the block may begin at its sector: a 4 KiB block at any sector, a 32 or 64 KiB block at a
+    /// multiple of its size, the chip at 0.
     pub fn is_aligned(self) -> bool
         ensures { result ≡ is_aligned self.unit self.sector }
     {

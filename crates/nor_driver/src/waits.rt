@@ -28,13 +28,14 @@ pub fn poll<B: Bus>(bus: &mut B) -> Result<u8, Stopped>
     Ok(reply[0])
 }
 
-/// The reason why a command and its wait did not complete.
+/// The reason why a wait, or an operation with its wait, did not complete.
 #[derive(Clone, Copy, Debug, PartialEq, Eq, Error)]
 pub enum OperationError {
     /// The bus stopped.
     #[error("the bus stopped")]
     Stopped,
-    /// 65,536 polls in a row showed BUSY, after the command for this address.
+    /// 65,536 polls in a row showed BUSY. The address is that of the command before the wait; after a status write, and
+    /// for a wait without a command, it is 0.
     #[error("the chip stayed busy after the command for address 0x{address:06x}")]
     Timeout { address: u32 },
 }
@@ -58,8 +59,8 @@ pub struct Waited {
 
 /// Polls until a reply shows that the chip is ready, at most 65,536 times.
 ///
-/// Returns `Stopped` if the bus stopped, and `Timeout` with `address`, the address of the command that is waited for,
-/// if all 65,536 polls showed BUSY. On an honest bus there is no timeout.
+/// Returns `Stopped` if the bus stopped, and `Timeout` with `address` if all 65,536 polls showed BUSY. Pass the address
+/// of the command that the wait follows, or 0. On an honest bus there is no timeout.
 pub fn wait<B: Bus>(bus: &mut B, address: u32) -> Result<Waited, OperationError>
     ensures leaves { OnlyReads 65536 (B.state bus.old) (B.state bus.new) }
     ensures does { IfOk result (Waits (B.state bus.old) (B.state bus.new)) }

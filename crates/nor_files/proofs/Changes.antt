@@ -30,7 +30,8 @@ file_leaves content change had old new is was becomes left may =
 
 -- ---- writing
 
--- overwriting `had` with all or the first `most` of the bytes results in a mix of the two
+-- overwriting `had` in place with the first `most` bytes of `bytes`, or with all of them, results in a mix of `had` and
+-- `bytes`
 pub mixed_over : (had bytes : List ℕ) (most : ℕ) → most ≤ length bytes → IsMixed had bytes (written_over (take most bytes) had)
 mixed_over had bytes most within = grind (arith, common_steps)
 

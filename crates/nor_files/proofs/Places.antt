@@ -25,7 +25,7 @@ past : (is : Stored → Bool) (files : List Stored) (k : ℕ) → position is fi
     → k < position_or_len is files
 past is files k none within = grind (arith, nat_tests)
 
--- a function that looks a name up in the list: its result is that of the first file of this name, or `miss`
+-- a function `look` that looks a name up in the list: its result is `of` the first file of this name, or `miss`
 module _ {Y : Type 0} (name : Name) (look : List Stored → Y) (of : Stored → Y) (miss : Y) (none : look [] ≡ miss)
     (step : (stored : Stored) (files : List Stored)
     → look (stored ∷ files) ≡ cond (is_named name stored) (of stored) (look files)) where

@@ -12,7 +12,8 @@ use Rattle.nor_files.proofs.Places.{IsUpdated}
 
 -- ---- one file
 
--- The file is as it was: a read returns the same, and a host crash can leave nothing that it couldn't leave before.
+-- The file is as it was: a read returns the same, and a vault or log in it is borrowed if and only if one was. A host
+-- crash can leave nothing that it couldn't leave before.
 pub record FileStays (old new : File) : Type 0 where
   pub out : new.out ≡ old.out
   pub seen : new.seen ≡ old.seen

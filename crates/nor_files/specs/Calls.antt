@@ -27,8 +27,8 @@ abbrev pub Counts : {T E : Type 0} → Result T E → (old new : FilesState) →
 Counts (Ok _) old new = Succeeds old new
 Counts (Err _) old new = Fails old new
 
--- The effect of a call on one file that is no loan of a vault or log: each file whose name is apart from this one is as
--- it was.
+-- The effect of a call on one file, except calls that lend or take back a vault or log. The call is counted (`Counts`),
+-- and what is borrowed doesn't change. Each file whose name is apart from this one is as it was.
 pub record WorksOn {T E : Type 0} (name : Name) (result : Result T E) (old new : FilesState) : Type 0 where
   pub counts : Counts result old new
   pub borrowed : new.borrowed ≡ old.borrowed
@@ -79,7 +79,7 @@ abbrev pub Syncs : {T E : Type 0} → Name → Result T E → (old new : FilesSt
 Syncs name (Ok _) old new = IsSynced name old new
 Syncs name (Err _) old new = LeavesNoMore name old new
 
--- The effect of a sync of a directory on the file in it.
+-- The effect of a sync of a directory on a file in it: after a failure the file is as it was.
 abbrev pub Places : {T E : Type 0} → Name → Result T E → (old new : FilesState) → Type 0
 Places name (Ok _) old new = IsPlaced name old new
 Places name (Err _) old new = KeepsFile name old new
@@ -87,7 +87,7 @@ Places name (Err _) old new = KeepsFile name old new
 -- ---- changing
 
 -- `has` is a mix of the old bytes `had` and the written `bytes`: each byte is from one of the two, in any combination.
--- Past the end of either list the byte from there is 0. The length is at least that of `had`, and at most that of the
+-- Past the end of a list, the byte from that list is 0. The length is at least that of `had`, and at most that of the
 -- longer of the two lists.
 pub record IsMixed (had bytes has : List ℕ) : Type 0 where
   pub shortest : length had ≤ length has
@@ -152,7 +152,7 @@ pub record BorrowsNone (name : Name) (old new : FilesState) : Type 0 where
   pub leaves : IsKnownFile name old.view → LeavesOrEmpty name old new
 
 -- The vault in the file was taken back. It is faithful (`telling`), and the file has its bytes; if it is sealed, a host
--- crash can leave nothing else.
+-- crash can leave nothing else. Each file whose name is apart from this one is as it was.
 pub record TakesBack (name : Name) (vault : VaultState) (old new : FilesState) : Type 0 where
   pub borrowed : new.borrowed ≡ None
   pub in_store : new.view.out name ≡ false

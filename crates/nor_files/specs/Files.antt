@@ -11,7 +11,8 @@ Found = Option (List ℕ)
 
 -- A condition of a named file, or of two names, that a call may find or fail with.
 pub data Failure : Type 0 where
-  -- the file can't be looked up, opened or read, or a read of it may block forever
+  -- the file can't be looked up, opened or read, or a read of it may block forever; for `hold` and `share` also if the
+  -- program is out of memory
   Unread : Name → Failure
   -- a file or link of this name exists, but can't be opened for overwriting, or can't be locked
   Unheld : Name → Failure
@@ -50,9 +51,9 @@ pub record View : Type 0 where
 -- The files, as contracts see them.
 pub record FilesState : Type 1 where
   pub view : View
-  -- the greatest number of calls that can still succeed, counting `hold`, syncs, and calls that change a file or lend a
-  -- vault. No program can read it. If it is 0, each of these calls fails and changes nothing, as after a kill or a host
-  -- crash
+  -- the greatest number of calls that can still succeed, counting `hold`, `sync`, `sync_folder`, `write_over`,
+  -- `set_len`, `make`, `vault_in_new` and `vault_in`. No program can read it. If the files obey the contract and `left`
+  -- is 0, each of these calls fails and changes nothing, as after a kill or a host crash
   pub left : ℕ
   -- the file whose vault was borrowed last and not yet taken back
   pub borrowed : Option Name
@@ -78,7 +79,8 @@ pub record AreAtRest (files : FilesState) : Type 0 where
   pub lawful : is_lawful files.view ≡ true
   pub in_store : (name : Name) → files.view.out name ≡ false
 
--- The file is as it was: a read returns the same, and a host crash can leave nothing that it couldn't leave before.
+-- The file is as it was: a read returns the same, and a vault or log in it is borrowed if and only if one was. A host
+-- crash can leave nothing that it couldn't leave before.
 pub record KeepsFile (name : Name) (old new : FilesState) : Type 0 where
   pub out : new.view.out name ≡ old.view.out name
   pub seen : new.view.seen name ≡ old.view.seen name

@@ -10,7 +10,7 @@ use Rattle.nor_files.specs.declared.stored.Stored.{Stored}
 abbrev pub memory_nature : Nature
 memory_nature = record { lawful = true; fails = λ failure. true; apart = λ one other. not (are_same_names one other) }
 
--- the state of these files in memory: the number of calls left, and the file whose vault is borrowed
+-- the state of files in memory, with the number of calls left and the name of the file whose vault is borrowed
 abbrev pub files_state : List Stored → (left : ℕ) (borrowed : Option Name) → FilesState
 files_state files left borrowed = record {
   view = record {

@@ -56,7 +56,7 @@ IsMixOf bytes MayHaveBeen left = (had : List ℕ) × MayHaveBeen (Some had)
 abbrev pub IsCutOf : ℕ → (Found → Type 0) → Found → Type 0
 IsCutOf len MayHaveBeen left = (had : List ℕ) × MayHaveBeen (Some had) × (left ≡ Some (with_length len had))
 
--- a content that a change may make of one that the file may have had; after `Lent`, any content
+-- a content that a change may make of one that the file may have had; after `Lent`, any content, or none
 abbrev pub Becomes : Change → (Found → Type 0) → Found → Type 0
 Becomes (Written bytes) MayHaveBeen left = IsMixOf bytes.items MayHaveBeen left
 Becomes (Cut len) MayHaveBeen left = IsCutOf len MayHaveBeen left
@@ -157,8 +157,8 @@ abbrev pub FileCreates : {T E : Type 0} → Result T E → (old new : Stored) �
 FileCreates (Ok _) old new = IsCreatedNow old new
 FileCreates (Err _) old new = IsUnchanged old new
 
--- A vault or a log in the file was borrowed. The file is empty; if it had to be new, it was missing before, and a host
--- crash can't remove it.
+-- A vault or a log in the file was borrowed, and the file is empty. If it had to be new, it was missing before, and a
+-- host crash can't remove it. Otherwise a host crash may remove it if it was missing, or if one could remove it before.
 pub record IsBorrowed (is_new : Bool) (old new : Stored) : Type 0 where
   pub name : new.name ≡ old.name
   pub missing : is_new ≡ true → (file_in old).seen ≡ None

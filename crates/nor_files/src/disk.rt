@@ -21,6 +21,9 @@ use std::{fs, io};
 /// Files opened by `hold` and `share` stay open and locked until the store is dropped. A later `read_named`, `sync`,
 /// `write_over` or `set_len` of the same name works on the file that was opened and locked. This holds even if the name
 /// refers to another file by then, but `sync` then returns `NotFound`.
+///
+/// `make` returns `NotFound` for a name that wasn't passed to `hold` or `share` before. The file that it creates stays
+/// open and locked, too. `sync`, `write_over` and `set_len` return `NotFound` for a name under which no file is open.
 #[derive(Drop)]
 pub struct Disk<'a, R: Files> {
     files: &'a R,

@@ -1,4 +1,5 @@
-//! The files that a run keeps open and locked until it ends: the chip's files, and the journal of a restore.
+//! The files that `hold` and `share` keep open and locked until the run ends: the chip's files, if the run will write
+//! them, and the journal that a restore reads.
 
 use crate::identity::is_same;
 use crate::locks::LockFile;
@@ -18,8 +19,8 @@ pub struct Held<F> {
 }
 
 /// Opens a file of the chip that the run will write, and locks it exclusively. A missing file is recorded as missing.
-/// Fails if the name refers to anything but a regular file, if the file can't be looked up, opened for reading and
-/// writing, or locked, or if the program is out of memory.
+/// Fails if the name refers to anything but a regular file, or is a dangling link. Also fails if the file can't be
+/// looked up, opened for reading and writing, or locked, or if the program is out of memory.
 pub fn hold_chip<R: Files>(files: &R, alloc: Global, name: &str) -> Result<Held<R::File>, LockFault>
 where
     R::File: LockFile,
@@ -33,8 +34,8 @@ where
     Ok(Held { name: owned, file })
 }
 
-/// Opens a journal that the run reads, and locks it for reading. A name that doesn't refer to a regular file is
-/// recorded as missing.
+/// Opens a journal that the run reads, and locks it for reading. A name that doesn't refer to a regular file, or that
+/// can't be looked up, is recorded as missing.
 pub fn hold_journal<R: Files>(
     files: &R,
     alloc: Global,

@@ -1,5 +1,5 @@
-//! Locks on files, so that no run changes a file that another run has locked. A file system without locks doesn't
-//! prevent that.
+//! Locks on files, so that no run changes a file that another run has locked. On a file system without locks nothing
+//! prevents such a change.
 
 use std::fs::{File, TryLockError};
 use std::io;

@@ -11,8 +11,9 @@ use std::alloc::{AllocError, Global};
 use std::io::{ErrorKind, Sink};
 use std::{io, mem};
 
-/// Files in memory that obey the contract of `Store`. At most a given number of calls succeed: `hold`, syncs, and calls
-/// that change or lend a file. Each further call of these kinds fails and changes nothing.
+/// Files in memory that obey the contract of `Store`. At most a given number of these calls succeed: `hold`, `sync`,
+/// `sync_folder`, `write_over`, `set_len`, `make`, `vault_in_new`, `vault_in` and `log_in`. Each further one fails and
+/// changes nothing.
 ///
 /// A host crash may leave each byte as it was at the last sync of the file, or as any later write or change of length
 /// made it. A file whose vault or log was borrowed since its last sync may have any bytes. A file that was created may
@@ -101,7 +102,7 @@ impl Memory {
         }
     }
 
-    // Returns the index of the entry for the named file.
+    // Returns the index of the entry for the named file, or `None` if there is none.
     fn place(&self, name: &[u8]) -> Option<usize>
         ensures { result ≡ position (is_named name.now) self.now.files.items }
     {
@@ -135,7 +136,8 @@ impl Memory {
         Ok(at)
     }
 
-    // Creates or empties the named file, for a vault or a log. If `is_new`, it must not exist.
+    // Creates or truncates the named file, for a vault or a log. Fails if no call is left, if memory runs out, or if
+    // `is_new` is set and the file exists.
     fn lend(&mut self, name: &str, is_new: bool) -> io::Result<()>
         ensures counts { Counts result (memory_state self.old) (memory_state self.new) }
         ensures others { OthersStay name.now (memory_state self.old) (memory_state self.new) }

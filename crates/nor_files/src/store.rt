@@ -113,10 +113,10 @@ pub trait Store: AllocGlobal {
     /// A file to which a run writes piece by piece.
     type Log: Write + Drop;
 
-    /// Returns whether the two names refer to one file: the same text, the same file of the system, or the same name in
-    /// the same directory if neither file exists yet. If the result is false, the names are apart: on lawful files a
-    /// call on one of them leaves the other as it is, and on the system's files the names differ. Returns as the error
-    /// a name that can't be looked up.
+    /// Returns whether the two names refer to one file: they are equal, or refer to the same file of the system, or, if
+    /// neither file exists yet, have the same last part in the same directory. If the result is false, the names are
+    /// apart: on lawful files a call on one of them leaves the other as it is, and on the system's files the names
+    /// differ. Returns as the error a name that can't be looked up.
     fn is_one_file<'n>(&self, one: &'n str, other: &'n str) -> Result<bool, &'n str>
         ensures shared { IfOk result (λ is_one. is_one ≡ true
             → (state self.now).view.nature.fails (Shared one.now other.now) ≡ true) }
@@ -226,9 +226,9 @@ pub trait Store: AllocGlobal {
         ensures fails { OnErr result ((state self.old).view.nature.fails (Unwritten name.now) ≡ true) };
 
     /// Creates the named file, which must not exist, and lends a vault in it; return the vault with `hand_back`. `Disk`
-    /// returns `There` for an existing file, and syncs the directory. On lawful files, if no vault or log in the named
-    /// file is borrowed, after a failure a host crash can leave nothing of this file that it couldn't leave before,
-    /// except an empty file if it was missing.
+    /// returns `There` for an existing file, and syncs the directory. After a failure on lawful files, a host crash can
+    /// leave of this file only what it could leave before, or an empty file if it was missing. This requires that no
+    /// vault or log in the file was borrowed before the call.
     fn vault_in_new(&mut self, name: &str) -> Result<Self::Filed, CreateFault>
         ensures nature { (state self.new).view.nature ≡ (state self.old).view.nature }
         ensures fresh { IfOk result (λ vault. IsFresh (Self.Filed.state vault)) }

@@ -26,7 +26,7 @@ pub enum Change {
     Written(Vec<u8>),
     /// The length was set to this number of bytes.
     Cut(u64),
-    /// The file was emptied, and a vault or a log in it was borrowed.
+    /// The file was created or truncated, so it is empty, and a vault or a log in it was borrowed.
     Lent,
 }
 
@@ -42,8 +42,9 @@ pub struct Step {
 pub enum Loss {
     /// Nothing: only the process was killed.
     Nothing,
-    /// The host crashed: the changes since the last sync are lost, and so is a file whose directory wasn't synced. A
-    /// file that was created for a vault or log, and that a host crash can't remove, keeps its present bytes.
+    /// The host crashed. The changes since the last sync are lost, and so is a file that was created, if its directory
+    /// wasn't synced since. A file that was created for a vault or log since its last sync, and that a host crash can't
+    /// remove, keeps its present bytes.
     Unsynced,
 }
 
@@ -86,6 +87,7 @@ impl Stored {
         }
     }
 
+    /// Returns true if the file has this name.
     pub fn is_named(&self, name: &[u8]) -> bool
         ensures { result ≡ is_named name.now self.now }
     {
@@ -179,8 +181,8 @@ impl Stored {
         Ok(())
     }
 
-    /// Creates or empties the file, for a vault or a log. If `is_new`, fails with `AlreadyExists` if the file exists,
-    /// and a host crash can't remove the file that is created. Also fails if memory runs out.
+    /// Creates or truncates the file, for a vault or a log. Fails if memory runs out. If `is_new` is set, `lend` fails
+    /// with `AlreadyExists` if the file exists, and a host crash can't remove the file that is created.
     pub fn lend(&mut self, alloc: Global, is_new: bool) -> io::Result<()>
         ensures { FileBorrows is_new result self.old self.new }
     {

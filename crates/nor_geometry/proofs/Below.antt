@@ -1,4 +1,4 @@
--- Lemmas about `any_below` and `count_below`, the tests of the numbers below a bound.
+-- Lemmas about `any_below` and `count_below`: whether any number below a bound passes a test, and how many of them do.
 use Rattle.std.proofs.Common.{◌≡◌, ◌<◌, ◌≤◌, ◌+◌, ℕ, zero, suc, Bool, true, false, add-one, refl, sym, ap, ◌∙◌, inl, inr, arith}
 use Rattle.std.specs.Prelude.{MatchBool, if◌then◌else◌}
 use Rattle.std.proofs.lemmas.Bool.{cases_Bool, cases_eq, or_left, or_right, or_cases, both_ways, false_from_ne_true}

@@ -34,7 +34,7 @@ pub any_below-all : (n : ℕ) (test : ℕ → Bool) → ((k : ℕ) → k < n →
 any_below-all n test each = false_from_ne_true _ (λ some.
     let found = any_below-found n test some in both_ways _ (each found.0 found.1) found.2)
 
--- tests that agree below n have the same results and counts
+-- for two tests that agree below n, `any_below` is the same, and so is `count_below`
 pub any_below-same : (n : ℕ) (p q : ℕ → Bool) → ((k : ℕ) → k < n → p k ≡ q k) → any_below n p ≡ any_below n q
 unfolding any_below
 any_below-same zero p q same = refl

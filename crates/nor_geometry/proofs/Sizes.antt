@@ -61,7 +61,8 @@ is_power size k from before power =
 
 -- ---- sizes of chips
 
--- every size of a chip is from 64 KiB to 16 MiB, and a multiple of 64 KiB and of a sector
+-- Holds if the size is from 64 KiB to 16 MiB and a multiple of 64 KiB, and so of 4,096. Every size of a chip has these
+-- properties.
 pub record IsInBlocks (size : ℕ) : Type 0 where
   pub large : 65536 ≤ size
   pub small : size ≤ 16777216

@@ -6,8 +6,8 @@ use Rattle.nor_geometry.specs.Below.{any_below, count_below}
 use Rattle.nor_geometry.proofs.Below.{any_below-some}
 use Rattle.nor_geometry.proofs.Counting.{any_below-all, count_below-same}
 
--- `verdict` equals `any_below` if it is true only if some number below n passes, and false only if all numbers below n
--- fail
+-- `verdict` equals `any_below` if a true `verdict` implies that some number below n passes, and a false `verdict`
+-- implies that all numbers below n fail
 pub any_below-decided : (n : ℕ) (verdict : Bool) (test : ℕ → Bool) (P Q : ℕ → Type 0) → ((k : ℕ) → P k → test k ≡ true) → ((k : ℕ) → Q k → test k ≡ false)
     → MatchBool verdict ((k : ℕ) × (k < n) × P k) ((k : ℕ) → k < n → Q k) → verdict ≡ any_below n test
 any_below-decided n true test P Q passes fails some = sym (any_below-some n some.0 test some.1 (passes some.0 some.2))

@@ -15,14 +15,15 @@ use Rattle.nor_journal.proofs.SectorRecords.{IsBytes, IsBytes-drop, number_text-
 use Rattle.std.proofs.Math.Seq.{take-add}
 use Rattle.std.proofs.lemmas.Grind.{elements}
 
--- the first two and the first three bytes as a list
+-- the first two elements, and the first three, of a list that is long enough
 two_first : (bytes : List ℕ) → 2 ≤ length bytes → take 2 bytes ≡ get_or bytes 0 0 ∷ get_or bytes 1 0 ∷ []
 two_first bytes long = grind (arith, elements)
 
 three_first : (bytes : List ℕ) → 3 ≤ length bytes → take 3 bytes ≡ get_or bytes 0 0 ∷ get_or bytes 1 0 ∷ get_or bytes 2 0 ∷ []
 three_first bytes long = grind (arith, elements)
 
--- the parts of a header with k bytes between the ID and the status bytes, and the bytes after it
+-- Bytes, each below 256, with room for a header are the header's parts and the bytes after it. The header has k bytes
+-- between the ID and the status bytes.
 said : (k : ℕ) (bytes magic unique status : List ℕ) → IsBytes bytes → 17 + k ≤ length bytes → take 8 bytes ≡ magic
     → take k (drop 11 bytes) ≡ unique → take 2 (drop (11 + k) bytes) ≡ status
     → bytes ≡ ((((magic ++ get_or bytes 8 0 ∷ get_or bytes 9 0 ∷ get_or bytes 10 0 ∷ []) ++ unique) ++ status)
@@ -43,7 +44,8 @@ pub unique_read : {E : Type 0} (part : List ℕ) (r : Result (List ℕ) E) → M
 unique_read part (Ok u) whole = (sym whole.same, ap length whole.same ∙ whole.long)
 unique_read part (Err e) other = other
 
--- bytes with a complete header are the encoding of its fields, followed by the rest
+-- Bytes, each below 256, that begin with a complete header of either format are the encoding of the header's fields and
+-- the bytes after it. The unique ID, if there is one, has eight bytes.
 pub splits : (returned : Option (List ℕ)) (len : ℕ) (bytes : List ℕ) (unique : Option (List ℕ)) → IsBytes bytes
     → take 8 bytes ≡ magic returned → len ≡ header_length returned → len ≤ length bytes
     → IsUnique (take (len - 6 - 11) (drop 11 bytes)) unique
@@ -72,7 +74,7 @@ splits (Some v) len bytes (Some u) fits begins is long read =
 
 -- ---- writing a header
 
--- writing a part doesn't change the length of the buffer
+-- writing a part within the buffer of 25 bytes doesn't change its length
 pub length-put : (n k : ℕ) (bytes part : List ℕ) → length bytes ≡ 25 → length part ≡ k → n + k ≤ 25
     → length (put_mid n k bytes part) ≡ 25
 length-put n k bytes part long many within =

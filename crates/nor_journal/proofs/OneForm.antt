@@ -1,5 +1,5 @@
--- The parts of a journal are decoded uniquely: numbers, records, headers, and the header with the records (`front`). So
--- a journal has one content and no fault, and other bytes have at most one first fault.
+-- The parts of a journal are decoded uniquely: numbers, records, headers, and the header with the records (`front`).
+-- Therefore a journal has one content and no fault, and other bytes have at most one first fault.
 use Rattle.std.proofs.Common.{◌≡◌, ℕ, ◌+◌, ◌-◌, ◌/◌, ◌^◌, ◌<◌, ◌≤◌, true, List, [], ◌∷◌, ◌++◌, length, take, drop}
 use Rattle.std.proofs.Common.{Option, refl, sym, ap, ◌∙◌, append_assoc, arith, inl, inr}
 use Rattle.std.specs.Prelude.{IfSome, Result, Ok, Err, IfOk, IfErr, OnOk, IsOkAnd}
@@ -55,7 +55,8 @@ same_record sectors s t {x} {y} few s-is t-is e =
     let rest = same_parts s.bytes t.bytes (s-is.whole ∙ sym t-is.whole) numbers.1 in
     (ap (λ (n : ℕ). record s { number = n }) numbers.0 ∙ ap (λ (b : List ℕ). record t { bytes = b }) rest.0, rest.1)
 
--- bytes that begin with the encoding of a valid next record begin with a record (`BeginsRecord`)
+-- if the chip has at most 4,096 sectors, bytes that begin with the encoding of a valid next record begin with a record
+-- (`BeginsRecord`)
 begins_record : (sectors least : ℕ) (s : SavedSector) (rest bytes : List ℕ) → sectors ≤ 4096
     → IsSectorBelow sectors s → least ≤ s.number → bytes ≡ record_text s ++ rest
     → BeginsRecord sectors least bytes (number_at bytes)
@@ -75,7 +76,8 @@ begins_record sectors least s rest bytes few is rises e =
 abbrev pub NoRecord : (sectors least : ℕ) → List ℕ → Type 0
 NoRecord sectors least bytes = BeginsRecord sectors least bytes (number_at bytes) → ⊥
 
--- two lists of records at the beginning of the same bytes are equal, if no valid record follows either of them
+-- Let the encodings of two lists begin the same bytes. If the lists are ascending (`AreRising`), the chip has at most
+-- 4,096 sectors, and no valid record follows either list, then the lists and the bytes after them are equal.
 same_records : (sectors least : ℕ) (ss ts : List SavedSector) (x y : List ℕ) → sectors ≤ 4096
     → AreRising sectors least ss → AreRising sectors least ts → NoRecord sectors (least_after least ss) x
     → NoRecord sectors (least_after least ts) y → records_text ss ++ x ≡ records_text ts ++ y → (ss ≡ ts) × (x ≡ y)
@@ -100,7 +102,7 @@ length-magic u = grind arith
 pub same_format : (u v : Option (List ℕ)) → magic u ≡ magic v → header_length u ≡ header_length v
 same_format u v e = grind arith
 
--- the length of the unique ID in a header of either format
+-- a header has 17 bytes and the unique ID, which has eight bytes in format 2 and none in format 1
 length-unique : (u : Option (List ℕ)) → IfSome u (λ unique. length unique ≡ 8)
     → length (unwrap_or u []) + 17 ≡ header_length u
 length-unique u is = grind arith
@@ -108,7 +110,7 @@ length-unique u is = grind arith
 same_unique : (u v : Option (List ℕ)) → header_length u ≡ header_length v → unwrap_or u [] ≡ unwrap_or v [] → u ≡ v
 same_unique u v f e = grind arith
 
--- a header is the concatenation of its fields
+-- a header and the bytes after it are the concatenation of the header's fields and these bytes
 pub head_opened : (c : Content) (x : List ℕ)
     → head c ++ x ≡ magic c.unique ++ (c.id ++ (unwrap_or c.unique [] ++ (c.status ++ (number_text c.size ++ x))))
 unfolding head
@@ -143,8 +145,8 @@ pub text_opened : (c : Content) → text c ≡ front c ++ (end_mark ++ sha256 (b
 unfolding text body
 text_opened c = rw append_assoc
 
--- If two contents' headers and records begin the same bytes, and no valid record follows either, the contents are
--- equal.
+-- If the headers and records of two valid contents begin the same bytes, and no valid record follows either, then the
+-- contents and the bytes after them are equal.
 pub same_fronts : (c d : Content) (x y : List ℕ) → IsContent c → IsContent d
     → NoRecord (c.size / 4096) (next_number c) x → NoRecord (d.size / 4096) (next_number d) y
     → front c ++ x ≡ front d ++ y → (c ≡ d) × (x ≡ y)
@@ -168,7 +170,7 @@ least_head u = grind arith
 one_in_head : (bytes : List ℕ) (f g : JournalFault) → HeaderFault bytes f → HeaderFault bytes g → f ≡ g
 one_in_head bytes f g p q = grind (arith, same_format, least_head)
 
--- the last four bytes of a header are the size
+-- the last four bytes of the header of a valid content are the size
 head_number : (c : Content) (x : List ℕ) → IsContent c
     → number_at (drop (header_length c.unique - 4) (head c ++ x)) ≡ c.size
 unfolding head
@@ -186,13 +188,13 @@ none_in_head c x f is found =
     let long = length-append (head c) x in let len = length-head c is in let number = head_number c x is in
     grind (arith, begins, long, len, number, is.size, same_format, least_head)
 
--- the bytes after the header and records have at most one fault
+-- the bytes after the header and records of a valid content have at most one fault
 one_behind : (c : Content) (rest : List ℕ) (f g : JournalFault) → IsContent c → NextFault c rest f → NextFault c rest g
     → f ≡ g
 one_behind c rest f g is p q =
     grind (arith, number_at-marked rest, few_sectors c.size is.size, length-take 4 rest, length-end_mark)
 
--- the end of a journal has no fault
+-- after the header and records of a valid content, the end mark and the correct digest have no fault
 none_at_end : (c : Content) (f : JournalFault) → IsContent c → NextFault c (end_mark ++ sha256 (body c)) f → ⊥
 unfolding body
 none_at_end c f is found =
@@ -202,7 +204,7 @@ none_at_end c f is found =
     let few = few_sectors c.size is.size in
     grind (arith, number_at-marked (end_mark ++ digest), length-end_mark, mark, last, long, len, few)
 
--- bytes after the header and records that have a fault don't begin with a valid next record
+-- if the bytes after the header and records of a valid content have a fault, they don't begin with a valid next record
 faulty : (c : Content) (rest : List ℕ) (f : JournalFault) → IsContent c → NextFault c rest f
     → NoRecord (c.size / 4096) (next_number c) rest
 faulty c rest f is found begins = grind (arith, number_at-marked rest, few_sectors c.size is.size)
@@ -215,7 +217,7 @@ not_in_head : (bytes : List ℕ) (f : JournalFault) (c : Content) (rest : List �
 not_in_head bytes f c rest is split found =
     none_in_head c (records_text c.saved ++ rest) f is (rw (split ∙ front_opened c rest) at found)
 
--- bytes that begin with the end mark don't begin with a record
+-- after the header and records of a valid content, bytes that begin with the end mark don't begin with a valid record
 no_record : (c : Content) (behind : List ℕ) → IsContent c
     → NoRecord (c.size / 4096) (next_number c) (end_mark ++ behind)
 no_record c behind is begins =
@@ -251,7 +253,7 @@ one_text c d x y c-is d-is e =
     (sym (text_then c x) ∙ e ∙ text_then d y) in
     (same.0, append_cancel_left (text c) x y (e ∙ ap (λ (b : Content). text b ++ y) (sym same.0)))
 
--- reading a journal returns its content
+-- for `Journal::read`: if its clauses `found` and `fault` hold, reading a journal returns the journal's content
 pub is_read : (bytes : List ℕ) (r : Result Content JournalFault) (c : Content)
     → IfOk r (λ j. IsContent j × (bytes ≡ text j)) → IfErr r (HasFault bytes) → IsContent c → bytes ≡ text c
     → IsOkAnd r (λ j. j ≡ c)
@@ -259,7 +261,7 @@ is_read bytes (Ok j) c found fault is e =
     (one_text j c [] [] found.0 is (ap (λ (t : List ℕ). t ++ []) (sym found.1 ∙ e))).0
 is_read bytes (Err f) c found fault is e = faultless c bytes f is e fault
 
--- no proper prefix of a journal is a journal
+-- for `Journal::read`: if it succeeds and its clause `found` holds, no proper prefix of the bytes is a journal
 pub ends_whole : (bytes : List ℕ) (r : Result Content JournalFault) → IfOk r (λ j. IsContent j × (bytes ≡ text j))
     → OnOk r ((c : Content) (n : ℕ) → IsContent c → take n bytes ≡ text c → length bytes ≤ n)
 ends_whole bytes (Ok j) found = λ c n is begins.

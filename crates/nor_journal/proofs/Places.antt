@@ -57,7 +57,7 @@ module _ {h : Head} {bytes records : List ℕ} {k : ℕ} (split : bytes ≡ head
   pub from_mark : drop mark bytes ≡ drop (4100 * k) records
   from_mark = ap (drop mark) front_splits ∙ drop_at _ _ _ length-front
 
-  -- the end mark is within the bytes
+  -- an end mark that follows the k records is within the bytes
   pub mark_within : take 4 (drop (4100 * k) records) ≡ end_mark → mark + 4 ≤ length bytes
   mark_within ends = omega (
     arith,
@@ -67,7 +67,7 @@ module _ {h : Head} {bytes records : List ℕ} {k : ℕ} (split : bytes ≡ head
     length-drop mark bytes,
   )
 
-  -- a fault after the records is a fault of the whole bytes
+  -- if the header is valid, a fault after the k records is a fault of the whole bytes
   pub next_fault : (fault : JournalFault) → IsHeader h → NextFault content (drop (4100 * k) records) fault
       → FaultAfterFront bytes fault
   next_fault fault is found = record {
@@ -82,7 +82,7 @@ module _ {h : Head} {bytes records : List ℕ} {k : ℕ} (split : bytes ≡ head
       → FaultAfterFront bytes fault
   end_fault fault is found = next_fault fault is (inr (rw (before_mark, from_mark) at found))
 
-  -- with the end mark and the correct digest, the bytes are the encoding of the content
+  -- if the end mark and then exactly the correct digest follow the k records, the bytes are the content's encoding
   pub is_text : take 4 (drop (4100 * k) records) ≡ end_mark → drop (mark + 4) bytes ≡ sha256 (take (mark + 4) bytes)
       → bytes ≡ text content
   unfolding text body

@@ -32,7 +32,7 @@ pub number_at-number_text : (n : ℕ) (rest : List ℕ) → n < 2 ^ 32 → numbe
 unfolding number_text number_at
 number_at-number_text n rest fits = little_number-reads_back 4 n rest fits
 
--- a number depends on the first four bytes only
+-- the number that bytes encode depends only on the first four of them
 pub number_at-take : (bytes : List ℕ) → number_at (take 4 bytes) ≡ number_at bytes
 unfolding number_at
 number_at-take bytes = little_from-take 0 4 4 bytes (omega arith)
@@ -51,7 +51,7 @@ number_text-number_at bytes fits long =
 
 -- ---- ascending sectors
 
--- an ascending list stays ascending if a sector with a greater number is added at the end
+-- an ascending list stays ascending if a complete sector of the chip with a greater number is added at the end
 pub AreRising-push : (sectors least : ℕ) (ss : List SavedSector) (s : SavedSector) → AreRising sectors least ss → IsSectorBelow sectors s → least_after least ss ≤ s.number → AreRising sectors least (ss ++ s ∷ [])
 AreRising-push sectors least [] s rising is rises = (is, rises, tt)
 AreRising-push sectors least (first ∷ ss) s rising is rises = (rising.0, rising.1, AreRising-push sectors (first.number + 1) ss s rising.2 is rises)
@@ -82,7 +82,8 @@ slice_get-sectors_in (suc k) bytes i lt =
       | inr at ↦ let here : i ≡ k = omega arith in rw here (grind (arith, common_steps, gets))
     ]
 
--- the bytes of a record are the encoding of its sector
+-- if bytes, each below 256, contain all of record k, the bytes of that record are the encoding of its sector
+-- (`sector_at`)
 pub record_text-sector_at : (k : ℕ) (bytes : List ℕ) → IsBytes bytes → 4100 * k + 4100 ≤ length bytes → record_text (sector_at bytes k) ≡ take 4100 (drop (4100 * k) bytes)
 unfolding record_text
 record_text-sector_at k bytes fits long =

@@ -46,7 +46,8 @@ none_more_below set n is s = grind (arith, nat_tests)
 
 -- ---- completing a content
 
--- Holds if c can be completed to a content that saves the sectors of the set below n.
+-- Holds if there is a content that continues c. It has the header of c, saves exactly the chip's sectors of the set
+-- below n, and each prefix of the header and records of c is a prefix of its own header and records, too.
 pub record GoesOn (chip : ℕ → ℕ) (set : ℕ → Bool) (c : Content) (n : ℕ) : Type 0 where
   pub content : Content
   pub same : SameHeader c content
@@ -101,7 +102,8 @@ front_begins c part rest bytes is begins =
     (begins_longer (front c ++ end_mark) (sha256 (front c ++ end_mark)) bytes (begins_longer (front c) end_mark bytes
     (rw is (begins_longer part rest bytes begins))))
 
--- a prefix of the header and the records of the sectors below n is a prefix of the journal of all sectors of the set
+-- Let a content save the sectors of the set below n, where n is at most the chip's number of sectors. A prefix of its
+-- header and records is a prefix of a journal that saves all sectors of the chip in the set.
 pub begins_whole : (head : Content) (chip : ℕ → ℕ) (set : ℕ → Bool) (c : Content) (n : ℕ) (bytes : List ℕ)
     → SameHeader head c → Saves chip (λ s. nat_lt s n && set s) c → next_number c ≤ n → n ≤ head.size / 4096
     → StartsWith (front c) bytes → IsJournalPrefix head chip (λ s. nat_lt s (head.size / 4096) && set s) bytes

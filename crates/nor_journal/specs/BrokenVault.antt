@@ -12,12 +12,13 @@ inner_vault vault = vault.inner
 abbrev pub calls_left : {V : Type 0} → BrokenVault V → ℕ
 calls_left vault = vault.calls_left
 
--- how many bytes of its piece a refused `put` first writes to the inner vault
+-- how many bytes of its piece a refused `put` first writes to the inner vault, if the piece is that long
 abbrev pub kept_of : {V : Type 0} → BrokenVault V → ℕ
 kept_of vault = vault.kept
 
--- The inner vault accepted the first `kept` bytes of the piece, or all of a shorter one, and the fault has this number;
--- or the inner vault itself refused these bytes.
+-- Holds if the inner vault accepted the first `kept` bytes of the piece, or all of a shorter piece, and the fault has
+-- the number of these bytes. Also holds if the inner vault itself refused these bytes, and the fault has the number of
+-- bytes that it accepted of them.
 abbrev pub Broke : ℕ → VaultState → List ℕ → VaultState → VaultFault → Type 0
 Broke kept old piece new fault =
     (Took old (take kept piece) new × (fault.kept ≡ min kept (length piece)))

@@ -61,7 +61,7 @@ EndFault before rest _ = ⊥
 abbrev pub NextFault : Content → List ℕ → JournalFault → Type 0
 NextFault c rest fault = RecordFault (c.size / 4096) (next_number c) rest fault ⊎ EndFault (front c) rest fault
 
--- Holds if the bytes begin with the header and records of a content, and the bytes after these have this fault.
+-- Holds if the bytes begin with the header and records of a valid content, and the bytes after these have this fault.
 pub record FaultAfterFront (bytes : List ℕ) (fault : JournalFault) : Type 0 where
   pub content : Content
   pub is_content : IsContent content

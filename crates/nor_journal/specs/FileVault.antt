@@ -9,7 +9,8 @@ use Rattle.nor_journal.specs.Vault.{VaultState}
 abbrev pub file_of : {F : Type 0} → FileVault F → F
 file_of vault = vault.file
 
--- A list that stands for the accepted bytes, which contracts don't know. It is empty if no byte was accepted.
+-- A list that stands for the accepted bytes, which contracts don't know. It is empty if and only if no byte was
+-- accepted.
 abbrev pub unknown_bytes : (used : Bool) → List ℕ
 unknown_bytes used = if used then 0 ∷ [] else []
 

@@ -12,7 +12,7 @@ use Rattle.nor_journal.specs.declared.head.Head.{Head}
 abbrev pub sector_at : List ℕ → ℕ → SavedSector
 sector_at bytes k = record { number = number_at (drop (4100 * k) bytes); bytes = take 4096 (drop (4100 * k + 4) bytes) }
 
--- the first k records of these bytes
+-- the first k records, decoded from the bytes after the header
 unfoldable pub saved_records : ℕ → List ℕ → List SavedSector
 saved_records zero bytes = []
 saved_records (suc k) bytes = saved_records k bytes ++ sector_at bytes k ∷ []
@@ -39,8 +39,8 @@ pub record HasRecords (h : Head) (bytes : List ℕ) (k : ℕ) : Type 0 where
   pub within : 4100 * k ≤ length bytes
   pub rising : AreRising (h.size / 4096) 0 (saved_records k bytes)
 
--- Holds if the bytes after the header begin with some number of valid records, and the bytes after these records have
--- this fault.
+-- Holds if the bytes after the header begin with some number of valid records, and the next record has this fault
+-- (`RecordFault`).
 pub record FaultAfterRecords (h : Head) (bytes : List ℕ) (fault : JournalFault) : Type 0 where
   pub count : ℕ
   pub records : HasRecords h bytes count
@@ -51,7 +51,7 @@ pub record EndsAfter (h : Head) (bytes : List ℕ) (k : ℕ) : Type 0 where
   pub records : HasRecords h bytes k
   pub mark : take 4 (drop (4100 * k) bytes) ≡ end_mark
 
--- Holds if the bytes begin with a complete record, whose number is at least `least` and below `sectors`.
+-- Holds if the bytes begin with a complete record with this number, which is at least `least` and below `sectors`.
 pub record BeginsRecord (sectors least : ℕ) (bytes : List ℕ) (number : ℕ) : Type 0 where
   pub is : number ≡ number_at bytes
   pub rises : least ≤ number

@@ -11,7 +11,8 @@ pub record SavedSector : Type 0 where
   pub number : ℕ
   pub bytes : List ℕ
 
--- The content of a journal. The saved sectors are a finite map from numbers to bytes, as a list in ascending order.
+-- The content of a journal. In a valid content (`IsContent`) the fields have the lengths that are given here, and the
+-- saved sectors are in ascending order.
 pub record Content : Type 0 where
   -- the three bytes of the chip's ID
   pub id : List ℕ
@@ -37,8 +38,8 @@ AreRising sectors least [] = ⊤
 AreRising sectors least (s ∷ rest) =
     IsSectorBelow sectors s × (least ≤ s.number) × AreRising sectors (s.number + 1) rest
 
--- Holds if the content can be encoded: the fields have their lengths, the size is one of a chip, and the sectors
--- ascend.
+-- Holds if the content is valid: the fields have their lengths, the size is one that a chip may have, and the saved
+-- sectors are complete sectors of the chip in ascending order.
 pub record IsContent (c : Content) : Type 0 where
   pub id : length c.id ≡ 3
   pub unique : IfSome c.unique (λ unique. length unique ≡ 8)
@@ -83,7 +84,7 @@ text c = body c ++ sha256 (body c)
 
 -- ---- adding sectors to a content
 
--- the content without saved sectors
+-- the content with these fields and no saved sector
 abbrev pub empty_content : (id : List ℕ) → (unique : Option (List ℕ)) → (status : List ℕ) → (size : ℕ)
     → Content
 empty_content id unique status size = record { id = id; unique = unique; status = status; size = size; saved = [] }
@@ -106,7 +107,8 @@ least_after least (s ∷ rest) = least_after (s.number + 1) rest
 unfoldable pub next_number : Content → ℕ
 next_number c = least_after 0 c.saved
 
--- Holds if the sector may be saved next: its number is above the others, and it is a sector of the chip.
+-- Holds if a sector with this number may be saved next: the number is above that of the content's last sector, and is
+-- that of a sector of the chip.
 pub record MayFollow (c : Content) (number : ℕ) : Type 0 where
   pub rises : next_number c ≤ number
   pub place : number < c.size / 4096

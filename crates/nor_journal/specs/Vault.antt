@@ -26,8 +26,8 @@ one_more_failure failures = (failures + 1) % 2 ^ 64
 abbrev pub CountsRefusal : (old new : VaultState) → Type 0
 CountsRefusal old new = new.failures ≢ old.failures
 
--- The effect of an accepted piece: it is appended, and nothing else changes. The bytes are known for a faithful vault
--- only. Every vault is empty after it only if it was empty before and the piece is empty.
+-- The effect of an accepted piece: it is appended, and nothing else changes. The bytes are known only for a faithful
+-- vault. A vault, faithful or not, is empty after the piece only if it was empty before and the piece is empty.
 pub record Took (old : VaultState) (piece : List ℕ) (new : VaultState) : Type 0 where
   pub telling : new.telling ≡ old.telling
   pub sealed : new.sealed ≡ old.sealed
@@ -35,22 +35,24 @@ pub record Took (old : VaultState) (piece : List ℕ) (new : VaultState) : Type 
   pub bytes : old.telling ≡ true → new.bytes ≡ old.bytes ++ piece
   pub empty : new.bytes ≡ [] → (old.bytes ≡ []) × (piece ≡ [])
 
--- The effect of every refusal: the number of refusals is one higher (modulo 2^64), and the vault is sealed if and only
--- if it was sealed before.
+-- The effect of every refusal: the number of refusals is one higher (modulo 2^64). Whether the vault is faithful, and
+-- whether it is sealed, doesn't change.
 pub record Refused (old new : VaultState) : Type 0 where
   pub telling : new.telling ≡ old.telling
   pub sealed : new.sealed ≡ old.sealed
   pub failures : new.failures ≡ one_more_failure old.failures
 
--- The effect of a refused piece: the vault counts a refusal. A faithful vault has accepted the first `kept` bytes of
--- it. Every vault is empty after it only if it was empty before and `kept` is 0.
+-- The effect of a refused piece: the vault counts a refusal, and `kept` is at most the length of the piece. A faithful
+-- vault has accepted the first `kept` bytes of the piece. A vault, faithful or not, is empty after the refusal only if
+-- it was empty before and `kept` is 0.
 pub record PutRefused (old : VaultState) (piece : List ℕ) (kept : ℕ) (new : VaultState) : Type 0 where
   pub refused : Refused old new
   pub within : kept ≤ length piece
   pub bytes : old.telling ≡ true → new.bytes ≡ old.bytes ++ take kept piece
   pub empty : new.bytes ≡ [] → (old.bytes ≡ []) × (kept ≡ 0)
 
--- The effect of a seal: the vault is sealed, and the bytes of a faithful vault don't change.
+-- The effect of a seal: the vault is sealed, counts no refusal, and is as faithful as before. The bytes of a faithful
+-- vault don't change.
 pub record Sealed (old new : VaultState) : Type 0 where
   pub telling : new.telling ≡ old.telling
   pub sealed : new.sealed ≡ true
@@ -80,8 +82,8 @@ pub record IsFresh (vault : VaultState) : Type 0 where
   pub empty : vault.bytes ≡ []
   pub unsealed : vault.sealed ≡ false
 
--- The effect of pieces that were all accepted: no refusal was counted, and the vault is sealed if and only if it was
--- sealed before.
+-- The effect of pieces that were all accepted: no refusal was counted. Whether the vault is faithful, and whether it is
+-- sealed, doesn't change.
 pub record Accepted (old new : VaultState) : Type 0 where
   pub telling : new.telling ≡ old.telling
   pub sealed : new.sealed ≡ old.sealed
@@ -92,7 +94,7 @@ abbrev pub PutsOn : {T : Type 0} → VaultState → Result T VaultFault → Vaul
 PutsOn old (Ok _) new = Accepted old new
 PutsOn old (Err _) new = Refused old new
 
--- The effect of a complete end: the vault was sealed, and no refusal was counted.
+-- The effect of a complete end: the vault was sealed, no refusal was counted, and the vault is as faithful as before.
 pub record Completed (old new : VaultState) : Type 0 where
   pub telling : new.telling ≡ old.telling
   pub sealed : new.sealed ≡ true

@@ -11,7 +11,7 @@ use Rattle.nor_journal.specs.Saved.{Saves}
 abbrev pub vault_of : {V : Type 0} → Writer V → MutBor V
 vault_of writer = writer.vault
 
--- the state of that vault
+-- the state of the vault that a writer borrows, given by the function `state`
 abbrev pub vault_seen : {V : Type 0} → (V → VaultState) → Writer V → VaultState
 vault_seen state writer = state (vault_of writer).now
 
@@ -20,12 +20,13 @@ pub record HasPut {V : Type 0} (state : V → VaultState) (writer : Writer V) (b
   pub hashed : Holds256 writer.hasher bytes
   pub returned : (vault_seen state writer).telling ≡ true → (vault_seen state writer).bytes ≡ bytes
 
--- Holds if the header and the records of this content were written, and nothing more.
+-- Holds if the content is valid, and exactly its header and its records were written (`HasPut`).
 pub record HasWritten {V : Type 0} (state : V → VaultState) (writer : Writer V) (content : Content) : Type 0 where
   pub is : IsContent content
   pub put : HasPut state writer (front content)
 
--- Holds if the header and the records of exactly these sectors of the chip were written, all of them below sector n.
+-- Holds if exactly the header of `head`, and the records of the sectors in `saved` of a chip with the contents `old`,
+-- were written (`HasPut`). The numbers of these sectors are below n.
 pub record HasPutSectors {V : Type 0} (state : V → VaultState) (writer : Writer V) (head : Content)
     (old : ℕ → ℕ) (saved : ℕ → Bool) (n : ℕ) : Type 0 where
   pub content : Content

@@ -5,11 +5,11 @@ ghost use Rattle.nor_journal.specs.BrokenVault.{inner_vault, calls_left, kept_of
 
 use crate::vault::{Vault, VaultFault};
 
-/// A wrapper of another vault that refuses one call and passes every other call on.
+/// A vault that refuses one call, and passes every other call on to an inner vault.
 ///
 /// It refuses the `nth` call, counting the calls of `put` and `seal` together, from 1; if `nth` is 0, it refuses none.
 /// A refused `put` first writes the first `kept` bytes of the piece, or all of a shorter piece, to the inner vault. The
-/// wrapper counts its own refusals and those of the inner vault.
+/// count of refusals includes those of the inner vault.
 #[derive(Drop)]
 pub struct BrokenVault<V: Vault> {
     inner: V,
@@ -20,8 +20,8 @@ pub struct BrokenVault<V: Vault> {
 }
 
 impl<V: Vault> BrokenVault<V> {
-    /// Returns a vault over `inner` that refuses its `nth` call. If that call is a `put`, the vault first writes the
-    /// first `kept` bytes of the piece.
+    /// Returns a vault over `inner` that refuses its `nth` call, or no call if `nth` is 0. If that call is a `put`, the
+    /// vault first writes the first `kept` bytes of the piece, or all of a shorter piece, to `inner`.
     pub fn new(inner: V, nth: u64, kept: usize) -> BrokenVault<V>
         ensures state { ⟦<BrokenVault<V> as Vault>⟧.state result ≡ record (V.state inner) { failures = 0 } }
         ensures inner { inner_vault result ≡ inner }
@@ -77,7 +77,7 @@ impl<V: Vault> BrokenVault<V> {
         VaultFault { kept }
     }
 
-    // Writes a piece to the inner vault.
+    // Writes a piece to the inner vault, and counts a refusal if the inner vault refuses it.
     fn pass_on(&mut self, piece: &[u8]) -> Result<(), VaultFault>
         requires { (V.state (inner_vault self.old)).sealed ≡ false }
         ensures law { Puts (⟦<BrokenVault<V> as Vault>⟧.state self.old) piece.now result

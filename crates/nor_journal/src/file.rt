@@ -25,7 +25,7 @@ pub trait VaultFile {
         ensures bound { WritesAtMost result piece.now }
         ensures bytes { WriteAppends (contents self.old) (contents self.new) result piece.now };
 
-    /// Makes the contents and the length of the file durable. The contents don't change, even if it fails.
+    /// Makes the contents and the length of the file durable. Known contents don't change, even if it fails.
     fn sync(&mut self) -> io::Result<()>
         ensures { SyncsFile (contents self.old) (contents self.new) (synced self.new) result };
 }

@@ -63,8 +63,8 @@ pub fn read_head(bytes: &[u8]) -> Result<(Head, &[u8]), JournalFault>
     Err(JournalFault::Magic)
 }
 
-// Reads a header with the length `len`, by which the formats differ. The bytes between the ID and the status bytes are
-// the unique ID; format 1 has none there.
+// Reads a header of the format whose magic `bytes` begin with. A header of that format has `len` bytes. The bytes
+// between the ID and the status bytes are the unique ID; format 1 has none there.
 fn read_form(bytes: &[u8], len: usize) -> Result<(Head, &[u8]), JournalFault>
     requires { (unique : Option (List ℕ)) × (take 8 bytes.now ≡ magic unique)
         × (len ≡ header_length unique) }

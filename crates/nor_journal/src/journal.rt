@@ -40,9 +40,9 @@ impl<'a> Journal<'a> {
     ///
     /// Returns the first fault, reading from the beginning: see `JournalFault`.
     pub fn read(bytes: &'a [u8]) -> Result<Journal<'a>, JournalFault>
-        // If it succeeds, the bytes are the encoding of the returned content.
+        // If it succeeds, the returned content is valid, and the bytes are its encoding.
         ensures found { IfOk result (λ journal. IsContent journal × (bytes.now ≡ text journal)) }
-        // If the bytes are the encoding of a content, the call succeeds and returns this content.
+        // If the bytes are the encoding of a valid content, the call succeeds and returns this content.
         ensures only { (c : Content) → IsContent c → bytes.now ≡ text c
             → IsOkAnd result (λ journal. journal ≡ c) }
         // If the bytes are a journal with the header `head` that saves exactly the sectors `saved` of a chip with the
@@ -168,7 +168,8 @@ pub fn one_fault()
     ensures { (bytes : List ℕ) (f g : JournalFault) → HasFault bytes f → HasFault bytes g → f ≡ g }
 {}
 
-/// A law: a sector is saved with these bytes if and only if a record has its number and these bytes.
+/// A law: in a valid content, a sector is saved with these bytes if and only if a record has its number and these
+/// bytes.
 pub fn one_record()
     ensures { (c : Content) (sector : ℕ) (bytes : List ℕ) → IsContent c
         → saved_in c.saved sector ≡ Some bytes ↔ HasRecord c sector bytes }

@@ -22,8 +22,8 @@ const DIGEST: usize = 32;
 
 /// Returns the sector number of the record at the beginning of `bytes`, or `None` if the end mark is there.
 ///
-/// Returns `Short` if the bytes end within the record or the end mark, `Place` if the number isn't below `sectors`, or
-/// `Order` if it is below `least`.
+/// Returns, checked in this order, `Short` if fewer than four bytes are left, `Place` if the number isn't below
+/// `sectors`, `Order` if it is below `least`, or `Short` if the bytes end within the record.
 #[tactic(auto, unfolding(crate::specs::Text::end_mark))]
 fn next_record(sectors: u32, least: u32, bytes: &[u8]) -> Result<Option<u32>, JournalFault>
     ensures fault { IfErr result (RecordFault sectors least bytes.now) }
@@ -51,7 +51,7 @@ fn next_record(sectors: u32, least: u32, bytes: &[u8]) -> Result<Option<u32>, Jo
 
 /// Counts the records up to the end mark. `bytes` are all bytes after the header.
 ///
-/// Returns `Short`, `Place` or `Order` for the first record that has a fault.
+/// Returns `Short`, `Place` or `Order` at the first record, or end mark, that has a fault (`RecordFault`).
 pub fn count_records(head: &Head, bytes: &[u8]) -> Result<usize, JournalFault>
     ensures fault { IfErr result (FaultAfterRecords head.now bytes.now) }
     ensures found { IfOk result (EndsAfter head.now bytes.now) }
@@ -79,7 +79,8 @@ pub fn record_bytes(number: u32, bytes: &[u8; SECTOR_LEN as usize]) -> [u8; RECO
     record
 }
 
-/// Returns the sector number and the bytes of the record with index `i`, counted from 0.
+/// Returns the sector number and the bytes of the record with index `i`, counted from 0. `records` must contain all of
+/// this record.
 pub fn record_at(records: &[u8], i: usize) -> (u32, &[u8])
     requires { 4100 * i + 4100 ≤ length records.now }
     ensures { record { number = result.0; bytes = result.1.now } ≡ sector_at records.now i }

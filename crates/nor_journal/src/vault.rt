@@ -28,8 +28,8 @@ impl Error for VaultFault {}
 /// A sink that receives the bytes of a journal piece by piece, and is then sealed.
 ///
 /// In contracts it has a `VaultState`. `Puts` and `Seals` relate the states before and after a call, for every vault.
-/// They say which bytes the vault holds only if it is faithful (`telling`). For every vault they say that it isn't
-/// empty once it has accepted a byte.
+/// They say which bytes the vault holds only if it is faithful (`telling`). For every vault they say that, until it is
+/// sealed, it isn't empty once it has accepted a byte.
 pub trait Vault {
     ghost use Rattle.nor_journal.specs.Vault.{VaultState, Puts, Seals};
 

@@ -127,8 +127,8 @@ impl<'a, V: Vault> Writer<'a, V> {
 
     /// Writes a sector after the others.
     ///
-    /// `number` must be greater than the numbers of the sectors before it, and less than the chip's number of sectors:
-    /// the clauses about the journal hold only then.
+    /// `number` must be greater than the numbers of the sectors before it, and less than the chip's number of sectors.
+    /// Otherwise the bytes aren't a journal, and the clauses `written` and `kept` say nothing.
     ///
     /// If it fails after a header and sectors that were written in this way, a faithful (`telling`) vault holds a
     /// prefix of the journal's bytes up to this sector.

@@ -18,7 +18,7 @@ pub cut_at-first : (byte : ℕ) (text : List ℕ) (i : ℕ) → IsFirst byte tex
 cut_at-first byte text i first =
     rw (take_rest text (i + 1), add-one) (cut_at-here byte text i first.within first.here first.before)
 
--- `cut_at` is None if the text doesn't contain the byte
+-- `cut_at` returns None if the text doesn't contain the byte
 pub cut_at-nowhere : (byte : ℕ) (text : List ℕ) → ((k : ℕ) → k < length text → get_or text k 0 ≢ byte) → cut_at byte text ≡ None
 cut_at-nowhere byte [] none = refl
 cut_at-nowhere byte (b ∷ text) none =

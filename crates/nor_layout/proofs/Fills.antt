@@ -1,10 +1,10 @@
--- Positions in ascending order.
+-- Ranges of positions in ascending order.
 use Rattle.std.proofs.Common.{◌≡◌, ℕ, ◌<◌, false, List, [], ◌∷◌, refl, arith}
 use Rattle.std.proofs.lemmas.Bool.Decides.{nat_tests}
 use Rattle.nor_layout.specs.declared.places.Places.{Places}
 use Rattle.nor_layout.specs.Places.{is_covered, AreRisingFrom}
 
--- no position below `first` is covered
+-- if all ranges begin at `first` or above, in ascending order, no range covers a position below `first`
 pub is_covered-below : (first : ℕ) (all : List Places) (at : ℕ) → AreRisingFrom first all → at < first → is_covered all at ≡ false
 is_covered-below first [] at rising lt = refl
 is_covered-below first (places ∷ more) at rising lt =

@@ -13,7 +13,7 @@ use Rattle.nor_layout.specs.Line.{cut_at, without_spaces, with_start, parts_afte
 use Rattle.nor_layout.specs.Line.{parts_say, line_says}
 use Rattle.nor_layout.specs.Grammar.{IsAddress, IsLine}
 
--- a result is Ok only if the first test is false and the second is true
+-- if the result of two tests in turn is Ok, the first test (`bad`) is false, and the second (`good`) is true
 passes : {A E : Type 0} (bad good : Bool) (x y : A) (first second : E)
     → (if bad then Err first else if good then Ok x else Err second) ≡ Ok y → (bad ≡ false) × (good ≡ true) × (x ≡ y)
 passes bad good x y first second e = grind arith
@@ -103,7 +103,7 @@ line_says-taken line region is =
     let forward = le-ltb region.end region.start is.forward in
     rw (is.line_is, first, second, third, start, end, forward, is.named) refl
 
--- if a line defines a region, and would define none without an optional part, it has that part
+-- if `gives` returns a region for the optional part `o` of a line, but not for None, the part is there
 some_of : {A : Type 0} (P : A → Type 0) (o : Option A) (gives : Option A → Result Region LineFault) (region : Region)
     → IfSome o P → ¬ (gives None ≡ Ok region) → gives o ≡ Ok region → (x : A) × P x × (gives (Some x) ≡ Ok region)
 some_of P o gives region is none e = grind arith

@@ -10,7 +10,8 @@ use Rattle.nor_layout.specs.Ranges.{is_in_span, contains, AreDisjoint}
 use Rattle.nor_layout.specs.Sectors.{includes, sectors_included, has_in_sector, ReachesPast}
 use Rattle.nor_geometry.proofs.Below.{same_tests, any_below-some, any_below-found, count_below-most}
 
--- if each span that passes the test has an address of the kind, and some span passes, the set has such an address
+-- for disjoint spans: if each span that passes the test has an address for which `Kind` holds, and some span of the set
+-- passes, the set has an address for which `Kind` holds
 any_span : (test : Span → Bool) (Kind : ℕ → Type 0)
     → ((span : Span) → span.first ≤ span.last → test span ≡ true → (a : ℕ) × Kind a × (is_in_span span a ≡ true))
     → (spans : List Span) → AreDisjoint spans → list_any test spans ≡ true → (a : ℕ) × Kind a × (contains spans a ≡ true)
@@ -28,7 +29,7 @@ some_span test a passes (span ∷ spans) h = grind (arith, passes span, some_spa
 abbrev pub ends_from : ℕ → Span → Bool
 ends_from size span = leb size span.last
 
--- some span ends at or above `size` if and only if the set has an address there
+-- some span of a disjoint set ends at or above `size` if and only if the set has an address at or above `size`
 pub size_cases : (spans : List Span) (size : ℕ) → AreDisjoint spans
     → MatchBool (list_any (ends_from size) spans) (ReachesPast (Some spans) size) (¬ ReachesPast (Some spans) size)
 size_cases spans size apart = elim (cases_Bool (list_any (ends_from size) spans)) [
@@ -43,7 +44,7 @@ size_cases spans size apart = elim (cases_Bool (list_any (ends_from size) spans)
 abbrev pub is_in_sector : ℕ → Span → Bool
 is_in_sector sector span = leb (span.first / 4096) sector && leb sector (span.last / 4096)
 
--- some span overlaps the sector if and only if some address of the sector is in the set
+-- some span of a disjoint set overlaps the sector if and only if some address of the sector is in the set
 pub in_sector-is : (spans : List Span) (sector : ℕ) → AreDisjoint spans → list_any (is_in_sector sector) spans ≡ has_in_sector (contains spans) sector
 in_sector-is spans sector apart =
     same_tests (list_any (is_in_sector sector) spans) (has_in_sector (contains spans) sector)

@@ -26,12 +26,12 @@ contains-merged new (span ∷ spans) address forward apart =
     let joined = contains-merged (join new span) spans address (omega (arith, forward, apart.0)) apart.2 in
     grind (arith, nat_tests)
 
--- a span that is apart below `span` is apart below the spans that follow `span`
+-- a span that is apart below the first of some disjoint spans is also apart below the spans after the first
 further : (low span : Span) (spans : List Span) → low.first ≤ low.last → low.last + 1 < span.first
     → AreDisjoint (span ∷ spans) → AreDisjoint (low ∷ spans)
 further low span spans forward lt apart = grind arith
 
--- adding a span above `low` keeps the spans apart from `low`
+-- adding a span that is apart above `low` to disjoint spans after `low` leaves the spans disjoint, and apart from `low`
 apart_behind : (low new : Span) (spans : List Span) → low.last + 1 < new.first → new.first ≤ new.last
     → AreDisjoint (low ∷ spans) → AreDisjoint (low ∷ merged new spans)
 unfolding merged

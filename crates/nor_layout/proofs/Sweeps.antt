@@ -1,4 +1,5 @@
--- Spans that are apart are the fewest spans with their addresses.
+-- A list of disjoint spans (`AreDisjoint`) is at most as long as another such list, if its addresses are those of the
+-- other list within a range.
 use Rattle.std.proofs.Common.{◌≡◌, ℕ, ◌+◌, ◌<◌, ◌≤◌, true, ◌&&◌, ltb, List, [], ◌∷◌, length, inl, inr, arith}
 use Rattle.std.proofs.lemmas.Bool.{false≢true, or_cases}
 use Rattle.std.proofs.lemmas.Bool.Decides.{nat_tests}
@@ -10,7 +11,7 @@ use Rattle.nor_layout.specs.Ranges.{is_in_span, contains, AreDisjoint, IsSetOf}
 first_in : (span : Span) (spans : List Span) → span.first ≤ span.last → contains (span ∷ spans) span.first ≡ true
 first_in span spans forward = grind (arith, nat_tests)
 
--- each address of the following spans is above the address after this span's end
+-- if the spans are disjoint, each address of the spans after the first is above the address after the first span's end
 above : (span : Span) (spans : List Span) (a : ℕ) → AreDisjoint (span ∷ spans) → contains spans a ≡ true → span.last + 1 < a
 above span [] a apart holds = absurd (false≢true holds)
 above span (next ∷ spans) a apart holds = grind (arith, nat_tests, above next spans a apart.2)
@@ -35,7 +36,7 @@ module _ (low limit : ℕ) (s : Span) (ss : List Span) (b : Span) (bs : List Spa
     from = λ a least most holds. grind (arith, nat_tests, cut.from a, cut.within s.first);
   }
 
-  -- if s begins in a later span than b, none of the spans has an address of b
+  -- if s begins in a span after b, the list that begins with s is cut from the spans after b
   without : contains bs s.first ≡ true → AreCut low limit (s ∷ ss) bs
   without later =
       let high = λ (a : ℕ). above s ss a apart in
@@ -56,7 +57,8 @@ length_cut low limit (s ∷ ss) (b ∷ bs) apart apart_many cut =
           omega (arith, length_cut low limit (s ∷ ss) bs apart apart_many.2 rest)
     ]
 
--- if more than 64 spans that are apart have the addresses below `done`, no set has the addresses of all spans
+-- if more than 64 disjoint spans have exactly those addresses of `spans` that are below `done`, no set has exactly the
+-- addresses of `spans`
 pub none_has : (spans all : List Span) (done : ℕ) → AreDisjoint all → 64 < length all
     → ((a : ℕ) → contains all a ≡ (ltb a done && contains spans a)) → (set : List Span) → ¬ IsSetOf spans set
 none_has spans all done apart many same set is =

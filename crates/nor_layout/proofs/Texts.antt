@@ -34,7 +34,7 @@ push_apart (first ∷ regions) region apart once =
     let named = list_any-append (λ (r : Region). bytes_eq r.name.items first.name.items) regions (region ∷ []) in
     (grind arith, push_apart regions region apart.1 (grind arith))
 
--- a region has a different name from each region before it
+-- if no two regions of a list have the same name, no region before `region` has its name
 named_before : (regions : List Region) (region : Region) (more : List Region) → AreNamedApart (regions ++ region ∷ more)
     → is_region_named regions region.name.items ≡ false
 named_before [] region more apart = refl
@@ -53,7 +53,8 @@ no_regions = record { few = omega arith; forward = tt; named_apart = tt }
 
 -- ---- what is read is in the grammar
 
--- a nonempty line adds a region if neither it nor the lines after it have a fault
+-- if neither a nonempty line nor the rest of the reading (`follows`) has a fault, the line adds a region with a new
+-- name, after fewer than 64 others
 joined : (regions all : List Region) (n : ℕ) (said : Result Region LineFault)
     (follows : List Region → Result (List Region) LayoutFault) → joins_or_fault regions n said >>= follows ≡ Ok all
     → (region : Region) × (said ≡ Ok region) × (is_region_named regions region.name.items ≡ false)
@@ -63,7 +64,7 @@ joined regions all n said follows e = grind (arith, nat_tests)
 abbrev is_full : List ℕ → Bool
 is_full line = not (eqb (length line) 0)
 
--- `all` are the earlier regions followed by the regions of the remaining lines
+-- `all` are the earlier regions followed by the regions of the remaining lines, and `all` fulfils `AreRegions`
 abbrev GivesRest : (lines : List (List ℕ)) (regions all : List Region) → Type 0
 GivesRest lines regions all =
     AreRegions all × ((rest : List Region) × (all ≡ regions ++ rest) × AllZip IsLine (filter is_full lines) rest)
@@ -132,7 +133,8 @@ reads_taken text result reads regions is =
 pub length-lines_of : (text : List ℕ) → length (lines_of text) ≤ length text + 1
 length-lines_of text = omega (arith, length-slice_split (λ b. eqb b 10) text, count_by-le-length (λ b. eqb b 10) text)
 
--- the lines define these regions, for all lines that may follow
+-- the first n lines, `lines`, have no fault and define `regions`, and reading continues with line n + 1, for all lines
+-- that may follow
 abbrev pub Gives : List (List ℕ) → ℕ → List Region → Type 0
 Gives lines n regions = (after : List (List ℕ)) → lines_say [] 1 (lines ++ after) ≡ lines_say regions (n + 1) after
 
@@ -142,7 +144,7 @@ unfolding layout_says lines_say
 gives_all text lines n regions is gives = ap (lines_say [] 1) (sym (append-nil lines ∙ is)) ∙ gives []
 
 module _ (before : List (List ℕ)) (n : ℕ) (line : List ℕ) (regions : List Region) (gives : Gives before n regions) where
-  -- reading continues with the result of the line, and then the lines after it
+  -- reading continues with the result (`said`) of line n + 1, and then with the lines after it
   onward : (said : Result (List Region) LayoutFault) → with_line regions (n + 1) line ≡ said → (after : List (List ℕ))
       → lines_say [] 1 (before ++ line ∷ after) ≡ said >>= λ more. lines_say more (n + 1 + 1) after
   unfolding lines_say
@@ -175,7 +177,7 @@ module _ (before : List (List ℕ)) (n : ℕ) (line : List ℕ) (regions : List 
       more = rw counted e;
     }
 
-    -- a text with a line that adds a region, after lines without a fault, doesn't define a layout without regions
+    -- if a line adds a region after lines without a fault, the text defines at least one region, or a fault
     gives_one : (region : Region) → AreRegions regions → with_line regions (n + 1) line ≡ Ok (regions ++ region ∷ [])
         → layout_says text ≢ Ok []
     gives_one region kept e none =

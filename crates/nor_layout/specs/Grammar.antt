@@ -6,14 +6,15 @@ use Rattle.nor_layout.specs.Address.{are_digits, digits_number}
 use Rattle.nor_layout.specs.Line.{is_name}
 use Rattle.nor_layout.specs.Text.{lines_of, AreNamedApart}
 
--- True if the text is an optional `0x` and 1 to 8 hexadecimal digits, and these are the address.
+-- True if the text is an optional `0x` and 1 to 8 hexadecimal digits, and `address` is the number with these digits.
 pub record IsAddress (text : List ℕ) (address : ℕ) : Type 0 where
   pub digits : List ℕ
   pub text_is : (text ≡ digits) ⊎ (text ≡ 48 ∷ 120 ∷ digits)
   pub hexadecimal : are_digits digits ≡ true
   pub address_is : digits_number digits ≡ address
 
--- True if the line is an address, a `:`, an address not below the first, one or more spaces, and a name.
+-- True if the line is an address, a `:`, an address not below the first, one or more spaces, and a name. The region has
+-- these addresses and this name.
 pub record IsLine (line : List ℕ) (region : Region) : Type 0 where
   pub start_text : List ℕ
   pub end_text : List ℕ
@@ -29,7 +30,8 @@ pub record IsLine (line : List ℕ) (region : Region) : Type 0 where
 abbrev pub full_lines : List ℕ → List (List ℕ)
 full_lines text = filter (λ line. not (length line == 0)) (lines_of text)
 
--- True if the nonempty lines are the regions, in order, at most 64, and no two with the same name.
+-- True if each nonempty line is that of a region (`IsLine`), in order. There are at most 64 regions, and no two of them
+-- have the same name.
 pub record IsLayout (text : List ℕ) (regions : List Region) : Type 0 where
   pub lines : AllZip IsLine (full_lines text) regions
   pub few : length regions ≤ 64

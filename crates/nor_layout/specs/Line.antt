@@ -24,7 +24,8 @@ pub record Parts : Type 0 where
   pub end : List ℕ
   pub name : List ℕ
 
--- the parts of a line, from its start and the two parts of the text after the `:`, or None if that text has no space
+-- the parts of a line, from its start and the two parts of the text after its first `:`, which is split at its first
+-- space; None if that text has no space
 abbrev pub with_start : List ℕ → Option (List ℕ × List ℕ) → Option Parts
 with_start start None = None
 with_start start (Some parts) = Some (record { start = start; end = parts.0; name = without_spaces parts.1 })
@@ -35,7 +36,7 @@ parts_after None = None
 parts_after (Some parts) = with_start parts.0 (cut_at 32 parts.1)
 
 -- The parts of a line: the start ends at the first `:`, the end at the next space, and the name follows one or more
--- spaces.
+-- spaces. None if the line has no `:`, or no space after the first `:`.
 abbrev pub parts_of : List ℕ → Option Parts
 parts_of line = parts_after (cut_at 58 line)
 
@@ -47,7 +48,7 @@ is_name_byte b = nat_le 33 b && nat_le b 126 && not (b == 44) && not (b == 58)
 abbrev pub is_name : List ℕ → Bool
 is_name name = nat_le 1 (length name) && nat_le (length name) 32 && list_all is_name_byte name
 
--- The region with two addresses and a name, or the first fault.
+-- The region with this start, end and name, or the first fault. A start or end that is no address is None.
 abbrev pub region_of : (start end : Option ℕ) → (name : List ℕ) → Result Region LineFault
 region_of None end name = Err Address
 region_of (Some start) None name = Err Address

@@ -11,7 +11,8 @@ is_in_span span address = nat_le span.first address && nat_le address span.last
 abbrev pub contains : (spans : List Span) → (address : ℕ) → Bool
 contains spans address = list_any (λ span. is_in_span span address) spans
 
--- True if at least one address is between the span and the first of the following spans, if there is one.
+-- True if the first of the following spans begins above the span, with at least one address between the two. True also
+-- if no span follows.
 abbrev pub IsApartFrom : Span → List Span → Type 0
 IsApartFrom span [] = ⊤
 IsApartFrom span (next ∷ spans) = span.last + 1 < next.first
@@ -22,7 +23,8 @@ abbrev pub AreDisjoint : List Span → Type 0
 AreDisjoint [] = ⊤
 AreDisjoint (span ∷ spans) = (span.first ≤ span.last) × IsApartFrom span spans × AreDisjoint spans
 
--- the invariant of `Ranges`: at most 64 spans, in ascending order, with at least one address between each two
+-- the invariant of `Ranges`: at most 64 spans, none of which ends before it begins, in ascending order, with at least
+-- one address between each two
 pub record AreRanges (spans : List Span) : Type 0 where
   pub few : length spans ≤ 64
   pub apart : AreDisjoint spans
@@ -36,6 +38,7 @@ pub record IsSetOf (spans set : List Span) : Type 0 where
   pub ranges : AreRanges set
   pub same : (address : ℕ) → contains set address ≡ contains spans address
 
--- True if no set can be made: a span ends before it begins, or no set of at most 64 spans has exactly the addresses.
+-- True if no set can be made of the spans: one of them ends before it begins, or no valid set (`AreRanges`) has exactly
+-- their addresses.
 abbrev pub MakeNoSet : List Span → Type 0
 MakeNoSet spans = (has_backwards spans ≡ true) ⊎ ((set : List Span) → ¬ IsSetOf spans set)

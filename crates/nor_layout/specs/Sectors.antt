@@ -4,7 +4,7 @@ use Rattle.nor_layout.specs.declared.ranges.Span.{Span}
 use Rattle.nor_geometry.specs.Below.{any_below, count_below}
 use Rattle.nor_layout.specs.Ranges.{contains}
 
--- True if a request includes the address: it is in the ranges, or there are no ranges.
+-- True if a request includes the address: it is in the ranges, or there are no ranges (`None`).
 abbrev pub includes : Option (List Span) → (address : ℕ) → Bool
 includes None address = true
 includes (Some spans) address = contains spans address

@@ -15,7 +15,8 @@ pub record IsFirst (byte : ℕ) (text : List ℕ) (at : ℕ) : Type 0 where
   pub here : slice_index text at ≡ byte
   pub before : (k : ℕ) → k < at → slice_index text k ≢ byte
 
--- The result of adding a line's region is what `with_line` defines (`said`). If it is `Memory`, the line adds a region.
+-- The result of adding a line's region is what `with_line` defines (`said`), or `Memory`. `Memory` is possible only if
+-- the line adds a region.
 abbrev pub AddsRegion : (old new : List Region) → Result ⊤ LayoutFault → Result (List Region) LayoutFault → Type 0
 AddsRegion old new (Ok x) said = said ≡ Ok new
 AddsRegion old new (Err Memory) said = (region : Region) × (said ≡ Ok (old ++ region ∷ []))
@@ -38,19 +39,20 @@ join a b = record { first = min a.first b.first; last = max a.last b.last }
 abbrev pub EndBelow : (done : ℕ) → List Span → Type 0
 EndBelow done spans = (address : ℕ) → done ≤ address → contains spans address ≡ false
 
--- Holds if `next` reaches the address `done`, is part of the spans, and begins at or below each of their addresses that
--- is `done` or greater.
+-- Holds if `next` has only addresses of the spans, at least one of them `done` or greater, and begins at or below each
+-- address of the spans that is `done` or greater.
 pub record IsNext (done : ℕ) (spans : List Span) (next : Span) : Type 0 where
   pub forward : next.first ≤ next.last
   pub reaches : done ≤ next.last
   pub taken : (address : ℕ) → is_in_span next address ≡ true → contains spans address ≡ true
   pub least : (address : ℕ) → done ≤ address → contains spans address ≡ true → next.first ≤ address
 
--- A next span is as `IsNext` says. There is none only if each address in the spans is below `done`.
+-- Holds if there is a next span and `IsNext` holds for it, or there is none and each address in the spans is below
+-- `done`.
 abbrev pub IsNextOrNone : (done : ℕ) → List Span → Option Span → Type 0
 IsNextOrNone done spans next = MatchOption next (EndBelow done spans) (IsNext done spans)
 
--- the span that begins first, or `next` if both begin at the same address
+-- the span that begins first, or `next` if both begin at the same address, or `span` if there is no `next`
 abbrev pub first_of : Option Span → Span → Option Span
 first_of None span = Some span
 first_of (Some next) span = if nat_le next.first span.first then Some next else Some span

@@ -25,7 +25,7 @@ joins regions n region =
     else if nat_lt (length regions) 64 then Ok (regions ++ region ∷ [])
     else Err TooMany
 
--- the earlier `regions` with the region of line n added, or the fault of line n
+-- the earlier `regions` with the region of line n added, or the fault of line n or of adding its region
 abbrev pub joins_or_fault : List Region → ℕ → Result Region LineFault → Result (List Region) LayoutFault
 joins_or_fault regions n (Ok region) = joins regions n region
 joins_or_fault regions n (Err fault) = Err (InLine n fault)

@@ -9,7 +9,7 @@ use std::alloc::{AllocError, AllocFailed};
 use std::error::Error;
 use std::fmt;
 
-/// A fault of one line of a layout text, in the order in which the faults are checked.
+/// A fault of one line of a layout text. The variants are in the order in which they are checked.
 #[derive(Clone, Copy, Debug, PartialEq, Eq)]
 pub enum LineFault {
     /// The line has no `:`, or no space after the first `:`.

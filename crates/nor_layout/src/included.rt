@@ -11,7 +11,7 @@ use nor_geometry::SECTOR_LEN;
 /// The value of an erased byte.
 const ERASED: u8 = 0xFF;
 
-/// Returns true if `address` is in the ranges, or there are no ranges.
+/// Returns true if `address` is in the ranges, or if there are no ranges (`None`).
 pub fn includes(included: Option<&Ranges>, address: u32) -> bool
     ensures { result ≡ includes (option_copied included.entry) address }
 {
@@ -21,7 +21,8 @@ pub fn includes(included: Option<&Ranges>, address: u32) -> bool
     }
 }
 
-/// Returns true if some address of sector number `sector` is included. Sectors are counted from 0.
+/// Returns true if some address of sector number `sector` is in the ranges, or if there are no ranges (`None`). Sectors
+/// are counted from 0.
 pub fn includes_in_sector(included: Option<&Ranges>, sector: u32) -> bool
     ensures test { result ≡ has_in_sector (includes (option_copied included.entry)) sector }
     ensures cases { MatchBool result

@@ -57,7 +57,8 @@ fn are_known(regions: &[Region], names: &[u8]) -> bool
 
 /// Adds the region of line `number` to `regions`, or nothing if the line is empty.
 ///
-/// Returns a fault of the line, or `TooMany` if there are 64 regions already, or `Memory` if an allocation fails.
+/// Returns the first fault of the line, or `TooMany` if it has none but there are 64 regions already, or `Memory` if an
+/// allocation fails.
 #[tactic(auto, unfolding(crate::specs::Text::with_line))]
 fn add_line(regions: &mut Vec<Region>, number: usize, line: &[u8]) -> Result<(), LayoutFault>
     ensures { AddsRegion regions.old.items regions.new.items result (with_line regions.old.items number line.now) }
@@ -126,7 +127,7 @@ impl Layout {
     ///
     /// A name may be repeated. Allocates nothing.
     ///
-    /// Returns `NoRegion` if a name isn't the name of a region. An empty name never is.
+    /// Returns `NoRegion` if a name isn't the name of a region. An empty name is never the name of a region.
     pub fn include(&self, names: &str) -> Result<Ranges, LayoutFault>
         // Succeeds if and only if each name is the name of a region.
         ensures known { IsOk result ↔ IsTrue (are_known self.now names.now) }

@@ -26,7 +26,7 @@
 //! - `ranges.rt`: `Ranges`, a set of addresses as at most 64 spans
 //! - `places.rt`: the positions of one sector that are in a set
 //! - `merge.rt`: joins the included bytes of one copy of a sector with the other bytes of a second copy
-//! - `included.rt`: queries about a request, with ranges or for the whole chip
+//! - `included.rt`: tests and fills for the included addresses of a request, with ranges or for the whole chip
 //!
 //! `specs/Text.antt` defines the regions or the fault of a text, `Grammar.antt` the accepted texts as a grammar, and
 //! `Included.antt` the addresses that names include.

@@ -9,7 +9,7 @@ use crate::fault::LineFault;
 use crate::region::{NAME_LEN, Region};
 use arrayvec::ArrayVec;
 
-/// The three parts of a line, as bytes of it.
+/// The three parts of a line, as slices of it.
 #[derive(Clone, Copy)]
 struct Parts<'a> {
     start: &'a [u8],
@@ -17,7 +17,7 @@ struct Parts<'a> {
     name: &'a [u8],
 }
 
-/// Returns the index of the first `byte` in `text`.
+/// Returns the index of the first `byte` in `text`, or `None` if `text` doesn't contain it.
 fn find(text: &[u8], byte: u8) -> Option<usize>
     ensures { MatchOption result (EachIndex text.now (λ k. slice_index text.now k ≢ byte))
         (λ at. IsFirst byte text.now at) }
@@ -45,7 +45,8 @@ fn trim_spaces(text: &[u8]) -> &[u8]
     rest
 }
 
-/// Splits a line at its first `:` and the next space. Returns `None` if it lacks one of them.
+/// Splits a line at its first `:` and the next space, and removes further spaces before the name. Returns `None` if the
+/// line has no `:`, or no space after the first `:`.
 fn parts_of(line: &[u8]) -> Option<Parts<'_>>
     ensures { MatchOption result (parts_of line.now ≡ None)
         (λ parts. parts_of line.now

@@ -6,7 +6,7 @@ ghost use Rattle.nor_layout.specs.Places.{is_covered, AreRisingFrom, places_left
 
 use crate::places::PlacesIn;
 
-/// Copies the bytes from index `start` to `end`, excluding `end`, to the same indexes of `to`.
+/// Copies the bytes of `from` at the indexes from `start` to `end`, excluding `end`, to the same indexes of `to`.
 fn copy_part(to: &mut [u8], from: &[u8], start: usize, end: usize)
     requires forward { start ≤ end }
     requires to_fits { end ≤ length to.old }
@@ -20,7 +20,8 @@ fn copy_part(to: &mut [u8], from: &[u8], start: usize, end: usize)
 
 /// Copies the bytes of a sector from `other` to `bytes`, except those at the positions in `places`.
 ///
-/// Both slices must have 4,096 bytes, and the positions must ascend.
+/// Both slices must have 4,096 bytes. Each range of positions must be nonempty and lie in the sector, and the ranges
+/// must ascend without overlap.
 pub(crate) fn fill_around(places: PlacesIn<'_>, bytes: &mut [u8], other: &[u8])
     requires long { length bytes.old ≡ 4096 }
     requires other_long { length other.now ≡ 4096 }

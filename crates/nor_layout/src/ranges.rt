@@ -80,7 +80,8 @@ fn sooner(next: Option<Span>, span: &Span, done: u64) -> Option<Span>
     }
 }
 
-// Returns the span that begins first among those that reach the address `done`.
+// Returns the span that begins first among those that end at or above the address `done`, or `None` if no span does. No
+// span may end before it begins.
 fn next_span(spans: &[Span], done: u64) -> Option<Span>
     requires { has_backwards spans.now ≡ false }
     ensures { IsNextOrNone done spans.now result }
@@ -92,7 +93,8 @@ fn next_span(spans: &[Span], done: u64) -> Option<Span>
     next
 }
 
-/// Returns the spans of the set with one more span added.
+/// Returns the spans of the set with one more span added. The set must have at most 64 spans, ascending and neither
+/// overlapping nor adjacent, and `added` must not end before it begins.
 fn with_span(spans: &[Span], added: Span) -> ArrayVec<Span, ROOM>
     requires room { length spans.now ≤ 64 }
     requires forward { added.first ≤ added.last }
@@ -119,10 +121,10 @@ fn with_span(spans: &[Span], added: Span) -> ArrayVec<Span, ROOM>
 }
 
 impl Ranges {
-    /// Returns the set with the addresses of these spans. They may be in any order, adjacent, or overlapping.
+    /// Returns the set with the addresses of the given spans, which may be in any order, adjacent, or overlapping.
     ///
     /// Returns `None` if a span ends before it begins, or if more than 64 spans are left after adjacent and overlapping
-    /// spans were joined. Allocates nothing. Its time grows with the square of the number of spans.
+    /// spans were joined. Allocates nothing. The time of the call grows with the square of the number of spans.
     pub fn of(spans: &[Span]) -> Option<Ranges>
         ensures { MatchOption result (MakeNoSet spans.now)
             (λ ranges. (has_backwards spans.now ≡ false) × IsSetOf spans.now ranges) }
@@ -152,7 +154,8 @@ impl Ranges {
         }
     }
 
-    /// Returns the set with the addresses of one more span. The set must have fewer than 64 spans.
+    /// Returns the set with the addresses of one more span. The set must have fewer than 64 spans, and `added` must not
+    /// end before it begins.
     pub(crate) fn with(&self, added: Span) -> Ranges
         requires room { length self.now < 64 }
         requires forward { added.first ≤ added.last }

@@ -1,4 +1,4 @@
--- A file that can't be read ends the run with its own fault, or with out of memory.
+-- The fault of a file that can't be read is one of the faults of each call that reads it.
 use Rattle.std.proofs.Common.{ℕ, arith}
 use Rattle.nor_words.specs.Text.{Text}
 use Rattle.nor_files.specs.Files.{View}

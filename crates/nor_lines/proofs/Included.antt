@@ -8,7 +8,7 @@ use Rattle.nor_layout.specs.Included.{are_known}
 use Rattle.nor_layout.specs.Text.{◌>>=◌, AsksMemory, ReadsLayout, layout_says, lines_of, lines_say, with_line}
 use Rattle.nor_lines.specs.Requests.{IncludesNone}
 
--- ---- a text has no fault of names
+-- ---- parsing a layout never returns `NoRegion`
 
 line_named : (regions : List Region) (n : ℕ) (line : List ℕ) → with_line regions n line ≡ Err layout.NoRegion → ⊥
 unfolding with_line
@@ -30,7 +30,7 @@ text_named : (text : List ℕ) → layout_says text ≡ Err layout.NoRegion → 
 unfolding layout_says
 text_named text e = lines_named (lines_of text) [] 1 e
 
--- ---- a text that can't be read, and names that are unknown
+-- ---- faults of the text, and unknown names
 
 module _ (text names : List ℕ) where
   pub is_unread : (fault : LayoutFault) → ReadsLayout (Err fault) (layout_says text)

@@ -15,7 +15,7 @@ stays_on one other = record {
   leaves = λ left can. one.leaves left (other.leaves left can);
 }
 
--- names stay apart after calls, which keep the nature of the files
+-- No call changes the nature of the files, so names that are apart before a call are apart after it.
 pub apart_after : {old new : Nature} {one other : Name} → new ≡ old → AreApart old one other → AreApart new one other
 apart_after {one = one} {other = other} same apart = subst (λ (n : Nature). AreApart n one other) (sym same) apart
 

@@ -20,11 +20,11 @@ use Rattle.nor_lines.specs.declared.answers.Answer.TheVariants as answer
 abbrev pub chip_line : Part → List ℕ
 chip_line part = line (name_text part.name ∷ codes " " ∷ id_digits part.id ∷ codes " " ∷ decimal part.size ∷ [])
 
--- the line of a name
+-- the line of a chip's name
 abbrev pub name_line : ChipName → List ℕ
 name_line name = line (name_text name ∷ [])
 
--- the lines of the chips in the table, and the name of chips known by their SFDP only
+-- the lines of the chips in the table, and the line `SFDP`, the name of all chips known only by their SFDP
 abbrev pub chip_lines : List ℕ
 chip_lines = flat_map chip_line chips ++ name_line Sfdp
 
@@ -75,7 +75,7 @@ restored_line = line (codes "Chip as before." ∷ [])
 abbrev pub rehearsal_lines : Rehearsal → List ℕ
 rehearsal_lines rehearsal = stop_line rehearsal.ended ++ (restores_line rehearsal.restores ++ restored_line)
 
--- the line of the protected range: its first address and its length in bytes
+-- the line of the protected range: its first address and its length in bytes, or `undefined` if there is no range
 abbrev pub protected_line : Option (ℕ × ℕ) → List ℕ
 protected_line (Some (start, len)) = line (codes "Range: 0x" ∷ hex_digits 6 start ∷ codes ",0x" ∷ hex_digits 6 len ∷ [])
 protected_line None = line (codes "Range: undefined" ∷ [])
@@ -89,12 +89,12 @@ protection_lines protection = protected_line protection.range
 abbrev pub range_line : ℕ × ℕ → List ℕ
 range_line range = line (codes "0x" ∷ hex_digits 6 range.0 ∷ codes ",0x" ∷ hex_digits 6 range.1 ∷ [])
 
--- Holds for the lines of all ranges that the iterator yields, one line per range.
+-- Holds if `text` is the lines of all ranges that the iterator `walk` yields, in order, one line per range.
 abbrev pub AreRangeLines : Offered → List ℕ → Type 0
 AreRangeLines walk text =
     (ranges : List (ℕ × ℕ)) × Drains ReturnsNextRange walk ranges × (text ≡ flat_map range_line ranges)
 
--- Holds for the lines of this answer.
+-- Holds if `text` is the lines of this answer.
 abbrev pub AreLines : Answer → List ℕ → Type 0
 AreLines answer.Chips text = text ≡ chip_lines
 AreLines (answer.Found found) text = text ≡ found_line found

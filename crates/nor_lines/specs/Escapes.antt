@@ -8,7 +8,8 @@ use Rattle.nor_words.specs.Text.{Text}
 abbrev pub escaped_byte : ℕ → List ℕ
 escaped_byte byte = codes "\\x" ++ hex_digits 2 byte
 
--- a character in UTF-8, with each byte escaped if it is a control character: U+0000 to U+001F or U+007F to U+009F
+-- A character in UTF-8. Each of its bytes is escaped if the character is a control character: U+0000 to U+001F or
+-- U+007F to U+009F.
 abbrev pub escaped_character : ℕ → List ℕ
 escaped_character character =
     if is_control character then flat_map escaped_byte (encode_utf8 character) else encode_utf8 character

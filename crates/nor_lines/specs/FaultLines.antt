@@ -23,8 +23,8 @@ abbrev pub file_text : FileFault → Text → List ℕ
 file_text fault name =
     concat (codes "File fault " ∷ decimal (file_number fault) ∷ codes ": " ∷ escaped name ∷ codes "." ∷ [])
 
--- the text of a fault; `None` for a fault of the parser (usage fault 1) and for help, whose texts contain what the
--- parser says
+-- The text of a fault. It is `None` if the argument parser returned the fault or the help: nothing is stated about the
+-- parser's texts.
 abbrev pub text_of : Fault → Option (List ℕ)
 text_of (end.Usage fault) = usage_text fault
 text_of end.NoText = Some (codes "error: invalid UTF-8 was detected in one or more arguments\n\nUsage fault 1.")
@@ -34,6 +34,6 @@ text_of (end.File fault name) = Some (file_text fault name.now)
 text_of (end.Refused refusal) =
     Some (concat (codes "Error " ∷ decimal (refusal_number refusal) ∷ codes ": " ∷ refusal_text refusal ∷ codes "." ∷ []))
 
--- the line of a fault: its text and a line feed; `None` if its text isn't known
+-- the line of a fault: its text and a line feed; `None` if `text_of` is `None`
 abbrev pub line_of : Fault → Option (List ℕ)
 line_of fault = with_newline (text_of fault)

@@ -1,5 +1,5 @@
--- The faults of files. A fault of a file occurs only if the `View` of the files allows that failure for a file of that
--- name.
+-- The faults of files. Contracts use the definitions with a `View` to state that a fault occurs only if the files allow
+-- the failure that causes it.
 use Rattle.std.specs.Prelude.{◌≡◌, ◌≢◌, ◌<◌, ◌+◌, ◌⊎◌, ℕ, List, None, length}
 use Rattle.nor_request.specs.declared.refusal.Refusal.TheVariants.{Memory}
 use Rattle.nor_words.specs.Text.{Text}
@@ -13,34 +13,39 @@ use Rattle.nor_lines.specs.declared.messages.Fault.{Fault}
 use Rattle.nor_lines.specs.declared.messages.Fault.TheVariants as end
 use Rattle.nor_lines.specs.declared.messages.FileFault.TheVariants as file
 
--- Holds for the faults of a file of this name that can't be read, and for out of memory.
+-- Holds for error 18 (out of memory), and for file fault 1 of this name.
 abbrev pub IsUnreadFault : Text → Fault → Type 0
 IsUnreadFault name (end.Refused refusal) = refusal ≡ Memory
 IsUnreadFault name (end.File file.Read of) = of.now ≡ name
 IsUnreadFault name _ = ⊥
 
--- Holds for the faults of a file of this name that can't be locked, or opened to be written or read.
+-- Holds if the fault reports this `LockFault` of a file of this name: `Unread` as error 18 or file fault 1, `Unheld` as
+-- file fault 2, `Busy` as file fault 5.
 abbrev pub IsNotLocked : LockFault → Text → Fault → Type 0
 IsNotLocked (why.Unread error) name fault = IsUnreadFault name fault
 IsNotLocked why.Unheld name (end.File file.Write of) = of.now ≡ name
 IsNotLocked why.Busy name (end.File file.Taken of) = of.now ≡ name
 IsNotLocked _ name _ = ⊥
 
--- Holds for the faults of reading at most `most` bytes: the file is missing or can't be read, or memory runs out.
+-- Holds for the faults of reading at most `most` bytes: error 18 (out of memory), or file fault 1 of this name. For
+-- file fault 1 the file is missing, isn't known (`IsKnownFile`), or may fail to be read.
 abbrev pub IsReadingFault : View → Text → ℕ → Fault → Type 0
 IsReadingFault view name most (end.Refused refusal) = refusal ≡ Memory
 IsReadingFault view name most (end.File file.Read of) =
     (of.now ≡ name) × (ReadsFile name most None view ⊎ Happens view (Unread name))
 IsReadingFault view name most _ = ⊥
 
--- Holds for the fault of a file of this name that may have at most `most` bytes, and has more.
+-- Holds for file fault 1 of this name, if the file has more than `most` bytes or isn't known (`IsKnownFile`).
 abbrev pub IsTooLong : View → Text → ℕ → Fault → Type 0
 IsTooLong view name most (end.File file.Read of) =
     (of.now ≡ name) × ((bytes : List ℕ) × IsRead view name (most + 1) bytes × (most < length bytes))
 IsTooLong view name most _ = ⊥
 
--- Holds for the faults of reading a chip's file, which must have `len` bytes: it has another length or can't be read,
--- or memory runs out. A missing file is no fault.
+-- Holds for the faults of reading a chip's file, which must have `len` bytes:
+--
+-- - error 18 (out of memory)
+-- - file fault 1 of this name, if the file may fail to be read; a missing file is no fault
+-- - file fault 3 of this name, if the file has another length or isn't known (`IsKnownFile`)
 abbrev pub IsOpeningFault : View → Text → ℕ → Fault → Type 0
 IsOpeningFault view name len (end.Refused refusal) = refusal ≡ Memory
 IsOpeningFault view name len (end.File file.Read of) = (of.now ≡ name) × Happens view (Unread name)
@@ -48,9 +53,12 @@ IsOpeningFault view name len (end.File file.Length of) =
     (of.now ≡ name) × ((bytes : List ℕ) × IsRead view name (len + 1) bytes × (length bytes ≢ len))
 IsOpeningFault view name len _ = ⊥
 
--- Holds for the faults of locking and reading a chip's file, which must have `len` bytes. In addition to the faults of
--- reading it, the file has become missing, or can't be opened for overwriting, locked or synced, or its directory can't
--- be synced.
+-- Holds for the faults of locking and reading a chip's file, which must have `len` bytes. These are the faults of
+-- `IsOpeningFault` and, of this name:
+--
+-- - file fault 1 if the file is missing (although it existed when it was locked) or isn't known (`IsKnownFile`)
+-- - file fault 2 if the file may fail to be opened for overwriting, locked or synced, or its directory to be synced
+-- - file fault 5 if another process may have locked the file
 abbrev pub IsLockingFault : View → Text → ℕ → Fault → Type 0
 IsLockingFault view name len (end.File file.Read of) =
     (of.now ≡ name) × (ReadsFile name (len + 1) None view ⊎ Happens view (Unread name))
@@ -59,15 +67,22 @@ IsLockingFault view name len (end.File file.Write of) =
 IsLockingFault view name len (end.File file.Taken of) = (of.now ≡ name) × Happens view (Busy name)
 IsLockingFault view name len fault = IsOpeningFault view name len fault
 
--- Holds for the faults of locking and reading a journal. In addition to the faults of reading it, the lock may fail, or
--- another process may have locked the journal.
+-- Holds for the faults of locking a journal and reading at most `most` bytes of it. These are the faults of
+-- `IsReadingFault` and, of this name:
+--
+-- - file fault 2 if the file may fail to be opened or locked
+-- - file fault 5 if another process may have locked the file
 abbrev pub IsSharingFault : View → Text → ℕ → Fault → Type 0
 IsSharingFault view name most (end.File file.Write of) = (of.now ≡ name) × Happens view (Unheld name)
 IsSharingFault view name most (end.File file.Taken of) = (of.now ≡ name) × Happens view (Busy name)
 IsSharingFault view name most fault = IsReadingFault view name most fault
 
--- Holds for the faults of creating a file of this name: it can't be created or truncated, exists and must not, or is
--- locked by another process; or memory runs out.
+-- Holds for the faults of creating or truncating a file of this name:
+--
+-- - error 18 (out of memory)
+-- - file fault 2 if the file may fail to be created, read, truncated or locked, or its directory to be synced
+-- - file fault 4 if the file may exist although it must be new, or may be a journal, which `Disk` never truncates
+-- - file fault 5 if another process may have locked the file
 abbrev pub IsMaking : View → Text → Fault → Type 0
 IsMaking view name (end.Refused refusal) = refusal ≡ Memory
 IsMaking view name (end.File file.Write of) = (of.now ≡ name) × Happens view (Unmade name)

@@ -1,4 +1,4 @@
--- Lines, and the numbers in them.
+-- Lines, and the digits of IDs in them.
 use Rattle.std.specs.Prelude.{ℕ, List, [], ◌∷◌, ◌++◌, codes, slice_index}
 use Rattle.nor_request.specs.Texts.{hex_digits}
 
@@ -7,6 +7,6 @@ unfoldable pub line : List (List ℕ) → List ℕ
 line [] = codes "\n"
 line (piece ∷ pieces) = piece ++ line pieces
 
--- the three bytes of an ID, two digits each
+-- the three bytes of an ID, each as two lower-case hexadecimal digits
 abbrev pub id_digits : List ℕ → List ℕ
 id_digits id = hex_digits 2 (slice_index id 0) ++ (hex_digits 2 (slice_index id 1) ++ hex_digits 2 (slice_index id 2))

@@ -18,12 +18,13 @@ file_number file.Length = 3
 file_number file.Exists = 4
 file_number file.Taken = 5
 
--- Holds for the fault of arguments that could not be collected: out of memory, or not UTF-8.
+-- Holds for the fault of arguments that could not be collected: usage fault 10 if memory ran out, or `NoText` for any
+-- other error.
 abbrev pub IsOfArguments : Error → Fault → Type 0
 IsOfArguments error fault = ((error_kind error ≡ Kinds.OutOfMemory) × (fault ≡ end.Usage usage.Memory))
     ⊎ ((error_kind error ≢ Kinds.OutOfMemory) × (fault ≡ end.NoText))
 
--- an error of a call is a fault of the run
+-- Holds if the outcome has the value of the call, or the call's error as the fault `Refused`.
 abbrev pub IsReportedAs : {T : Type 0} → Result T Refusal → Result T Fault → Type 0
 IsReportedAs (Ok found) outcome = outcome ≡ Ok found
 IsReportedAs (Err refusal) outcome = outcome ≡ Err (end.Refused refusal)

@@ -13,13 +13,15 @@ use Rattle.nor_lines.specs.declared.messages.Fault.TheVariants as end
 abbrev pub Prints : (List ℕ → Type 0) → (old new : Option (List ℕ)) → Type 0
 Prints IsText old new = (text : List ℕ) × IsText text × Appends old new text
 
--- Holds if a run has no fault before its files are written back: it has an answer, or the arguments ask for help.
+-- Holds if this result of a run is an answer, or the arguments asked for help. Faults of writing files back are not
+-- part of the result.
 abbrev pub IsAnswered : Result Answer Fault → Type 0
 IsAnswered (Ok found) = ⊤
 IsAnswered (Err (end.Usage (usage.Words error))) = kind_of error ≡ kind.DisplayHelp
 IsAnswered (Err fault) = ⊥
 
--- Holds if the lines of the answer were printed. Nothing is known about the parser's help.
+-- Holds if the result is an answer whose lines were printed, or a request for help. Nothing is stated about what is
+-- printed for help.
 abbrev pub PrintsAnswer : Result Answer Fault → (old new : Option (List ℕ)) → Type 0
 PrintsAnswer (Ok found) old new = Prints (AreLines found) old new
 PrintsAnswer outcome old new = IsAnswered outcome

@@ -38,15 +38,16 @@ request_for change named ranges = record {
   verify = change.verify;
 }
 
--- Holds if the text is a layout, each name is one of its regions, and the ranges contain the addresses of all named
--- regions.
+-- Holds if the text is a layout, each name is that of one of its regions, and the ranges contain exactly the addresses
+-- of the named regions.
 pub record AreIncluded (text names : List ℕ) (ranges : List Span) : Type 0 where
   pub regions : List Region
   pub layout : IsLayout text regions
   pub known : are_known regions names ≡ true
   pub union : (a : ℕ) → contains ranges a ≡ is_included regions names a
 
--- Holds if the ranges are those of the named regions in the layout's file, which has at most 16 MiB.
+-- Holds if the ranges are those of the named regions in the layout's file, which has at most 16 MiB. That `text` is the
+-- content of the file has the premise of `IsRead`.
 pub record AreOfLayout (view : View) (regions : Regions) (ranges : List Span) : Type 0 where
   pub text : List ℕ
   pub read : IsRead view regions.layout.now 16777217 text
@@ -59,25 +60,26 @@ AreRangesOf view None ranges = ranges ≡ None
 AreRangesOf view (Some regions) None = ⊥
 AreRangesOf view (Some regions) (Some ranges) = AreOfLayout view regions ranges
 
--- Holds if the text is no layout, and `fault` is the first fault of its lines.
+-- Holds if the text is no layout, and `fault` is its first fault.
 pub record IsNoLayout (text : List ℕ) (fault : LayoutFault) : Type 0 where
   pub none : (regions : List Region) → ¬ IsLayout text regions
   pub first : layout_says text ≡ Err fault
 
--- Holds if the text is a layout, and one of the names is not among its regions.
+-- Holds if the text is a layout, and at least one of the names is not that of one of its regions.
 pub record AreUnknown (text names : List ℕ) : Type 0 where
   pub regions : List Region
   pub layout : IsLayout text regions
   pub unknown : are_known regions names ≡ false
 
--- Holds for the reasons why the names include nothing: the text is no layout, a name is unknown, or memory ran out.
+-- Holds if the fault is a reason why nothing is included: memory may run out while the text is parsed, a name is that
+-- of no region, or the text is no layout.
 abbrev pub IncludesNone : (text names : List ℕ) → LayoutFault → Type 0
 IncludesNone text names layout.Memory = AsksMemory text
 IncludesNone text names layout.NoRegion = AreUnknown text names
 IncludesNone text names fault = IsNoLayout text fault
 
--- Holds for a layout fault: the layout's file has at most 16 MiB, and the fault says why the named regions include
--- nothing of it.
+-- Holds if the layout's file has at most 16 MiB, and the fault is a reason why its text and the names include nothing.
+-- That `text` is the content of the file has the premise of `IsRead`.
 pub record IsLayoutFault (view : View) (regions : Regions) (fault : LayoutFault) : Type 0 where
   pub text : List ℕ
   pub read : IsRead view regions.layout.now 16777217 text
@@ -85,7 +87,7 @@ pub record IsLayoutFault (view : View) (regions : Regions) (fault : LayoutFault)
   pub why : IncludesNone text regions.names.now fault
 
 -- Holds for the faults of including regions: those of the layout's text and names, of reading its file, and of a file
--- of more than 16 MiB.
+-- of more than 16 MiB. Without regions there is no fault.
 abbrev pub FailsToInclude : View → Option Regions → Fault → Type 0
 FailsToInclude view None fault = ⊥
 FailsToInclude view (Some regions) (end.Layout fault) = IsLayoutFault view regions fault

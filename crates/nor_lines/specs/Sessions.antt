@@ -15,12 +15,13 @@ use Rattle.nor_lines.specs.Stored.{IsKeptFile}
 use Rattle.nor_lines.specs.declared.answers.Answer.{Answer}
 use Rattle.nor_lines.specs.declared.answers.Answer.TheVariants as answer
 
--- the answer is the report of a change or a restore that ended
+-- Holds if the answer is this report, as that of a change or a restore that ended.
 abbrev pub TellsReport : Report → Answer → Type 0
 TellsReport report (answer.Done returned) = returned ≡ report
 TellsReport report _ = ⊥
 
--- A session ended or returned an error, with its journal in a vault. It kept all promises of `session`.
+-- The job called `session` with a vault for the journal. The call kept all its promises, and the job returned its
+-- report or its error.
 pub record HasRunSession (request : Request) (image : List ℕ) (old new : BusState) (vault vault' : VaultState)
     (outcome : Result Answer Refusal) : Type 0 where
   pub result : Result Report Refusal
@@ -30,8 +31,9 @@ pub record HasRunSession (request : Request) (image : List ℕ) (old new : BusSt
   pub modelled : IsModelled old → SessionModelled request image old new vault vault' result
   pub returned : AnswersCall TellsReport result outcome
 
--- A session was run with its journal in a new file. If the files obey their contract, the file was missing before the
--- session, and has exactly the bytes of the session's vault. After the seal a host crash does not lose them.
+-- A session was run with its journal in a new file. If the files obey their contract, the file has exactly the bytes of
+-- the session's vault; if the vault is sealed, a host crash does not lose them. If also no vault or log in the file was
+-- borrowed before, the file was missing then.
 pub record HasRunInFile (request : Request) (image : List ℕ) (file : Text) (before : View) (after : FilesState)
     (old new : BusState) (outcome : Result Answer Refusal) : Type 0 where
   pub missing : IsKnownFile file before → before.seen file ≡ None

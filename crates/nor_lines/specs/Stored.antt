@@ -7,7 +7,7 @@ use Rattle.nor_files.specs.Files.Failure.{Unwritten}
 use Rattle.nor_journal.specs.Vault.{VaultState}
 use Rattle.nor_words.specs.Text.{Text}
 
--- Holds if this failure is possible on these files, at any time.
+-- Holds if a call on these files may find this failure, now or later: the nature of the files never changes.
 abbrev pub Happens : View → Failure → Type 0
 Happens view failure = view.nature.fails failure ≡ true
 
@@ -24,7 +24,7 @@ IsFileFound view None len found = found ≡ None
 IsFileFound view (Some name) len found = ReadsFile name.now (len + 1) found view
 
 -- Holds if the bytes are those of the named file, which has exactly `len` bytes; or the bytes `missing` if no file is
--- named or the named file is missing.
+-- named or the named file is missing. The premise for a named file is that of `IsRead`.
 pub record AreOfFile (view : View) (name : Option (Bor Text)) (len : ℕ) (missing bytes : List ℕ) : Type 0 where
   pub found : Option (List ℕ)
   pub is_found : IsFileFound view name len found
@@ -37,18 +37,19 @@ abbrev pub Has : Option (Bor Text) → List ℕ → FilesState → Type 0
 Has None bytes files = ⊤
 Has (Some name) bytes files = is_lawful files.view ≡ true → IsDurable name.now (Some bytes) files
 
--- Holds if the file was written with these bytes; or if it could not be written, and its name is given as failed.
+-- Holds if no name is given as `failed`, and `Has` holds for these bytes; or if `failed` is the name of this file, and
+-- writing it may fail.
 abbrev pub ArePut : Option (Bor Text) → List ℕ → Option (Bor Text) → FilesState → Type 0
 ArePut name bytes None files = Has name bytes files
 ArePut name bytes (Some failed) files = (name ≡ Some failed) × Happens files.view (Unwritten failed.now)
 
--- Holds if the only file that may have failed to be written is the one named here.
+-- Holds if no name is given as `failed`; or if `failed` is the name of this file, and writing it may fail.
 abbrev pub IsReportedOf : (name failed : Option (Bor Text)) → View → Type 0
 IsReportedOf name None view = ⊤
 IsReportedOf name (Some failed) view = (name ≡ Some failed) × Happens view (Unwritten failed.now)
 
--- Holds if no other name is given, or if the other is apart from the name: on lawful files the two refer to different
--- files.
+-- Holds if no other name is given, or if the two names are apart: if the files obey their contract, apart names refer
+-- to different files.
 abbrev pub IsNot : Nature → Option (Bor Text) → Text → Type 0
 IsNot nature None name = ⊤
 IsNot nature (Some other) name = AreApart nature other.now name
@@ -68,19 +69,20 @@ abbrev pub LeavesNoMoreOf : Option (Bor Text) → (old new : FilesState) → Typ
 LeavesNoMoreOf None old new = ⊤
 LeavesNoMoreOf (Some name) old new = LeavesNoMore name.now old new
 
--- Holds if no file is named, or if the file of that name is missing. A file that isn't known (`IsKnownFile`) is not
--- covered.
+-- Holds if no file is named, or if the file of that name is missing. This is claimed only for a known file
+-- (`IsKnownFile`).
 abbrev pub IsMissing : Option (Bor Text) → View → Type 0
 IsMissing None view = ⊤
 IsMissing (Some name) view = IsKnownFile name.now view → view.seen name.now ≡ None
 
 -- Holds if no file is named, or if a host crash may leave nothing of the named file that it could not leave before,
--- except an empty file if it was missing. A file that isn't known is not covered.
+-- except an empty file if it was missing. This is claimed only if the file was known (`IsKnownFile`) before.
 abbrev pub MakesNothing : Option (Bor Text) → (old new : FilesState) → Type 0
 MakesNothing None old new = ⊤
 MakesNothing (Some name) old new = IsKnownFile name.now old.view → LeavesOrEmpty name.now old new
 
--- The vault is faithful (`telling`), and the file has exactly its bytes. If the vault is sealed, the bytes are durable.
+-- The vault is faithful (`telling`), and the file has exactly the vault's bytes. If the vault is sealed, these bytes
+-- are durable.
 pub record IsKeptFile (name : Text) (vault : VaultState) (files : FilesState) : Type 0 where
   pub telling : vault.telling ≡ true
   pub seen : files.view.seen name ≡ Some vault.bytes

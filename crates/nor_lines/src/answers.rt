@@ -17,15 +17,16 @@ pub enum Answer {
     Found(Found),
     /// The size of the chip in bytes.
     Size(u32),
-    /// The report of a chip that was read into a file.
+    /// The report of a chip that was read.
     Read(Report),
-    /// The report of a chip whose included bytes are those of a file.
+    /// The report of a chip whose included bytes were found to be those of an image.
     Verified(Report),
     /// The report of a change or a restore.
     Done(Report),
-    /// The result of a rehearsal, after which the chip is as before.
+    /// The result of a rehearsal that ended.
     Rehearsed(Rehearsal),
-    /// The chip's protected range, and whether its status is locked.
+    /// The chip's protected range, if the datasheets define one for its protection bits, and whether its status is
+    /// locked.
     Protection(Protection),
     /// The ranges of the chip that can be protected.
     Ranges(Offered),

@@ -19,7 +19,8 @@ use nor_read::{read_out, verify, wp_status};
 use nor_session::{Request, session};
 use std::alloc::{AllocError, Global};
 
-/// Returns the chip's protected range, and whether its status is locked.
+/// Returns the chip's protected range, if the datasheets define one for its protection bits, and whether its status is
+/// locked; or an error of `wp_status`. With `named` the chip must have this name.
 pub fn report_protection<B: Bus>(bus: &mut B, named: Option<ChipName>) -> Outcome
     ensures { HasReported ReportsProtection named (B.state bus.old) (B.state bus.new) result }
 {
@@ -27,7 +28,8 @@ pub fn report_protection<B: Bus>(bus: &mut B, named: Option<ChipName>) -> Outcom
     Ok(Answer::Protection(protection))
 }
 
-/// Returns the ranges of the chip that can be protected.
+/// Returns the ranges of the chip that can be protected, or an error of `wp_status`. With `named` the chip must have
+/// this name.
 pub fn list_ranges<B: Bus>(bus: &mut B, named: Option<ChipName>) -> Outcome
     ensures { HasReported ListsRanges named (B.state bus.old) (B.state bus.new) result }
 {
@@ -35,8 +37,11 @@ pub fn list_ranges<B: Bus>(bus: &mut B, named: Option<ChipName>) -> Outcome
     Ok(Answer::Ranges(offered(protection.size)))
 }
 
-/// Reads the chip into the file of this name, which is created or emptied: the included addresses as they are, and FFh
-/// for the others. An error is a fault of the file, which occurred before the first transaction.
+/// Reads the chip into the file of this name, which is created or truncated: the bytes at the included addresses as
+/// they are, and FFh for the others. If `included` is `None`, the whole chip is included.
+///
+/// The outer error is one of `empty`, which occurred before the first transaction. The inner error is one of
+/// `read_out`, after which the file may hold only a part of the copy.
 pub fn read_to_file<'a, R: Store, B: Bus>(
     rt: &mut R,
     bus: &mut B,
@@ -58,7 +63,8 @@ pub fn read_to_file<'a, R: Store, B: Bus>(
     Ok(outcome)
 }
 
-// Reads the chip into `out`, at the included addresses if any are given.
+// Appends a copy of the chip to `out`: the bytes at the included addresses, or all if `included` is `None`, and FFh for
+// the others.
 fn read_into<B: Bus, V: Vault>(
     bus: &mut B,
     named: Option<ChipName>,
@@ -73,7 +79,8 @@ fn read_into<B: Bus, V: Vault>(
     Ok(Answer::Read(report))
 }
 
-/// Compares the chip with an image, at the included addresses if any are given.
+/// Compares the chip with an image at the included addresses, or at every address if `included` is `None`. Returns an
+/// error of `verify`, for example 14 if a byte differs. With `named` the chip must have this name.
 pub fn verify_image<B: Bus>(
     bus: &mut B,
     named: Option<ChipName>,
@@ -86,17 +93,17 @@ pub fn verify_image<B: Bus>(
     Ok(Answer::Verified(report))
 }
 
-/// Returns `size` bytes of FFh, the contents of an erased chip.
+/// Returns `size` bytes of FFh, the contents of an erased chip, or `AllocError` if memory runs out.
 pub fn erased(alloc: Global, size: u32) -> Result<Vec<u8>, AllocError>
     ensures { IfOk result (λ bytes. bytes.items ≡ replicate size 255) }
 {
     vec![in alloc; 0xFF; size as usize]
 }
 
-/// Runs the session of a request with its journal in the file of this name, which must not exist. An error is a fault
-/// of the file, which occurred before the first transaction.
+/// Runs the session of a request with its journal in the file of this name, which must not exist.
 ///
-/// `image` is the buffer of `session`, which describes it.
+/// `image` is the argument `image` of `session`, whose documentation describes it. The outer error is one of `make`,
+/// which occurred before the first transaction. The inner error is one of `session`.
 pub fn session_in_file<'a, R: Store, B: Bus>(
     rt: &mut R,
     bus: &mut B,

@@ -6,7 +6,7 @@ use std::fmt;
 ///
 /// The control characters are U+0000 to U+001F and U+007F to U+009F. Each byte of their UTF-8 is printed as `\xNN`,
 /// with two lower-case hexadecimal digits. All other characters are printed unchanged, including the backslash. The
-/// printed name therefore has no line feed, and sends a terminal no escape sequence.
+/// printed name therefore contains neither a line feed nor an escape sequence for a terminal.
 #[derive(Drop)]
 pub struct Escaped<'a>(pub &'a str);
 

@@ -55,7 +55,7 @@ pub fn reading(error: io::Error, name: &str) -> Fault<'_>
     }
 }
 
-/// Returns the fault of a file that is missing or can't be read: file fault 1.
+/// Returns the fault of a file that is missing, or can't be looked up, opened or read: file fault 1.
 pub fn unread(name: &str) -> Fault<'_>
     ensures { result ≡ Faults.File FileFaults.Read name.entry }
 {
@@ -63,8 +63,8 @@ pub fn unread(name: &str) -> Fault<'_>
     Fault::File { fault, name }
 }
 
-/// Creates the file of this name or truncates it, and returns a vault in it. `Disk` never truncates a journal:
-/// the fault is then file fault 4. `making` lists the other faults.
+/// Creates the file of this name or truncates it, and returns a vault in it. If the file is a journal, `Disk` leaves it
+/// as it is: that is file fault 4. `making` lists the other faults.
 pub fn empty<'a, R: Store>(rt: &mut R, name: &'a str) -> Result<R::Filed, Fault<'a>>
     ensures nature { (R.state rt.new).view.nature ≡ (R.state rt.old).view.nature }
     ensures fresh { IfOk result (λ vault. IsFresh (R.Filed.state vault)) }
@@ -80,8 +80,8 @@ pub fn empty<'a, R: Store>(rt: &mut R, name: &'a str) -> Result<R::Filed, Fault<
     }
 }
 
-/// Creates the file of this name, and returns a vault in it. If the file exists it is left as it is: that is file fault
-/// 4. `making` lists the other faults.
+/// Creates the file of this name, and returns a vault in it. If the file exists, `Disk` leaves it as it is: that is
+/// file fault 4. `making` lists the other faults.
 pub fn make<'a, R: Store>(rt: &mut R, name: &'a str) -> Result<R::Filed, Fault<'a>>
     ensures nature { (R.state rt.new).view.nature ≡ (R.state rt.old).view.nature }
     ensures fresh { IfOk result (λ vault. IsFresh (R.Filed.state vault)) }
@@ -101,8 +101,9 @@ pub fn make<'a, R: Store>(rt: &mut R, name: &'a str) -> Result<R::Filed, Fault<'
     }
 }
 
-/// Creates the file of this name or truncates it, and returns a buffered writer to it. `Disk` never truncates a
-/// journal: the fault is then file fault 4. `making` lists the other faults.
+/// Creates the file of this name or truncates it, and returns a buffered writer to it. If the file is a journal, `Disk`
+/// leaves it as it is: that is file fault 4. `making` lists the other faults. Error 18 may also occur after the file
+/// was created or truncated.
 pub fn create_log<'a, R: Store>(rt: &mut R, name: &'a str) -> Result<BufWriter<R::Log>, Fault<'a>>
     ensures nature { (R.state rt.new).view.nature ≡ (R.state rt.old).view.nature }
     ensures others { is_lawful (R.state rt.old).view ≡ true
@@ -118,9 +119,9 @@ pub fn create_log<'a, R: Store>(rt: &mut R, name: &'a str) -> Result<BufWriter<R
 
 /// Returns the fault of a file that can't be created or truncated.
 ///
-/// - file fault 4 if the file exists and must be new, or is a journal, which is never truncated
+/// - file fault 4 if the file exists and must be new, or is a journal, which `Disk` never truncates
 /// - file fault 5 if another process has locked the file
-/// - error 18 if memory ran out
+/// - error 18 if `fault` is `Memory`: memory ran out
 /// - otherwise file fault 2
 pub fn making(fault: CreateFault, name: &str) -> Fault<'_>
     ensures { (view : View) → IsCreateFault view.nature name.now fault → IsMaking view name.now result }
@@ -145,7 +146,8 @@ pub fn taken(name: &str) -> Fault<'_>
     Fault::File { fault, name }
 }
 
-/// Returns the fault of a file that can't be created, truncated or written (file fault 2).
+/// Returns the fault of a file that can't be created, truncated, locked, written or synced, or whose directory can't be
+/// synced (file fault 2).
 pub fn unmade(name: &str) -> Fault<'_>
     ensures { result ≡ Faults.File FileFaults.Write name.entry }
 {
@@ -153,7 +155,15 @@ pub fn unmade(name: &str) -> Fault<'_>
     Fault::File { fault, name }
 }
 
-/// Locks and reads the journal in the file of this name. Another run may read it, but not change it.
+/// Locks the journal in the file of this name, so that other runs can read it, but not change it. Returns its first
+/// `MOST_JOURNAL_BYTES` bytes, or all if it has fewer, without checking that they are a journal.
+///
+/// Returns one of these faults:
+///
+/// - file fault 1 if the file is missing or can't be read
+/// - file fault 2 if the file can't be locked
+/// - file fault 5 if another process has locked the file to change it, not only to read it
+/// - error 18 if memory runs out
 pub fn read_journal<'a, R: Store>(rt: &mut R, journal: &'a str) -> Result<Vec<u8>, Fault<'a>>
     ensures same { AreUntouched (R.state rt.old) (R.state rt.new) }
     ensures ok { IfOk result (λ bytes. IsRead (R.state rt.old).view journal.now 16793662 bytes.items) }
@@ -169,7 +179,12 @@ pub fn read_journal<'a, R: Store>(rt: &mut R, journal: &'a str) -> Result<Vec<u8
     }
 }
 
-/// Returns the fault of a file that can't be locked, or opened to be read or written.
+/// Returns the fault of a file that can't be opened or locked.
+///
+/// - error 18 if memory ran out
+/// - file fault 1 if the file can't be looked up, opened or read
+/// - file fault 2 if a file or link of this name exists, but can't be overwritten or locked
+/// - file fault 5 if another process has locked the file
 pub fn unheld(fault: LockFault, name: &str) -> Fault<'_>
     ensures { IsNotLocked fault name.now result }
 {

@@ -5,7 +5,7 @@
 //!
 //! - `answers.rt`: the result of a job
 //! - `calls.rt`: the calls to the engine that both programs make, with their files
-//! - `messages.rt`: the faults that end a run with status 1, and their texts
+//! - `messages.rt`: the faults that end a run with exit status 1, and their texts
 //! - `escapes.rt`: file names with their control characters escaped
 //! - `printing.rt`: prints answers, help and faults
 //! - `files.rt`: reads, locks and creates the files of a job, and makes the faults of files
@@ -13,8 +13,9 @@
 //! - `roles.rt`: the files that a task names, and the check that two names refer to two files
 //! - `streams.rt`: keeps the descriptors 0, 1 and 2 open, and prints by lines
 //!
-//! `specs/AnswerLines.antt` and `specs/FaultLines.antt` define each printed line, `specs/Files.antt` the faults of
-//! files, `specs/Readings.antt` and `specs/Sessions.antt` the results of the calls.
+//! `specs/AnswerLines.antt` and `specs/FaultLines.antt` define each line that this crate prints, except those of the
+//! argument parser. `specs/Files.antt` defines the faults of files, `specs/Readings.antt` and `specs/Sessions.antt` the
+//! results of the calls.
 #![tactic(auto)]
 
 mod answers;

@@ -1,4 +1,4 @@
-//! The faults that end a run with status 1, and their texts.
+//! The faults that end a run with exit status 1, and their texts.
 ghost use Rattle.std.specs.Prelude.{◌≡◌, Some};
 ghost use Rattle.nor_lines.specs.Messages.{IsReportedAs};
 
@@ -15,7 +15,8 @@ use std::{fmt, io};
 pub enum FileFault {
     /// The file is missing, can't be looked up or read, or is a layout of more than 16 MiB.
     Read = 1,
-    /// The file can't be created, truncated, locked, written or synced, or it is the trace and lost a line.
+    /// The file can't be created, truncated, locked, written or synced, its directory can't be synced, or it is the
+    /// trace and lost a line.
     Write,
     /// The file with the chip's bytes has another length than the chip, or the status file does not have two bytes.
     Length,
@@ -28,7 +29,7 @@ pub enum FileFault {
 impl FileFault {
     ghost use Rattle.nor_lines.specs.Messages.{file_number};
 
-    /// Returns the number that its message contains.
+    /// Returns the number of this file fault, which its message contains.
     pub fn number(self) -> u8
         ensures { result ≡ file_number self }
     {
@@ -36,8 +37,8 @@ impl FileFault {
     }
 }
 
-/// The fault that ends a run with status 1, displayed as its text on standard error. A request for help is a fault of
-/// the arguments, too, but is printed to standard output, and does not set status 1.
+/// The fault that ends a run with exit status 1, displayed as its text on standard error. A request for help is a fault
+/// of the arguments, too, but the help is printed to standard output, and the exit status is 0 if that succeeds.
 #[derive(Drop)]
 pub enum Fault<'a> {
     /// A fault of the arguments, or a request for help.
@@ -56,7 +57,8 @@ pub enum Fault<'a> {
 impl Fault<'_> {
     ghost use Rattle.nor_lines.specs.Messages.{IsOfArguments};
 
-    /// Returns the fault of arguments that could not be collected: out of memory, or not UTF-8.
+    /// Returns the fault of arguments that could not be collected: usage fault 10 if memory ran out, or `NoText` for
+    /// any other error.
     pub fn of_words(error: &io::Error) -> Fault<'static>
         ensures { IsOfArguments error.now result }
     {
@@ -98,7 +100,7 @@ impl From<AllocError> for Fault<'_> {
     }
 }
 
-// Not derived, because a derived `Display` has no contract.
+// This `Display` is written by hand, because a derived one has no contract.
 impl fmt::Display for Fault<'_> {
     ghost use Rattle.nor_lines.specs.FaultLines.{text_of};
 
@@ -122,7 +124,7 @@ impl fmt::Display for Fault<'_> {
     }
 }
 
-// The part of a message that names the layout's line with the fault, if the fault is in one line.
+// The part of a message that names the layout's line with the fault. The part is empty if the fault isn't in one line.
 #[derive(Drop)]
 struct Place(Option<usize>);
 

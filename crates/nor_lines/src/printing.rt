@@ -18,7 +18,8 @@ use nor_words::UsageFault;
 use std::io::Write;
 use std::{fmt, io};
 
-/// Returns the parser's text if the fault is a request for help.
+/// Returns the parser's error, which contains the help, if the fault is a request for help. Returns `None` for any
+/// other fault.
 pub fn help_of<'a>(fault: &'a Fault<'_>) -> Option<&'a WordsError>
     ensures some { IsSome result → IsAnswered (Err fault.now) }
     ensures none { IsNone result → IsAnswered (Err fault.now) → ⊥ }
@@ -31,13 +32,14 @@ pub fn help_of<'a>(fault: &'a Fault<'_>) -> Option<&'a WordsError>
     }
 }
 
-/// Prints the parser's help.
+/// Prints the parser's help and flushes the writer.
 pub fn print_help<W: Write>(output: &mut W, help: &WordsError) -> io::Result<()> {
     write!(output, "{help}")?;
     output.flush()
 }
 
-/// Prints the answer of a job.
+/// Prints the lines of the answer of a job and flushes the writer. If this fails, a prefix of the lines may have been
+/// printed.
 pub fn print_answer<W: Write>(output: &mut W, answer: Answer) -> io::Result<()>
     ensures { OnOk result (Prints (AreLines answer) (W.contents output.old) (W.contents output.new)) }
 {
@@ -61,7 +63,7 @@ fn print_lines<W: Write>(output: &mut W, answer: Answer) -> io::Result<()>
     }
 }
 
-// Prints the table of chips, and the name of those known by their SFDP only.
+// Prints the table of chips, and `SFDP`, the name of all chips known only by their SFDP.
 #[tactic(auto, using(crate::proofs::Printed::appends_then))]
 fn print_chips<W: Write>(output: &mut W) -> io::Result<()>
     ensures { OnOk result (Appends (W.contents output.old) (W.contents output.new) chip_lines) }
@@ -235,7 +237,7 @@ impl fmt::Display for Digits {
     }
 }
 
-/// Prints the line of a fault. Returns whether it was printed.
+/// Prints the text of a fault and a line feed. Returns true if the writer reported no failure.
 pub fn print_fault<W: Write>(errors: &mut W, fault: &Fault<'_>) -> bool
     ensures { IsTrue result → IfSome (line_of fault.now) (Appends (W.contents errors.old) (W.contents errors.new)) }
 {

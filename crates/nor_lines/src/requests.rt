@@ -11,12 +11,14 @@ use nor_session::{Request, What};
 use nor_words::{Change, Regions, Wanted};
 use std::alloc::Global;
 
-/// Returns the addresses of the named regions, or `None` if no regions are given. Reads the layout from its file.
+/// Reads the layout from its file, and returns the addresses of the named regions. If no regions are given, returns
+/// `None` and reads no file.
 ///
 /// Returns one of these faults:
 ///
-/// - file fault 1 if the file can't be read, or has more than 16 MiB
-/// - a layout fault if the layout or the names of the regions are wrong, or if memory runs out while they are parsed
+/// - file fault 1 if the file is missing, can't be read, or has more than 16 MiB
+/// - a layout fault if the layout or the names of the regions are wrong, or if memory runs out while the layout is
+///   parsed
 /// - error 18 if memory runs out while the file is read
 pub fn read_included<'a, R: Store>(
     rt: &R,
@@ -37,7 +39,7 @@ pub fn read_included<'a, R: Store>(
     Ok(Some(included))
 }
 
-// Returns the addresses of the named regions of a layout.
+// Parses `text` as a layout, and returns the addresses of its regions with the comma-separated `names`.
 #[tactic(auto, using(crate::proofs::Included::is_unread, crate::proofs::Included::is_unknown))]
 fn included_in(alloc: Global, text: &[u8], names: &str) -> Result<Ranges, LayoutFault>
     ensures ok { IfOk result (AreIncluded text.now names.now) }
@@ -46,8 +48,8 @@ fn included_in(alloc: Global, text: &[u8], names: &str) -> Result<Ranges, Layout
     Layout::read(alloc, text)?.include(names)
 }
 
-/// Returns the request of a change. `named` is the name that the chip must have, and `included` has the addresses that
-/// may change; `None` means any chip, or the whole chip.
+/// Returns the request of a change. `named` is the name that the chip must have, or `None` for any chip. `included` has
+/// the addresses whose bytes may change, or is `None` for the whole chip.
 pub fn request_for(
     change: &Change<'_>,
     named: Option<ChipName>,

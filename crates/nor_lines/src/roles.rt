@@ -18,7 +18,7 @@ pub struct Named<'a> {
     pub wanted: Option<&'a str>,
     /// The file that the chip is read into.
     pub output: Option<&'a str>,
-    /// The journal of a change, or to restore from.
+    /// The journal that a change writes, or that a restore reads.
     pub journal: Option<&'a str>,
 }
 
@@ -88,7 +88,8 @@ pub fn journal_of<'a>(change: &Change<'a>) -> Option<&'a str>
 
 /// Checks that two names refer to two files, if both are given.
 ///
-/// Returns file fault 5 with the later name if they refer to one file, or file fault 1 if a name can't be looked up.
+/// Returns file fault 5 with the later name if they refer to one file, or file fault 1 with a name that can't be looked
+/// up.
 pub fn apart<'a, R: Store>(
     rt: &R,
     earlier: Option<&'a str>,
@@ -107,9 +108,9 @@ pub fn apart<'a, R: Store>(
     }
 }
 
-/// Checks that the program does not print to this file, if one is named.
+/// Checks that the named file, if one is named, is no regular file to which the program prints.
 ///
-/// Returns file fault 5 if it does, or file fault 1 if the name can't be looked up.
+/// Returns file fault 5 if it is, or file fault 1 if the name can't be looked up.
 pub fn unprinted<'a, R: Store>(rt: &R, name: Option<&'a str>) -> Result<(), Fault<'a>>
     ensures { IfErr result (FailsUnprinted (R.state rt.now).view.nature name.entry) }
 {

@@ -21,8 +21,10 @@ pub struct Streams<F> {
 
 /// Opens a directory three times. Call this function before any other file is opened.
 ///
-/// Each of the descriptors 0, 1 and 2 that was closed then refers to the directory, and printing to it fails. Otherwise
-/// the next file opened would get that descriptor, and printed lines would overwrite its first bytes.
+/// Each of the descriptors 0, 1 and 2 that was closed then refers to the directory, and printing to it fails. Without
+/// this call the next file opened would get that descriptor, and printed lines would overwrite its first bytes.
+///
+/// Returns an error if the directory can't be opened.
 pub fn keep_streams<R: Files>(files: &R) -> io::Result<Streams<R::File>> {
     Ok(Streams {
         _input: fs::open(files, DIRECTORY)?,

@@ -1,4 +1,4 @@
--- Lemmas for callers about protected addresses and erase blocks of a chip.
+-- Protected addresses and erase blocks of a chip: lemmas for the crates that use this one.
 use Rattle.std.proofs.Common.{◌≡◌, ℕ, ◌*◌, ◌/◌, ◌<◌, ◌≤◌, inl, arith, refl, sym, ◌∙◌}
 use Rattle.std.specs.Prelude.{Bool, true, false, ◌&&◌}
 use Rattle.std.proofs.Math.Bool.{and-false}
@@ -21,7 +21,7 @@ is_protected-end chip =
     with_scheme chip.config.scheme chip.config.size (protected_by chip.config.size (code_of chip.kept))
     (protected_by-end chip.config.size (code_of chip.kept) (sized_bounds chip.config))
 
--- If neither the first nor the last address of a sector is protected, no address of the sector is.
+-- If the first and the last address of a sector of the chip are unprotected, each address of the sector is unprotected.
 pub is_protected-sector : (chip : Chip) (a : ℕ) → a < chip.config.size
     → is_block_protected chip (4096 * (a / 4096)) 4096 ≡ false → is_protected chip a ≡ false
 is_protected-sector chip a below free =

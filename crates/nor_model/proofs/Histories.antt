@@ -10,7 +10,6 @@ use Rattle.nor_model.specs.History.{Continues, KeepsReplies, Answered, last_repl
 pub continues_refl : (history : List Exchange) → Continues history history
 continues_refl history = record { later = []; is = refl }
 
--- a history goes on by one transaction
 pub continues_by : {exchange : Exchange} {old new : List Exchange} → new ≡ exchange ∷ old → Continues old new
 continues_by {exchange} is = record { later = exchange ∷ []; is = is }
 
@@ -29,7 +28,7 @@ pub keeps_replies_then : {may : List ℕ → Bool} {old mid new : List Exchange}
     → KeepsReplies may mid new → KeepsReplies may old new
 keeps_replies_then first second = record { same = λ is others. second.same is others ∙ first.same is others }
 
--- one transaction that passes the test `may`
+-- one later transaction that satisfies `may` keeps the replies (`KeepsReplies`)
 pub keeps_replies_by : {may : List ℕ → Bool} {exchange : Exchange} {old new : List Exchange}
     → new ≡ exchange ∷ old → may exchange.out ≡ true → KeepsReplies may old new
 keeps_replies_by {may} {exchange} {old} {new} by passes = record {
@@ -37,7 +36,7 @@ keeps_replies_by {may} {exchange} {old} {new} by passes = record {
       ∙ ap (λ (b : Bool). if b then bytes_or_none exchange.reply else last_reply is old) (others exchange.out passes);
 }
 
--- `may` can be replaced by a test `might` that more transactions pass
+-- `may` can be replaced by a test `might` that is true for each transaction for which `may` is true
 pub keeps_replies_less : {may might : List ℕ → Bool} {old new : List Exchange} → KeepsReplies may old new
     → ((out : List ℕ) → may out ≡ true → might out ≡ true) → KeepsReplies might old new
 keeps_replies_less keeps less = record { same = λ is others. keeps.same is (λ out passes. others out (less out passes)) }
@@ -48,7 +47,7 @@ pub answered_keeps : {is : List ℕ → Bool} {old new : List Exchange} {reply :
     → KeepsReplies is old new
 answered_keeps answered = keeps_replies_by answered.history answered.asks
 
--- the reply to this transaction is the last reply to those that satisfy the test
+-- after the transaction of `Answered`, the last reply to a transaction that satisfies `is` is `reply`
 pub answered_last : {is : List ℕ → Bool} {old new : List Exchange} {reply : List ℕ} → Answered is old new reply
     → last_reply is new ≡ reply
 answered_last {is} {old} {new} {reply} answered =

@@ -27,8 +27,8 @@ alike-protects size code start len start' len' protects protects' =
     let end = protects (start' + len' - 1) in let end' = protects' (start' + len' - 1) in
     grind (arith, first, first', last, last', begin, begin', end, end')
 
--- If `code` protects a range and is the least code of some range, a search for the least code of the protected range
--- finds `code`.
+-- `found` is the result of a search for the least code of a range that `code` protects exactly. If `code` is the least
+-- code of some range, then `found` is `code`.
 pub least_found : (size code start len start' len' : ℕ) (found : Option ℕ) → IfSome found (IsLeastCode size start' len')
     → IfNone found (IsNotOffered size start' len') → ProtectsExactly size code start' len'
     → IsLeastCode size start len code
@@ -43,7 +43,8 @@ least_found size code start len start' len' (Some other) least none there is_lea
       | inr (inr above) ↦ absurd (least.least code above is_least.defined there)
     ]
 
--- the first address of the range that a code protects, if that range is not empty
+-- If the protected range isn't empty, its first address as `start_of` (`src/guard.rt`) returns it is the one that
+-- `ArePlaces` states.
 pub starts : (size len : ℕ) (complement bottom : Bool) → 0 < len
     → (if not (beq bottom complement) || len == 0 then 0 else size - len)
     ≡ (if complement then (if bottom then size - len else 0) else (if bottom then 0 else size - len))

@@ -14,7 +14,7 @@ nature_refl state = record {
   allowances = refl;
 }
 
--- one transaction
+-- a transaction that is added to the history, and keeps the nature and the allowances, satisfies `KeepsNature`
 pub nature_by : {old new : BusState} {exchange : Exchange} → SameNature old new → new.history ≡ exchange ∷ old.history
     → new.allowances ≡ old.allowances → KeepsNature old new
 nature_by same history allowances = record {

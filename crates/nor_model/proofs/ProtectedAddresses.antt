@@ -1,4 +1,4 @@
--- Protected addresses are at one end of the chip, and their range has whole KiB.
+-- The protected addresses are at one end of a chip of an allowed size, and their range begins and ends at whole KiB.
 use Rattle.std.proofs.Common.{◌≡◌, ℕ, zero, suc, ◌+◌, ◌-◌, ◌*◌, ◌/◌, ◌%◌, ◌^◌, ◌<◌, ◌≤◌, ◌⊎◌, inl, inr, arith, refl}
 use Rattle.std.proofs.Common.{◌∙◌}
 use Rattle.std.specs.Prelude.{Bool, true, false, not, ◌==◌, ◌&&◌, ◌||◌, ◌↔◌, nat_lt, nat_le, if◌then◌else◌}
@@ -15,7 +15,8 @@ pub record IsPart (size n : ℕ) : Type 0 where
   pub whole : n % 1024 ≡ 0
   pub sectors : size % 262144 ≡ 0 → n % 4096 ≡ 0
 
--- `named_length` for each value of the three BP bits; the first two clauses split the cases
+-- For a size that is a multiple of 64 KiB and at least that, the length that `named_length` returns satisfies `IsPart`.
+-- The first two equations are for `bp` 7, the third one is for all lesser values.
 part_of : (size : ℕ) (sectors : Bool) (bp : ℕ) → 65536 ≤ size → size % 65536 ≡ 0 → bp < 8
     → IsPart size (if bp == 0 then 0 else if bp == 7 then size else if not sectors then size / 2 ^ (7 - bp)
     else if bp == 1 then 4096 else if bp == 2 then 8192 else if bp == 3 then 16384 else 32768)
@@ -23,14 +24,16 @@ part_of size true (suc (suc (suc (suc (suc (suc (suc zero))))))) large blocks sm
 part_of size false (suc (suc (suc (suc (suc (suc (suc zero))))))) large blocks small = omega arith
 part_of size _ _ large blocks small = omega arith
 
--- the length of the selected range fits `IsPart`, and so does the length of the rest of the chip
+-- on a chip of an allowed size (`IsInBlocks`), the length of the selected range satisfies `IsPart`, and so does the
+-- length of the rest of the chip (`part-rest`)
 named_length-part : (size code : ℕ) → IsInBlocks size → IsPart size (named_length size code)
 named_length-part size code are = part_of size (names_sectors code) (bp_of code) are.large are.blocks (omega arith)
 
 part-rest : (size n : ℕ) → size % 65536 ≡ 0 → IsPart size n → IsPart size (size - n)
 part-rest size n blocks part = grind arith
 
--- the test that `protected_by` makes of an address, given the parts of the code
+-- the test that `protected_by` makes of an address, given the length `named` of the selected range and the parts of the
+-- code
 place_test : ℕ → ℕ → Bool → Bool → Bool → ℕ → Bool
 place_test size named undefined complement bottom a =
     let is_named = if bottom then nat_lt a named else nat_le (size - named) a in
@@ -62,7 +65,8 @@ place_test-end size named false false true blocks part =
 place_test-end size named false false false blocks part =
     ends_at (size - named) (part-rest size named blocks part) (inr (λ a below. rw (lt-ltb a size below) refl))
 
--- The addresses that a code protects are the first or the last ones of the chip, in whole KiB.
+-- On a chip of an allowed size (`IsInBlocks`), the addresses that a code protects are the first or the last ones of the
+-- chip, and the border is at a whole KiB.
 pub protected_by-end : (size code : ℕ) → IsInBlocks size → LieAtAnEnd size (protected_by size code)
 unfolding protected_by place_test
 protected_by-end size code are =
@@ -84,7 +88,8 @@ alike size test a b ends below_a below_b page =
       | inr last ↦ grind (arith, nat_tests, last a below_a, last b below_b)
     ]
 
--- if a test that holds at one end of the chip holds at some address of a range, it holds at its first or last address
+-- `test` holds exactly in a range at one end of the chip (`LieAtAnEnd`). If it holds at some address of another range
+-- on the chip, it holds at the first or the last address of that other range.
 pub at_borders : (size : ℕ) (test : ℕ → Bool) (start len a : ℕ) → LieAtAnEnd size test → start + len ≤ size → start ≤ a
     → a < start + len → test a ≡ true → (test start || test (start + len - 1)) ≡ true
 at_borders size test start len a ends fits from before holds = elim ends.side [
@@ -92,7 +97,8 @@ at_borders size test start len a ends fits from before holds = elim ends.side [
   | inr last ↦ grind (arith, nat_tests, last a (omega arith), last (start + len - 1) (omega arith))
 ]
 
--- An address of the chip is protected if and only if some address of its page is.
+-- On a chip of an allowed size (`IsInBlocks`), a code protects an address of the chip if and only if it protects some
+-- address of the same page.
 pub protected_by-page_of : (size code at : ℕ) → IsInBlocks size → at < size
     → (protected_by size code at ≡ true) ↔ HoldsSomewhere (protected_by size code) (at / 256 * 256) 256
 protected_by-page_of size code at are below = (
@@ -102,7 +108,8 @@ protected_by-page_of size code at are below = (
       (omega arith) (omega arith) ∙ there.holds),
 )
 
--- the range that a defined code protects, by its start and length
+-- The start and the length of the range that a defined code protects; the start of an empty range is not stated.
+-- `named` is the length of the selected range.
 pub record ArePlaces (size named : ℕ) (complement bottom : Bool) (start len : ℕ) : Type 0 where
   pub len_is : len ≡ (if complement then size - named else named)
   pub start_is : 0 < len
@@ -115,7 +122,7 @@ unfolding place_test
 place_test-exactly size named complement bottom start len within are a =
     let long = are.len_is in let begin = are.start_is in grind (arith, nat_tests)
 
--- A defined code protects exactly the range that `ArePlaces` describes.
+-- On a chip of an allowed size (`IsInBlocks`), a defined code protects exactly the range that `ArePlaces` describes.
 pub guards_places : (size code start len : ℕ) → IsInBlocks size → is_undefined code ≡ false
     → ArePlaces size (named_length size code) (is_complement code) (is_bottom code) start len
     → ProtectsExactly size code start len

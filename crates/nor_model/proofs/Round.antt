@@ -6,20 +6,22 @@ use Rattle.std.proofs.Math.ListN.{get_or-eq_default}
 use Rattle.std.proofs.lemmas.Bool.{cases_lt}
 use Rattle.std.specs.Prelude.{slice_index}
 
--- `done` steps after `at` the address is `from`; each later address before the end follows without wrapping around
+-- The address `done` places after `at`, modulo `n`, is `from`. Then the address `i` places after `at` is
+-- `from + (i - done)`, if `i` is at least `done` and that sum is below `n`.
 pub run_on : (at done i from n : ℕ) → (at + done) % n ≡ from → done ≤ i → from + (i - done) < n
     → (at + i) % n ≡ from + (i - done)
 run_on at done i from n place behind small =
     let split : at + i ≡ (from + (i - done)) + n * ((at + done) / n) = omega (arith, mod-add-div (at + done) n) in
     rw (split, add-mul-mod_self_left) (mod-eq_of_lt small)
 
--- after the last address comes address 0
+-- The address `done` places after `at`, modulo `n`, is `from`. Then the address `n - from` places after that is 0.
 pub run_round : (at done from n : ℕ) → (at + done) % n ≡ from → from < n → (at + (done + (n - from))) % n ≡ 0
 run_round at done from n place within =
     let split : at + (done + (n - from)) ≡ 0 + n * ((at + done) / n + 1) = omega (arith, mod-add-div (at + done) n) in
     rw (split, add-mul-mod_self_left) (mod-eq_of_lt (omega arith))
 
--- a write to a part of a list: the bytes before the part are as they were, and the part holds what was written
+-- `ys` is written to the list `xs` at index `a`: the items before `a` are as they were, and the next ones are those of
+-- `ys`.
 pub written_before : (a : ℕ) (xs ys zs : List ℕ) (i : ℕ) → a ≤ length xs → i < a
     → slice_index (take a xs ++ (ys ++ zs)) i ≡ slice_index xs i
 written_before a xs ys zs i fits before =

@@ -6,7 +6,7 @@ pub use Rattle.nor_geometry.proofs.Sizes.{is_chip_size-power_of_two, is_power_of
 use Rattle.nor_geometry.proofs.Below.{same_tests}
 use Rattle.nor_model.specs.declared.config.Config.{Config}
 
--- two tests that imply each other are equal
+-- two truth values that imply each other are equal
 pub alike : (one other : Bool) → (one ≡ true → other ≡ true) → (other ≡ true → one ≡ true) → one ≡ other
 alike = same_tests
 

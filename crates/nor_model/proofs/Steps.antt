@@ -1,4 +1,4 @@
--- The command that the chip carries out at a transaction doesn't depend on the chip's bytes.
+-- The command that the chip carries out at a transaction depends neither on the chip's bytes nor on `running`.
 use Rattle.std.proofs.Common.{◌≡◌, ℕ, List, [], refl, arith}
 use Rattle.nor_model.specs.declared.command.Command.{Command}
 use Rattle.nor_model.specs.declared.command.Command.TheVariants.{Poll}
@@ -14,15 +14,14 @@ pub record Agrees (x y : Chip) : Type 0 where
   pub latch : y.latch ≡ x.latch
   pub busy : y.busy ≡ x.busy
 
--- whether a command is carried out doesn't depend on the bytes
 carried-agrees : (x y : Chip) (command : Command) → Agrees x y → is_carried_out y command ≡ is_carried_out x command
 carried-agrees x y Poll same = refl
 carried-agrees x y _ same = cc
 
--- the command that the chip carries out doesn't depend on the bytes
 pub done-agrees : (x y : Chip) (out : List ℕ) (replies : ℕ) → Agrees x y → done_of y out replies ≡ done_of x out replies
 done-agrees x y out replies same = cc (carried-agrees x y (command_of y.config out replies) same)
 
--- a transaction of which no byte is sent leaves the chip as it was
+-- If no byte is sent or received, a chip that stays as it was has made one step. A bus that stops before the first byte
+-- satisfies `AtStop` by this.
 pub nothing_sent : (chip : Chip) → Step chip [] [] chip
 nothing_sent chip = search arith

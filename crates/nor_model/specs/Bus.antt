@@ -24,13 +24,14 @@ pub record BusState : Type 0 where
   pub sent : Sent
   -- the allowances that were set, the last one first
   pub allowances : List ℕ
-  -- the sectors that were erased
+  -- the sectors that the chip erased so far, over this bus
   pub worn : ℕ → Bool
-  -- a stop of the honest bus sends no byte of its transaction and keeps the chip's power, so the chip stays as it was
+  -- if the bus is honest: a stop sends no byte of its transaction and keeps the chip's power, so the chip stays as it
+  -- was
   pub steady : Bool
-  -- the bus takes transactions of any length
+  -- if the bus is honest: it takes transactions of any length
   pub unlimited : Bool
-  -- the last poll that received a reply showed that the chip is ready
+  -- the last poll that received at least one reply byte showed that the chip is ready
   pub polled_ready : Bool
 
 -- A bus is honest, steady or unlimited after a call if and only if it was so before the call. On an honest bus the
@@ -41,8 +42,9 @@ pub record SameNature (old new : BusState) : Type 0 where
   pub unlimited : new.unlimited ≡ old.unlimited
   pub config : old.honest ≡ true → new.chip.config ≡ old.chip.config
 
--- On every bus, after any number of transactions: the bus has the same nature as before (`SameNature`), its history
--- continues the earlier one, and no allowance was set.
+-- The bus is honest, steady or unlimited if and only if it was so before, and an honest bus has a chip with the same
+-- configuration as before (`SameNature`). The history continues the earlier one, and no allowance was set. Transactions
+-- keep all that on every bus.
 pub record KeepsNature (old new : BusState) : Type 0 where
   pub honest : new.honest ≡ old.honest
   pub steady : new.steady ≡ old.steady
@@ -57,9 +59,10 @@ pub record IsHonestFor (out : List ℕ) (replies : ℕ) (bus : BusState) : Type 
   pub honest : bus.honest ≡ true
   pub fits : (bus.unlimited ≡ true) ⊎ ((length out ≤ 260) × (replies ≤ 4096))
 
--- The effect of a transaction on what every bus records. The transaction is added to the history with its reply and, if
--- it may modify a chip, to what was sent. The allowances stay as they were. If the transaction succeeded,
--- `polled_ready` follows its reply; if the bus stopped, `polled_ready` stays as it was.
+-- The effect of a transaction on what every bus records. The transaction is added to the history, with its reply or as
+-- one at which the bus stopped. Its bytes are added to `sent`, unless there are none or they begin with a quiet opcode.
+-- The allowances stay as they were. After a poll that received at least one reply byte, `polled_ready` follows the last
+-- of these bytes; otherwise it stays as it was.
 pub record Records (out answer : List ℕ) (outcome : Result Unit Stopped) (old new : BusState) : Type 0 where
   pub history : new.history ≡ exchange_of out answer outcome ∷ old.history
   pub sent : new.sent ≡ with_sent out old.sent
@@ -69,8 +72,8 @@ pub record Records (out answer : List ℕ) (outcome : Result Unit Stopped) (old 
 
 -- The effect of a stop. The first `count` bytes of the transaction were sent (none, some or all). The bytes `read` of
 -- the reply were read and are lost: none, some or all, and the definition also allows more than were asked for. The
--- chip made the step that these bytes ask for, and then lost its power or kept it. On a steady bus no byte was sent and
--- the chip is as it was.
+-- chip made the step that these bytes ask for, and then lost its power or kept it. The sectors that this step erased
+-- are recorded. On a steady bus no byte was sent and the chip is as it was.
 pub record AtStop (out : List ℕ) (old new : BusState) : Type 0 where
   pub count : ℕ
   pub read : List ℕ
@@ -94,8 +97,8 @@ pub record Carries (out answer : List ℕ) (old new : BusState) : Type 0 where
   pub step : Step old.chip out answer new.chip
   pub worn : (s : ℕ) → new.worn s ≡ (old.worn s || wears (done_of old.chip out (length answer)) s)
 
--- The effect of `allow`: `n` transactions are left if the bus is honest, and the allowance is recorded. Nothing else
--- changed.
+-- The effect of `allow`. If the bus is honest, `n` transactions are left; on any other bus the number left is not
+-- stated. The allowance is recorded, and nothing else changed.
 pub record Allows (n : ℕ) (old new : BusState) : Type 0 where
   pub chip : new.chip ≡ old.chip
   pub left : old.honest ≡ true → new.left ≡ n
@@ -125,8 +128,8 @@ unknown_chip = record {
   running = Unknown;
 }
 
--- The state of a bus to a chip outside the model: only its history is known. The bus isn't honest, so nothing is
--- claimed about its chip.
+-- The state of a bus to a chip outside the model. Only its history is known, and what follows from it (`sent`,
+-- `polled_ready`). The bus isn't honest, so nothing is claimed about its chip. No allowance is recorded.
 abbrev pub unknown_bus : List Exchange → BusState
 unknown_bus history = record {
   chip = unknown_chip;

@@ -10,12 +10,12 @@ pub record KeptBits : Type 0 where
   -- bits 0 to 6 of status 2: SRP1, QE, a reserved bit, LB1, LB2, LB3, CMP
   pub two : ℕ
 
--- the non-volatile bits of two status bytes
+-- the non-volatile bits in the two bytes `status`, status 1 first
 abbrev pub kept_in : (status : List ℕ) → KeptBits
 kept_in status = record { one = slice_index status 0 / 4; two = slice_index status 1 % 128 }
 
--- The state of a chip. Every combination of values is a chip, for example a busy chip with its latch clear. (W25Q64FV
--- and W25Q128FV datasheets, status registers.)
+-- The state of a chip. The type allows every combination of values, even a busy chip with its latch clear; `IsChip`
+-- limits the ranges. (W25Q64FV and W25Q128FV datasheets, status registers.)
 pub record Chip : Type 0 where
   -- the properties that never change
   pub config : Config
@@ -30,7 +30,8 @@ pub record Chip : Type 0 where
   -- the operation in progress; it matters only while the chip is busy
   pub running : Running
 
--- The ranges of values that hold for every chip that an honest bus reaches.
+-- The values are in range: `busy`, the non-volatile bits and each byte. Every bus must ensure that for its chip while
+-- it is honest (`reaches` in `src/bus.rt`).
 pub record IsChip (chip : Chip) : Type 0 where
   pub busy : chip.busy < 65536
   pub kept1 : chip.kept.one < 64
@@ -49,7 +50,8 @@ status2_of chip = chip.kept.two
 abbrev pub status_of : Chip → List ℕ
 status_of chip = status1_of chip ∷ status2_of chip ∷ []
 
--- SRP0 or SRP1 is set, so status writes are ignored. For SRP0 this assumes the worst case, that the WP# pin is low.
+-- True if SRP0 or SRP1 is set: the chip then ignores status writes. A real chip with only SRP0 set ignores them only
+-- while its WP# pin is low; the model assumes that this pin is low.
 abbrev pub is_locked : KeptBits → Bool
 is_locked kept = kept.one / 32 % 2 == 1 || kept.two % 2 == 1
 

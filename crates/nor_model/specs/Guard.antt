@@ -19,11 +19,12 @@ is_bottom code = code / 8 % 2 == 1
 abbrev pub names_sectors : (code : ℕ) → Bool
 names_sectors code = code / 16 % 2 == 1
 
--- true if CMP is set: all addresses outside the selected range are protected
+-- true if CMP is set: the protected addresses are those outside the selected range, if the code is defined
 abbrev pub is_complement : (code : ℕ) → Bool
 is_complement code = code / 32 % 2 == 1
 
--- true for SEC with BP 110, which the datasheets don't define; the model then protects all addresses
+-- true for SEC with BP 110, with CMP and TB set or clear, which the datasheets don't define; the model then protects
+-- all addresses
 abbrev pub is_undefined : (code : ℕ) → Bool
 is_undefined code = names_sectors code && bp_of code == 6
 
@@ -40,7 +41,7 @@ named_length size code =
     else if bp_of code == 3 then 16384
     else 32768
 
--- the address `a` is in the selected range, at the start of the chip or at its end
+-- true if the address `a` is in the selected range; at the end of the chip that includes addresses past the end
 abbrev pub is_address_named : (size code a : ℕ) → Bool
 is_address_named size code a =
     if is_bottom code then nat_lt a (named_length size code) else nat_le (size - named_length size code) a
@@ -53,11 +54,12 @@ protected_by size code a =
     && (is_undefined code
     || (if is_complement code then not (is_address_named size code a) else is_address_named size code a))
 
--- the address `a` of this chip is protected; on a chip without block protection none is
+-- true if the address `a` of this chip is protected; always false on a chip without block protection
 abbrev pub is_protected : Chip → (a : ℕ) → Bool
 is_protected chip a = chip.config.scheme && protected_by chip.config.size (code_of chip.kept) a
 
--- An address from `start` to `start + len - 1` is protected. Only the first and the last address are tested, because
--- the protected addresses are at one end of the chip.
+-- True if the first or the last address of the `len` bytes from `start` is protected. For a range on the chip that
+-- isn't empty, that is so if and only if some address in it is protected, because the protected addresses are at one
+-- end of the chip.
 abbrev pub is_block_protected : Chip → (start len : ℕ) → Bool
 is_block_protected chip start len = is_protected chip start || is_protected chip (start + len - 1)

@@ -5,20 +5,20 @@ use Rattle.nor_model.specs.declared.bus.Stopped.{Stopped}
 use Rattle.nor_model.specs.declared.history.Event.{Event}
 use Rattle.nor_model.specs.declared.history.Event.TheVariants as event
 
--- a transaction that succeeded
+-- a transaction that sent `out` and received `reply`
 abbrev pub replied : (out reply : List ℕ) → Exchange
 replied out reply = record { out = out; reply = Some reply }
 
--- a transaction at which the bus stopped
+-- a transaction that sends `out`, at which the bus stopped
 abbrev pub stopped : (out : List ℕ) → Exchange
 stopped out = record { out = out; reply = None }
 
--- a transaction with this result
+-- a transaction that sends `out`: with the reply `answer` if it succeeded, otherwise one at which the bus stopped
 abbrev pub exchange_of : (out answer : List ℕ) → Result Unit Stopped → Exchange
 exchange_of out answer (Ok done) = replied out answer
 exchange_of out answer (Err stop) = stopped out
 
--- the history after an event
+-- the history after an event; an allowance adds no transaction
 abbrev pub exchanges_with : Event → List Exchange → List Exchange
 exchanges_with (event.Replied out reply) earlier = replied out.now reply.now ∷ earlier
 exchanges_with (event.Stopped out) earlier = stopped out.now ∷ earlier
@@ -29,19 +29,19 @@ abbrev pub allowances_with : Event → List ℕ → List ℕ
 allowances_with (event.Allowed n) earlier = n ∷ earlier
 allowances_with _ earlier = earlier
 
--- The history `new` continues `old`: it has the same earlier transactions.
+-- The history `new` is `old`, or `old` with later transactions in front of it.
 pub record Continues (old new : List Exchange) : Type 0 where
-  -- the later transactions
+  -- the later transactions, the last one first
   pub later : List Exchange
   pub is : new ≡ later ++ old
 
--- the bytes of a reply, or no bytes
+-- the bytes of a reply; no bytes if there is no reply, because the bus stopped
 abbrev pub bytes_or_none : Option (List ℕ) → List ℕ
 bytes_or_none (Some bytes) = bytes
 bytes_or_none None = []
 
--- the reply to the last transaction whose sent bytes satisfy the test; empty if there is none, or if the bus stopped at
--- it
+-- the reply to the last transaction whose sent bytes satisfy the test; empty if no transaction satisfies the test, or
+-- if the bus stopped at the last one that does
 abbrev pub last_reply : (is : List ℕ → Bool) → List Exchange → List ℕ
 last_reply is [] = []
 last_reply is (exchange ∷ earlier) = if is exchange.out then bytes_or_none exchange.reply else last_reply is earlier
@@ -56,13 +56,14 @@ abbrev pub names : (opcode address : ℕ) → (out : List ℕ) → Bool
 names opcode address (first ∷ x ∷ y ∷ z ∷ rest) = first == opcode && 65536 * x + 256 * y + z == address
 names opcode address _ = false
 
--- If no transaction that satisfies `may` satisfies a test `is`, the last reply to a transaction that satisfies `is` is
--- the same in both histories.
+-- For each test `is` that is false for every transaction that satisfies `may`: the last reply to a transaction that
+-- satisfies `is` is the same in both histories.
 pub record KeepsReplies (may : List ℕ → Bool) (old new : List Exchange) : Type 0 where
   pub same : (is : List ℕ → Bool) → ((out : List ℕ) → may out ≡ true → is out ≡ false)
       → last_reply is new ≡ last_reply is old
 
--- One transaction, whose sent bytes satisfy the test, received this reply.
+-- The history `new` is `old` with one later transaction: it sent bytes that satisfy the test `is`, and received
+-- `reply`.
 pub record Answered (is : List ℕ → Bool) (old new : List Exchange) (reply : List ℕ) : Type 0 where
   pub out : List ℕ
   pub asks : is out ≡ true
@@ -76,15 +77,15 @@ pub record EndsStopped (history : List Exchange) : Type 0 where
   pub earlier : List Exchange
   pub is : history ≡ stopped out ∷ earlier
 
--- The last transaction was a poll that showed BUSY.
+-- The last transaction was a poll, and its one reply byte showed BUSY.
 pub record EndsBusy (history : List Exchange) : Type 0 where
   pub status : ℕ
   pub earlier : List Exchange
   pub is : history ≡ replied (0x05 ∷ []) (status ∷ []) ∷ earlier
   pub busy : status % 2 ≡ 1
 
--- The last transaction was a read of data (03h) that succeeded, from the first address of the sector that contains
--- this address. The number of bytes read is not stated.
+-- The last transaction received a reply. The bytes that it sent begin with 03h (a read of data), followed by the first
+-- address of the sector that contains `address`. The number of bytes read is not stated.
 pub record EndsReading (address : ℕ) (history : List Exchange) : Type 0 where
   pub earlier : List Exchange
   pub bytes : List ℕ

@@ -8,7 +8,7 @@ use Rattle.nor_model.specs.Sfdp.{sfdp_of, sfdp_with}
 abbrev pub all_kinds : Kinds
 all_kinds = record { k32 = true; k64 = true }
 
--- A configuration with these properties. The SFDP bytes are padded with FFh, and the unique ID is zero.
+-- A configuration with these properties. The SFDP bytes are padded with FFh to 256 bytes, and the unique ID is zero.
 pub record HasParts (with_id : List ℕ) (with_size : ℕ) (with_kinds : Kinds) (with_scheme : Bool)
     (with_sfdp : List ℕ) (config : Config) : Type 0 where
   pub id : config.id ≡ with_id

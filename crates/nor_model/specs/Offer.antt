@@ -12,7 +12,7 @@ pub record IsRangeOf (size code start len : ℕ) : Type 0 where
   pub exactly : ProtectsExactly size code start len
   pub plain : len ≡ 0 → start ≡ 0
 
--- the datasheets define the code
+-- The code has six bits, and the datasheets define it.
 pub record IsDefined (code : ℕ) : Type 0 where
   pub six_bits : code < 64
   pub defined : is_undefined code ≡ false

@@ -11,8 +11,9 @@ size_of walk = walk.size
 abbrev pub next_code : Offered → ℕ
 next_code walk = walk.next
 
--- The next range, with its least code. From the iterator's position up to that code, no other code is the least code of
--- a range.
+-- The iterator advances to the range of `len` bytes from `start`, which starts at 0 if it is empty. The least code of
+-- this range is `code`. No code from the iterator's old position on that is below `code` is the least code of a range.
+-- The iterator's new position is `code + 1`.
 pub record IsNextRange (old : Offered) (start len : ℕ) (new : Offered) : Type 0 where
   pub code : ℕ
   pub not_passed : next_code old ≤ code
@@ -23,7 +24,8 @@ pub record IsNextRange (old : Offered) (start len : ℕ) (new : Offered) : Type 
   pub passed : next_code new ≡ code + 1
   pub size : size_of new ≡ size_of old
 
--- No range is left: neither the next code nor any greater one is the least code of a range. All 64 codes are passed.
+-- No range is left: no code from the iterator's position on is the least code of a range. The iterator's new position
+-- is 64, past all codes.
 pub record IsAtEnd (old new : Offered) : Type 0 where
   pub none : (code start len : ℕ) → next_code old ≤ code → ¬ IsLeastCode (size_of old) start len code
   pub ended : next_code new ≡ 64

@@ -8,7 +8,7 @@ is_poll [] = false
 is_poll (opcode ∷ []) = opcode == 0x05
 is_poll (opcode ∷ next ∷ rest) = false
 
--- true if BUSY, bit 0, is clear in the last byte of the reply
+-- true if BUSY, bit 0, is clear in the last byte of the reply; also true for a reply without bytes
 abbrev pub shows_ready : (answer : List ℕ) → Bool
 shows_ready answer = slice_index answer (length answer - 1) % 2 == 0
 
@@ -23,7 +23,8 @@ abbrev pub polled_ready_by : (out : List ℕ) → (reply : Option (List ℕ)) �
 polled_ready_by out (Some answer) before = polled_ready_after out answer before
 polled_ready_by out None before = before
 
--- True if the last poll of this history that received a reply showed that the chip is ready. False without such a poll.
+-- True if the last poll of this history that received at least one reply byte showed that the chip is ready. False
+-- without such a poll.
 abbrev pub polled_ready_in : List Exchange → Bool
 polled_ready_in [] = false
 polled_ready_in (exchange ∷ earlier) = polled_ready_by exchange.out exchange.reply (polled_ready_in earlier)

@@ -11,7 +11,7 @@ is_in_work (Erase start len) a = nat_le start a && nat_lt a (start + len)
 is_in_work (StatusWrite one two) a = false
 is_in_work Unknown a = true
 
--- the operation in progress is known
+-- true if the operation in progress is known
 abbrev pub is_known_running : Running → Bool
 is_known_running Unknown = false
 is_known_running _ = true
@@ -32,9 +32,9 @@ KeptCut (StatusWrite one two) old new = (new ≡ old) ⊎ (new ≡ record { one 
 KeptCut Unknown old new = ⊤
 KeptCut _ old new = new ≡ old
 
--- The chip lost its power: the write enable latch is clear and nothing runs. An idle chip keeps its bytes and its
--- non-volatile bits. On a busy chip, each byte that the operation works on may have any value, and all other bytes are
--- as they were. `KeptCut` describes the non-volatile bits of a busy chip.
+-- The chip lost its power: its configuration is as it was, the write enable latch is clear, and nothing runs. An idle
+-- chip keeps its bytes and its non-volatile bits. On a busy chip, each byte that the operation works on may have any
+-- value, and all other bytes are as they were. `KeptCut` describes the non-volatile bits of a busy chip.
 pub record PowerLost (old new : Chip) : Type 0 where
   pub config : new.config ≡ old.config
   pub latch : new.latch ≡ false
@@ -43,7 +43,7 @@ pub record PowerLost (old new : Chip) : Type 0 where
   pub kept : KeptCut old.running old.kept new.kept
   pub idle : old.busy ≡ 0 → IsSame old new
 
--- a known operation is in progress, and works on the address `a`
+-- true if a known operation is in progress and works on the address `a`
 abbrev pub is_interrupted : Chip → ℕ → Bool
 is_interrupted chip a = not (chip.busy == 0) && is_known_running chip.running && is_in_work chip.running a
 
@@ -51,9 +51,9 @@ is_interrupted chip a = not (chip.busy == 0) && is_known_running chip.running &&
 abbrev pub kept_before : Chip → KeptBits
 kept_before chip = elim chip.running [ StatusWrite one two ↦ record { one = one; two = two } | _ ↦ chip.kept ]
 
--- The power failure of a simulated chip. If the chip was busy, each byte that its operation worked on is `fill`; a
--- status write was undone if `fill` is even, and completed if it is odd. If the chip was idle or its operation is
--- unknown, bytes and non-volatile bits are as they were.
+-- The power failure of a simulated chip, which is idle afterwards, with a clear write enable latch. If the chip was
+-- busy, each byte that its operation worked on is `fill`; a status write was undone if `fill` is even, and completed if
+-- it is odd. If the chip was idle or its operation is unknown, bytes and non-volatile bits are as they were.
 pub record PowerLostWith (fill : ℕ) (old new : Chip) : Type 0 where
   pub config : new.config ≡ old.config
   pub latch : new.latch ≡ false

@@ -1,6 +1,6 @@
 -- The transactions over a bus that may modify a chip: modifying commands, and transactions that the model does not
--- know. The bytes that a transaction sends decide this, even if the chip ignores the transaction. (W25Q64FV datasheet,
--- instruction set table.)
+-- know. Whether a transaction is one of these depends only on the bytes that it sends, even if the chip ignores it.
+-- (W25Q64FV datasheet, instruction set table.)
 use Rattle.std.specs.Prelude.{◌≡◌, ◌+◌, ◌*◌, ◌/◌, ◌-◌, ◌^◌, ◌==◌, ◌&&◌, ◌||◌, not, ℕ, Bool, true, false, List, [], ◌∷◌, min, nat_le, nat_lt, if◌then◌else◌}
 use Rattle.nor_model.specs.Exchange.{Exchange}
 use Rattle.nor_model.specs.Command.{begins_change, begins_quiet, is_change, is_erase_opcode}
@@ -43,11 +43,11 @@ targeted_by (opcode ∷ x ∷ []) = bare_targeted opcode
 targeted_by (opcode ∷ x ∷ y ∷ []) = bare_targeted opcode
 targeted_by (opcode ∷ x ∷ y ∷ z ∷ rest) = addressed_targeted opcode ((65536 * x + 256 * y + z) / 4096)
 
--- true if the sector is one of these consecutive sectors
+-- true if the sector `s` is one of these consecutive sectors
 abbrev pub is_in_targeted : TargetedSectors → ℕ → Bool
 is_in_targeted sectors s = nat_le sectors.first s && nat_lt s (sectors.first + sectors.count)
 
--- true if a transaction that sends `out` targets the sector
+-- true if a transaction that sends `out` targets the sector `s` with an erase or a program
 abbrev pub targets : (out : List ℕ) → ℕ → Bool
 targets out s = is_in_targeted (targeted_by out) s
 
@@ -84,16 +84,16 @@ is_unknown_to_model out = not (begins_quiet out || is_change out)
 abbrev pub Sent : Type 0
 Sent = List (List ℕ)
 
--- what was sent, after a transaction that sends `out`
+-- the list `Sent` after one more transaction, which sends `out`
 abbrev pub with_sent : (out : List ℕ) → Sent → Sent
 with_sent out before = if begins_quiet out then before else out ∷ before
 
--- what was sent by all transactions of a history
+-- the list `Sent` of a history
 abbrev pub sent_in : List Exchange → Sent
 sent_in [] = []
 sent_in (exchange ∷ earlier) = with_sent exchange.out (sent_in earlier)
 
--- true if some transaction satisfies the test
+-- true if some transaction of the list `Sent` satisfies the test `is`
 abbrev pub has_sent : (is : List ℕ → Bool) → Sent → Bool
 has_sent is [] = false
 has_sent is (out ∷ before) = has_sent is before || is out
@@ -102,12 +102,12 @@ has_sent is (out ∷ before) = has_sent is before || is out
 abbrev pub counted_once : (is : Bool) → (before : ℕ) → ℕ
 counted_once is before = if is then before + 1 else before
 
--- the number of transactions that satisfy the test
+-- the number of transactions of the list `Sent` that satisfy the test `is`
 abbrev pub times_sent : (is : List ℕ → Bool) → Sent → ℕ
 times_sent is [] = 0
 times_sent is (out ∷ before) = counted_once (is out) (times_sent is before)
 
--- true if a modifying opcode was sent
+-- true if a transaction was sent that begins with a modifying opcode
 abbrev pub is_stirred : Sent → Bool
 is_stirred sent = has_sent begins_change sent
 
@@ -115,7 +115,7 @@ is_stirred sent = has_sent begins_change sent
 abbrev pub has_unknown : Sent → Bool
 has_unknown sent = has_sent is_unknown_to_model sent
 
--- true if the sector was targeted
+-- true if a transaction was sent that targets the sector `s` with an erase or a program
 abbrev pub is_targeted : Sent → ℕ → Bool
 is_targeted sent s = has_sent (λ (out : List ℕ). targets out s) sent
 
@@ -123,20 +123,20 @@ is_targeted sent s = has_sent (λ (out : List ℕ). targets out s) sent
 abbrev pub has_written : Sent → (one two : ℕ) → Bool
 has_written sent one two = has_sent (λ (out : List ℕ). writes_status out one two) sent
 
--- the number of erases that were sent
+-- the number of transactions that were sent and begin with the opcode of an erase
 abbrev pub erases_of : Sent → ℕ
 erases_of sent = times_sent begins_erase sent
 
--- the number of page programs that were sent
+-- the number of transactions that were sent and begin with the opcode of a page program
 abbrev pub programs_of : Sent → ℕ
 programs_of sent = times_sent begins_program sent
 
--- the number of status writes that were sent
+-- the number of transactions that were sent and begin with the opcode of a status write
 abbrev pub status_writes_of : Sent → ℕ
 status_writes_of sent = times_sent begins_status_write sent
 
--- The effect of one transaction on each property of what was sent, even if the bus was only asked to send it. A
--- transaction that is empty or begins with a quiet opcode changes nothing.
+-- The effect of one transaction that sends `out` on each property of the list `Sent`, which is `old` before the
+-- transaction and `new` after it. A transaction that is empty or begins with a quiet opcode leaves the list as it was.
 pub record Notes (out : List ℕ) (old new : Sent) : Type 0 where
   pub quiet : begins_quiet out ≡ true → new ≡ old
   pub stirred : is_stirred new ≡ (is_stirred old || begins_change out)

@@ -2,7 +2,8 @@
 use Rattle.std.specs.Prelude.{ℕ, ◌/◌, ◌%◌, List, [], ◌∷◌}
 
 -- The header, one parameter header, and double words 1 to 9 of the basic flash parameter table. The arguments are the
--- bytes of double word 2, low byte first: the size in bits, minus one. The chips' SFDP bytes differ only in these.
+-- bytes of double word 2, low byte first: the size in bits, minus one. The SFDP bytes of the emulated chips differ only
+-- in double word 2.
 abbrev pub sfdp_of : (size0 size1 size2 size3 : ℕ) → List ℕ
 sfdp_of size0 size1 size2 size3 =
     -- signature, revision 1.0, one parameter header

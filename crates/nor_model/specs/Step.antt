@@ -1,6 +1,7 @@
 -- One step of the chip: the reply to a transaction that is carried out, and its effect. (W25Q64FV datasheet,
--- instruction descriptions.) In this model an operation has its whole effect at once, and the chip is then busy for an
--- arbitrary number of polls. Over the bus this looks like a chip that works while it is polled.
+-- instruction descriptions.) In this model an operation has its whole effect at once, and the chip is then busy for any
+-- number of polls below 65,536. While it is busy, it carries out only status reads, so no read of data shows when the
+-- effect took place.
 use Rattle.std.specs.Prelude.{◌≡◌, ◌<◌, ◌+◌, ◌-◌, ◌*◌, ◌/◌, ◌%◌, ◌==◌, ◌&&◌, ℕ, Bool, true, false, not, Option, None, Some, List, [], ◌∷◌, length, drop, slice_index, slice_index_or, bit_and, bit_or, nat_lt, nat_le, if◌then◌else◌}
 use Rattle.nor_model.specs.declared.command.Command.{Command}
 use Rattle.nor_model.specs.declared.command.Command.TheVariants.{WriteEnable, WriteDisable, Poll, ReadStatus2, WriteStatus, Program, Erase, ReadData, ReadId, ReadSfdp, ReadUnique, Ignored}
@@ -10,7 +11,7 @@ use Rattle.nor_model.specs.Chip.{Chip, KeptBits, status1_of, status2_of, is_lock
 use Rattle.nor_model.specs.Guard.{is_protected, is_block_protected}
 use Rattle.nor_model.specs.Command.{command_of}
 
--- no operation is running
+-- true if no operation is running
 abbrev pub is_idle : Chip → Bool
 is_idle chip = chip.busy == 0
 
@@ -27,7 +28,8 @@ is_carried_out chip (Erase start len) = is_idle chip && chip.latch && not (is_bl
 is_carried_out chip Ignored = false
 is_carried_out chip _ = is_idle chip
 
--- the command that the chip carries out at a transaction that sends `out`, or `Ignored` if it carries out none
+-- the command that the chip carries out at a transaction that sends `out` and reads `replies` bytes, or `Ignored` if it
+-- carries out none
 abbrev pub done_of : Chip → (out : List ℕ) → (replies : ℕ) → Command
 done_of chip out replies =
     let command = command_of chip.config out replies in if is_carried_out chip command then command else Ignored
@@ -53,12 +55,13 @@ last_for at (byte ∷ sent) a = elim (last_for (at + 1) sent a) [
   | None ↦ (if at % 256 == a % 256 then Some byte else None)
 ]
 
--- the byte after it was programmed with this byte, which can only clear bits; unchanged if no byte was sent for it
+-- the byte `old` after a program: ANDed with the byte that was sent for its address, or unchanged if no byte was sent
+-- for it
 abbrev pub lowered : (old : ℕ) → Option ℕ → ℕ
 lowered old None = old
 lowered old (Some byte) = bit_and old byte
 
--- the byte at the address `a` after the command
+-- the byte at the address `a` after the command; `sent` is the data of a program
 abbrev pub byte_after : Chip → Command → (sent : List ℕ) → (a : ℕ) → ℕ
 byte_after chip (Program at) sent a =
     if a / 256 == at / 256 then lowered (chip.bytes a) (last_for at sent a) else chip.bytes a
@@ -74,7 +77,7 @@ kept_after chip (WriteStatus one two) = record {
 }
 kept_after chip _ = chip.kept
 
--- the command is an operation: the chip may be busy after it
+-- true if the command is an operation, after which the chip may be busy
 abbrev pub is_operation : Command → Bool
 is_operation (WriteStatus one two) = true
 is_operation (Program at) = true
@@ -90,8 +93,8 @@ BusyAfter chip (Erase start len) busy = busy < 65536
 BusyAfter chip Poll busy = busy ≡ chip.busy - 1
 BusyAfter chip _ busy = busy ≡ chip.busy
 
--- The write enable latch after the command. An operation clears it when it ends: at once, or with the poll that shows
--- the last BUSY.
+-- The write enable latch after a command that leaves the chip with this `busy`. 06h sets the latch, and 04h clears it.
+-- An operation clears it when it ends: at once if `busy` is 0, otherwise with the poll that shows the last BUSY.
 abbrev pub latch_after : Chip → Command → (busy : ℕ) → Bool
 latch_after chip WriteEnable busy = true
 latch_after chip WriteDisable busy = false
@@ -122,7 +125,7 @@ pub record Does (command : Command) (sent : List ℕ) (old : Chip) (answer : Lis
 abbrev pub Step : (old : Chip) → (out answer : List ℕ) → (new : Chip) → Type 0
 Step old out answer new = Does (done_of old out (length answer)) (drop 4 out) old answer new
 
--- the command is an erase of an erase block that holds this sector
+-- true if the command is an erase of an erase block that holds this sector
 abbrev pub wears : Command → (sector : ℕ) → Bool
 wears (Erase start len) sector = nat_le start (4096 * sector) && nat_lt (4096 * sector) (start + len)
 wears _ sector = false

@@ -35,8 +35,7 @@ pub const ALL_KINDS: Kinds = Kinds {
 };
 
 /// The properties of a chip that never change: the ID (9Fh), the size in bytes, the erase types, whether the chip has
-/// block protection (`scheme`), the unique ID (4Bh), and the SFDP bytes. Past the end of these bytes, the SFDP reads as
-/// FFh.
+/// block protection (`scheme`), the unique ID (4Bh), and the SFDP bytes. Past these 256 bytes, the SFDP reads as FFh.
 #[derive(Clone, Copy)]
 pub struct Config {
     pub id: [u8; 3],
@@ -52,7 +51,7 @@ impl Config {
     ghost use Rattle.nor_model.specs.Makers.{HasParts, IsEmulatedWith, IsTiny64, IsW25q64fv, IsW25q128fv};
 
     /// Returns a configuration with these properties and a unique ID of zeros; `sfdp` has the SFDP bytes from address
-    /// 0. It allocates no memory.
+    /// 0, and is padded with FFh to 256 bytes. The function allocates no memory.
     ///
     /// Returns `None` if the size is not a power of two from 65,536 to 16,777,216, or if there are more than 256 SFDP
     /// bytes.
@@ -80,8 +79,8 @@ impl Config {
         })
     }
 
-    /// Returns the emulated chip `TINY64`: 64 KiB, ID `FE 10 10`, all erase types, no block protection, identified only
-    /// by its SFDP.
+    /// Returns the emulated chip `TINY64`: 64 KiB, ID `FE 10 10`, all erase types, no block protection. The table of
+    /// chips has no row for its ID; only its SFDP bytes describe the chip.
     pub fn tiny64() -> Config
         ensures { IsTiny64 result }
     {
@@ -104,8 +103,8 @@ impl Config {
         Self::emulated([0xEF, 0x40, 0x18], 16_777_216, ALL_KINDS, true)
     }
 
-    /// Returns the emulated chip with these properties. Its unique ID is zero, and its SFDP bytes describe this size
-    /// and all erase types. The size must be a power of two from 65,536 to 16,777,216.
+    /// Returns the emulated chip with these properties. Its unique ID is zero. Its SFDP bytes describe this size and
+    /// all erase types, even those that `kinds` lacks. The size must be a power of two from 65,536 to 16,777,216.
     pub fn emulated(id: [u8; 3], size: u32, kinds: Kinds, scheme: bool) -> Config
         requires { IsTrue (is_chip_size size) }
         ensures { IsEmulatedWith id size kinds scheme result }
@@ -140,7 +139,7 @@ fn sfdp_of(size: u32) -> [u8; 52]
     bytes
 }
 
-// Returns the SFDP bytes, padded with FFh to 256 bytes.
+// Returns the SFDP bytes, of which there must be at most 256, padded with FFh to 256 bytes.
 fn padded(sfdp: &[u8]) -> [u8; 256]
     requires { length sfdp.now ≤ 256 }
     ensures { result ≡ sfdp.now ++ replicate (256 - length sfdp.now) 255 }

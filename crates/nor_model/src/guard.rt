@@ -38,7 +38,7 @@ fn is_sector(code: u8) -> bool
     code / 16 % 2 == 1
 }
 
-// True if CMP is set: the addresses outside the selected range are protected.
+// True if CMP is set: the protected addresses are those outside the selected range, if the code is defined.
 fn is_complement(code: u8) -> bool
     ensures { result ≡ is_complement code }
 {
@@ -69,7 +69,8 @@ fn named_length(size: u32, code: u8) -> u32
     }
 }
 
-// True if the address is in the range that the code selects.
+// True if the address is in the range that the code selects. At the end of the chip that includes addresses past the
+// end.
 fn is_named(size: u32, code: u8, at: u32) -> bool
     requires { 65536 ≤ size }
     ensures { result ≡ is_address_named size code at }
@@ -82,8 +83,9 @@ fn is_named(size: u32, code: u8, at: u32) -> bool
     }
 }
 
-/// Returns whether the protection bits `code` protect this address of a chip of this size with block protection. Bits
-/// that the datasheets don't define protect every address. An address past the end is not protected.
+/// Returns whether the protection bits `code` protect this address, on a chip of this size that has block protection.
+/// `size` must be at least 65,536. Bits that the datasheets don't define protect every address of the chip. An address
+/// past the end is not protected.
 #[tactic(auto, unfolding(crate::specs::Guard::protected_by))]
 pub fn is_protected(size: u32, code: u8, at: u32) -> bool
     requires { 65536 ≤ size }
@@ -96,7 +98,7 @@ pub fn is_protected(size: u32, code: u8, at: u32) -> bool
 /// `size` must be a power of two from 65,536 to 16,777,216. An address past the end is not protected.
 ///
 /// The protected addresses are at one end of the chip. If one address of a page is protected, all are; the chip then
-/// ignores a program that begins there.
+/// ignores every program of that page.
 pub fn protected(status: [u8; 2], size: u32, at: u32) -> bool
     requires { IsTrue (is_chip_size size) }
     ensures value { result ≡ protected_by size (code_of (kept_in status)) at }
@@ -146,7 +148,7 @@ fn start_of(size: u32, len: u32, is_first: bool) -> u32
     if is_first || len == 0 { 0 } else { size - len }
 }
 
-// Returns the range that a defined code protects.
+// Returns the range that a defined code protects, which starts at 0 if it is empty.
 fn addresses_of(size: u32, code: u8) -> Places
     requires sized { IsTrue (is_chip_size size) }
     requires defined { is_undefined code ≡ false }
@@ -201,7 +203,8 @@ pub fn code_for(start: u32, len: u32, size: u32) -> Option<u8>
     None
 }
 
-// Returns the range that a code protects, if the code is defined and no lesser defined code protects the same range.
+// Returns the range that a code, which must be below 64, protects. Returns `None` if the code is undefined or a lesser
+// defined code protects the same range. An empty range starts at 0.
 fn least_at(size: u32, code: u8) -> Option<Places>
     requires sized { IsTrue (is_chip_size size) }
     requires six_bits { code < 64 }

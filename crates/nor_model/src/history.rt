@@ -8,8 +8,8 @@ use std::marker::Model;
 
 /// The transactions over a bus with their replies, and the allowances that were set. The last of each comes first.
 ///
-/// A bus holds one `History`, unless its state is that of the bus inside. The bus adds each transaction that it is
-/// asked to carry out, and each allowance. Only contracts can read the history.
+/// A bus has one `History`. The bus adds each transaction that it is asked to carry out, and each allowance. A wrapper
+/// whose state is that of the bus inside needs no `History` of its own. Only contracts can read the history.
 #[derive(Drop)]
 pub struct History {
     pub ghost exchanges: { List Exchange } by { exchanges_code },
@@ -38,7 +38,7 @@ impl History {
         History {}
     }
 
-    /// Returns this history with a transaction that sent `out` and received `reply`.
+    /// Returns this history after one more transaction, which sent `out` and received `reply`.
     pub fn replied(&self, out: &[u8], reply: &[u8]) -> History
         ensures exchanges { result.exchanges ≡ replied out.now reply.now ∷ self.now.exchanges }
         ensures allowances { result.allowances ≡ self.now.allowances }
@@ -46,7 +46,7 @@ impl History {
         self.with(&Event::Replied(out, reply))
     }
 
-    /// Returns this history with a transaction that sends `out`, at which the bus stopped.
+    /// Returns this history after one more transaction, which sends `out` and at which the bus stopped.
     pub fn stopped(&self, out: &[u8]) -> History
         ensures exchanges { result.exchanges ≡ stopped out.now ∷ self.now.exchanges }
         ensures allowances { result.allowances ≡ self.now.allowances }
@@ -54,7 +54,7 @@ impl History {
         self.with(&Event::Stopped(out))
     }
 
-    /// Returns this history with an allowance of `n` transactions.
+    /// Returns this history after one more allowance, of `n` transactions.
     pub fn allowed(&self, n: u64) -> History
         ensures exchanges { result.exchanges ≡ self.now.exchanges }
         ensures allowances { result.allowances ≡ n ∷ self.now.allowances }
@@ -62,7 +62,7 @@ impl History {
         self.with(&Event::Allowed(n))
     }
 
-    // Returns this history with an event. (Nothing happens at run time: the proof names the lists.)
+    // Returns this history after one more event. (Nothing happens at run time: the proof names the lists.)
     #[inline(always)]
     fn with(&self, _event: &Event<'_>) -> History
         ensures { (result.exchanges ≡ exchanges_with _event.now self.now.exchanges)

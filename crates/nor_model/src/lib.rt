@@ -11,9 +11,9 @@
 //! ```
 //!
 //! `specs/` defines what the chip does at each transaction (`Chip`, `Guard`, `Command`, `Step`) and when its power
-//! fails (`Power`), the history of a bus (`Exchange`, `History`) and what contracts compute from it (`Sent`,
-//! `PolledReady`), and the contract of a bus (`Bus`). The crates that depend on this one describe chips only by these
-//! definitions.
+//! fails (`Power`). It also defines the history of a bus (`Exchange`, `History`), what contracts compute from a history
+//! (`Sent`, `PolledReady`), and the contract of a bus (`Bus`). The contracts of the other crates describe chips and
+//! buses by these definitions.
 //!
 //! - `bus.rt`: the traits `Bus` and `Meter`, and the error `Stopped`
 //! - `config.rt`: the properties of a chip that never change; the three emulated chips

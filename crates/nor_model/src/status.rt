@@ -38,7 +38,7 @@ bitflag_items! {
         const LB1 = 0x08;
         const LB2 = 0x10;
         const LB3 = 0x20;
-        /// Set if all addresses outside the selected range are protected.
+        /// Set if the protected addresses are those outside the selected range, clear if those inside it.
         const CMP = 0x40;
         /// Set while an operation is suspended.
         const SUS = 0x80;
@@ -104,7 +104,7 @@ impl Status1 {
     // The non-volatile bits that are not protection bits.
     const FIXED: Status1 = Status1(Self::KEPT.0 & !Self::CODE.0);
 
-    /// Returns these non-volatile bits, with WEL set if `latch` is true and BUSY if `busy` is.
+    /// Returns these bits, in which WEL and BUSY must be clear, with WEL set if `latch` is true and BUSY if `busy` is.
     #[tactic(auto, using(crate::proofs::StatusBits::or_latch, crate::proofs::StatusBits::or_busy))]
     pub fn with(self, latch: bool, busy: bool) -> Status1
         requires { self.0 % 4 ≡ 0 }
@@ -131,7 +131,7 @@ impl Status2 {
     // The non-volatile bits that are not protection bits.
     const FIXED: Status2 = Status2(Self::KEPT.0 & !Self::CODE.0);
 
-    // The bits that take the value that a status write sends.
+    // The bits that a status write sets or clears as sent: SRP1, QE and CMP.
     const WRITTEN: Status2 = Status2(Self::SRP1.0 | Self::QE.0 | Self::CMP.0);
 
     // The one-time programmable bits: a status write can set them but not clear them.
@@ -140,7 +140,7 @@ impl Status2 {
     // The bits that a status write doesn't clear: LB1 to LB3 and the reserved bit.
     const HELD: Status2 = Status2(Self::LB.0 | 0x04);
 
-    // Returns these bits after a status write of `sent`.
+    // Returns the non-volatile bits of status 2 after a status write of `sent`.
     fn written(self, sent: Status2) -> Status2
         ensures { result.0
             ≡ bit_or (bit_and sent.0 0b1000011) (bit_or (bit_and self.0 0b0111100) (bit_and sent.0 0b0111000)) }

@@ -14,7 +14,7 @@ use Rattle.nor_plan.specs.SpanFacts.{IsSpan, AreSpans, spanned_by}
 use Rattle.nor_plan.proofs.Ends.{AreEnds}
 use Rattle.nor_plan.proofs.PageSpans.{other, DiffersOn, page_ends}
 
--- some position passes the test if and only if the positions that pass it have a first and a last one
+-- the positions of a list that pass a test have ends (a first and a last one) if and only if some position passes it
 is_some-ends : (test : ℕ → Bool) (places : List ℕ) → is_some (ends (filter test places)) ≡ list_any test places
 is_some-ends test [] = refl
 is_some-ends test (k ∷ ks) = elim (cases_Bool (test k)) [

@@ -21,7 +21,7 @@ same_from_xor a b none =
 or_zero : (x y : ℕ) → bit_or x y ≡ 0 → (x ≡ 0) × (y ≡ 0)
 or_zero x y none = (omega (arith, none, le_or_l x y), omega (arith, none, le_or_r x y))
 
--- the OR of a list is at least its start value
+-- the OR of a start value and the numbers of a list is at least the start value
 front_le : (start : ℕ) (xs : List ℕ) → start ≤ fold_l bit_or start xs
 front_le start [] = omega arith
 front_le start (x ∷ xs) = omega (arith, le_or_l start x, front_le (bit_or start x) xs)
@@ -31,7 +31,7 @@ lane_le start [] i = omega arith
 lane_le start (x ∷ xs) zero = omega (arith, le_or_r start x, front_le (bit_or start x) xs)
 lane_le start (x ∷ xs) (suc i) = lane_le (bit_or start x) xs i
 
--- if the OR of all lanes isn't 0, the start value or some lane isn't 0
+-- a case distinction: if the OR of the start value and all lanes isn't 0, the start value or some lane isn't 0
 some_lane : (P : Type 0) (start : ℕ) (xs : List ℕ) → (start ≢ 0 → P) → ((i : ℕ) → i < length xs → get_or xs i 0 ≢ 0 → P)
     → fold_l bit_or start xs ≢ 0 → P
 some_lane P start [] front lane some = front some
@@ -44,7 +44,7 @@ some_lane P start (x ∷ xs) front lane some =
     (λ i within other. lane (suc i) (omega arith) other) some
 
 module _ (a b : List ℕ) where
-  -- the XOR of two chunks of 32 bytes shows whether the bytes differ
+  -- the XOR of 32 bytes at the same position of both slices shows their differences
   pub ShowsDifferences-xor : (at : ℕ) → at + 32 ≤ length a → at + 32 ≤ length b
       → ShowsDifferences a b at 32 (zip2 bit_xor (chunk at 32 a) (chunk at 32 b))
   ShowsDifferences-xor at a_room b_room =
@@ -67,7 +67,7 @@ module _ (a b : List ℕ) where
         some = λ i lane other. (at + i, omega arith, λ same. other (bits i lane ∙ rw (same, xor_self)));
       }
 
-  -- a vector of zeros shows the differences of no bytes
+  -- 32 lanes of 0 show the differences of an empty range, with which `changes_256` and `blocks_differ` begin
   pub ShowsDifferences-zeros : (at : ℕ) → ShowsDifferences a b at 0 (replicate 32 0)
   ShowsDifferences-zeros at = record {
     long = length-replicate {A = ℕ} 32 0;
@@ -98,12 +98,13 @@ module _ (a b : List ℕ) where
         ];
       }
 
-  -- if the OR of all lanes is 0, none of the bytes differs
+  -- if a vector shows the differences of some bytes, and the OR of its lanes is 0, none of these bytes differs
   pub ShowsDifferences-none : (at count : ℕ) (xs : List ℕ) → ShowsDifferences a b at count xs → fold_l bit_or 0 xs ≡ 0
       → AgreeWithin a b at (at + count)
   ShowsDifferences-none at count xs errors none = errors.none (λ i lane. omega (arith, none, lane_le 0 xs i))
 
-  -- testing the OR of all lanes shows whether some byte differs, for a vector that covers all bytes up to `end`
+  -- The vector shows the differences of at least the first `end` bytes. If the OR of its lanes isn't 0, some byte of
+  -- the slices differs; if the OR is 0, none of the first `end` bytes differs.
   pub ShowsDifferences-tested : (count end : ℕ) (xs : List ℕ) → ShowsDifferences a b 0 count xs → end ≤ count
       → MatchBool (not (nat_eq (fold_l bit_or 0 xs) 0)) (SomeDiffer a b) (AgreeWithin a b 0 end)
   ShowsDifferences-tested count end xs errors within =

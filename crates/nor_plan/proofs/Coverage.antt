@@ -1,5 +1,5 @@
--- The planned erases cover the set: each is an erase that the chip has and lies in the set, and each sector of the set
--- lies in one of them.
+-- The planned erases cover a set that lies on the chip and below sector 4,096 (`IsPlannable`). The chip has each of
+-- these erases, each lies in the set, and each sector of the set lies in one of them.
 use Rattle.std.proofs.Common.{ℕ, ◌≡◌, ◌<◌, ◌≤◌, ◌+◌, ◌-◌, ◌%◌, Bool, true, ◌&&◌, ◌||◌, List, [], ◌∷◌, map, filter, get_or, refl, sym, ap, ◌∙◌, inl, inr, arith}
 use Rattle.std.specs.List.{list_any, range_with_len}
 use Rattle.std.proofs.lemmas.Bool.{cases_Bool, cases_lt, and_parts, and_from, le-leb, leb-true, lt-ltb, ltb-true}
@@ -15,8 +15,8 @@ use Rattle.nor_plan.specs.Erase.{is_offered, IsErase, Covers}
 use Rattle.nor_plan.specs.Planned.{holds_run, planned_block, begins_block, erase_at, planned_from}
 use Rattle.nor_plan.proofs.Units.{holds_run-at, first_of, first_of-once, first_of-aligned, first_of-holds, IsLargest, planned_block-largest, planned_block-first}
 
--- The premises of a plan: `whole` is set if and only if all `total` sectors are in the set, and the set lies below
--- `total` and below 4,096.
+-- The premises of a plan: `whole` is true if and only if all sectors below `total` are in the set, and each sector of
+-- the set is below `total` and below 4,096.
 pub record IsPlannable (whole : Bool) (total : ℕ) (set : ℕ → Bool) : Type 0 where
   pub whole_is : whole ≡ holds_run set 0 total
   pub below : (s : ℕ) → set s ≡ true → s < total
@@ -61,7 +61,7 @@ module _ (whole : Bool) (kinds : Kinds) (total : ℕ) (set : ℕ → Bool) (can 
       largest_within q (begins_in whole kinds set q begins) unit (planned_block-largest whole kinds set q) s
       (omega arith) (omega arith)
 
-  -- each planned erase is one that the chip has
+  -- the chip has each planned erase, which is aligned and ends on the chip
   planned_IsErase : (q : ℕ) → begins_block whole kinds set q ≡ true → IsErase kinds total (erase_at whole kinds set q)
   planned_IsErase q begins = record {
     offered = largest_offered q _ (planned_block-largest whole kinds set q);
@@ -75,7 +75,7 @@ module _ (whole : Bool) (kinds : Kinds) (total : ℕ) (set : ℕ → Bool) (can 
         elim (cases_lt 0 count) [ inl some ↦ omega (arith, inside some) | inr none ↦ omega arith ];
   }
 
-  -- each sector of the set lies in an erase block that begins at some sector
+  -- each sector of the set lies in a planned erase, which begins at some sector `q`
   unit_begins : (s : ℕ) → set s ≡ true
       → (q : ℕ) × (begins_block whole kinds set q ≡ true)
       × (q ≤ s) × (s < q + sectors_in total (planned_block whole kinds set q))
@@ -88,7 +88,7 @@ module _ (whole : Bool) (kinds : Kinds) (total : ℕ) (set : ℕ → Bool) (can 
       largest_within s member unit largest (first_of unit s) (omega arith) (omega arith) in
       (first_of unit s, and_from _ _ here (rw same (first_of-aligned unit s)), holds.0, rw same holds.1)
 
-  -- the planned erases together erase the set
+  -- the planned erases, from sector 0 on, together erase exactly the set
   planned_union : (from : ℕ) → from ≡ 0 → (s : ℕ)
       → list_any (erases_sector total s) (planned_from whole kinds set from) ≡ set s
   unfolding planned_from

@@ -32,7 +32,8 @@ ends_like P Q (Some s) to from are = (to s.first are.0, to s.last are.1, λ k is
 abbrev pub Passes : (test : ℕ → Bool) → (from count k : ℕ) → Type 0
 Passes test from count k = (from ≤ k) × (k < from + count) × (test k ≡ true)
 
--- a position that passes, before all others that do, is the first end
+-- if `from` passes the test, and `others` has the ends of the passing positions after it, `from ∷ others` has the ends
+-- with `from` included
 in_front : (test : ℕ → Bool) (from count : ℕ) (others : List ℕ) → test from ≡ true
     → AreEnds (Passes test (from + 1) count) (ends others)
     → AreEnds (Passes test from (suc count)) (ends (from ∷ others))

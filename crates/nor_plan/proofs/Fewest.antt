@@ -1,5 +1,5 @@
--- No list that covers the set is shorter than the planned one. Each planned erase begins at a sector of its own, and
--- every erase within the set that holds this sector begins there too.
+-- No list of erases that covers the set is shorter than the planned one. The planned erases begin at different sectors,
+-- and for each of them a covering list has an erase that begins at the same sector.
 use Rattle.std.proofs.Common.{ℕ, ◌≡◌, ◌<◌, ◌≤◌, ◌+◌, ◌-◌, ◌%◌, ◌&&◌, Bool, true, false, cond, nat_eq, List, length, map, filter, get_or, refl, sym, ap, ◌∙◌, arith}
 use Rattle.std.specs.List.{range_with_len, list_any, IsDistinct}
 use Rattle.std.proofs.lemmas.Cmp.{nat_eq_equiv}
@@ -38,7 +38,7 @@ abbrev sector : Erase → ℕ
 sector erase = erase.sector
 
 module _ (whole : Bool) (kinds : Kinds) (total : ℕ) (set : ℕ → Bool) (can : IsPlannable whole total set) where
-  -- an erase block that the chip has and that lies in the set is fit
+  -- an erase block is fit (`is_fit`) if the chip has it and it lies in the set
   within_fit : (unit : EraseBlock) (q : ℕ) → is_offered kinds unit ≡ true
       → ((s : ℕ) → first_of unit q ≤ s → s < first_of unit q + sectors_in total unit → set s ≡ true)
       → is_fit whole kinds set q unit ≡ true
@@ -47,7 +47,8 @@ module _ (whole : Bool) (kinds : Kinds) (total : ℕ) (set : ℕ → Bool) (can 
   within_fit Block64 q offered inside = and_from _ _ offered (holds_run-from set (q - q % 16) 16 inside)
   within_fit Chip q offered inside = can.whole_is ∙ holds_run-from set 0 total inside
 
-  -- an erase block within the set begins at a sector if it holds that sector and a planned erase begins there
+  -- if a planned erase begins at a sector, each aligned erase block that the chip has, that lies in the set and that
+  -- holds this sector begins there too
   begins_alike : (q : ℕ) → begins_block whole kinds set q ≡ true → (unit : EraseBlock) (first : ℕ)
       → is_offered kinds unit ≡ true → is_aligned unit first ≡ true
       → ((s : ℕ) → first ≤ s → s < first + sectors_in total unit → set s ≡ true)
@@ -88,7 +89,8 @@ module _ (whole : Bool) (kinds : Kinds) (total : ℕ) (set : ℕ → Bool) (can 
       some_begins others covers q (and_parts (list_any (nat_eq q) sectors) (begins q) (sym kept ∙ member)).1) in
       omega (arith, length-map others sector, length-map (filter begins sectors) (erase_at whole kinds set))
 
--- there are no more planned erases than members, because each erase begins at a member of its own
+-- from any sector on, the number of planned erases is at most the number of sectors of the set, because the erases
+-- begin at different sectors of the set
 pub planned_few : (whole : Bool) (kinds : Kinds) (set : SectorSet) (from : ℕ)
     → length (planned_from whole kinds (has set) from) ≤ length (members_from set from)
 unfolding planned_from members_from
@@ -105,8 +107,8 @@ planned_few whole kinds set from =
     both_le true false = omega arith
     both_le false b = omega arith
 
--- the planned erases are a shortest list that covers the set, on a chip of at most 4,096 sectors that has all its
--- sectors
+-- the planned erases are a shortest list that covers the set, if all sectors of the set are on the chip and the chip
+-- has at most 4,096 sectors
 pub fewest_least : (kinds : Kinds) (total : ℕ) (set : ℕ → Bool) → total ≤ 4096 → ((s : ℕ) → set s ≡ true → s < total)
     → IsLeastLength kinds total set (fewest_erases kinds total set)
 fewest_least kinds total set few below =

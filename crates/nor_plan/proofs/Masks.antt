@@ -10,11 +10,12 @@ use Rattle.std.proofs.lemmas.Nat.Bits.{bit_at-zero, bit_at-trailing_zeros, bit_a
 use Rattle.nor_plan.specs.Mask.{IsMask}
 use Rattle.std.proofs.lemmas.Simd.{tops_compared, mask_l-lt, mask_l-mod, bit_mask_l, length-zip2, get_or-zip2}
 
--- the value that vector code computes for the comparison t: each lane becomes all ones or 0, and its top bit is taken
+-- the value that vector code computes for the comparison `t`: each lane becomes all ones or 0, and its top bit is taken
 abbrev pub compared : (ℕ → ℕ → Bool) → List ℕ → List ℕ → ℕ
 compared t xs ys = mask_l (map (top 7) (zip2 (λ a b. cond (t a b) (2 ^ 8 - 1) 0) xs ys)) % 2 ^ 64
 
--- the mask of two vectors is the mask of a test, if the comparison of each pair of lanes gives the test's value
+-- the mask of two vectors of 32 lanes is the mask of `test`, if the comparison `t` of the lanes at each position `i`
+-- returns `test i`
 pub compared-IsMask : (t : ℕ → ℕ → Bool) (xs ys : List ℕ) → length xs ≡ 32 → length ys ≡ 32 → (test : ℕ → Bool)
     → ((i : ℕ) → i < 32 → t (get_or xs i 0) (get_or ys i 0) ≡ test i) → IsMask (compared t xs ys) test
 compared-IsMask t xs ys long same test errors =
@@ -70,7 +71,7 @@ module _ (f g : ℕ → ℕ) (at mask : ℕ) (is : IsMask mask (λ i. not (nat_e
   passed_before before none k high =
       elim (cases_lt k at) [ inl earlier ↦ before k earlier | inr here ↦ passed_block none k here high ]
 
-  -- if the mask isn't 0, its lowest set bit shows the first of the 32 positions from `at` on at which they
+  -- if the mask isn't 0, its lowest set bit shows the first of the 32 positions from `at` on at which the two functions
   -- differ
   pub first_in_block : 0 < mask → let t = trailing_zeros w64
       mask in (t < 32) × (f (at + t) ≢ g (at + t)) × ((k : ℕ) → at ≤ k → k < at + t → f k ≡ g k)
@@ -79,7 +80,8 @@ module _ (f g : ℕ → ℕ) (at mask : ℕ) (is : IsMask mask (λ i. not (nat_e
       let first = set_lane (trailing_zeros w64 mask) lowest.1 in
       (first.0, first.1, λ k low before. clear_lane k low (omega (arith, first.0)) (lowest.2 (k - at) (omega arith)))
 
-  -- the highest set bit of the mask shows the last of these positions at which the functions differ
+  -- if the mask isn't 0, its highest set bit `r` shows the last of the 32 positions from `at` on at which the two
+  -- functions differ
   pub last_in_block : (r : ℕ) → 2 ^ r ≤ mask → mask < 2 * 2 ^ r
       → (r < 32) × (f (at + r) ≢ g (at + r)) × ((k : ℕ) → at + r < k → k < at + 32 → f k ≡ g k)
   last_in_block r least most =

@@ -14,7 +14,7 @@ pub has-small : (set : SectorSet) → length set.words ≡ 64 → LiesBelow set 
 has-small set long s member =
     let small : ¬ (4096 ≤ s) = λ past. both_ways _ (none_past set long s past) member in omega arith
 
--- a count doesn't grow past the last number that passes the test
+-- a count doesn't grow from `end` on, if all numbers that pass the test are below `end`
 count_past : (test : ℕ → Bool) (count : ℕ → ℕ) (end more : ℕ) → IsCount test count → ((s : ℕ) → test s ≡ true → s < end)
     → count (end + more) ≡ count end
 count_past test count end zero is below = let same : end + zero ≡ end = omega arith in ap count same
@@ -24,7 +24,7 @@ count_past test count end (suc more) is below =
     let fails = false_from_ne_true (test place) (λ passes. let inside = below place passes in omega arith) in
     ap count next ∙ is.goes (end + more) ∙ rw fails (omega (arith, count_past test count end more is below))
 
--- the number of members is the count below any number that is above all of them
+-- the number of sectors of the set equals the count of its sectors below `end`, if all its sectors are below `end`
 length-members-counted : (set : SectorSet) → length set.words ≡ 64 → (count : ℕ → ℕ) (from most end : ℕ) → from ≡ 0
     → most ≡ 4096 → IsCount (has set) count → LiesBelow set end → length (members_from set from) ≡ count end
 unfolding members_from

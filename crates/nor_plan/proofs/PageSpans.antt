@@ -17,7 +17,7 @@ module _ (old target : List ℕ) where
   abbrev pub DiffersOn : (page k : ℕ) → Type 0
   DiffersOn page k = (k / 256 ≡ page) × DifferAt old target k
 
-  -- the span of a page has the page's first and last difference
+  -- the span of a page has the page's first and last difference; a page without a difference has no span
   pub page_ends : (page : ℕ) → AreEnds (DiffersOn page) (page_span old target page)
   page_ends page =
       let from = page * 256 in
@@ -76,12 +76,12 @@ module _ (old target : List ℕ) where
       )
       (page_ends page)
 
-  -- from a page after the last one on, no spans are left
+  -- after the last page there are no spans
   pub spans_from-end : (page : ℕ) → page_count old ≤ page → spans_from old target page ≡ []
   spans_from-end page past = let none : page_count old - page ≡ 0 = omega arith in rw none
 
-  -- from `page` on there is one page more than from `page + 1` on (`pages_left`), so the spans from `page` on are the
-  -- span of that page, if it has one, followed by those of the later pages
+  -- from a page on there is one page more than from the next page on; `spans_from-none` and `spans_from-some` use it to
+  -- split off the span of the first page
   pages_left : (page : ℕ) → page < page_count old → page_count old - page ≡ suc (page_count old - (page + 1))
   pages_left page there = omega arith
 

@@ -10,14 +10,14 @@ pub record HasPart (n : ℕ) (part : List ℕ) (old new : List ℕ) : Type 0 whe
   pub inside : (i : ℕ) → i < 4096 → slice_index new (4096 * n + i) ≡ slice_index part i
   pub outside : (a : ℕ) → a / 4096 ≢ n → slice_index new a ≡ slice_index old a
 
--- the bytes of a sector that was cut out of the image
+-- 4,096 bytes cut out of the image at `start` are the image's bytes from `start` on
 pub cut_out : (image : List ℕ) (start k i : ℕ) → k ≡ 4096 → i < 4096 → slice_index (take k (drop start image)) i ≡ slice_index image (start + i)
 cut_out image start k i long below = get_or-take k (drop start image) i 0 (omega arith) ∙ get_or-drop start image i 0
 
 pub part_long : (image : List ℕ) (start k : ℕ) → k ≡ 4096 → start + 4096 ≤ length image → length (take k (drop start image)) ≡ 4096
 part_long image start k long fits = length-take-le k (drop start image) (let behind = length-drop start image in omega arith) ∙ long
 
--- writing a sector's bytes into the image changes only that sector
+-- writing 4,096 bytes over a sector that lies in the image gives that sector these bytes, and changes no other sector
 pub put_back : (n k : ℕ) (image part : List ℕ) → k ≡ 4096 → length part ≡ 4096 → 4096 * n + 4096 ≤ length image → HasPart n part image (put_mid (4096 * n) k image part)
 put_back n k image part long whole fits =
     let at = 4096 * n in

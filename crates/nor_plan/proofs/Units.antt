@@ -56,15 +56,15 @@ first_of-holds total Block64 s below = (omega arith, omega arith)
 first_of-holds total Chip s below = (omega arith, omega arith)
 
 module _ (whole : Bool) (kinds : Kinds) (set : ℕ → Bool) where
-  -- the erase block that holds the sector is fit: the chip has it, and it lies in the set; the block of 4 KiB is always
-  -- fit
+  -- The erase block of this kind that holds the sector is fit. A block of 32 or 64 KiB is fit if the chip has its erase
+  -- type and the block lies in the set. The chip is fit if `whole` is true, and the block of 4 KiB is always fit.
   abbrev pub is_fit : ℕ → EraseBlock → Bool
   is_fit s Sector = true
   is_fit s Block32 = kinds.k32 && holds_block set 8 s
   is_fit s Block64 = kinds.k64 && holds_block set 16 s
   is_fit s Chip = whole
 
-  -- the erase block is fit, and no larger one is; the chip is the largest if `whole` is set
+  -- the erase block of this kind that holds the sector is fit, and no larger one is
   abbrev pub IsLargest : ℕ → EraseBlock → Type 0
   IsLargest s Chip = whole ≡ true
   IsLargest s Block64 = (whole ≡ false) × (is_fit s Block64 ≡ true)
@@ -98,7 +98,7 @@ module _ (whole : Bool) (kinds : Kinds) (set : ℕ → Bool) where
       rw (largest.0, wide, largest.1, same, largest.2)
   planned_block-first s Sector largest = rw (largest.0, largest.1, largest.2)
 
-  -- a fit block begins at the sector, if the largest fit one may begin there
+  -- each fit block that holds a sector begins there, if the largest fit one may begin there
   pub larger_begins : (s : ℕ) (unit largest : EraseBlock) → is_fit s unit ≡ true → IsLargest s largest
       → is_aligned largest s ≡ true → first_of unit s ≡ s
   larger_begins s Sector _ fit is aligned = refl

@@ -1,15 +1,16 @@
--- Two slices of equal length, compared byte by byte. `old` is what the chip has, `target` what it must become.
+-- Two slices of equal length, compared byte by byte. `old` has the chip's bytes, `target` the bytes that they must
+-- become.
 use Rattle.std.specs.Prelude.{ℕ, ◌≡◌, ◌≢◌, ◌<◌, ◌≤◌, bit_and, List, length, slice_index, SomeIndex, EachIndex}
 
 -- no byte differs
 abbrev pub AllAgree : (a b : List ℕ) → Type 0
 AllAgree a b = EachIndex a (λ k. slice_index a k ≡ slice_index b k)
 
--- no byte differs from position `from` up to, but not including, `to`
+-- at each position from `from` up to, but not including, `to`, the bytes are equal
 abbrev pub AgreeWithin : (a b : List ℕ) → (from to : ℕ) → Type 0
 AgreeWithin a b from to = (k : ℕ) → from ≤ k → k < to → slice_index a k ≡ slice_index b k
 
--- the bytes at this position differ
+-- the position is in the slices, and their bytes at it differ
 abbrev pub DifferAt : (a b : List ℕ) → ℕ → Type 0
 DifferAt a b k = (k < length a) × (slice_index a k ≢ slice_index b k)
 

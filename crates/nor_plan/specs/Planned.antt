@@ -16,8 +16,8 @@ holds_run set from count = list_all set (range_with_len from count)
 abbrev pub holds_block : (ℕ → Bool) → (count sector : ℕ) → Bool
 holds_block set count sector = holds_run set (sector - sector % count) count
 
--- the erase block with which a sector of the set is erased: the chip if `whole` is set; else the largest of the chip's
--- erase blocks that holds the sector and lies in the set
+-- The erase block with which a sector of the set is erased. The block is the chip if `whole` is true, else the largest
+-- of the chip's blocks of 64, 32 and 4 KiB that holds the sector and lies in the set.
 unfoldable pub planned_block : Bool → Kinds → (ℕ → Bool) → ℕ → EraseBlock
 planned_block whole kinds set sector =
     if whole then Chip
@@ -29,17 +29,17 @@ planned_block whole kinds set sector =
 abbrev pub begins_block : Bool → Kinds → (ℕ → Bool) → ℕ → Bool
 begins_block whole kinds set sector = set sector && is_aligned (planned_block whole kinds set sector) sector
 
--- the erase of the block that begins at this sector
+-- the erase at this sector, of the block that is planned for it
 abbrev pub erase_at : Bool → Kinds → (ℕ → Bool) → ℕ → Erase
 erase_at whole kinds set sector = record { unit = planned_block whole kinds set sector; sector = sector }
 
--- the erases of the blocks that begin at sector `from` or above, in ascending order
+-- the planned erases that begin at a sector from `from` to 4,095, in ascending order
 unfoldable pub planned_from : Bool → Kinds → (ℕ → Bool) → ℕ → List Erase
 planned_from whole kinds set from =
     map (erase_at whole kinds set) (filter (begins_block whole kinds set) (range_with_len from (4096 - from)))
 
--- `head` is the first planned erase at or after sector `from`, and the sector at or after which the others begin;
--- `None` if there are none
+-- `head` is the first planned erase that begins at or after sector `from`, and the sector at or after which the others
+-- begin; `None` if no planned erase begins at or after `from`
 abbrev pub HeadsPlanned : Bool → Kinds → (ℕ → Bool) → ℕ → Option (Erase × ℕ) → Type 0
 HeadsPlanned whole kinds set from head =
     MatchOption head (planned_from whole kinds set from ≡ [])

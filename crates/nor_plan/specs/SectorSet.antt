@@ -20,7 +20,7 @@ HasSome set = (sector : ℕ) × (has set sector ≡ true)
 abbrev pub LiesBelow : SectorSet → ℕ → Type 0
 LiesBelow set end = (sector : ℕ) → has set sector ≡ true → sector < end
 
--- the new set has the sectors of the old one, and this sector
+-- the new set has exactly the sectors of the old one and this sector
 abbrev pub Inserts : (old new : SectorSet) → ℕ → Type 0
 Inserts old new sector = (s : ℕ) → has new s ≡ ((s == sector) || has old s)
 

@@ -15,12 +15,13 @@ abbrev pub last_of : ℕ → List ℕ → ℕ
 last_of k [] = k
 last_of k (j ∷ js) = last_of j js
 
--- the first and the last position of a list, or `None` if it is empty
+-- the span from the first to the last of these positions, or `None` if the list is empty
 abbrev pub ends : List ℕ → Option PageSpan
 ends [] = None
 ends (k ∷ ks) = Some (record { first = k; last = last_of k ks })
 
--- the span of a page: its first and its last differing byte; the last page may be shorter than 256 bytes
+-- the span of a page: its first and its last differing byte, or `None` if no byte differs; the last page may be shorter
+-- than 256 bytes
 abbrev pub page_span : (old target : List ℕ) → ℕ → Option PageSpan
 page_span old target page = ends (differences old target (page * 256) (min 256 (length old - page * 256)))
 
@@ -40,8 +41,8 @@ spans_from old target page = spans_in old target page (page_count old - page)
 abbrev pub spans_of : (old target : List ℕ) → List PageSpan
 spans_of old target = spans_from old target 0
 
--- `head` is the first span of page `page` or a later one, and the page at or after which the other spans lie; `None` if
--- there are none
+-- `head` is a pair: the first span of the pages from `page` on, and a page number from which on the remaining spans
+-- follow; `None` if the pages from `page` on have no span
 abbrev pub HeadsSpans : (old target : List ℕ) → ℕ → Option (PageSpan × ℕ) → Type 0
 HeadsSpans old target page head =
     MatchOption head (spans_from old target page ≡ [])

@@ -1,5 +1,5 @@
--- Properties of spans: they hold all differences, and each one reaches from the first to the last difference of one
--- page. A page is 256 bytes.
+-- Properties of spans: the spans hold all differences, and each span reaches from the first to the last difference of
+-- one page. A page is 256 bytes.
 use Rattle.std.specs.Prelude.{ℕ, ◌≡◌, ◌<◌, ◌≤◌, ◌/◌, Bool, false, ◌&&◌, nat_le, List, length, slice_index, All, Any, AllPairs}
 use Rattle.std.specs.List.{list_any}
 use Rattle.nor_plan.specs.declared.page.PageSpan.{PageSpan}

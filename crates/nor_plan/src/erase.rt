@@ -20,7 +20,7 @@ mod iter;
 pub use iter::Erases;
 
 /// Returns the fewest erases that set exactly the sectors of `set` to FFh, on a chip of `size` bytes with these erase
-/// types. If all sectors of the chip are in the set, this is one erase of the chip (C7h).
+/// types. If the set isn't empty and contains all sectors of the chip, this is one erase of the chip (C7h).
 ///
 /// Otherwise the erases are in ascending order of their sectors. D8h erases each aligned 64 KiB block with all its
 /// sectors in the set, if the chip has this erase type. In the rest of the set, 52h erases each aligned 32 KiB block
@@ -42,8 +42,8 @@ pub fn erases(set: &SectorSet, kinds: Kinds, size: u32) -> Erases
     Erases::new(*set, kinds, whole)
 }
 
-/// States that `fewest_erases` is the least length of a list of erases that sets exactly the sectors of a set to FFh.
-/// The set must lie on the chip, which has at most 4,096 sectors.
+/// States that `fewest_erases` is the least length of a list of the chip's erases that sets exactly the sectors of a
+/// set to FFh. The set must lie on the chip, and the chip must have at most 4,096 sectors.
 #[tactic(auto, using(crate::proofs::Fewest::fewest_least))]
 pub fn fewest_is_least()
     ensures { (kinds : Kinds) (total : ℕ) (set : ℕ → Bool) → total ≤ 4096
@@ -51,7 +51,8 @@ pub fn fewest_is_least()
         → IsLeastLength kinds total set (fewest_erases kinds total set) }
 {}
 
-/// Returns the first planned erase at or after the sector `from`, and the sector at or after which the next ones begin.
+/// Returns the first planned erase that begins at or after the sector `from`, and the sector at or after which the
+/// other ones begin. Returns `None` if no planned erase begins at or after `from`.
 fn next_erase(set: &SectorSet, kinds: Kinds, whole: bool, from: u32) -> Option<(Erase, u32)>
     ensures { HeadsPlanned whole kinds (has set.now) from result }
 {
@@ -70,8 +71,8 @@ fn next_erase(set: &SectorSet, kinds: Kinds, whole: bool, from: u32) -> Option<(
     None
 }
 
-/// Returns the erase block with which `sector`, a sector of the set, is erased. This is the chip if `whole` is set,
-/// else the largest block of the chip that holds the sector and lies in the set.
+/// Returns the erase block with which `sector` is erased, if it is in the set. The block is the chip if `whole` is
+/// true, else the largest of the chip's blocks of 64, 32 and 4 KiB that holds `sector` and lies in the set.
 #[tactic(auto, unfolding(crate::specs::Planned::planned_block))]
 fn block_of(set: &SectorSet, kinds: Kinds, whole: bool, sector: u16) -> EraseBlock
     ensures { result ≡ planned_block whole kinds (has set.now) sector }

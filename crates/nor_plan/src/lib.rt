@@ -1,5 +1,5 @@
-//! Plans how to change sectors: whether a sector must be erased, the fewest erases, and the spans of its pages that
-//! must be programmed. The crate sends nothing and allocates no memory.
+//! Plans how to change sectors: whether a sector must be erased, the spans of its pages that must be programmed, and
+//! the fewest erases for a set of sectors. The crate sends nothing and allocates no memory.
 //!
 //! - `set.rt`: sets of sectors
 //! - `plan.rt`: whether a sector must be written, and whether it must be erased first

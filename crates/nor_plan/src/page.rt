@@ -20,8 +20,9 @@ pub struct PageSpan {
     pub last: usize,
 }
 
-/// Returns the spans of two slices of equal length, in ascending order. Each page with a differing byte has one span,
-/// from its first to its last differing byte; other pages have none.
+/// Returns the spans of two slices of equal length, in ascending order. The slices are divided into pages of 256 bytes
+/// from their start. Each page with a differing byte has one span, from its first to its last differing byte; other
+/// pages have none.
 pub fn spans<'a>(old: &'a [u8], target: &'a [u8]) -> Spans<'a>
     requires { length old.now ≡ length target.now }
     ensures pages { spans_left result ≡ spans_of old.now target.now }
@@ -31,7 +32,7 @@ pub fn spans<'a>(old: &'a [u8], target: &'a [u8]) -> Spans<'a>
 }
 
 /// Returns the first span that lies on the page `page` or a later one, and the number of the page after the span's
-/// page.
+/// page. Returns `None` if these pages have no span.
 #[tactic(auto, using(crate::proofs::PageSpans::page_steps))]
 fn next_span(old: &[u8], target: &[u8], page: usize) -> Option<(PageSpan, usize)>
     requires { length old.now ≡ length target.now }

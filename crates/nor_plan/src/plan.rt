@@ -10,7 +10,7 @@ use crate::lanes::{differs, raises};
 #[derive(Clone, Copy, Debug)]
 pub struct Plan;
 
-/// Whether a sector must be written or erased to get its target bytes.
+/// The plan of a sector: whether it must be written or erased to get its target bytes.
 #[derive(Clone, Copy, Debug, PartialEq, Eq)]
 pub struct SectorPlan {
     /// Whether some byte differs, so that the sector must be written.

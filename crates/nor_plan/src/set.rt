@@ -25,7 +25,7 @@ impl SectorSet {
         self.words[sector as usize / 64] |= 1 << (sector % 64);
     }
 
-    /// Returns whether `sector` is in the set. It is false from 4,096 on.
+    /// Returns whether `sector` is in the set. The result is false if `sector` is 4,096 or greater.
     #[tactic(auto, unfolding(crate::specs::SectorSet::has))]
     pub fn contains(&self, sector: u32) -> bool
         ensures { result ≡ has self.now sector }

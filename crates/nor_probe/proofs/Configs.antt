@@ -54,8 +54,8 @@ shown_part config false None (Ok geometry) part genuine listed errors is =
     grind arith
 shown_part config false None (Err fault) part genuine listed errors is = absurd (cc)
 
--- If a genuine chip shows the chip type that was found, the chip is known, and the chip found has the ID, size, erase
--- types and block protection of its configuration.
+-- If a genuine chip shows the chip type that was found (`shown_as`), the chip is known, and `found` has the ID, size,
+-- erase types and block protection of its configuration.
 pub shown_config : (config : Config) (found : Found) → IsGenuine config → shown_as config ≡ Ok (part_in found)
     → IsConfigOf config found
 shown_config config found genuine is =

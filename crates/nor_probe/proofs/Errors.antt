@@ -31,7 +31,8 @@ reads_few_if false n few = few
 reads_few : (of_id : List ℕ) → reads_of of_id ≤ 4
 reads_few of_id = reads_few_if (is_no_chip of_id) _ (reads_by_few (part_with_id of_id))
 
--- a fault of an idle chip after its ID was read
+-- a fault after the ID was read: `old` is the state before the probe, and `mid` the state after its polls and the read
+-- of the ID
 module _ (named : Option ChipName) (old mid : BusState) (rested : Rested old mid)
     (count : old.left ≡ mid.left + (old.chip.busy + 2)) (busy : old.chip.busy < 65536) where
   same : mid.chip.config ≡ old.chip.config

@@ -24,7 +24,7 @@ pub sfdp_keeps : (address : ℕ) {old new : List Exchange} {reply : List ℕ} �
     → KeepsReplies (begins_with 0x5A) old new
 sfdp_keeps address answered = keeps_replies_less (answered_keeps answered) (names_begins 0x5A address)
 
--- a type by SFDP, from the parts that were read
+-- if the last three transactions read SFDP bytes that are accepted, the type that these bytes give is a type by SFDP
 pub type_by_sfdp : {history : List Exchange} {header first table : List ℕ} {geometry : Geometry}
     → RepliedSfdp history header first table → sfdp_says header first table ≡ Ok geometry
     → (with_id : List ℕ) → IsTypeBySfdp history (sfdp_part with_id geometry)
@@ -40,7 +40,7 @@ type_by_sfdp {history} replied says with_id = record {
   is = refl;
 }
 
--- An opcode begins no transaction that begins with another one.
+-- A transaction that begins with one opcode doesn't begin with another.
 pub other_opcode : (opcode other : ℕ) → (opcode == other) ≡ false → (out : List ℕ) → begins_with opcode out ≡ true
     → begins_with other out ≡ false
 other_opcode opcode other differs [] is = refl
@@ -51,7 +51,7 @@ no_poll opcode differs [] is = refl
 no_poll opcode differs (first ∷ []) is = rw (eqb-true first opcode is) differs
 no_poll opcode differs (first ∷ x ∷ rest) is = refl
 
--- the chip that was found after a wait, a read of the ID, and the SFDP if the ID has no row
+-- a chip found after polls, a read of the ID and, if the ID has no row, reads of the SFDP is what the bus replied
 pub found_by : {polled read new : List Exchange} (found : Found) → last_reply is_poll polled ≡ found.status1 ∷ []
     → Answered (begins_with 0x9F) polled read found.id → KeepsReplies (begins_with 0x5A) read new
     → (part_with_id found.id ≡ None → IsTypeBySfdp new (part_in found)) → IsFoundBy new found
@@ -62,7 +62,8 @@ found_by found status answered keeps by_sfdp = record {
   by_sfdp = by_sfdp;
 }
 
--- The chip found is still what the bus replied, after transactions that read no ID and poll no status.
+-- The chip found is still what the bus replied after transactions that leave the last replies to 9Fh and to polls as
+-- they were.
 pub found_later : {old new : List Exchange} {found : Found} → Continues old new
     → last_reply (begins_with 0x9F) new ≡ last_reply (begins_with 0x9F) old → last_reply is_poll new ≡ last_reply is_poll old
     → IsFoundBy old found → IsFoundBy new found

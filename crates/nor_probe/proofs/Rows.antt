@@ -1,4 +1,4 @@
--- The emulated chips are those of the table and TINY64, each with an ID of its own.
+-- The emulated chips are those of the table and TINY64, and no two of them have the same ID.
 use Rattle.std.proofs.Common.{◌≡◌, ◌&&◌, ℕ, Bool, true, false, not, List, [], ◌∷◌, refl, cond}
 use Rattle.std.specs.Prelude.{Some, find, bytes_eq}
 use Rattle.std.specs.List.{list_all}
@@ -33,7 +33,7 @@ found_next test first parts part false apart more is =
     let other = (found_has test (λ p. not (bytes_eq first.id p.id)) parts part apart is).1 in
     rw (not_true _ other) (more is)
 
--- a row that any test finds is the one with its ID
+-- if no two rows have the same ID, the row that a test finds is also found by its ID
 found_by_id : (test : Part → Bool) (parts : List Part) (part : Part) → have_own_ids parts ≡ true
     → find test parts ≡ Some part → find (λ p. bytes_eq p.id part.id) parts ≡ Some part
 found_by_id test [] part own is = absurd (cc)

@@ -6,7 +6,7 @@ use Rattle.nor_probe.specs.Sfdp.{sfdp_says}
 use Rattle.nor_probe.specs.Known.{chip_says}
 use Rattle.nor_probe.specs.Steps.{AreParameters}
 
--- the parts that were read say what the chip's SFDP says
+-- if the parts that were read are those of the chip's SFDP (`AreParameters`), they say what the chip's SFDP says
 pub parameters_say : (config : Config) (parameters : Parameters) → AreParameters config parameters
     → chip_says config ≡ sfdp_says parameters.header parameters.first parameters.table
 unfolding chip_says

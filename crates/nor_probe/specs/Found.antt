@@ -38,16 +38,17 @@ abbrev pub reads_by : Option Part → ℕ
 reads_by (Some part) = 1
 reads_by None = 4
 
--- the number of reads that identify a chip with this ID
+-- the number of reads of a probe that read this ID: 1 if the ID shows that there is no chip or has a row, else 4
 abbrev pub reads_of : List ℕ → ℕ
 reads_of of_id = if is_no_chip of_id then 1 else reads_by (part_with_id of_id)
 
--- the number of transactions that a probe of this chip needs: a poll for each BUSY, one that shows it idle, and the
--- reads
+-- the number of transactions that a probe of this chip needs: one poll for each BUSY that the chip still shows, one
+-- poll that shows it idle, and the reads
 abbrev pub needed : Chip → ℕ
 needed chip = chip.busy + 1 + reads_of (id_of chip.config)
 
--- On every bus: the chip found is a row of the table, or was identified by SFDP, and has a size that a chip may have.
+-- On every bus: the chip found has a size that a chip may have, and is a row of the table or was identified by SFDP.
+-- Its ID isn't one that is read when nothing drives the bus.
 pub record IsPart (found : Found) : Type 0 where
   pub driven : is_no_chip found.id ≡ false
   pub origin : (part_with_id found.id ≡ Some (part_in found))
@@ -67,7 +68,8 @@ pub record IsCounted (old : BusState) (probed : Probed) : Type 0 where
   pub sent : old.honest ≡ true → probed.transactions ≡ needed old.chip
 
 -- On a well-behaved bus (`honest`): the chip found is what the chip shows about itself, the chip is idle, and the
--- status is the chip's. The chip's bytes, non-volatile status bits and erased sectors are unchanged.
+-- status is the chip's. The chip's bytes, non-volatile status bits and erased sectors are unchanged. The probe sent the
+-- transactions that the chip needs. The write enable latch is unchanged if the chip was idle, and otherwise clear.
 pub record Finds (old new : BusState) (found : Found) : Type 0 where
   pub rested : Rested old new
   pub part : shown_as old.chip.config ≡ Ok (part_in found)
@@ -116,7 +118,7 @@ ProbeErrors named old new Timeout = ⊥
 
 -- The promises of a probe on every bus.
 pub record ProbeAlways (named : Option ChipName) (old new : BusState) (result : Result Found ProbeFault) : Type 0 where
-  -- no modifying command was sent; on a well-behaved bus at most 65,540 transactions were
+  -- no modifying command was sent; on a well-behaved bus at most 65,540 transactions were carried out
   pub only_reads : OnlyReads most_probe old new
   -- a chip found is a row of the table, or was identified by SFDP, and has a size that a chip may have
   pub part : IfOk result IsPart
@@ -136,8 +138,8 @@ pub record ProbeHonest (named : Option ChipName) (old new : BusState) (result : 
   -- a chip found is what the chip shows about itself; the chip is idle, and its bytes and non-volatile status bits are
   -- unchanged
   pub finds : IfOk result (Finds old new)
-  -- a fault says why no chip with the requested name was found, or that too few transactions were left; a timeout
-  -- doesn't occur
+  -- a fault says why no chip was found, that it has another name than the requested one, or that too few transactions
+  -- were left; a timeout doesn't occur
   pub errors : IfErr result (ProbeErrors named old new)
 
 -- the result of a probe without the number of transactions

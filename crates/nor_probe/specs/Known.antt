@@ -73,12 +73,11 @@ pub record IsKnown (config : Config) : Type 0 where
   pub genuine : IsGenuine config
   pub shown : IsOk (shown_as config)
 
--- the configuration is that of an emulated chip, whose unique ID is zero
+-- the configuration is that of an emulated chip, with a unique ID of zeros
 abbrev pub IsEmulated : Config → Type 0
 IsEmulated config = (part : Part) × IsEmulatedPart part × IsMadeOf part config
 
--- A modelled bus: it is well-behaved (`honest`), and its chip is genuine. Promises about the chip's bytes are made for
--- these buses.
+-- A modelled bus: it is well-behaved (`honest`), and its chip is genuine.
 pub record IsModelled (state : BusState) : Type 0 where
   pub honest : state.honest ≡ true
   pub genuine : IsGenuine state.chip.config

@@ -13,7 +13,8 @@ use Rattle.nor_probe.specs.Sfdp.{sfdp_says}
 use Rattle.nor_probe.specs.Table.{part_with_id}
 
 -- The last three transactions read these parts of the SFDP: its header, its first parameter header, and the table to
--- which the parameter header points.
+-- which the parameter header points. Each transaction begins with 5Ah and the address of its part. The number of bytes
+-- read is not stated.
 pub record RepliedSfdp (history : List Exchange) (header first table : List ℕ) : Type 0 where
   pub before : List Exchange
   pub at_header : List Exchange
@@ -22,8 +23,8 @@ pub record RepliedSfdp (history : List Exchange) (header first table : List ℕ)
   pub read_first : Answered (names 0x5A 8) at_header at_first first
   pub read_table : Answered (names 0x5A (pointer_in first)) at_first history table
 
--- The type is the one that these SFDP bytes give (`sfdp_says`). Three transactions in a row read the bytes; other
--- transactions may have followed.
+-- Apart from its ID, which may be any, the type is the one that SFDP bytes of this history give (`sfdp_says`). Three
+-- transactions in a row read these bytes; other transactions may have followed.
 pub record IsTypeBySfdp (history : List Exchange) (part : Part) : Type 0 where
   pub read : List Exchange
   pub later : Continues read history
@@ -35,8 +36,8 @@ pub record IsTypeBySfdp (history : List Exchange) (part : Part) : Type 0 where
   pub says : sfdp_says header first table ≡ Ok geometry
   pub is : part ≡ sfdp_part part.id geometry
 
--- The chip found is what the bus replied: the ID of the last reply to 9Fh, status 1 of the last poll and, if the ID has
--- no row in the table, the size and erase types that the SFDP gave.
+-- The chip found is what the bus replied. Its ID is the last reply to 9Fh, and its status 1 the reply to the last poll.
+-- If the ID has no row in the table, the SFDP gave the size and the erase types (`IsTypeBySfdp`).
 pub record IsFoundBy (history : List Exchange) (found : Found) : Type 0 where
   pub id : last_reply (begins_with 0x9F) history ≡ found.id
   pub status1 : last_reply is_poll history ≡ found.status1 ∷ []

@@ -33,7 +33,8 @@ pub record AreParameters (config : Config) (parameters : Parameters) : Type 0 wh
   pub first : parameters.first ≡ shown config 8 8
   pub table : parameters.table ≡ shown config (pointer_in (shown config 8 8)) 36
 
--- On every bus: a chip type with this ID, from the table or by SFDP, of a size that a chip may have.
+-- On every bus: a chip type with this ID, from the table or by SFDP, of a size that a chip may have. The ID isn't one
+-- that is read when nothing drives the bus, and the type's name gives the same number of reads as the ID.
 pub record IsIdentified (of_id : List ℕ) (part : Part) : Type 0 where
   pub driven : is_no_chip of_id ≡ false
   pub same_id : part.id ≡ of_id
@@ -58,7 +59,8 @@ pub record ReadsGeometry (old new : BusState) (geometry : Geometry) : Type 0 whe
   -- if the chip was idle, this is the geometry that its SFDP gives
   pub says : old.chip.busy ≡ 0 → chip_says old.chip.config ≡ Ok geometry
 
--- the meaning of a fault for an idle chip on a well-behaved bus, if only its SFDP was read
+-- the meaning of a fault of a function that reads only the SFDP, for an idle chip on a well-behaved bus; no fault
+-- except `UnknownChip` and `Stopped` is possible
 abbrev pub GeometryErrors : (old new : BusState) → ProbeFault → Type 0
 GeometryErrors old new (UnknownChip fault) =
     (chip_says old.chip.config ≡ Err fault) × (old.left ≡ new.left + 3) × Rested old new

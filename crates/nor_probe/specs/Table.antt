@@ -26,11 +26,11 @@ chips =
     ∷ winbond W25Q128FV (0xEF ∷ 0x40 ∷ 0x18 ∷ []) 16777216
     ∷ []
 
--- the row of the table with this ID
+-- the row of the table with this ID, or `None` if no row has it
 abbrev pub part_with_id : (of_id : List ℕ) → Option Part
 part_with_id of_id = find (λ part. bytes_eq part.id of_id) chips
 
--- the row of the table with this name
+-- the row of the table with this name, or `None` if no row has it
 abbrev pub part_with_name : (text : List ℕ) → Option Part
 part_with_name text = find (λ part. bytes_eq (name_text part.name) text) chips
 
@@ -39,7 +39,7 @@ abbrev pub name_or : (unlisted : ChipName) → Option Part → ChipName
 name_or unlisted (Some part) = part.name
 name_or unlisted None = unlisted
 
--- the name that a text spells
+-- the name that a text spells: that of a row of the table, or `Sfdp` for "SFDP"; `Other` for any other text
 abbrev pub name_of : List ℕ → ChipName
 name_of text = name_or (if bytes_eq text (codes "SFDP") then Sfdp else Other) (part_with_name text)
 
@@ -59,6 +59,6 @@ emulated_with_id of_id = if bytes_eq of_id tiny64.id then Some tiny64 else part_
 abbrev pub IsEmulatedPart : Part → Type 0
 IsEmulatedPart part = emulated_with_id part.id ≡ Some part
 
--- Holds for the configuration of an emulated chip of this type, whose unique ID is zero.
+-- Holds for the configuration of an emulated chip of this type, with a unique ID of zeros.
 abbrev pub IsMadeOf : Part → Config → Type 0
 IsMadeOf part config = IsEmulatedWith part.id part.size part.kinds part.scheme config

@@ -62,12 +62,13 @@ pub struct Probed {
     pub transactions: u64,
 }
 
-/// Identifies the chip on the bus. Waits until it is idle, with at most 65,536 polls (05h), reads its ID (9Fh) and, if
-/// the ID isn't in the table, its SFDP with three reads (5Ah). If `named` is given, the chip must have this name.
+/// Identifies the chip on the bus. Waits until it is idle, with at most 65,536 polls (05h), and reads its ID (9Fh). If
+/// the ID isn't in the table, and isn't `FF FF FF` or `00 00 00`, also reads its SFDP with three reads (5Ah). If
+/// `named` is given, the chip must have this name.
 ///
 /// On any bus a returned chip has the given name, if one is given, and the last poll showed that it is ready. Its ID
-/// and status 1 are the last replies of the bus to 9Fh and 05h. It is a row of the table, or was identified by the SFDP
-/// that the bus replied and has a supported size. On a well-behaved bus (`honest`) it is what the chip shows about
+/// and status 1 are the last replies of the bus to 9Fh and 05h. It has a supported size, and is a row of the table or
+/// was identified by the SFDP that the bus replied. On a well-behaved bus (`honest`) it is what the chip shows about
 /// itself, the chip is idle, and its bytes and non-volatile status bits are unchanged. On a modelled bus the returned
 /// ID, size, erase types and block protection are those of the chip's configuration.
 ///
@@ -85,8 +86,9 @@ pub fn probe<B: Bus>(bus: &mut B, named: Option<ChipName>) -> Result<Found, Prob
 }
 
 /// Identifies the chip as `probe` does, with the same errors, and also returns the number of transactions that were
-/// sent. On any bus that number is at least one poll and the reads, and at most 65,540. On a well-behaved bus it is
-/// exactly what the chip needs.
+/// sent. On any bus the returned number is at least one poll and the reads, and at most 65,540. On a well-behaved bus
+/// the number is exactly what the chip needs: one poll for each BUSY that the chip still shows, one poll that shows it
+/// idle, and the reads.
 #[tactic(auto, using(crate::proofs::Sizes::size_at_least, crate::proofs::Sizes::size_at_most, crate::proofs::Sizes::size_in_blocks))]
 pub fn probe_counted<B: Bus>(bus: &mut B, named: Option<ChipName>) -> Result<Probed, ProbeFault>
     ensures always { ProbeAlways named (B.state bus.old) (B.state bus.new) (found_in result) }

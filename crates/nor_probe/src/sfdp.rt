@@ -38,7 +38,7 @@ pub enum SfdpFault {
     /// The first parameter header gives the table fewer than nine double words.
     #[error("the basic table is too short")]
     Length,
-    /// The chip takes only four-byte addresses, or the field has its reserved value.
+    /// The chip takes only four-byte addresses, or the two bits for the length of addresses have the reserved value 3.
     #[error("the chip doesn't take addresses of three bytes")]
     Address,
     /// The write granularity is below 64 bytes: the chip isn't written in pages.
@@ -165,7 +165,7 @@ fn double_word_of(table: &[u8; 36], k: usize) -> u32
     LittleEndian::read_u32(&table[4 * (k - 1)..])
 }
 
-// Returns the size in bytes that the density double word gives, or `None` if it isn't a supported one.
+// Returns the size in bytes that the density double word gives, or `None` if this size isn't supported.
 #[tactic(auto, using(crate::proofs::SfdpLemmas::large_exponent, crate::proofs::SfdpLemmas::in_bits), unfolding(crate::specs::Sfdp::size_in_bits))]
 fn size_in_bytes(density: u32) -> Option<u32>
     ensures value { SomeIff result (IsTrue (is_chip_size_in_bits (size_in_bits density))) (size_in_bits density / 8) }

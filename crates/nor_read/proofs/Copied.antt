@@ -27,7 +27,8 @@ copies_if : {known : Type 0} {included : Option (List Span)} {content : ℕ → 
     → CopiesIf known included content count old new → known → Copies included content count old new
 copies_if has is = let right = has.right is in search right
 
--- Holds if the pieces below `n` were copied.
+-- Holds if the pieces below `n` were copied to the vault, which refused nothing. The copy in a `telling` vault is known
+-- to be right on a well-behaved bus whose chip was idle at the start and has this size.
 pub record HasCopied (included : Option (List Span)) (size n : ℕ) (old new : BusState) (vault vault' : VaultState)
     (reads : ℕ) : Type 0 where
   pub few : reads ≤ 16 * n
@@ -49,8 +50,8 @@ copied_none included size state vault = record {
   };
 }
 
--- `CopiesIf` holds for `k` more bytes after the vault accepted them. If `known` holds, they are the next bytes of the
--- copy.
+-- `CopiesIf` holds for `k` more bytes after the vault accepted them, provided that they are the next bytes of the copy
+-- if `known` holds.
 module _ {known : Type 0} {included : Option (List Span)} {content : ℕ → ℕ} {m : ℕ} {vault mid new : VaultState} where
   copies_more : (k count : ℕ) (part : List ℕ) → m + k ≡ count → CopiesIf known included content m vault mid
       → length part ≡ k → new.bytes ≡ mid.bytes ++ part
@@ -102,7 +103,8 @@ module _ {included : Option (List Span)} {size n reads more : ℕ} {bytes : List
         (took.bytes (has.accepted.telling ∙ telling)) piece_right;
   }
 
-  -- If the vault refuses the piece, the error has the number of bytes accepted.
+  -- If the vault refuses the piece, `CopyErrors` holds: error 19 has the number of bytes accepted of all pieces
+  -- together.
   pub copy_fails : (later : VaultState) (refusal : Refusal) → PutErrors n bytes now later refusal
       → CopyErrors included size old new vault later refusal
   copy_fails later (Output written) errors =

@@ -73,7 +73,7 @@ module _ (included : Option (List Span)) (image : List ℕ) (sector : ℕ) (byte
 adds_none : (history : List Exchange) → AddsSectorReads history history
 adds_none history = record { later = []; is = refl; each = All-nil IsSectorRead }
 
--- A sector without an included address isn't read, and counts as one without a difference.
+-- For a sector without an included address, `ComparesPart` holds although nothing was sent.
 pub part_skipped : (included : Option (List Span)) (image : List ℕ) (sector : ℕ) (returned : Bool) (state : BusState)
     → returned ≡ false → returned ≡ has_in_sector (includes included) sector
     → MatchBool returned (SomeInSector (includes included) sector) (NoneInSector (includes included) sector)
@@ -153,14 +153,16 @@ module _ (included : Option (List Span)) (image : List ℕ) (content : ℕ → �
       let before = agree_more address agree other.before in search arith
   tells_more to (Some address) second low high other more = search arith
 
--- The first difference of two ranges of sectors lies in a sector that was read.
+-- The first difference of two successive steps lies in a sector that was read, and only reads of sectors follow that
+-- read.
 others_more : {old mid new : List Exchange} (first second : Option ℕ) → Continues old mid → AddsSectorReads mid new
     → ReadsDifference old mid first → ReadsDifference mid new second → ReadsDifference old new (option_or first second)
 others_more None None low high has more = tt
 others_more None (Some address) low high has more = read_after low more
 others_more (Some address) second low high has more = read_then has high
 
--- Holds if the sectors below `n` were compared.
+-- Holds if the sectors below `n` were compared. The first difference is known to be right on a well-behaved bus whose
+-- chip was idle at the start and has this size.
 pub record HasCompared (included : Option (List Span)) (image : List ℕ) (size n : ℕ) (old new : BusState)
     (first : Option ℕ) (reads : ℕ) : Type 0 where
   pub few : reads ≤ n

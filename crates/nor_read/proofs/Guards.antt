@@ -32,11 +32,12 @@ lock_read : (one two : ℕ) (kept : KeptBits) → one / 4 ≡ kept.one → two �
     → is_locked (kept_in (one ∷ two ∷ [])) ≡ is_locked kept
 lock_read one two kept low high = grind (arith, nat_tests)
 
--- Status 1 of an idle chip, without its two lowest bits BUSY and WEL, has the chip's non-volatile bits.
+-- Status 1 of an idle chip, without its two lowest bits BUSY and WEL, has the chip's non-volatile bits of status 1.
 kept1_read : (old mid : Chip) (one : ℕ) → one ≡ status1_of mid → IsSame old mid → mid.busy ≡ 0 → one / 4 ≡ old.kept.one
 kept1_read old mid one is same idle = let kept = ap (λ (bits : KeptBits). bits.one) same.kept in grind (arith, nat_tests)
 
--- On a chip with block protection, the range that its protection bits select has exactly the protected addresses.
+-- On a chip with block protection, `IsProtectedRange` holds for a range that `IsRangeOf` gives for the chip's size and
+-- protection bits.
 range_read : (chip : Chip) (range : Option (ℕ × ℕ)) → chip.config.scheme ≡ true
     → MatchOption range (is_undefined (code_of chip.kept) ≡ true)
     (λ places. IsRangeOf chip.config.size (code_of chip.kept) places.0 places.1)
@@ -51,7 +52,7 @@ module _ (named : Option ChipName) where
       → (IsModelled old → ProtectionErrors named old.chip refusal) → HasReported named old new (Err refusal)
   refused refusal only_reads is last errors own = search
 
-  -- An error of the probe is one that `wp_status` may return, and means what `wp_status` promises.
+  -- An error of the probe is one that `wp_status` may return, and `ProtectionErrors` says nothing about it.
   unfound_tells : (old new : BusState) (refusal : Refusal) → IdentificationErrors most_probe named old new refusal
       → IsProtectionRefusal refusal × ProtectionErrors named old.chip refusal
   unfound_tells old new (Timeout address) errors = (errors.0, tt)

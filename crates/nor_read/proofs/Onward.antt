@@ -41,13 +41,13 @@ adds_then {old} first second = record {
   each = All-append IsSectorRead second.later first.later second.each first.each;
 }
 
--- A call that began earlier has read the sector too.
+-- If the sector was read after `mid` (`HasReadAt`), it was read after each earlier point `old`, too.
 pub read_after : {address : ℕ} {old mid new : List Exchange} → Continues old mid → HasReadAt address mid new
     → HasReadAt address old new
 read_after first has =
     record { at = has.at; read = has.read; since = continues_then first has.since; later = has.later }
 
--- A call has read the sector even if it then reads further sectors.
+-- `HasReadAt` stays true if further sectors are read.
 pub read_then : {address : ℕ} {old mid new : List Exchange} → HasReadAt address old mid → AddsSectorReads mid new
     → HasReadAt address old new
 read_then has more = record { at = has.at; read = has.read; since = has.since; later = adds_then has.later more }

@@ -14,7 +14,8 @@ use Rattle.nor_driver.proofs.RestsInTurn.{HasLooked, has_looked-none}
 use Rattle.nor_read.specs.Reading.{copied, ReadsPart, ReadsPiece}
 use Rattle.nor_read.proofs.Onward.{has_looked, looked_on, open_on, same_bytes}
 
--- Holds if the first `k` sectors of a piece were copied.
+-- Holds if the first `k` sectors of a piece were copied. Their bytes are known to be right on a well-behaved bus whose
+-- chip was idle at the start and has all sectors of the piece.
 pub record HasPieced (included : Option (List Span)) (piece k : ℕ) (bytes : List ℕ) (old new : BusState)
     (reads : ℕ) : Type 0 where
   pub few : reads ≤ k
@@ -28,7 +29,7 @@ pub pieced_none : (included : Option (List Span)) (piece : ℕ) (bytes : List �
     → HasPieced included piece 0 bytes state state 0
 pieced_none included piece bytes state = grind (arith, has_looked-none state)
 
--- `HasPieced` holds for one sector more, after it was copied.
+-- `HasPieced` holds for `k + 1`, after sector `k` of the piece, below 16, was copied.
 module _ {included : Option (List Span)} {piece k reads more : ℕ} {bytes part : List ℕ} {old mid new : BusState} where
   pub pieced_more : (width : ℕ) → k < 16 → width ≡ 4096 → length bytes ≡ 65536 → length part ≡ 4096
       → HasPieced included piece k bytes old mid reads → OnlyReads 1 mid new

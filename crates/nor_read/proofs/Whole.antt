@@ -47,7 +47,8 @@ find_tells most named old new Stopped fits errors honest = let ran = errors.ran_
 find_tells most named old new (Timeout address) fits errors honest = absurd (errors.2 honest)
 find_tells most named old new _ fits errors honest = search
 
--- An error of the probe says which transaction was the last one.
+-- After error 12 or 13 of the probe the last transaction is as `EndsAtError` says; for the probe's other errors
+-- `EndsAtError` says nothing.
 pub find_ends : (most : ℕ) (named : Option ChipName) (old new : BusState) (refusal : Refusal)
     → IdentificationErrors most named old new refusal → EndsAtError refusal new.history
 find_ends most named old new Stopped errors = errors.last

@@ -1,5 +1,5 @@
--- What the calls share that only read: the chip that was found, the checks of it, the bounds on the transactions, the
--- report of `read_out` and `verify`, and the errors.
+-- The parts that the calls of this crate share: the chip that was found, the checks of it, the bounds on the
+-- transactions, the report of `read_out` and `verify`, and the errors.
 use Rattle.std.specs.Prelude.{◌≡◌, ◌≤◌, ◌+◌, ◌/◌, ℕ, true, Option, Ok, List, ⊤}
 use Rattle.nor_model.specs.declared.config.Config.{Config}
 use Rattle.nor_model.specs.Chip.{status1_of}
@@ -24,16 +24,17 @@ abbrev pub most_status : ℕ
 most_status = 65541
 
 -- Describes the chip that was found. On every bus it is a row of the table or was found by SFDP, and has the requested
--- name. On a well-behaved bus it is what the chip's replies show; on a modelled bus it has the chip's configuration.
+-- name, if any. On a well-behaved bus it is what the chip's replies show; on a modelled bus it has the chip's
+-- configuration.
 pub record IsFound (named : Option ChipName) (old : BusState) (found : Found) : Type 0 where
   pub part : IsPart found
   pub has_name : IsWanted named found.name
   pub shown : old.honest ≡ true → shown_as old.chip.config ≡ Ok (part_in found)
   pub config : IsModelled old → IsConfigOf old.chip.config found
 
--- Holds after the probe found a chip: its last poll showed ready, and it counted at most 65,540 transactions. On a
--- well-behaved bus contents and non-volatile status bits are as before (`Rested`), the chip is idle, status 1 is the
--- chip's own, and the transactions sent were counted exactly.
+-- Holds after the probe found a chip (`IsFound`): its last poll showed ready, and it counted at most 65,540
+-- transactions. On a well-behaved bus contents and non-volatile status bits are as before (`Rested`), the chip is idle,
+-- status 1 is the chip's own, and the transactions sent were counted exactly.
 pub record HasFound (named : Option ChipName) (old new : BusState) (probed : Probed) : Type 0 where
   pub is : IsFound named old probed.found
   pub most : probed.transactions ≤ most_probe
@@ -46,12 +47,12 @@ pub record HasFound (named : Option ChipName) (old new : BusState) (probed : Pro
 
 -- ---- checks of the chip that was found
 
--- Holds if the chip has the requested name, and some included address is past its end.
+-- Holds if the chip has the requested name, if any, and some included address is past its end.
 pub record IsPassed (named : Option ChipName) (included : Option (List Span)) (config : Config) : Type 0 where
   pub is : IsNamed named config
   pub past : ReachesPast included config.size
 
--- Holds if the chip has the requested name and all included addresses.
+-- Holds if the chip has the requested name, if any, and all included addresses.
 pub record IsTaken (named : Option ChipName) (included : Option (List Span)) (config : Config) : Type 0 where
   pub is : IsNamed named config
   pub fits : FitsInto included config.size
@@ -64,7 +65,7 @@ most_read size = most_probe + size / 4096
 
 -- ---- the report
 
--- Describes the report of a call on every bus: it has a chip with the requested name, and counts no change.
+-- Describes the report of a call on every bus: it has a chip with the requested name, if any, and counts no change.
 pub record ReportsPart (named : Option ChipName) (report : Report) : Type 0 where
   -- The chip is a row of the table or was found by SFDP.
   pub part : IsPart report.found
@@ -80,7 +81,7 @@ pub record ReportsPart (named : Option ChipName) (report : Report) : Type 0 wher
 -- Describes, on a well-behaved bus, the report of a call that read `reads` sectors: it has what the chip's replies
 -- show, and contents and non-volatile status bits are as before the call.
 pub record ReportsReads (reads : ℕ) (old new : BusState) (report : Report) : Type 0 where
-  -- The chip is the one that its replies show.
+  -- The reported chip type is the one that the chip shows (`shown_as`).
   pub shown : shown_as old.chip.config ≡ Ok (part_in report.found)
   -- Contents and non-volatile status bits are as before.
   pub rested : Rested old new
@@ -104,8 +105,8 @@ IsFindRefusal Stopped = ⊤
 IsFindRefusal (Timeout address) = address ≡ 0
 IsFindRefusal _ = ⊥
 
--- The meaning of errors on a well-behaved bus. Errors 1 to 3 mean what `ProbeErrors` says about the chip; a stop means
--- that fewer than `most` transactions were left; there is no timeout. After any error except a stop, contents and
+-- The meaning of errors on a well-behaved bus. Errors 1 to 3 mean what `ProbeErrors` says about the chip. A stop means
+-- that fewer than `most` transactions were left, and there is no timeout. After any error except a stop, contents and
 -- non-volatile status bits are as before.
 abbrev pub ReadingErrors : ℕ → Option ChipName → (old new : BusState) → Refusal → Type 0
 ReadingErrors most named old new NoChip = ProbeErrors named old new Probes.NoChip

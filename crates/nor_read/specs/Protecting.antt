@@ -20,8 +20,8 @@ pub record IsProtectedRange (chip : Chip) (start len : ℕ) : Type 0 where
   pub exactly : (a : ℕ) → (is_protected chip a ≡ true) ↔ ((start ≤ a) × (a < start + len))
   pub plain : len ≡ 0 → start ≡ 0
 
--- Holds if the report matches a chip with block protection: its protected range, or `None` if its protection bits are
--- undefined; whether its status is locked; and its size.
+-- Holds if the report matches a chip with block protection. It has the chip's protected range (`None` if the chip's
+-- protection bits are undefined), whether the status is locked, and the chip's size.
 pub record IsProtection (chip : Chip) (protection : Protection) : Type 0 where
   pub scheme : chip.config.scheme ≡ true
   pub guarded : MatchOption protection.range (is_undefined (code_of chip.kept) ≡ true)
@@ -40,11 +40,12 @@ IsProtectionRefusal refusal = IsFindRefusal refusal
 pub record ProtectionAlways (old new : BusState) (result : Result Protection Refusal) : Type 0 where
   -- No modifying command was sent, and on a well-behaved bus at most 65,541 transactions.
   pub only_reads : OnlyReads most_status old new
-  -- The size is one that a chip may have.
+  -- After success the reported size is one that a chip may have.
   pub sized : IfOk result (λ protection. is_chip_size protection.size ≡ true)
   -- An error is one of those that `wp_status` may return.
   pub refuses : IfErr result IsProtectionRefusal
-  -- After error 12 the bus stopped at the last transaction, and after error 13 that was a poll that showed BUSY.
+  -- After error 12 the bus stopped at the last transaction. After error 13 the last transaction was a poll that showed
+  -- BUSY.
   pub last_transaction : IfErr result (λ refusal. EndsAtError refusal new.history)
   -- The call succeeds only if the last poll showed ready.
   pub polled_ready : OnOk result (new.polled_ready ≡ true)
@@ -56,14 +57,14 @@ pub record ProtectionHonest (named : Option ChipName) (old new : BusState)
   pub rested : OnOk result (Rested old new)
   -- After success the chip is idle.
   pub idle : OnOk result (new.chip.busy ≡ 0)
-  -- After success the chip has the requested name.
+  -- After success the chip has the requested name, if any.
   pub is : OnOk result (IsNamed named old.chip.config)
   -- An error means what `ReadingErrors` says. After any error except a stop, contents and non-volatile status bits are
   -- as before.
   pub errors : IfErr result (ReadingErrors most_status named old new)
 
--- The meaning of error 6 on a modelled bus: the chip has the requested name, and no block protection. `ReadingErrors`
--- has the meaning of the other errors.
+-- The meaning of error 6 on a modelled bus: the chip has the requested name, if any, and no block protection.
+-- `ReadingErrors` has the meaning of the other errors.
 abbrev pub ProtectionErrors : Option ChipName → Chip → Refusal → Type 0
 ProtectionErrors named chip NoProtection = IsNamed named chip.config × (chip.config.scheme ≡ false)
 ProtectionErrors named chip _ = ⊤
@@ -71,7 +72,7 @@ ProtectionErrors named chip _ = ⊤
 -- The promises of `wp_status` on a modelled bus.
 pub record ProtectionModelled (named : Option ChipName) (old : BusState)
     (result : Result Protection Refusal) : Type 0 where
-  -- The report matches the chip.
+  -- After success the report matches the chip.
   pub returned : IfOk result (IsProtection old.chip)
   -- Error 6 means that the chip has no block protection.
   pub errors : IfErr result (ProtectionErrors named old.chip)

@@ -43,8 +43,8 @@ pub record TakesWhole (count : ℕ) (old new : VaultState) : Type 0 where
   -- A `telling` vault has `count` bytes more.
   pub grows : old.telling ≡ true → Grows count old new
 
--- Holds if the vault refused one piece. For a `telling` vault, `written` counts all bytes that it accepted, including
--- those that it accepted of the refused piece.
+-- Holds if the vault refused one piece. For a `telling` vault, `written` counts all bytes that it accepted between the
+-- two states, including those that it accepted of the refused piece.
 pub record TakesPart (written : ℕ) (old new : VaultState) : Type 0 where
   -- The vault refused one call more, and is sealed if and only if it was sealed before.
   pub refused : Refused old new
@@ -64,16 +64,18 @@ pub record ReadOutAlways (named : Option ChipName) (included : Option (List Span
   -- No modifying command was sent, and on a well-behaved bus no more transactions than the bound for the largest chip,
   -- of 16 MiB.
   pub only_reads : OnlyReads (most_read 16777216) old new
-  -- The report has a chip with the requested name, and counts no change.
+  -- After success the report has a chip with the requested name, if any, and counts no change.
   pub reports : IfOk result (ReportsPart named)
-  -- No included address is past the end of the chip that was found.
+  -- After success no included address is past the end of the chip that was found.
   pub fits : IfOk result (λ report. FitsInto included report.found.size)
-  -- The vault refused nothing. A `telling` vault accepted as many bytes as the chip that was found has.
+  -- After success the vault has refused nothing, and a `telling` vault has accepted as many bytes as the chip that was
+  -- found has.
   pub whole : IfOk result (λ report. TakesWhole report.found.size vault vault')
   -- An error is one of those that `read_out` may return, and error 19 has the number of bytes that a `telling` vault
   -- accepted.
   pub refuses : IfErr result (IsReadRefusal vault vault')
-  -- After error 12 the bus stopped at the last transaction, and after error 13 that was a poll that showed BUSY.
+  -- After error 12 the bus stopped at the last transaction. After error 13 the last transaction was a poll that showed
+  -- BUSY.
   pub last_transaction : IfErr result (λ refusal. EndsAtError refusal new.history)
   -- The call succeeds only if the last poll showed ready.
   pub polled_ready : OnOk result (new.polled_ready ≡ true)
@@ -81,16 +83,16 @@ pub record ReadOutAlways (named : Option ChipName) (included : Option (List Span
 -- The promises of `read_out` on a well-behaved bus.
 pub record ReadOutHonest (named : Option ChipName) (included : Option (List Span)) (old new : BusState)
     (result : Result Report Refusal) : Type 0 where
-  -- One read was sent for each sector with an included address, contents and non-volatile status bits are as before,
-  -- and the chip is idle.
+  -- After success one read was sent for each sector with an included address, contents and non-volatile status bits are
+  -- as before, and the chip is idle.
   pub reports : IfOk result (λ report. ReportsReads (sectors_included included report.found.size) old new report)
   -- An error means what `ReadingErrors` says. After any error except a stop, contents and non-volatile status bits are
   -- as before.
   pub errors : IfErr result (ReadingErrors (most_read 16777216) named old new)
 
--- The meaning of error 19 (the vault refused a piece) on a modelled bus. The chip has the requested name and all
--- included addresses, and `written` is at most its size. A `telling` vault has the first `written` bytes of the copy,
--- after the bytes from before the call.
+-- The meaning of error 19 (the vault refused a piece) on a modelled bus. The chip has the requested name, if any, and
+-- all included addresses, and `written` is at most its size. A `telling` vault has the first `written` bytes of the
+-- copy, after the bytes from before the call.
 pub record BreaksOff (named : Option ChipName) (included : Option (List Span)) (written : ℕ) (old : BusState)
     (vault vault' : VaultState) : Type 0 where
   pub taken : IsTaken named included old.chip.config
@@ -110,9 +112,9 @@ pub record ReadOutModelled (named : Option ChipName) (included : Option (List Sp
     (vault vault' : VaultState) (result : Result Report Refusal) : Type 0 where
   -- No modifying command was sent, and no more transactions than the bound for a chip of this size.
   pub only_reads : OnlyReads (most_read old.chip.config.size) old new
-  -- The report has the chip's configuration.
+  -- After success the report has the chip's configuration.
   pub config : IfOk result (λ report. IsConfigOf old.chip.config report.found)
-  -- A `telling` vault has, after its earlier bytes, the chip's included bytes, and FFh for all others.
+  -- After success a `telling` vault has, after its earlier bytes, the chip's included bytes, and FFh for all others.
   pub copy : IfOk result (λ report. vault.telling ≡ true
       → Copies included old.chip.bytes old.chip.config.size vault vault')
   -- Error 5 means that an included address isn't on the chip, error 12 that too few transactions were left. Error 19
@@ -145,8 +147,8 @@ pub record ReadsPiece (included : Option (List Span)) (piece : ℕ) (bytes : Lis
   pub right : old.honest ≡ true → old.chip.busy ≡ 0 → 65536 * (piece + 1) ≤ old.chip.config.size
       → (i : ℕ) → i < 65536 → slice_index bytes i ≡ copied included old.chip.bytes (65536 * piece + i)
 
--- Holds after all pieces of the copy were made and appended. The copy is known to be right on a well-behaved bus with
--- an idle chip of this size.
+-- Holds after all pieces of the copy were made and appended. The copy in a `telling` vault is known to be right on a
+-- well-behaved bus with an idle chip of this size.
 pub record ReadsAll (included : Option (List Span)) (size : ℕ) (old new : BusState) (vault vault' : VaultState)
     (reads : ℕ) : Type 0 where
   pub counted : reads ≡ sectors_included included size
@@ -165,14 +167,15 @@ pub record BreaksCopy (included : Option (List Span)) (size written : ℕ) (old 
   pub took : TakesPart written vault vault'
   pub copy : IsOpen size old → vault.telling ≡ true → Copies included old.chip.bytes written vault vault'
 
--- The meaning of an error of the copy. After a stop the vault has refused nothing.
+-- The meaning of an error of the copy. After a stop the vault has refused nothing, and on a well-behaved bus fewer
+-- transactions were left than the chip has sectors. After error 19 `BreaksCopy` holds.
 abbrev pub CopyErrors : Option (List Span) → ℕ → (old new : BusState) → (vault vault' : VaultState) → Refusal → Type 0
 CopyErrors included size old new vault vault' Stopped = HasStopped (size / 4096) old new × Accepted vault vault'
 CopyErrors included size old new vault vault' (Output written) = BreaksCopy included size written old new vault vault'
 CopyErrors included size old new vault vault' _ = ⊥
 
--- The meaning of an error when a piece is appended. `written` counts the bytes of the earlier pieces and those that the
--- vault accepted of this one.
+-- The meaning of an error when a piece is appended. `written` counts the bytes of the earlier pieces, 65,536 each, and
+-- those that the vault accepted of this piece.
 abbrev pub PutErrors : ℕ → List ℕ → (old new : VaultState) → Refusal → Type 0
 PutErrors piece bytes old new (Output written) =
     (kept : ℕ) × (written ≡ 65536 * piece + kept) × PutRefused old bytes kept new

@@ -35,8 +35,8 @@ pub record IsFirstOther (included : Option (List Span)) (image : List ℕ) (cont
   pub differs : slice_index image address ≢ content address
   pub before : AgreeIn included image content from address
 
--- Holds if the chip has the requested name, and its size differs from the length of the image. The error has both
--- numbers.
+-- Holds if the chip has the requested name, if any, and its size differs from the length of the image. The error has
+-- both numbers.
 pub record IsOtherSize (named : Option ChipName) (image : List ℕ) (config : Config)
     (chip_size image_size : ℕ) : Type 0 where
   pub is : IsNamed named config
@@ -44,8 +44,8 @@ pub record IsOtherSize (named : Option ChipName) (image : List ℕ) (config : Co
   pub of_image : image_size ≡ length image
   pub differ : length image ≢ config.size
 
--- Holds if the chip has the requested name, all included addresses and the image's length, and `address` is the first
--- included address at which chip and image differ.
+-- Holds if the chip has the requested name, if any, all included addresses and the image's length, and `address` is the
+-- first included address at which chip and image differ.
 pub record IsMismatch (named : Option ChipName) (included : Option (List Span)) (image : List ℕ) (chip : Chip)
     (address : ℕ) : Type 0 where
   pub taken : IsTaken named included chip.config
@@ -61,7 +61,8 @@ IsVerifyRefusal RegionOutside = ⊤
 IsVerifyRefusal (Mismatch address) = ⊤
 IsVerifyRefusal refusal = IsFindRefusal refusal
 
--- Holds if the transaction read a sector, and the bus did not stop at it.
+-- Holds if the transaction was a read (03h) from the start of a sector, and the bus did not stop at it. The number of
+-- bytes read is not stated.
 pub record IsSectorRead (exchange : Exchange) : Type 0 where
   pub sector : ℕ
   pub bytes : List ℕ
@@ -74,7 +75,8 @@ pub record AddsSectorReads (old new : List Exchange) : Type 0 where
   pub is : new ≡ later ++ old
   pub each : All IsSectorRead later
 
--- Holds if a call read the sector that has this address, and sent only reads of sectors after it.
+-- Holds if a call read from the start of the sector that has this address, and sent only reads of sectors after that
+-- read.
 pub record HasReadAt (address : ℕ) (old new : List Exchange) : Type 0 where
   -- the history up to this read
   pub at : List Exchange
@@ -95,16 +97,16 @@ pub record VerifyAlways (named : Option ChipName) (included : Option (List Span)
   -- No modifying command was sent, and on a well-behaved bus no more transactions than the bound for the largest chip,
   -- of 16 MiB.
   pub only_reads : OnlyReads (most_read 16777216) old new
-  -- The report has a chip with the requested name, and counts no change.
+  -- After success the report has a chip with the requested name, if any, and counts no change.
   pub reports : IfOk result (ReportsPart named)
-  -- No included address is past the end of the chip that was found.
+  -- After success no included address is past the end of the chip that was found.
   pub fits : IfOk result (λ report. FitsInto included report.found.size)
-  -- The image is as long as the chip that was found.
+  -- After success the image is as long as the chip that was found.
   pub whole : IfOk result (λ report. length image ≡ report.found.size)
   -- An error is one of those that `verify` may return.
   pub refuses : IfErr result IsVerifyRefusal
-  -- After error 12 the bus stopped at the last transaction, and after error 13 that was a poll that showed BUSY. After
-  -- error 14 the sector that has its address was read, and only reads of sectors were sent after that read.
+  -- After error 12 the bus stopped at the last transaction. After error 13 the last transaction was a poll that showed
+  -- BUSY. After error 14 the sector that has its address was read, and only reads of sectors were sent after that read.
   pub last_transaction : IfErr result (VerifyEnds old.history new.history)
   -- The call succeeds only if the last poll showed ready.
   pub polled_ready : OnOk result (new.polled_ready ≡ true)
@@ -112,8 +114,8 @@ pub record VerifyAlways (named : Option ChipName) (included : Option (List Span)
 -- The promises of `verify` on a well-behaved bus.
 pub record VerifyHonest (named : Option ChipName) (included : Option (List Span)) (old new : BusState)
     (result : Result Report Refusal) : Type 0 where
-  -- One read was sent for each sector with an included address, contents and non-volatile status bits are as before,
-  -- and the chip is idle.
+  -- After success one read was sent for each sector with an included address, contents and non-volatile status bits are
+  -- as before, and the chip is idle.
   pub reports : IfOk result (λ report. ReportsReads (sectors_included included report.found.size) old new report)
   -- An error means what `ReadingErrors` says. After any error except a stop, contents and non-volatile status bits are
   -- as before.
@@ -133,9 +135,9 @@ pub record VerifyModelled (named : Option ChipName) (included : Option (List Spa
     (old new : BusState) (result : Result Report Refusal) : Type 0 where
   -- No modifying command was sent, and no more transactions than the bound for a chip of this size.
   pub only_reads : OnlyReads (most_read old.chip.config.size) old new
-  -- The report has the chip's configuration.
+  -- After success the report has the chip's configuration.
   pub config : IfOk result (λ report. IsConfigOf old.chip.config report.found)
-  -- Each included byte equals the image's.
+  -- After success each included byte equals the image's.
   pub equal : IfOk result (λ report. AgreeIn included image old.chip.bytes 0 old.chip.config.size)
   -- Error 4 means that the image has another size, error 5 that an included address isn't on the chip, error 12 that
   -- too few transactions were left. Error 14 has the first included address that differs.
@@ -148,8 +150,8 @@ abbrev pub FindsFirst : Option (List Span) → List ℕ → (ℕ → ℕ) → (f
 FindsFirst included image content from to first =
     MatchOption first (AgreeIn included image content from to) (IsFirstOther included image content from to)
 
--- Holds if no difference is given, or if the sector that has the address of the first one was read, and only reads of
--- sectors were sent after it (`HasReadAt`).
+-- Holds if no difference is given, or if the sector that has the address of the first difference was read, and only
+-- reads of sectors were sent after that read (`HasReadAt`).
 abbrev pub ReadsDifference : (old new : List Exchange) → Option ℕ → Type 0
 ReadsDifference old new first = MatchOption first ⊤ (λ address. HasReadAt address old new)
 

@@ -20,8 +20,8 @@ use nor_request::{Refusal, Report};
 const PIECE_LEN: usize = 65_536;
 
 /// Appends a copy of the whole chip to `out`: included bytes as they are, FFh for the others. Without ranges the whole
-/// chip is included. The call reads each sector that has an included address once, in ascending order. It does not seal
-/// the vault, which must be unsealed.
+/// chip is included. The call reads each sector that has an included address once, in ascending order. The vault must
+/// be unsealed, and the call does not seal it.
 ///
 /// If the bus is modelled and `out` is `telling`, success leaves this copy in `out`, after the bytes that `out` held
 /// before. On a well-behaved bus success leaves the chip's contents and non-volatile status bits as they were.

@@ -13,7 +13,7 @@ use Rattle.nor_request.specs.declared.refusal.Refusal.TheVariants.{NoChip, Unkno
 -- The meaning of an error from a probe or the reads that follow it, which have at most `most` transactions together. On
 -- a well-behaved bus (`honest`) `NoChip`, `UnknownChip` and `OtherName` mean the same as the probe's faults, a stop
 -- occurs only with fewer than `most` transactions left, and a timeout doesn't occur. On any bus nothing is sent after a
--- stop or a timeout, the address of a timeout is 0, and no further error occurs.
+-- stop or a timeout, the address of a timeout is 0, and only these five errors occur.
 abbrev pub IdentificationErrors : (most : ℕ) → Option ChipName → (old new : BusState) → Refusal → Type 0
 IdentificationErrors most named old new NoChip = old.honest ≡ true → ProbeErrors named old new Probes.NoChip
 IdentificationErrors most named old new (UnknownChip fault) = old.honest ≡ true → ProbeErrors named old new (Probes.UnknownChip fault)
@@ -23,9 +23,9 @@ IdentificationErrors most named old new (Timeout address) =
     (address ≡ 0) × EndsBusy new.history × (old.honest ≡ true → ⊥)
 IdentificationErrors most named old new _ = ⊥
 
--- Holds for the history of a bus after a call that returned this error. The last transaction is, after error 12, one at
--- which the bus stopped; after error 13, a poll that showed BUSY; and after error 14, a read of the sector that has the
--- address of the error. For any other error nothing is said.
+-- Holds for the history of a bus after a call that returned this error. After error 12 the last transaction is one at
+-- which the bus stopped. After error 13 it is a poll that showed BUSY, and after error 14 a read of the sector that
+-- contains the address of the error. For any other error nothing is said.
 abbrev pub EndsAtError : Refusal → List Exchange → Type 0
 EndsAtError Stopped history = EndsStopped history
 EndsAtError (Timeout address) history = EndsBusy history

@@ -8,7 +8,8 @@ use Rattle.nor_request.specs.declared.request.Request.{Request}
 use Rattle.nor_request.specs.declared.request.What.{What}
 use Rattle.nor_request.specs.declared.request.What.TheVariants.{Write, WpRange}
 
--- the request without any further condition: the whole chip, of any name, without unlock, and nothing read back
+-- the request for this change on a chip of any name: each address is included, and the session neither lifts protection
+-- nor reads anything back
 abbrev pub plain : What → Request
 plain wish = record { what = wish; named = None; included = None; unlock = false; verify = false }
 
@@ -37,8 +38,8 @@ wanted request image chip a =
 abbrev pub scanned_sectors : Request → (size : ℕ) → ℕ
 scanned_sectors request size = if is_data request.what then sectors_included request.included size else 0
 
--- The target protection bits: for a protection range the least value that protects exactly this range, else the chip's
--- own.
+-- The target protection bits: for a protection range the least defined value that protects exactly this range, else the
+-- chip's own.
 abbrev pub IsWantedCode : What → Chip → (code : ℕ) → Type 0
 IsWantedCode (WpRange start len) chip code = IsLeastCode chip.config.size start len code
 IsWantedCode _ chip code = code ≡ code_of chip.kept

@@ -11,7 +11,7 @@ use Rattle.nor_request.specs.declared.refusal.Refusal.TheVariants.{NoChip, Unkno
 abbrev pub hex_digits : (width number : ℕ) → List ℕ
 hex_digits width number = replicate (width - length (digits 16 false number)) 48 ++ digits 16 false number
 
--- an address, with at least six hexadecimal digits
+-- the text of an address: `0x` and at least six lower-case hexadecimal digits
 abbrev pub address : ℕ → List ℕ
 address place = codes "0x" ++ hex_digits 6 place
 

@@ -8,7 +8,7 @@
 //! ```rust
 //! use nor_request::{Refusal, Request};
 //!
-//! // The whole chip, of any name, becomes FFh. The sectors that change are read back then.
+//! // Each byte of a chip of any name becomes FFh, and the touched sectors are then read back and compared.
 //! let erase = Request::erase().verified();
 //! assert!(rt; erase.is_data());
 //! let refusal = Refusal::Protected { address: 0x1000 };

@@ -24,23 +24,23 @@ pub enum Refusal {
     ImageSize { chip: u32, image: usize },
     /// 5: an included address isn't on the chip.
     RegionOutside,
-    /// 6: a request for a protection range, or a report of protection, on a chip without block protection.
+    /// 6: a request for a protection range, or a call of `wp_status` (nor_read), on a chip without block protection.
     NoProtection,
     /// 7: the datasheets don't define which range the chip's protection bits select.
     UndefinedProtection,
-    /// 8: no setting of the protection bits protects exactly the requested range.
+    /// 8: no setting of the protection bits that the datasheets define protects exactly the requested range.
     RangeNotOffered,
     /// 9: the status registers must be written, and they are locked (SRP0 or SRP1 is set).
     StatusLocked,
     /// 10: a sector that would change has a protected address, and the request doesn't lift protection. The address is
     /// that of the lowest such sector.
     Protected { address: u32 },
-    /// 11: the vault refused a piece of the journal, or its seal.
+    /// 11: the vault refused a piece of the journal, or refused to be sealed.
     Vault,
     /// 12: the bus stopped.
     Stopped,
     /// 13: 65,536 polls in a row showed BUSY. The address is that of the command that was waited for; it is 0 during
-    /// identification, for an erase of the chip, and for a status write.
+    /// identification, for an erase of the whole chip, and for a status write.
     Timeout { address: u32 },
     /// 14: bytes that were read differ from the expected ones, first at this address.
     Mismatch { address: u32 },

@@ -1,8 +1,8 @@
 //! The report of a call that succeeded.
 use nor_probe::Found;
 
-/// What a call did: the chip that was found, the number of sectors that were touched, the numbers of erases and page
-/// programs, and the number of all transactions that were sent.
+/// The report of a call that succeeded: the chip that was found, the number of touched sectors, the numbers of erases
+/// and page programs, and the number of all transactions that were sent.
 #[derive(Clone, Copy, Debug, PartialEq, Eq)]
 pub struct Report {
     pub found: Found,

@@ -9,7 +9,7 @@ use nor_probe::ChipName;
 /// The change that a session is asked for.
 #[derive(Clone, Copy, Debug, PartialEq, Eq)]
 pub enum What {
-    /// A write: each included byte becomes equal to the image, which must be as long as the chip.
+    /// A write: each included byte becomes the image's byte at its address. The image must be as long as the chip.
     Write,
     /// An erase: each included byte becomes FFh.
     Erase,
@@ -17,18 +17,19 @@ pub enum What {
     WpRange { start: u32, len: u32 },
 }
 
-/// A request for a session. `write`, `erase` and `protect` construct one, and the other methods add conditions:
-/// `Request::write().named(ChipName::W25Q64FV).verified()`.
+/// A request for a session. `write`, `erase` and `protect` construct one; `named`, `included`, `unlocked` and
+/// `verified` set its other fields. An example is `Request::write().named(ChipName::W25Q64FV).verified()`.
 #[derive(Clone, Debug, Drop)]
 pub struct Request {
     pub what: What,
     /// The name that the chip must have, or `None` for any chip.
     pub named: Option<ChipName>,
-    /// The addresses that may change, or `None` for the whole chip. It is ignored for a protection range.
+    /// The addresses whose bytes may change, or `None` for the whole chip. A protection range ignores this field.
     pub included: Option<Ranges>,
-    /// Whether protection that is in the way of a change is lifted, and set again at the end.
+    /// Whether protection that is in the way of a change is lifted, and set again at the end. A protection range
+    /// ignores this field.
     pub unlock: bool,
-    /// Whether the touched sectors are read back and compared at the end.
+    /// Whether the touched sectors are read back and compared at the end. A protection range touches none.
     pub verify: bool,
 }
 
@@ -57,7 +58,8 @@ impl Request {
         Request::plain(What::WpRange { start, len })
     }
 
-    // Returns a request without any further condition.
+    // Returns a request for this change on the whole chip, on a chip of any name, that lifts no protection and reads
+    // nothing back.
     const fn plain(what: What) -> Request
         ensures { result ≡ plain what }
     {
@@ -80,7 +82,7 @@ impl Request {
         }
     }
 
-    /// Returns the request with changes limited to these addresses.
+    /// Returns the request with changes limited to these addresses, instead of any that were set before.
     pub fn included(self, ranges: Ranges) -> Request
         ensures { result ≡ record self { included = Some ranges } }
     {

@@ -17,8 +17,9 @@ use Rattle.nor_driver.specs.OnlyReads.{IsOpen}
 use Rattle.nor_scan.specs.Scanning.{HasBegun, HasBegunWith}
 use Rattle.nor_plan.specs.SectorSet.{none}
 
--- Holds if the writer was given the content `first`, and then records of exactly these sectors, all below `n`. The
--- records have the bytes `read`, and if `known` holds, they have the chip's bytes.
+-- Holds if the writer was given exactly the header of `first` and then records of sectors below `n`. If `first` saves
+-- no sector, the records are those of exactly the sectors in `saved`, with the bytes `read` and, if `known` holds, with
+-- the bytes `chip`.
 pub record HasAdded {V : Type 0} (state : V → VaultState) (writer : Writer V) (first : Content) (known : Type 0)
     (chip read : ℕ → ℕ) (saved : ℕ → Bool) (n : ℕ) : Type 0 where
   pub content : Content
@@ -57,8 +58,10 @@ Saves-alike one other saved c same saves = record {
   others = saves.others;
 }
 
--- Holds if the writer has the same vault as before, which refused nothing. If the writer had only a header before, it
--- was then given records of exactly these sectors, all below `n`, with the bytes `read`.
+-- Holds if the writer has the same vault as before, which refused nothing since. If the writer had only a header
+-- before, for this size, it then has that header and records of sectors below `n`, as `HasAdded` says. The bytes `chip`
+-- of `HasAdded` are those of the chip on the bus; they are known if the bus is well-behaved, and its chip idle and of
+-- this size.
 pub record HasJournalled {V : Type 0} (state : V → VaultState) (old new : Writer V) (size : ℕ) (bus : BusState)
     (read : ℕ → ℕ) (saved : ℕ → Bool) (n : ℕ) : Type 0 where
   pub same_vault : (vault_of new).ghost_name ≡ (vault_of old).ghost_name
@@ -173,7 +176,7 @@ module _ {V : Type 0} {state : V → VaultState} {old new : Writer V} {size n : 
         };
   }
 
-  -- If a journal had only its header before, it now has records of sectors below `n`.
+  -- If a journal had only its header before, for this size, it now has records of sectors below `n`.
   pub begun_on : (head : Content) → head.size ≡ size → HasBegun state old head 0 → HasBegun state new head n
   begun_on head sized begun =
       let size_now = sym (size_of head begun.content begun.same) ∙ sized in
@@ -196,7 +199,8 @@ module _ {V : Type 0} {state : V → VaultState} {old new : Writer V} {size n : 
         saved = (was.added begun.content begun.written size_now begun.next).set held.saved;
       }
 
-  -- If a journal had only its header before, its records have the bytes `read`.
+  -- If a journal had only its header before, for this size, it now has records of exactly the sectors in `saved`, with
+  -- the bytes `read`.
   pub replied_on : (head : Content) → head.size ≡ size → HasBegunWith state old head 0 none
       → HasPutSectors state new head read saved n
   replied_on head sized held =

@@ -1,4 +1,4 @@
--- What a writer was given for a chip's journal (the header and records), and the prefix of the journal that a `telling`
+-- The header and records that a writer was given for a chip's journal, and the prefix of the journal that a `telling`
 -- vault has after an error.
 use Rattle.std.proofs.Common.{◌≡◌, ◌∙◌, ℕ, true, ◌*◌, ◌/◌, ◌%◌, ◌<◌, List, [], refl, ap, sym, arith, ◌≤◌, ◌+◌}
 use Rattle.std.proofs.Common.{◌&&◌, Bool, length, subst}
@@ -43,7 +43,8 @@ put_begins : {V : Type 0} {state : V → VaultState} {writer : Writer V} {c : Co
     → (vault_seen state writer).telling ≡ true → StartsWith (front c) (vault_seen state writer).bytes
 put_begins {c = c} written errors = rw (written.put.returned errors) (take_all (length (front c)) (front c) (omega arith))
 
--- The records so far are those of the touched sectors below `n`, the next sector.
+-- If the marks are right, and the records so far are those of the marked sectors, the records are those of the touched
+-- sectors below `n`, the next sector.
 module _ {V : Type 0} {state : V → VaultState} {writer : Writer V} {head : Content} {chip target_bytes : ℕ → ℕ} {n : ℕ}
     {scanned : Scanned} (right : AreRight target_bytes chip n scanned)
     (kept : HasPutSectors state writer head chip (has scanned.touched) n) where
@@ -60,7 +61,7 @@ module _ {V : Type 0} {state : V → VaultState} {writer : Writer V} {head : Con
   pub kept_below : {total : ℕ} → n ≤ total → HasKeptBelow state writer head chip (is_touched chip target_bytes) total
   kept_below inside = record { bound = n; inside = inside; kept = kept_touched }
 
--- A stop between two records leaves a prefix of the journal in a `telling` vault.
+-- For a stop between two records: the header and complete records are a prefix of the whole journal.
 pub cut_between : {V : Type 0} {state : V → VaultState} {writer : Writer V} {head : Content} {chip : ℕ → ℕ}
     {touched : ℕ → Bool} (size : ℕ) → head.size ≡ size → HasKeptBelow state writer head chip touched (size / 4096)
     → HoldsCut (vault_seen state writer) head chip touched (size / 4096)
@@ -69,7 +70,9 @@ cut_between {head = head} {chip = chip} {touched = touched} size sized below = �
     rw (← sized) (begins_whole head chip touched kept.content below.bound _ kept.same kept.saves kept.next
     (rw sized inside) (put_begins kept.written errors))
 
--- A failure within a record leaves a prefix of the journal in a `telling` vault.
+-- For a refusal within the record of `n`, a touched sector of the chip. A `telling` vault then holds a prefix of the
+-- header, the earlier records and this record. These are a prefix of the whole journal, so the vault's bytes are one,
+-- too.
 pub cut_in_record : {V : Type 0} {state : V → VaultState} {writer : Writer V} {head : Content} {chip : ℕ → ℕ} {n : ℕ}
     {bytes : List ℕ} (vault : VaultState) (touched : ℕ → Bool) (size : ℕ)
     (kept : HasPutSectors state writer head chip (λ s. nat_lt s n && touched s) n) → head.size ≡ size
@@ -130,7 +133,8 @@ module _ {chip : Chip} {identity : Identity} {old : BusState} (is : IsIdentityOf
         ∙ only_inside (is_raised chip.bytes (wanted request image chip)) (chip.config.size / 4096) s
         (raised_past request image chip.config.size chip.bytes s (sized_bounds chip.config).blocks)
 
-  -- The header that is written is that of the chip's journal.
+  -- The header that is made from the identification is that of the chip's journal. The premise that status 2 is below
+  -- 128 holds for the chip of each well-behaved bus (`IsChip`).
   pub head_same : {status : List ℕ} → old.chip.kept.two < 128 → status ≡ kept_read identity
       → head_read identity status ≡ header_of chip
   head_same {status = status} small read =
@@ -140,7 +144,8 @@ module _ {chip : Chip} {identity : Identity} {old : BusState} (is : IsIdentityOf
       let high : identity.status2 % 128 ≡ chip.kept.two = omega arith in
       cc
 
--- Holds if the writer was given exactly the header of the chip on the bus, provided that it has this identification.
+-- Holds if the writer was given exactly the header of the chip on the bus, provided that the bus is well-behaved, and
+-- the chip is idle and has this identification.
 abbrev pub PutsHead : {V : Type 0} → (V → VaultState) → Writer V → Identity → BusState → Type 0
 PutsHead state writer identity old = (chip : Chip) → IsIdentityOf chip identity → HasIdleChip chip old
     → HasPutSectors state writer (header_of chip) old.chip.bytes none 0
@@ -153,13 +158,14 @@ head_put {state = state} {writer = writer} identity old reaches read written = �
     (HasKept-none state writer identity.found.id (Some identity.unique) _ identity.found.size old.chip.bytes none 0
     written (λ s. refl))
 
--- Holds if, on a well-behaved bus with an idle chip of this size, the promise is true for each header with this size
--- that the writer was given.
+-- Holds if the promise is true for each header with this size, provided that the writer was given exactly that header,
+-- the bus is well-behaved, and its chip is idle and has this size.
 abbrev pub FromHead : {V : Type 0} → (V → VaultState) → Writer V → (size : ℕ) → BusState → (Content → Type 0) → Type 0
 FromHead state writer size old promise = IsOpen size old → (head : Content) → head.size ≡ size
     → HasPutSectors state writer head old.chip.bytes none 0 → promise head
 
--- A promise that `FromHead` gives for each header holds for the header of the chip itself.
+-- A promise that `FromHead` gives for each header holds for the header of the chip's own journal, which the writer was
+-- given (`PutsHead`).
 pub from_head : {V : Type 0} {state : V → VaultState} {writer : Writer V} {identity : Identity} {old : BusState}
     {promise : Content → Type 0} → PutsHead state writer identity old
     → FromHead state writer identity.found.size old promise → (chip : Chip) → IsIdentityOf chip identity → HasIdleChip chip old
@@ -180,7 +186,7 @@ judged_tells code _ scans is judges = absurd is
 
 -- ---- a truncated journal
 
--- A failure within the header leaves a prefix of the journal in a `telling` vault, as `SaveCuts` says.
+-- For a refusal within the header: a prefix of the header is a prefix of the chip's journal, so `SaveCuts` holds.
 pub cut_in_head : (request : Request) (image : List ℕ) (seen vault : VaultState) {identity : Identity} {status : List ℕ}
     {old : BusState} → (old.honest ≡ true → IsChip old.chip) → status ≡ kept_read identity
     → IsContent (head_read identity status) → HoldsPrefix seen (front (head_read identity status)) → seen ≡ vault
@@ -197,7 +203,7 @@ cut_in_head request image seen vault reaches read content holds same =
 
 module _ {V : Type 0} {state : V → VaultState} {first : Writer V} {identity : Identity} {old : BusState}
     (request : Request) (image : List ℕ) (vault : VaultState) (puts : PutsHead state first identity old) where
-  -- A failure within the scan leaves a prefix of the journal in a `telling` vault, as `SaveCuts` says.
+  -- For an error within the scan: `SaveCuts` follows from `HoldsCut`, which the scan ensures for each header.
   pub cut_in_scan : (seen : VaultState) → FromHead state first identity.found.size old (λ head.
       HoldsCut seen head old.chip.bytes (is_touched old.chip.bytes (wanted_at request image identity.found.size
       old.chip.bytes)) (identity.found.size / 4096)) → seen ≡ vault → SaveCuts request identity image old vault
@@ -205,8 +211,8 @@ module _ {V : Type 0} {state : V → VaultState} {first : Writer V} {identity : 
       begins_touched request image seen.bytes chip
       (rw (same_bytes is shows, is.config.size) at (from_head puts returned chip is shows errors)))
 
-  -- An error of the scan other than 11 leaves the header and complete records in a `telling` vault, as `SaveBegins`
-  -- says.
+  -- For an error of the scan other than 11: `SaveBegins` follows from `HasKeptBelow`, which the scan ensures for each
+  -- header.
   pub begins_scan : {last : Writer V} {refusal : Refusal} → FromHead state first identity.found.size old (λ head.
       refusal ≢ Vault → HasKeptBelow state last head old.chip.bytes (is_touched old.chip.bytes (wanted_at request image
       identity.found.size old.chip.bytes)) (identity.found.size / 4096)) → vault_seen state last ≡ vault

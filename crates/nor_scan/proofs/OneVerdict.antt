@@ -65,8 +65,8 @@ ScanJudges request code touched chip (Protected address) =
     (request.unlock ≡ false) × (sector : ℕ) × (address ≡ 4096 * sector) × IsLeastProtected touched chip sector
 ScanJudges request code touched chip _ = ⊥
 
--- Holds if no error of the check after the scan applies, and protection is lifted only if the request allows it and a
--- touched sector is protected.
+-- Holds if the status isn't locked or needs no write, and protection is lifted only if the request allows it and a
+-- touched sector is protected. If protection isn't lifted, no touched sector is protected.
 pub record ScanPasses (request : Request) (code : ℕ) (touched : ℕ → Bool) (chip : Chip) (unlock : Bool) : Type 0 where
   pub lifts : unlock ≡ true → (request.unlock ≡ true) × SomeProtected touched chip
   pub free : unlock ≡ false → NoneProtected touched chip
@@ -74,7 +74,7 @@ pub record ScanPasses (request : Request) (code : ℕ) (touched : ℕ → Bool) 
 
 -- ---- the request
 
--- A request for a range that no protection bits select is not a write or an erase.
+-- A request for a range that no defined protection bits protect exactly is not a write or an erase.
 asks_for_range : (what : What) (chip : Chip) → AsksForNone what chip → is_data what ≡ false
 asks_for_range (WpRange start len) chip none = refl
 asks_for_range _ chip none = absurd none
@@ -201,8 +201,8 @@ module _ (request : Request) (image : List ℕ) (chip : Chip) where
       let touched = (and_parts (touches s) (is_block_protected chip (4096 * s) 4096) held).0 in
       needs_unlock request.what request.unlock needs.0 _ chip (touched_data request image chip s touched) off needs.2
 
-  -- If none of errors 1 to 8 applies, and errors 9 and 10 don't apply if they are below `n`, no error below `n`
-  -- applies.
+  -- No error below `n` applies. The premises say so for errors 1 to 8, for error 9 if `n` is above 9, and for error 10
+  -- if `n` is above 10.
   scan_first : (n : ℕ) (refusal : Refusal) → NoneHoldsTo 8 request image chip
       → (9 < n → ¬ RefusalHolds request image chip StatusLocked)
       → (10 < n → (address : ℕ) → ¬ RefusalHolds request image chip (Protected address))

@@ -67,7 +67,7 @@ unfolding is_raised
 unraised content target_bytes sector same = any_below-all 4096 _
     (λ i below. as_wanted _ _ (ap (bit_and (target_bytes (4096 * sector + i))) (sym (same i below)) ∙ and_self _))
 
--- At addresses past the end of the chip the target byte is the present one.
+-- In sectors past the end of a chip whose size is a multiple of 64 KiB, the target byte is the present one.
 past_kept : (request : Request) (image : List ℕ) (size : ℕ) (content : ℕ → ℕ) (s : ℕ) → size % 65536 ≡ 0 → size / 4096 ≤ s
     → (i : ℕ) → i < 4096 → wanted_at request image size content (4096 * s + i) ≡ content (4096 * s + i)
 past_kept request image size content s blocks past i below =
@@ -99,14 +99,14 @@ module _ (request : Request) (image : List ℕ) (size : ℕ) (content : ℕ → 
   pub raised_inside : is_raised content (wanted_at request image size content) s ≡ true → s < size / 4096
   raised_inside = inside_from (is_raised content (wanted_at request image size content)) (size / 4096) s raised_past
 
--- For a write the target byte is the image's.
+-- For a request for data that isn't an erase, so for a write, the target byte is the image's.
 pub target-write : (what : What) (image : List ℕ) (a : ℕ) → is_data what ≡ true → (what ≡ Erase → ⊥) → slice_index image a ≡ target what image a
 target-write Write image a about_bytes other = refl
 target-write Erase image a about_bytes other = absurd (other refl)
 target-write (WpRange start len) image a about_bytes other = absurd (let d = about_bytes in cc)
 
--- `ScansSector` holds after a sector was read, the bytes that may not change were copied into its part of the image,
--- and the two were compared.
+-- For the proof of `scan_sector`: joins what the read, the fill, the copying of excluded bytes and the comparison
+-- ensure.
 pub scans_sector : (request : Request) (size sector : ℕ) (included : Option (List Span)) (part filled part' bytes : List ℕ) (old new : BusState) (plan : SectorPlan)
     → is_data request.what ≡ true → 4096 * sector + 4096 ≤ size → included ≡ request.included → length bytes ≡ 4096 → length part' ≡ 4096
     → ((image : List ℕ) (a i : ℕ) → i < 4096 → slice_index part i ≡ slice_index image a → slice_index filled i ≡ target request.what image a)

@@ -26,7 +26,7 @@ names_other opcode at other differs (first ∷ x ∷ y ∷ z ∷ rest) is = grin
 
 module _ (n : ℕ) {old new : List Exchange} {bytes : List ℕ}
     (answered : Answered (names 0x03 (4096 * n)) old new bytes) where
-  -- the reads of other sectors have the same replies
+  -- After a read of sector `n`, `bytes_read` is as before in each other sector.
   pub read_others : (s i : ℕ) → s ≢ n → i < 4096 → bytes_read new (4096 * s + i) ≡ bytes_read old (4096 * s + i)
   read_others s i other below =
       let here : (4096 * s + i) / 4096 ≡ s = omega (arith, below) in
@@ -34,7 +34,7 @@ module _ (n : ℕ) {old new : List Exchange} {bytes : List ℕ}
       ((answered_keeps answered).same (names 0x03 (4096 * ((4096 * s + i) / 4096)))
       (names_other 0x03 (4096 * n) (4096 * ((4096 * s + i) / 4096)) (λ same. other (omega (arith, same, here)))))
 
-  -- this sector has the bytes of this reply
+  -- After a read of sector `n` whose reply has 4,096 bytes, `bytes_read` has these bytes in this sector.
   pub read_whole : length bytes ≡ 4096 → IsWholeSector (bytes_read new) n bytes
   read_whole long = record {
     whole = long;
@@ -62,7 +62,8 @@ identified_by found rest =
       unique = answered_last rest.read_unique;
     }
 
--- the identification is still what the bus replied, after reads of sectors
+-- `IsIdentifiedBy` stays true if the history continues, and only the last replies to transactions that begin with 03h
+-- may differ.
 pub identified_later : {old new : List Exchange} {identity : Identity} → Continues old new
     → KeepsReplies (begins_with 0x03) old new → IsIdentifiedBy old identity → IsIdentifiedBy new identity
 identified_later continues keeps was = record {

@@ -31,7 +31,9 @@ use Rattle.nor_model.proofs.Sizes.{is_chip_size-in_blocks}
 use Rattle.nor_layout.specs.declared.ranges.Span.{Span}
 use borrow.Rule.Slice.PartMut.{put_mid}
 
--- Holds if the sectors below `n` were scanned, and no byte of the image from sector `n` on was changed.
+-- Holds if the sectors below `n` with an included address were scanned, and no byte of the image from sector `n` on was
+-- changed. On a well-behaved bus whose chip was idle at the start and has this size, the marks are right, and the
+-- image's touched sectors have the target bytes.
 pub record HasScanned (request : Request) (size n : ℕ) (image image' : List ℕ) (old new : BusState)
     (scanned : Scanned) : Type 0 where
   pub marks : AreMarks n scanned
@@ -44,7 +46,8 @@ pub record HasScanned (request : Request) (size n : ℕ) (image image' : List �
 
 -- ---- marks
 
--- If a set is right below `n`, and the result of the test of `n` is inserted, the set is right below `n + 1`.
+-- If a set has exactly those sectors below `n` that pass a test, and `n` is added if and only if it passes, the set has
+-- exactly those sectors below `n + 1` that pass.
 tested : (n s : ℕ) (test : ℕ → Bool) {verdict old new : Bool} → verdict ≡ test n → old ≡ (nat_lt s n && test s)
     → new ≡ ((verdict && (s == n)) || old) → new ≡ (nat_lt s (n + 1) && test s)
 tested n s test {verdict} {old} {new} is was inserted = grind (arith, nat_tests)
@@ -64,7 +67,8 @@ counted n plan old new false is below are marked =
     λ s low. sym (rw is at (marked.touched s)) in
     omega (arith, are.count, count_below-same 4096 (has old.touched) (has new.touched) same)
 
--- `AreMarks` still holds after one more sector was marked.
+-- If `AreMarks` holds for `n`, which is below 4,096, it holds for `n + 1` after sector `n` was marked by a plan that is
+-- raised only if it is touched.
 pub marks_more : (n : ℕ) (plan : SectorPlan) (old new : Scanned) → n < 4096
     → (plan.raised ≡ true → plan.touched ≡ true) → AreMarks n old → HasMarked n plan old new → AreMarks (n + 1) new
 marks_more n plan old new below needed are marked = record {
@@ -88,7 +92,8 @@ marked_none n plan old new untouched marked s = rw untouched at (marked.touched 
 
 -- ---- from sector to sector
 
--- Holds if the loop is at sector `n` of the chip, and `verdict` is whether the sector has an included address.
+-- Holds if the request is a write or an erase, sector `n` is on a chip of this size (at most 16 MiB), and `verdict` is
+-- whether the sector has an included address.
 pub record IsAt (request : Request) (size n : ℕ) (verdict : Bool) : Type 0 where
   pub about_bytes : is_data request.what ≡ true
   pub below : n < size / 4096
@@ -249,7 +254,8 @@ module _ {request : Request} {size n : ℕ} {image image' : List ℕ} {old mid :
         count_below-add (n + 1) (size / 4096 - (n + 1)) test,
       ))
 
-  -- `Scans` follows from the marks, the reads and the findings at the end of the loop.
+  -- `Scans` follows from `HasScanned` if, at the end of the loop, the counts and the marks (`AreMarks`, `AreRight`) are
+  -- those of the whole chip.
   scans_of : scanned.count ≤ scanned.reads → AreMarks (size / 4096) scanned
       → scanned.reads ≡ scanned_sectors request size → (IsOpen size old
       → AreRight (wanted_at request image size old.chip.bytes) old.chip.bytes (size / 4096) scanned)
@@ -265,14 +271,14 @@ module _ {request : Request} {size n : ℕ} {image image' : List ℕ} {old mid :
     merged = was.merged;
   }
 
-  -- For a write or an erase the loop reached the last sector.
+  -- For a write or an erase, `Scans` holds when the loop is at the end of the chip.
   pub all_scanned : is_data request.what ≡ true → n ≡ size / 4096 → scanned.count ≤ scanned.reads
       → Scans request size image image' old mid scanned
   all_scanned about_bytes end few =
       scans_of few (rw (← end) was.marks) (rw (about_bytes, ← end) was.reads)
       (λ is_open. rw (← end) (was.right is_open))
 
-  -- A protection range has nothing to scan.
+  -- For a protection range, `Scans` holds before the first sector: there is nothing to scan.
   pub none_to_scan : is_data request.what ≡ false → n ≡ 0 → scanned.count ≤ scanned.reads
       → Scans request size image image' old mid scanned
   none_to_scan other at_first few =

@@ -22,9 +22,9 @@ most_identity = 65542
 abbrev pub status_read : Identity → List ℕ
 status_read identity = identity.found.status1 ∷ identity.status2 ∷ []
 
--- Holds after status 2 and the unique ID were read after the probe. On every bus they are the replies to these two
--- transactions, and no other one was sent. On a well-behaved bus status 2 is the chip's, and if the chip is idle, so is
--- the unique ID.
+-- Holds after the reads of status 2 and the unique ID succeeded. On every bus the two values are the replies to these
+-- two transactions, no other one was sent, and the chip found is the probe's. On a well-behaved bus contents and
+-- non-volatile status bits are unchanged, status 2 is the chip's and, if the chip was idle, so is the unique ID.
 pub record ReadsRest (probed : Probed) (old new : BusState) (identity : Identity) : Type 0 where
   pub found : identity.found ≡ probed.found
   pub between : List Exchange
@@ -37,11 +37,11 @@ pub record ReadsRest (probed : Probed) (old new : BusState) (identity : Identity
   pub status2 : old.honest ≡ true → identity.status2 ≡ old.chip.kept.two
   pub unique : old.honest ≡ true → old.chip.busy ≡ 0 → identity.unique ≡ unique_of old.chip.config
 
--- Holds after an identification that succeeded. On every bus the chip is a row of the table or was found by SFDP, it
--- has the requested name, the values read are those that the bus replied (`IsIdentifiedBy`), and the last poll showed
--- ready. On a well-behaved bus the contents and non-volatile status bits are unchanged, the chip is idle, and the
--- values read are the chip's own. The size, erase types and block protection that were found are known to be the chip's
--- own only on a modelled bus.
+-- Holds after an identification that succeeded. On every bus the chip that was found is in the table or was identified
+-- by SFDP, and has the requested name, if any. The values read are those that the bus replied (`IsIdentifiedBy`), and
+-- the last poll showed ready. On a well-behaved bus the contents and non-volatile status bits are unchanged, the chip
+-- is idle, and ID, status and unique ID are the chip's own. The size, erase types and block protection that were found
+-- are known to be the chip's own only on a modelled bus.
 pub record ReadsIdentity (named : Option ChipName) (old new : BusState) (identity : Identity) : Type 0 where
   pub part : IsPart identity.found
   pub replied : IsIdentifiedBy new.history identity

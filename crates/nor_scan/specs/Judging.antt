@@ -48,13 +48,13 @@ Lifts request touched unlock = unlock ≡ true → (request.unlock ≡ true) × 
 -- ---- for each chip with this identification
 
 -- Holds if acceptance is right. If a request with an image of this length is accepted, then `IdentityAccepts` holds
--- with the returned protection bits, for each chip that has this identification and the requested name.
+-- with the returned protection bits, for each chip that has this identification and the requested name, if any.
 abbrev pub AcceptsIdentity : Request → ℕ → Identity → Result ℕ Refusal → Type 0
 AcceptsIdentity request len identity judged = (chip : Chip) (image : List ℕ) → IsIdentityOf chip identity
     → IsNamed request.named chip.config → length image ≡ len → IfOk judged (IdentityAccepts request image chip)
 
 -- Holds if a refusal is right: the error is the verdict for each chip that has this identification and the requested
--- name, if the image has this length.
+-- name, if any, and for each image of this length.
 abbrev pub RefusesIdentity : Request → ℕ → Identity → Result ℕ Refusal → Type 0
 RefusesIdentity request len identity judged = (chip : Chip) (image : List ℕ) → IsIdentityOf chip identity
     → IsNamed request.named chip.config → length image ≡ len → IfErr judged (IsVerdict request image chip)
@@ -66,8 +66,9 @@ FindsProtected touched identity found =
     (chip : Chip) → IsIdentityOf chip identity
     → MatchOption found (NoneProtected touched chip) (IsLeastProtected touched chip)
 
--- Holds if `needed` says correctly whether each chip with this identification needs a status write, provided that
--- `is_touched_protected` says correctly whether one of its touched sectors is protected.
+-- Holds if `needed` says correctly whether the request, with the target protection bits `code`, needs a status write.
+-- This is required for each chip with this identification and each set of touched sectors for which
+-- `is_touched_protected` says correctly whether one of them is protected.
 abbrev pub FindsNeed : Request → Identity → Bool → ℕ → Bool → Type 0
 FindsNeed request identity is_touched_protected code needed = (chip : Chip) (touched : ℕ → Bool)
     → IsIdentityOf chip identity
@@ -75,8 +76,8 @@ FindsNeed request identity is_touched_protected code needed = (chip : Chip) (tou
     → MatchBool needed (NeedsStatus request.what request.unlock code touched chip)
     (¬ NeedsStatus request.what request.unlock code touched chip)
 
--- Holds if the promise is true for each chip and image with three properties: the chip has this identification, the
--- request touches these sectors, and the check of the identification accepts it with these protection bits.
+-- Holds if the promise is true for each chip and image with three properties. The chip has this identification,
+-- `IdentityAccepts` holds with these protection bits, and the request touches exactly these sectors of the chip.
 abbrev pub OfTouched : Request → Identity → ℕ → (ℕ → Bool) → (List ℕ → Chip → Type 0) → Type 0
 OfTouched request identity code touched promise = (chip : Chip) (image : List ℕ) → IsIdentityOf chip identity
     → IdentityAccepts request image chip code

@@ -5,7 +5,7 @@ use Rattle.nor_model.specs.History.{last_reply, begins_with, names}
 use Rattle.nor_probe.specs.Replied.{IsFoundBy}
 use Rattle.nor_scan.specs.declared.identity.Identity.{Identity}
 
--- the byte at an address, in the last reply to a read of its sector
+-- the byte of an address in the last reply to a read (03h) from the start of its sector; 0 if there is no such byte
 abbrev pub bytes_read : List Exchange → (a : ℕ) → ℕ
 bytes_read history a = slice_index (last_reply (names 0x03 (4096 * (a / 4096))) history) (a % 4096)
 

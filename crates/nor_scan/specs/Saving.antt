@@ -11,7 +11,8 @@ use Rattle.nor_scan.specs.declared.identity.Identity.{Identity}
 use Rattle.nor_request.specs.declared.request.What.{What}
 use Rattle.nor_request.specs.declared.request.What.TheVariants.{WpRange}
 
--- Holds if the identification has the configuration, the non-volatile status bits and the unique ID of the chip.
+-- Holds if the chip is known (`IsKnown`), and the identification has its ID, size, erase types, block protection,
+-- non-volatile status bits and unique ID.
 pub record IsIdentityOf (chip : Chip) (identity : Identity) : Type 0 where
   pub config : IsConfigOf chip.config identity.found
   pub one : identity.found.status1 / 4 ≡ chip.kept.one
@@ -27,7 +28,7 @@ pub record HasIdleChip (chip : Chip) (state : BusState) : Type 0 where
 
 -- ---- the request
 
--- Holds if the request is for a protection range that no defined protection bits select.
+-- Holds if the request is for a protection range, and no defined protection bits protect exactly this range.
 abbrev pub AsksForNone : What → Chip → Type 0
 AsksForNone (WpRange start len) chip = IsNotOffered chip.config.size start len
 AsksForNone _ chip = ⊥

@@ -20,12 +20,13 @@ use Rattle.nor_request.specs.declared.request.Request.{Request}
 use Rattle.nor_scan.specs.declared.scanning.Scanned.{Scanned}
 use Rattle.nor_request.specs.Request.{target, is_requested, scanned_sectors}
 
--- the target byte at an address of a chip with this size and content: the image's byte (for a write) or FFh (for an
--- erase) at an address that the request may change, else the byte of `content`
+-- The target byte at an address of a chip with this size and content. At an address that the request may change it is
+-- the image's byte (for a write) or FFh (for an erase), at any other the byte of `content`.
 abbrev pub wanted_at : Request → (image : List ℕ) → (size : ℕ) → (content : ℕ → ℕ) → (a : ℕ) → ℕ
 wanted_at request image size content a = if is_requested request size a then target request.what image a else content a
 
--- Holds if the sector was marked as its plan says, and the number of reads is one higher.
+-- Holds if the sector was added to the touched and the raised sectors as its plan says. `reads` is one higher, and so
+-- is `count` if the plan's `touched` is true.
 pub record HasMarked (sector : ℕ) (plan : SectorPlan) (old new : Scanned) : Type 0 where
   pub touched : (s : ℕ) → has new.touched s ≡ ((plan.touched && (s == sector)) || has old.touched s)
   pub raised : (s : ℕ) → has new.raised s ≡ ((plan.raised && (s == sector)) || has old.raised s)
@@ -39,8 +40,8 @@ pub record IsBlank (scanned : Scanned) : Type 0 where
   pub count : scanned.count ≡ 0
   pub reads : scanned.reads ≡ 0
 
--- Holds on every bus: the marked sectors are below `n`, the raised sectors are touched, and `count` is the number of
--- touched sectors.
+-- Holds if the touched sectors are below `n`, the raised sectors are touched, and `count` is the number of touched
+-- sectors. A scan ensures this on every bus.
 pub record AreMarks (n : ℕ) (scanned : Scanned) : Type 0 where
   pub below : (s : ℕ) → has scanned.touched s ≡ true → s < n
   pub inside : (s : ℕ) → has scanned.raised s ≡ true → has scanned.touched s ≡ true
@@ -52,9 +53,9 @@ pub record AreRight (wanted content : ℕ → ℕ) (n : ℕ) (scanned : Scanned)
   pub touched : (s : ℕ) → has scanned.touched s ≡ (nat_lt s n && is_touched content wanted s)
   pub raised : (s : ℕ) → has scanned.raised s ≡ (nat_lt s n && is_raised content wanted s)
 
--- Holds after one sector was scanned: `bytes` is the reply to the only transaction, a read of this sector, and bytes
--- that may not change were copied into its part of the image. That `bytes` are the chip's, and what the part and the
--- plan are, is known only on a well-behaved bus with an idle chip of this size.
+-- Holds after one sector was scanned. On every bus `bytes` is the reply to the only transaction, a read of this sector,
+-- and a raised sector is touched. On a well-behaved bus with an idle chip of this size, `bytes` are the chip's, the
+-- plan is right, and the sector's part of the image has the target bytes afterwards.
 pub record ScansSector (request : Request) (size sector : ℕ) (part part' bytes : List ℕ)
     (old new : BusState) (plan : SectorPlan) : Type 0 where
   pub needed : plan.raised ≡ true → plan.touched ≡ true
@@ -71,9 +72,9 @@ pub record ScansSector (request : Request) (size sector : ℕ) (part part' bytes
       → (plan.touched ≡ is_touched old.chip.bytes (wanted_at request image size old.chip.bytes) sector)
       × (plan.raised ≡ is_raised old.chip.bytes (wanted_at request image size old.chip.bytes) sector)
 
--- Holds after each sector with an included address was scanned (none for a protection range). The marks are right
--- (`AreRight`), and the image's touched sectors have the target bytes, on a well-behaved bus with an idle chip of this
--- size. Other clauses of `scan_all` describe the journal.
+-- Holds after each sector with an included address was scanned (none for a protection range). On a well-behaved bus
+-- with an idle chip of this size, the marks are right (`AreRight`), and the image's touched sectors have the target
+-- bytes. Other clauses of `scan_all` describe the journal.
 pub record Scans (request : Request) (size : ℕ) (image image' : List ℕ) (old new : BusState)
     (scanned : Scanned) : Type 0 where
   pub marks : AreMarks (size / 4096) scanned
@@ -94,12 +95,14 @@ ScanErrors most old new Stopped = HasStopped most old new
 ScanErrors most old new Vault = ⊤
 ScanErrors most old new _ = ⊥
 
--- Holds for the vault after a scan: it accepted each piece, or after error 11 refused one call.
+-- Holds for the vault after a scan: its number of refusals is one higher (modulo 2^64) after error 11, and otherwise as
+-- it was. Whether the vault is faithful, and whether it is sealed, doesn't change.
 abbrev pub ScanPuts : {T : Type 0} → Result T Refusal → (old new : VaultState) → Type 0
 ScanPuts (Err Vault) old new = Refused old new
 ScanPuts _ old new = Accepted old new
 
--- Holds on every bus if the vault was given this header of a journal, and records of sectors below `n`.
+-- Holds if the writer was given exactly this header of a journal and then records of sectors below `n`. Unlike
+-- `HasPutSectors`, it doesn't say which bytes the records have.
 pub record HasBegun {V : Type 0} (state : V → VaultState) (writer : Writer V) (head : Content) (n : ℕ) : Type 0 where
   pub content : Content
   pub written : HasWritten state writer content
@@ -117,14 +120,14 @@ abbrev pub UnlessVault : {T : Type 0} → Result T Refusal → Type 0 → Type 0
 UnlessVault (Ok _) promise = promise
 UnlessVault (Err refusal) promise = refusal ≢ Vault → promise
 
--- Holds if a `telling` vault has a prefix of the journal that has this header and saves the touched ones of the first
--- `total` sectors.
+-- Holds if a `telling` vault has a prefix of the journal with this header that saves exactly the touched ones of the
+-- first `total` sectors, with the bytes that these sectors have in `old`.
 abbrev pub HoldsCut : VaultState → (head : Content) → (old : ℕ → ℕ) → (touched : ℕ → Bool) → (total : ℕ) → Type 0
 HoldsCut vault head old touched total = vault.telling ≡ true
     → IsJournalPrefix head old (λ s. nat_lt s total && touched s) vault.bytes
 
--- Holds if the vault was given the header, and the records of the touched sectors below some bound, which is at most
--- `total`.
+-- Holds if the writer was given exactly this header and the records of the touched sectors below some bound, with the
+-- bytes that these sectors have in `old`. The bound is at most `total`.
 pub record HasKeptBelow {V : Type 0} (state : V → VaultState) (writer : Writer V) (head : Content) (old : ℕ → ℕ)
     (touched : ℕ → Bool) (total : ℕ) : Type 0 where
   pub bound : ℕ

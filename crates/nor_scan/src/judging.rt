@@ -16,12 +16,14 @@ use nor_plan::SectorSet;
 use nor_request::{Refusal, Request, What};
 
 /// Checks a request against the identification. `image` is the image's length in bytes. Returns the target protection
-/// bits as a number below 64; for a write or an erase these are the chip's own.
+/// bits as a number below 64; for a write or an erase these are the bits that were read.
 ///
-/// Returns the error with the lowest number that applies. For a write or an erase these are 4 (the image isn't as long
-/// as the chip), 5 (an included address isn't on the chip) and 7 (the chip has block protection, and its protection
-/// bits are undefined). For a protection range they are 6 (no block protection), 7 and 8 (a range that no protection
-/// bits select).
+/// Returns the error with the lowest number that applies:
+///
+/// - For a write or an erase: 4 (the image isn't as long as the chip), 5 (an included address isn't on the chip) or 7
+///   (undefined protection bits on a chip with block protection).
+/// - For a protection range: 6 (the chip has no block protection), 7, or 8 (no defined protection bits protect exactly
+///   this range).
 #[tactic(auto, using(crate::proofs::Held::code_same, crate::proofs::OneVerdict::opening_judged, crate::proofs::OneVerdict::opening_accepted))]
 pub fn judge_identity(request: &Request, identity: &Identity, image: usize) -> Result<u8, Refusal>
     ensures six_bits { IfOk result (λ code. code < 64) }
@@ -83,9 +85,9 @@ pub fn first_protected(touched: &SectorSet, identity: &Identity) -> Option<u32>
     None
 }
 
-// Returns true if the status registers must be written. For a protection range this is so if the target protection bits
-// differ from the chip's; for a write or an erase, if `unlock` is set and a touched sector is protected
-// (`is_touched_protected`).
+// Returns true if the status registers must be written. For a protection range they must be if the target protection
+// bits `code` differ from those that were read. For a write or an erase they must be if `unlock` is set and a touched
+// sector is protected (`is_touched_protected`).
 fn needs_status(
     request: &Request,
     identity: &Identity,
@@ -103,8 +105,8 @@ fn needs_status(
 /// Checks a request against the touched sectors. `code` is the result of `judge_identity`. Returns whether protection
 /// must be lifted.
 ///
-/// Returns error 9 if the status registers must be written and are locked, or 10 if a touched sector is protected and
-/// the request doesn't unlock. Error 10 has the address of the first such sector.
+/// Returns error 9 if the status registers must be written and are locked, or else 10 if a touched sector is protected
+/// and the request doesn't unlock. Error 10 has the address of the first protected sector of `touched`.
 #[tactic(auto, using(crate::proofs::OneVerdict::scan_judged, crate::proofs::OneVerdict::scan_accepted))]
 pub fn judge_scan(
     request: &Request,

@@ -5,7 +5,7 @@
 //! - `identifying.rt`: the identification, for sessions and restores
 //! - `judging.rt`: checks a request against the identification, and against the touched sectors
 //! - `scanning.rt`: reads the sectors, and finds those that the session will touch
-//! - `saving.rt`: scans, checks, and seals the journal
+//! - `saving.rt`: scans the sectors, checks the touched ones, and seals the journal
 //!
 //! ```rust
 //! use nor_chip::{Config, Delays, Meter, SimBus};

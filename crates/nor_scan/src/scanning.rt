@@ -22,8 +22,8 @@ use nor_model::{Bus, Stopped};
 use nor_plan::{Plan, SectorPlan, SectorSet};
 use nor_request::{Refusal, Request, What};
 
-/// The result of a scan: the touched sectors, in which some byte differs from the target; the raised sectors, which
-/// must be erased; how many sectors are touched; and how many were read.
+/// The result of a scan: the touched sectors, in which some byte differs from the target, and the raised sectors, which
+/// must be erased. `count` is the number of touched sectors, `reads` that of sectors that were read.
 #[derive(Clone, Copy)]
 pub struct Scanned {
     pub touched: SectorSet,
@@ -45,7 +45,8 @@ impl Scanned {
         }
     }
 
-    /// Adds the plan of a sector that was read, and counts the read.
+    /// Adds the plan of a sector that was read, and counts the read. `sector` and `reads` must be below 4,096, and
+    /// `count` must be at most `reads`.
     pub fn mark(&mut self, sector: u32, plan: SectorPlan)
         requires reachable { sector < 4096 }
         requires room { self.old.count ≤ self.old.reads }
@@ -63,8 +64,11 @@ impl Scanned {
     }
 }
 
-/// Reads a sector with an included address, copies the bytes that may not change into the sector's part of the image,
-/// and compares the sector with this part. For an erase the part is filled with FFh before bytes are copied into it.
+/// Reads a sector for a write or an erase, copies the bytes that may not change into `part`, the sector's part of the
+/// image, and compares the sector with `part`. For an erase `part` is filled with FFh before bytes are copied into it.
+/// Returns `Stopped` if the bus stopped.
+///
+/// `part` has 4,096 bytes, and the sector is on a chip of `size` bytes, at most 16 MiB.
 fn scan_sector<B: Bus>(
     bus: &mut B,
     request: &Request,
@@ -91,7 +95,11 @@ fn scan_sector<B: Bus>(
 }
 
 /// Reads each sector with an included address, in ascending order, copies the bytes that may not change into the image,
-/// and writes the touched sectors to the journal. A protection range has no sectors to read.
+/// and writes the touched sectors to the journal. For an erase the sector's part of the image is filled with FFh first.
+/// A protection range has no sectors to read.
+///
+/// `size` must be one that a chip may have; for a write or an erase the image must be as long. The vault must be
+/// unsealed.
 ///
 /// Returns error 11 (the vault failed) or 12 (the bus stopped).
 pub fn scan_all<B: Bus, V: Vault>(

@@ -1,4 +1,5 @@
--- If the bytes of an unsealed vault are a journal, that journal can restore its chip on a modelled bus.
+-- The proof of the law `begun_restores_original`. On a modelled bus a session leaves in an unsealed `telling` vault no
+-- byte, or a prefix of the only journal that it could have written. If the bytes are a journal, they are that journal.
 use Rattle.std.proofs.Common.{◌≡◌, ◌∙◌, ℕ, List, sym, inl, inr}
 use Rattle.nor_model.specs.Bus.{BusState}
 use Rattle.nor_model.specs.Chip.{IsChip, IsSame}
@@ -14,8 +15,6 @@ use Rattle.nor_session.specs.Headline.{CanRestore, open_addresses}
 use Rattle.nor_session.specs.Session.{HoldsBegun}
 use Rattle.nor_session.proofs.RestoresOriginal.{saves_chip}
 
--- on a modelled bus, if the bytes that were written are a journal, it can restore the original chip from an idle chip
--- with the same bytes and non-volatile bits
 pub begun_back : (request : Request) (image : List ℕ) (old new : BusState) (bytes : List ℕ) (journal : Content) → IsModelled old → IsChip old.chip → HoldsBegun request image old.chip bytes
     → IsContent journal → bytes ≡ text journal → IsSame old.chip new.chip → new.chip.busy ≡ 0 → CanRestore journal old.chip new
 begun_back request image old new bytes journal modelled chip (inl none) is read same idle = absurd (never_empty journal (sym read ∙ none))

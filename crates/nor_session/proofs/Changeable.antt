@@ -1,4 +1,4 @@
--- The facts about the chip that a restore has shown before it changes anything.
+-- The facts about the chip that a restore has established before it changes anything.
 use Rattle.std.proofs.Common.{◌≡◌, ◌<◌, ◌+◌, ◌/◌, ◌∙◌, ◌||◌, ℕ, Bool, true, length, ap, sym, refl, arith, rules, inl, inr}
 use Rattle.std.specs.Prelude.{None}
 use Rattle.std.proofs.lemmas.Bool.{cases_Bool, both_ways, true_from_ne_false}
@@ -38,7 +38,7 @@ use Rattle.nor_session.proofs.ReadyChip.{told_idle, opening_of}
 use Rattle.nor_session.proofs.Rescanned.{restored_saved}
 use Rattle.nor_session.proofs.RestoredBytes.{unraised_byte}
 
--- The results of the identification and the scan of a restore.
+-- The results of a restore's identification (from `old` to `mid`) and of its scan (from `mid` to `new`).
 pub record AreRead (journal : Content) (identity : Identity) (scanned : Scanned) (old mid new : BusState) : Type 0 where
   pub only_reads : OnlyReads most_identity old mid
   pub opens : ReadsIdentity None old mid identity
@@ -56,7 +56,7 @@ module _ {journal : Content} {identity : Identity} {scanned : Scanned} {old mid 
   rested_all honest =
       rested_then old mid new (read.opens.rested honest) (read.scans.rested (read.only_reads.nature.honest ∙ honest))
 
-  -- on a modelled bus the marks are those of the chip as it was before the restore
+  -- on a modelled bus the scan's marks are right for the chip as it was before the restore
   marks_old : IsModelled old
       → (has scanned.touched ≡ is_touched old.chip.bytes (restored journal old.chip.bytes))
       × (has scanned.raised ≡ is_raised old.chip.bytes (restored journal old.chip.bytes))

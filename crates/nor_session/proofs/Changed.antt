@@ -39,14 +39,15 @@ writes_other changes off writes same = grind (arith, nat_tests)
 pub touched_most : (changes : Changes) → touched_count changes ≤ 4096
 touched_most changes = count_below-most 4096 (touched_in changes)
 
--- the transactions of the changes are within the bound for the largest chip
+-- if the raised sectors are touched, changes that succeeded sent at most as many transactions as the bound for the
+-- largest chip
 pub fits_work : (changes : Changes) (wanted : ℕ → ℕ) (old new : BusState) (work : Work) → ((s : ℕ) → raised_in changes s ≡ true → touched_in changes s ≡ true)
     → DoesApply changes wanted old new work → work.transactions ≤ most_applied 4096
 fits_work changes wanted old new work inside does =
     let most = touched_most changes in let raised = raised_few changes inside in let writes = two_writes changes in
     omega arith
 
--- if the sectors lie on the chip, the number of planned erases is the least possible
+-- if the sectors lie on the chip, the number of planned erases (`fewest_erases`) is the least possible
 pub fewest_at : (config : Config) (sectors : ℕ → Bool) (count : ℕ) → ((s : ℕ) → sectors s ≡ true → s < config.size / 4096)
     → count ≡ fewest_erases config.kinds (config.size / 4096) sectors → IsLeastLength config.kinds (config.size / 4096) sectors count
 fewest_at config sectors count below is =
@@ -55,7 +56,6 @@ fewest_at config sectors count below is =
 
 -- ---- the result of the changes and of their check
 
--- after further reads, the result of the changes is still there
 rest_applied : (changes : Changes) (wanted : ℕ → ℕ) (old mid new : BusState) → HasApplied changes wanted old mid → Rested mid new → HasApplied changes wanted old new
 rest_applied changes wanted old mid new applied rested =
     let same = rested.unchanged.same in

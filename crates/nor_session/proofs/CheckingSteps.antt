@@ -24,7 +24,7 @@ pub stops : {sector : ℕ} (wanted : List ℕ) {old new : BusState} → sector <
     → CheckErrors (only sector) (byte_of sector wanted) old new Stopped
 stops {sector} wanted below out = rw (sector_count-only sector below) out
 
--- the last transaction read the sector of this address
+-- a read of a sector is the read that `EndsReading` describes for each address in that sector
 ends_reading : (sector : ℕ) (old new : BusState) (bytes : List ℕ) (first : ℕ) → first < 4096
     → Answered (names 0x03 (4096 * sector)) old.history new.history bytes
     → EndsReading (4096 * sector + first) new.history
@@ -62,7 +62,8 @@ module _ {sector : ℕ} {bytes : List ℕ} {old new : BusState} (long : length b
 
 -- ---- sector by sector
 
--- Holds if the sectors of the set that are below `n` were verified.
+-- Holds after each sector of the set that is below `n` was read once. On a well-behaved bus, if `CanCheck` held at the
+-- start, the bytes of these sectors are the target ones.
 pub record HasChecked (sectors : ℕ → Bool) (wanted : ℕ → ℕ) (n : ℕ) (old new : BusState) (sent : ℕ) : Type 0 where
   pub honest_reads : HasLooked sent old new
   pub few : sent ≤ n
@@ -85,8 +86,8 @@ module _ {t : ℕ → Bool} {w : ℕ → ℕ} {n sent : ℕ} {old mid : BusState
 
   module _ (is : t n ≡ true) (bytes : List ℕ)
       (are : (i : ℕ) → i < 4096 → slice_index bytes i ≡ w (4096 * n + i)) where
-    -- on a well-behaved bus, if all sectors could be checked at the start, the next one can be checked after the reads
-    -- so far
+    -- on a well-behaved bus, if `CanCheck` held for all sectors at the start, it holds for sector `n` after the reads
+    -- of the sectors below it
     can_one : (honest : old.honest ≡ true) → CanCheck t old.chip → CanCheck (only n) mid.chip
     can_one honest can = grind (arith, has.honest_reads.rested honest, can.inside, nat_tests)
 

@@ -21,7 +21,7 @@ use Rattle.nor_session.proofs.WrittenBack.{read_back, session_over}
 
 -- ---- a chip that is already equal to the saved one
 
--- if the chip is already the saved one, each byte is already the one that a restore writes
+-- if the journal saves the chip as it is, a restore's target byte at each address is the byte that is there
 as_saved : (journal : Content) (first chip : Chip) (a : ℕ) → SavesChip journal first → IsSame first chip → restored journal chip.bytes a ≡ chip.bytes a
 as_saved journal first chip a saves same = search (arith, saved_byte-is)
 
@@ -41,7 +41,7 @@ changes_nothing journal first old new report saves same done =
     let untouched = λ (s : ℕ). none_touched journal first old.chip s saves same in
     let never = never_needed journal first old.chip saves same in
     let touched = done.reported.sectors ∙ count_below-none 4096 _ (λ s below. untouched s) in
-    -- the empty list erases exactly the raised sectors, since there are none; so no erase was sent
+    -- the empty list of erases covers exactly the raised sectors, since there are none; so the report counts no erase
     let least = done.reported.erases.least [] record {
       units = λ k any below. absurd (omega arith);
       union = λ s. sym (none_raised journal first old.chip s saves same);
@@ -58,8 +58,9 @@ changes_nothing journal first old new report saves same done =
 
 -- ---- one session after the other
 
--- Holds if the journal can turn a chip into the original one, even if an operation is in progress on it. The journal
--- saves the original chip, and the two chips agree at all addresses that a restore can't write.
+-- Holds if a restore of this chip from the journal leaves the original chip, provided that the restore succeeds
+-- (`led_back`). The journal saves the original chip, and the two chips have the same configuration and agree at all
+-- addresses that a restore can't write. An operation may be in progress.
 record LeadsTo (journal : Content) (first chip : Chip) : Type 0 where
   saves : SavesChip journal first
   config : chip.config ≡ first.config
@@ -68,11 +69,11 @@ record LeadsTo (journal : Content) (first chip : Chip) : Type 0 where
 leads_to : (journal : Content) (first : Chip) (state : BusState) → CanRestore journal first state → LeadsTo journal first state.chip
 leads_to journal first state can = record { saves = can.saves; config = can.within.config; bytes = can.within.bytes }
 
--- if the journal can turn a chip into the original one, it can do so for the same chip on another bus
+-- `LeadsTo` depends only on the configuration and the bytes of the chip, so it holds for the same chip on another bus
 leads_same : (journal : Content) (first new taken : Chip) → LeadsTo journal first new → IsSame new taken → LeadsTo journal first taken
 leads_same journal first new taken leads same = search arith
 
--- a journal that can restore a chip before a loss of power can do so after it
+-- the proof of the law `power_lost_restores_original`
 pub lost_back : (journal : Content) (first : Chip) (old new : BusState) → CanRestore journal first old → LosesPower old new → CanRestore journal first new
 lost_back journal first old new can loses = record {
   known = can.known;
@@ -80,13 +81,14 @@ lost_back journal first old new can loses = record {
   within = lost_within (open_addresses journal first) first old new loses.known loses.lost can.within;
 }
 
--- if a journal can restore the original chip, it can still do so after the chip was left alone or lost its power
+-- if a journal can restore the original chip (`CanRestore`), `LeadsTo` holds for the chip after it kept its bytes and
+-- status bits, or lost its power
 leads_kept : (journal : Content) (first : Chip) (new taken : BusState) → CanRestore journal first new → MayLosePower new taken → LeadsTo journal first taken.chip
 leads_kept journal first new taken can (inl same) = leads_same journal first new.chip taken.chip (leads_to journal first new can) same
 leads_kept journal first new taken can (inr loses) = leads_to journal first taken (lost_back journal first new taken can loses)
 
--- the journal of a session can restore the original chip from the chip that the session left (`left_back`), and from
--- the chip with which the next run starts
+-- the journal of a session can restore the original chip from the chip that the session left (`left_back`), and
+-- `LeadsTo` holds for the chip with which the next run starts (`left_taken`)
 left_back : (request : Request) (image : List ℕ) (old new : BusState) (journal : Content) → LeavesJournal request image old new journal → CanRestore journal old.chip new
 left_back request image old new journal left = search (arith, read_back)
 
@@ -96,19 +98,20 @@ left_taken request image old new taken journal left (inl kept) =
     leads_kept journal old.chip new taken (left_back request image old new journal left) kept
 left_taken request image old new taken journal left (inr over) = search (arith, leads_to, session_over)
 
--- the journal of a session can turn the chip into the original one even after stopped restores and between runs
+-- for the journal of a session, `LeadsTo` holds for a chip that was taken up after the session (`IsTakenUp`), and for
+-- one from which that journal can still restore the original chip (`CanRestore`)
 left_reached : (request : Request) (image : List ℕ) (old new taken : BusState) (journal : Content) → LeavesJournal request image old new journal
     → IsTakenUp old new taken ⊎ CanRestore journal old.chip taken → LeadsTo journal old.chip taken.chip
 left_reached request image old new taken journal left (inl up) = left_taken request image old new taken journal left up
 left_reached request image old new taken journal left (inr can) = leads_to journal old.chip taken can
 
--- if the journal can turn the chip into the original one (`LeadsTo`), a restore that succeeds leaves the original chip
+-- if `LeadsTo` holds for the chip, a restore from the journal that succeeds leaves the original chip
 led_back : (journal : Content) (first : Chip) (old new : BusState) (report : Report) → LeadsTo journal first old.chip → IsRestored journal old new report → IsSame first new.chip
 led_back journal first old new report leads done = search (arith, given_back)
 
 -- ---- two sessions
 
--- if a chip differs from the original one only at some addresses, so does the same chip when it is idle
+-- `IsWithin` stays true if the chip keeps its bytes and status bits and is then idle, even on another bus
 idle_again : (p : ℕ → Bool) (first : Chip) (old new : BusState) → IsWithin p first old → IsSame old.chip new.chip → new.chip.busy ≡ 0 → IsWithin p first new
 idle_again p first old new within same idle =
     let fixed = ap fixed_of same.kept ∙ within.fixed in

@@ -37,12 +37,11 @@ part_shown false (Some part) with_id says shown is there known = (part, is)
 part_shown false None with_id (Ok geometry) shown is there known = (_, is)
 part_shown false None with_id (Err fault) shown is there known = absurd (known fault is)
 
--- a name is the requested one, or it isn't
 wanted_or_other : (named : Option ChipName) (name : ChipName) → IsWanted named name ⊎ (¬ IsWanted named name)
 wanted_or_other None name = inl tt
 wanted_or_other (Some wanted) name = grind arith
 
--- the chip of an accepted request has the requested name, if one is requested
+-- a chip for which a request is accepted is identified as some chip type, and has the requested name, if there is one
 pub accepted_named : (request : Request) (image : List ℕ) (chip : Chip) → IsAccepted request image chip
     → IsNamed request.named chip.config
 accepted_named request image chip accepted =

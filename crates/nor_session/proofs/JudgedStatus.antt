@@ -38,7 +38,8 @@ held_scheme touched chip some = true_from_ne_false chip.config.scheme (λ none.
     (and_parts (touched s) (is_block_protected chip (4096 * s) 4096) some.held).1)
 
 module _ {old new : Chip} (same : IsSame old new) where
-  -- if no touched sector is protected, no address in a touched sector is
+  -- if no touched sector of `old` is protected, no address below the size in a touched sector is protected in `new`,
+  -- which is the same chip (`IsSame`)
   pub free_place : (touched : ℕ → Bool) (a : ℕ) → NoneProtected touched old → touched (a / 4096) ≡ true
       → a < old.config.size → is_protected new a ≡ false
   free_place touched a none hit below =

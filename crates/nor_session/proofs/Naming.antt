@@ -39,7 +39,7 @@ judged_names (Timeout address) is = absurd is
 judged_names (Mismatch address) is = absurd is
 judged_names _ is = tt
 
--- a property of all touched sectors holds for the sector that an error of the changes names
+-- if `IsSuch` holds for all touched sectors, an error of the changes satisfies `NamesSector IsSuch`
 pub change_names : {IsSuch : ℕ → Type 0} (changes : Changes) (refusal : Refusal)
     → ((s : ℕ) → touched_in changes s ≡ true → IsSuch s) → NamesTouchedSector changes refusal
     → NamesSector IsSuch refusal

@@ -39,7 +39,8 @@ kept_code identity = omega arith
 
 -- ---- a session
 
--- the protection bits that a session leaves are among those that it may write
+-- if a journal has the header of this identification, the target protection bits of the session are among those that
+-- the session may write
 found_written : (what : What) (identity : Identity) (journal : Content) (code : ℕ) → SameHeader (header_found identity) journal
     → IsFoundCode what identity code → IsWrittenCode what journal code
 found_written (WpRange start len) identity journal code same is =
@@ -48,7 +49,7 @@ found_written _ identity journal code same is =
     let status = ap (λ (c : Content). c.status) same in
     inr (is ∙ sym (kept_code identity) ∙ ap (λ (bytes : List ℕ). code_of (kept_in bytes)) status)
 
--- protection is lifted only for a write or an erase
+-- if protection is lifted only for a write or an erase, and it is lifted, the session may write the protection bits 0
 lifted_written : (what : What) (journal : Content) (lifted : Bool) → (is_data what ≡ false → lifted ≡ false)
     → lifted ≡ true → IsWrittenCode what journal 0
 lifted_written (WpRange start len) journal lifted none lifts = absurd (true≢false (sym lifts ∙ none refl))
@@ -101,7 +102,8 @@ restore_of_journal is = record {
 
 -- ---- the report
 
--- the work counts the erases and page programs that were sent, also from an earlier state with the same record of them
+-- the work counts the erases and page programs that were sent since the changes began, and since an earlier state
+-- (`old`) if nothing that may modify a chip was sent in between
 pub counted : {changes : _} {wanted : ℕ → ℕ} {verify : Bool} (old : BusState) {mid new : BusState} {work : Work}
     → mid.sent ≡ old.sent → DoesChange changes wanted verify mid new work
     → SendsCounted work.erases work.programs old new

@@ -14,7 +14,7 @@ use Rattle.nor_session.specs.Headline.{IsOfType}
 use Rattle.nor_session.specs.Restore.{IsOfOtherDevice, FitsStatus, NeedsStatusFrom, RestoreHolds, checked_in_order, index_in, IsRestoreVerdict, IsRestorable}
 use Rattle.nor_session.specs.PrepareRestore.{RestoreJudges, RestoreAccepts}
 
--- Holds if none of the errors before this position applies.
+-- Holds if none of the errors before position `n` of `checked_in_order` applies.
 record IsClear (journal : Content) (chip : Chip) (n : ℕ) : Type 0 where
   there : 0 < n → shown_as chip.config ≢ Err Probes.NoChip
   named : 1 < n → IsNamed None chip.config

@@ -1,4 +1,5 @@
--- The state of a session after the touched sectors are saved, on every bus, and the number of later transactions.
+-- The state of a session after the touched sectors are saved, on every bus, and bounds on the transactions and status
+-- writes of the whole session.
 use Rattle.std.proofs.Common.{◌≡◌, ◌≤◌, ◌+◌, ◌/◌, ◌∙◌, ℕ, Bool, true, false, List, ap, sym, refl, arith, rules}
 use Rattle.std.specs.Prelude.{if◌then◌else◌}
 use Rattle.std.proofs.lemmas.Bool.{true_from_ne_false, false_from_ne_true}
@@ -61,7 +62,7 @@ pub record Ready (request : Request) (identity : Identity) (status : Status) (co
   pub is_status : bytes_of status ≡ status_read identity
   pub same_code : is_data request.what ≡ true → code ≡ code_of (kept_in (status_read identity))
 
--- ---- the identification, and the readings after it
+-- ---- the identification, and the scan after it
 
 pub has_opened : {named : _} {identity : Identity} {old mid : BusState} → OnlyReads most_identity old mid
     → ReadsIdentity named old mid identity → HasLooked identity.transactions old mid
@@ -100,7 +101,7 @@ spends_looks fits only_reads =
 
 -- ---- the number of status writes
 
--- a request that touches a sector is for a write or an erase
+-- if the scan of a request marked a sector as touched, the request is for a write or an erase
 pub touched_data : (request : Request) (size : ℕ) {scanned : Scanned} (s : ℕ) → size ≤ 16777216
     → AreMarks (size / 4096) scanned → scanned.count ≤ scanned.reads → scanned.reads ≡ scanned_sectors request size
     → has scanned.touched s ≡ true → is_data request.what ≡ true
@@ -117,7 +118,7 @@ writes_by _ unlock lifted writes two lifts none one = let zero = none refl in gr
 
 module _ {request : Request} {identity : Identity} {status : Status} {code : ℕ} {kept : SavedScan} {old mid : BusState}
     (is : Ready request identity status code kept old mid) where
-  -- the changes that follow the reads keep the bound of a session
+  -- if the changes are within their bound, the session is within its bound (`most_of`)
   pub spends_ready : {new : BusState} → Spends (most_changed (changes_of identity kept status code)) mid new
       → Spends (most_of (scanned_sectors request identity.found.size)) old new
   spends_ready {new} spends = record {
@@ -150,7 +151,7 @@ module _ {request : Request} {identity : Identity} {status : Status} {code : ℕ
 
 -- ---- the report
 
--- the report is within the bound for at most `most` status writes
+-- after success, the report is within the bound for `most` status writes, if the changes need at most that number
 pub bounded_by : (request : Request) (identity : Identity) (status : Status) (code : ℕ) (kept : SavedScan) (old mid new : BusState) (wanted : ℕ → ℕ) (verify : Bool) (work : Work) (sent most : ℕ) → sent ≡ kept.scanned.reads
     → Ready request identity status code kept old mid → status_writes (changes_of identity kept status code) ≤ most
     → DoesChange (changes_of identity kept status code) wanted verify mid new work

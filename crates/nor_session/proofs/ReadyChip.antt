@@ -29,7 +29,7 @@ use Rattle.nor_session.specs.Session.{SessionErrors, HonestErrors}
 use Rattle.nor_scan.proofs.OneVerdict.{first_of}
 use Rattle.nor_session.proofs.Ready.{scanned_most, scanned_few}
 
--- ---- the identification shows the chip from before it
+-- ---- the identification shows the chip as it was before
 
 pub opening_of : {named : Option ChipName} {identity : Identity} {old mid : BusState} → IsModelled old
     → ReadsIdentity named old mid identity → IsIdentityOf old.chip identity
@@ -46,7 +46,8 @@ pub is_opening : (request : Request) (identity : Identity) (old mid : BusState) 
     → ReadsIdentity request.named old mid identity → IsIdentityOf old.chip identity
 is_opening request identity old mid = opening_of
 
--- if the chip was idle before the identification, the status 1 that was read is the chip's, including WEL
+-- on a well-behaved bus, if the chip was idle before the identification, the status 1 that was read is the chip's,
+-- including BUSY and WEL
 pub told_idle : (named : Option ChipName) (identity : Identity) (old mid : BusState) → old.honest ≡ true → ReadsIdentity named old mid identity → old.chip.busy ≡ 0 → identity.found.status1 ≡ status1_of old.chip
 told_idle named identity old mid honest opens idle =
     let rested = opens.rested honest in let latch = rested.idle_latch idle in
@@ -56,7 +57,8 @@ pub shows : (request : Request) (identity : Identity) (old mid : BusState) → I
 shows request identity old mid is only_reads opens =
     let rested = opens.rested is.honest in let idle = opens.idle is.honest in search rules
 
--- if the non-volatile bits of status 2 are in range after the identification, they were in range before it
+-- on a well-behaved bus, if the non-volatile bits of status 2 are in range after the identification, they were in range
+-- before it
 pub small_first : {named : Option ChipName} {identity : Identity} {old mid : BusState} → old.honest ≡ true
     → ReadsIdentity named old mid identity → mid.chip.kept.two < 128 → old.chip.kept.two < 128
 small_first honest opens small =
@@ -86,7 +88,6 @@ save_gives_up request image identity code few old mid new _ honest only_reads op
     same_then old.chip mid.chip new.chip (opens.rested honest).unchanged.same
     ((more.honest_reads (only_reads.nature.honest ∙ honest)).stays.steady_or_idle (inr (opens.idle honest)))
 
--- an error doesn't change whether the vault is faithful and whether it is sealed
 pub refused_puts : (refusal : Refusal) (old new : VaultState) → SavePuts (Err refusal) old new
     → (new.telling ≡ old.telling) × (new.sealed ≡ old.sealed)
 refused_puts Vault old new puts = (puts.telling, puts.sealed)
@@ -136,7 +137,6 @@ open_tells request image old new vault vault' Stopped is errors = let ran = erro
 open_tells request image old new vault vault' (Timeout address) is errors = absurd (errors.2 is.honest)
 open_tells request image old new vault vault' _ is errors = absurd errors
 
--- the verdict of the checks after the identification is an error that `SessionErrors` allows
 pub judge_tells : (request : Request) (image : List ℕ) (old new : BusState) (vault vault' : VaultState)
     (refusal : Refusal) → IsVerdict request image old.chip refusal
     → SessionErrors request image old new vault vault' refusal

@@ -33,7 +33,8 @@ use Rattle.nor_session.proofs.SavedBytes.{saved_room, saved_count}
 
 -- ---- the allowances
 
--- one more call, with the next allowance in turn
+-- if the allowances so far are those of the first `n` calls, and one more call has the next one, the allowances are
+-- those of the first `n + 1` calls
 pub allowed_then : (stops : List ℕ) (n : ℕ) (old : List ℕ) {allowance : ℕ} {now new : List ℕ}
     → allowance ≡ slice_index_or stops n (most_of 4096) → now ≡ allowances_of stops n ++ old → new ≡ allowance ∷ now
     → new ≡ allowances_of stops (n + 1) ++ old
@@ -41,22 +42,22 @@ allowed_then stops n old {allowance = allowance} is before by =
     rw add-one
     (by ∙ ap (λ (l : List ℕ). allowance ∷ l) before ∙ ap (λ (a : ℕ). a ∷ (allowances_of stops n ++ old)) is)
 
--- the allowance of a call that has a stop
+-- if there are more than `n` stops, the call after the first `n` has the stop with index `n` as its allowance
 pub next_stop : (stops : List ℕ) (n : ℕ) → n < length stops → slice_index stops n ≡ slice_index_or stops n (most_of 4096)
 next_stop stops n inside = sym (get_or_default_zero stops n (most_of 4096) inside)
 
--- the allowance of the call after the last stop
+-- if there are at most `n` stops, the call after the first `n` has the allowance `most_of 4096`
 pub last_bound : (stops : List ℕ) (n : ℕ) → length stops ≤ n → {allowance : ℕ} → allowance ≡ most_of 4096
     → allowance ≡ slice_index_or stops n (most_of 4096)
 last_bound stops n past is = is ∙ sym (get_or_past stops n (most_of 4096) past)
 
--- the first call
+-- the allowance of the first call of a rehearsal, which is its session
 pub allowed_first : (stops : List ℕ) {old new : List ℕ} → new ≡ first_allowance stops ∷ old
     → new ≡ allowances_of stops 1 ++ old
 allowed_first [] is = is
 allowed_first (first ∷ later) is = is
 
--- the calls after the first one have the stops after the first
+-- the calls after the first one have the allowances that the stops after the first one give
 later_stop : (stops : List ℕ) (n : ℕ)
     → slice_index_or (drop 1 stops) n (most_of 4096) ≡ slice_index_or stops (suc n) (most_of 4096)
 later_stop [] n = refl
@@ -141,8 +142,8 @@ module _ {n : ℕ} {journal : Content} {old mid new : BusState} (allows : Allows
 -- ---- restores in turn
 
 -- Holds after the first `n` restores were stopped. On a modelled bus each of their stops is below the bound on the
--- transactions of one restore (`most_of`). If `n` is 0, the latch is set only if it was set before. The allowances
--- that were set are the first `n` stops.
+-- transactions of one restore (`most_of`). If `n` is 0, the latch is set only if it was set before. The allowances that
+-- were set are those of `n` calls with these stops (`allowances_of`).
 pub record AreStopped (journal : Content) (stops : List ℕ) (old now : BusState) (n : ℕ) : Type 0 where
   pub leaves : LeavesRestores journal n old now
   pub allowed : now.allowances ≡ allowances_of stops n ++ old.allowances
@@ -155,12 +156,13 @@ module _ {journal : Content} {stops : List ℕ} {old now : BusState} {n : ℕ} (
   pub leaves_more : {most : ℕ} → n + 1 ≤ most → LeavesRestores journal 1 now new → LeavesRestores journal most old new
   leaves_more fits leaves = restores_then journal n 1 _ old now new fits before.leaves leaves
 
-  -- the allowances of one more restore: the next stop or, if none is left, the bound
+  -- the allowances that were set after one more restore, which was allowed the next stop or, if none is left,
+  -- `most_of 4096`
   pub allowed_more : {allowance : ℕ} → allowance ≡ slice_index_or stops n (most_of 4096)
       → new.allowances ≡ allowance ∷ now.allowances → new.allowances ≡ allowances_of stops (n + 1) ++ old.allowances
   allowed_more is by = allowed_then stops n old.allowances is before.allowed by
 
-  -- one more restore was run, with the next allowance in turn
+  -- after one more restore, the allowances are those of at least one and at most `length stops + 1` calls
   pub tried_more : n ≤ length stops → new.allowances ≡ allowances_of stops (n + 1) ++ old.allowances
       → AllowsStops stops 1 (length stops + 1) old new
   tried_more inside allowed = record { calls = n + 1; some = omega arith; few = omega (arith, inside); is = allowed }
@@ -192,23 +194,23 @@ module _ {journal : Content} {stops : List ℕ} {old now : BusState} {n : ℕ} (
   ended_last restores is past bound by shows =
       let allowed = rw (← is) at (allowed_more (last_bound stops n (omega (arith, past)) bound) by) in search arith
 
--- a number of calls that is at least one is also at least zero
 pub tried_less : {stops : List ℕ} {most : ℕ} {old new : BusState} → AllowsStops stops 1 most old new
     → AllowsStops stops 0 most old new
 tried_less tried = record { calls = tried.calls; some = omega arith; few = tried.few; is = tried.is }
 
--- an error that a later restore returns is also one that `StopsRestores` allows for the first
+-- an error of a restore that follows `n` other restores satisfies `StopsRestores` from the state before those, too
 pub refuses_before : {journal : Content} {n : ℕ} {old mid new : BusState} (refusal : Refusal)
     → LeavesRestores journal n old mid → StopsRestores journal mid new refusal → StopsRestores journal old new refusal
 refuses_before refusal leaves refuses = search arith
 
--- a restore that is allowed `most_of 4096` transactions isn't stopped on a well-behaved bus: no restore sends more
--- there
+-- if a restore that was allowed `most_of 4096` transactions was stopped, `StopsRestores` allows the error: on a
+-- well-behaved bus, no restore from a journal of at most 4,096 sectors is stopped with this allowance
 pub last_ends : {journal : Content} {now new : BusState} {most : ℕ} → most ≡ most_of 4096
     → RunsRestore journal most now new false → StopsRestores journal now new Stopped
 last_ends {journal = journal} is shows = search (arith, saved_room)
 
--- restores were run, but no call was stopped: the session ended, and so did the only restore
+-- if at least one restore was run, and `restores` is at most 1 if the session ended and 0 if not, then the session
+-- ended and exactly one restore was run
 unstopped : (restores : ℕ) (ended : Bool) → 1 ≤ restores → restores ≤ (if ended then 1 else 0)
     → (ended ≡ true) × (restores ≡ 1)
 unstopped restores true some most = (refl, omega arith)
@@ -221,7 +223,7 @@ module _ {bytes : List ℕ} {journal : Content} (is : IsContent journal) (same :
     (reads : (head : Content) (chip : ℕ → ℕ) (saved : ℕ → Bool) → JournalSaves head chip saved bytes
     → SameHeader head journal × Saves chip saved journal)
     (old : BusState) where
-  -- if the bytes can restore a chip, the journal can
+  -- if the bytes can restore a chip (`CanUndo`), the journal can (`CanRestore`)
   can_back : (saved : ℕ → Bool) (first : Chip) → CanUndo saved first bytes old → CanRestore journal first old
   can_back saved first leads =
       can_give_back saved first bytes old journal leads (reads (header_of first) first.bytes saved leads.journal)
@@ -248,7 +250,8 @@ module _ {bytes : List ℕ} {journal : Content} (is : IsContent journal) (same :
     undo_wears modelled saved first leads s other = leaves.worn modelled s
         (sym (Saves-set first.bytes saved journal s (saves_all saved first leads)) ∙ other)
 
-    -- All that the restores sent fits each journal that the bytes encode: that can only be the journal that was read.
+    -- The modifying commands that the restores sent fit each journal that the bytes encode: that can only be the
+    -- journal that was read.
     pub undo_sends : SendsFromJournal bytes n old new
     undo_sends other =
         rw (is_read bytes (Ok journal) other.content (is, same) tt other.is other.same) at leaves.sends
@@ -263,7 +266,7 @@ module _ {bytes : List ℕ} {journal : Content} (is : IsContent journal) (same :
     never = λ modelled saved first leads. refuses.never modelled first (can_back saved first leads);
   }
 
--- if on a modelled bus a session and its only restore ended, the latch is set only if it was set before
+-- on a modelled bus, if the session and the only restore ended, the latch is set only if it was set before
 pub latch_alone : {request : Request} {image bytes stops : List ℕ} {allowance : ℕ} {old mid new : BusState}
     {vault : VaultState} {ended : Bool} (restores : ℕ) → RunsSession request image allowance old mid vault ended
     → Undoes bytes stops mid new restores → IsModelled old → IsModelled mid → restores ≤ (if ended then 1 else 0)

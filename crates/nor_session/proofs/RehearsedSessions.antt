@@ -29,14 +29,15 @@ use Rattle.nor_session.proofs.RehearsedRestores.{modelled_at, no_halt, allowed_f
 
 -- ---- the session
 
--- an error of the session other than a stop is an error that `RehearsalErrors` allows
+-- on a modelled bus, an error of the session other than a stop is an error that `RehearsalErrors` allows
 returned : (request : Request) (image : List ℕ) (old new : BusState) (before after : VaultState) (refusal : Refusal) → (refusal ≡ Stopped → ⊥)
     → SessionErrors request image old new before after refusal → RehearsalErrors request image old.chip before after refusal
 returned request image old new before after Vault never errors = errors
 returned request image old new before after Stopped never errors = absurd (never refl)
 returned request image old new before after _ never errors = errors
 
--- an error that `RehearsalErrors` allows is one of 1 to 11, so bytes and non-volatile status bits are as they were
+-- an error that `RehearsalErrors` allows is one of 1 to 11, so on a well-behaved bus bytes and non-volatile status bits
+-- are as they were
 early : (request : Request) (image : List ℕ) (old new : BusState) (before after : VaultState) (refusal : Refusal) → RehearsalErrors request image old.chip before after refusal
     → (refusal_number refusal ≤ 11) × (HonestErrors (most_of 4096) (λ refusal. refusal_number refusal ≤ 11) old new refusal → IsSame old.chip new.chip)
 early request image old new before after Vault errors = (omega arith, λ same. same (omega arith))
@@ -122,14 +123,15 @@ module _ {n : ℕ} {old mid : BusState} (allows : Allows n old mid) where
         }
 
     -- The session returned an error. If that is a stop, the session was allowed `most_of 4096` transactions, a bound
-    -- that no call exceeds on a well-behaved bus.
+    -- that no session exceeds on a well-behaved bus.
     pub session_refuses : (refusal : Refusal) → SessionAlways request mid new before after (Err refusal)
         → (mid.honest ≡ true → SessionHonest request image mid new (Err refusal))
         → (IsModelled mid → SessionModelled request image mid new before after (Err refusal))
         → (refusal ≡ Stopped → n ≡ most_of 4096) → RefusesSession request image old new before after refusal
     session_refuses refusal always reply_digits promise all = search (arith, early, no_halt, returned)
 
--- without stops the session is allowed `most_of 4096` transactions, a bound that no call exceeds on a well-behaved bus
+-- without stops the session is allowed `most_of 4096` transactions, a bound that no session exceeds on a well-behaved
+-- bus
 pub unlimited : (stops : List ℕ) → length stops ≡ 0 → first_allowance stops ≡ most_of 4096
 unlimited [] none = refl
 unlimited (first ∷ later) none = absurd (omega arith)
@@ -141,7 +143,8 @@ behind_first : (stops : List ℕ) → length (drop 1 stops) + 1 ≡ max 1 (lengt
 behind_first [] = refl
 behind_first (first ∷ later) = omega arith
 
--- a session without restores keeps the limits on what a rehearsal may send
+-- after a session that sealed its vault, and before any restore, the modifying commands that were sent are within the
+-- limits of a rehearsal
 pub session_sends : {request : Request} {image : List ℕ} {old new : BusState} {vault : VaultState} (stops : List ℕ)
     → LeavesSession request image old new vault → vault.sealed ≡ true → (journal : IsJournal vault.bytes)
     × SendsSaved (IsRehearsedCode request.what journal.content) (1 + max 1 (length stops)) journal.content old new
@@ -153,7 +156,7 @@ session_sends {request = request} {old = old} {new = new} stops leaves sealed =
           (sends_wider (IsWrittenCode request.what c) (IsRehearsedCode request.what c) 1 c old new (λ code is. inl is) sent),
     )
 
--- a session without restores set the first allowance
+-- after the session, and before any restore, the only allowance that was set is as `AllowsStops` says
 pub session_tried : (stops : List ℕ) (old new : BusState) → new.allowances ≡ first_allowance stops ∷ old.allowances
     → AllowsStops stops 1 (1 + max 1 (length stops)) old new
 session_tried stops old new first = record { calls = 1; some = omega arith; few = omega arith; is = allowed_first stops first }
@@ -162,7 +165,7 @@ session_tried stops old new first = record { calls = 1; some = omega arith; few 
 module _ {request : Request} {image text later : List ℕ} {old mid new : BusState} {vault : VaultState}
     {result : Result ℕ Refusal} (session : LeavesSession request image old mid vault) (sealed : vault.sealed ≡ true)
     (is : text ≡ vault.bytes) (undone : LeavesUndo text later mid new result) where
-  -- a modelled bus is still modelled, and the bytes can restore the chip
+  -- a modelled bus is still modelled after the session, and the vault's bytes can restore the original chip
   pub led : IsModelled old → IsModelled mid × CanUndo (is_touched old.chip.bytes (wanted request image old.chip)) old.chip text mid
   led modelled = search (arith, modelled_at)
 
@@ -171,7 +174,7 @@ module _ {request : Request} {image text later : List ℕ} {old mid new : BusSta
   both_wear modelled s other =
       let (unsent, leads) = led modelled in undone.wears unsent _ _ leads s other ∙ session.wears modelled s other
 
-  -- all that the session and the restores sent fits the journal in the vault
+  -- the modifying commands that the session and the restores sent fit the journal in the vault
   pub both_send : (stops : List ℕ) → later ≡ drop 1 stops → (journal : IsJournal vault.bytes)
       × SendsSaved (IsRehearsedCode request.what journal.content) (1 + max 1 (length stops)) journal.content old new
   both_send stops behind =
@@ -189,7 +192,7 @@ module _ {request : Request} {image text later : List ℕ} {old mid new : BusSta
             (rw count at then),
       )
 
-  -- the session and the restores write the status no more often than a rehearsal may
+  -- the session and the restores send at most as many status writes as a rehearsal may
   pub both_write : (stops : List ℕ) → later ≡ drop 1 stops
       → WritesStatusAtMost (most_status_writes request.what request.unlock + 2 * max 1 (length stops)) old new
   both_write stops behind =

@@ -47,7 +47,7 @@ same_unit journal config unique is same other = (rw is at other) same
 
 -- ---- errors
 
--- an error of the probe means what the preparation of a restore promises
+-- the clause `errors` of the preparation, for an error of the probe
 pub probe_tells : (journal : Content) (old new : BusState) (fault : ProbeFault) → BlamesName None fault → ProbeEndsAt new.history fault
     → (old.honest ≡ true → ProbeErrors None old new fault) → PrepareErrors journal most_identity old new (of_probe fault)
 probe_tells journal old new Probes.OtherName blames last errors = absurd blames
@@ -58,7 +58,7 @@ probe_tells journal old new Probes.Stopped blames last errors = record {
 probe_tells journal old new Probes.Timeout blames last errors = (refl, last, errors)
 probe_tells journal old new _ blames last errors = search arith
 
--- error 20 (another device) or 17 (other status bits) means what the preparation of a restore promises
+-- the clause `errors` of the preparation, for errors 20 (another device) and 17 (other status bits)
 pub unit_tells : (journal : Content) (most : ℕ) (old new : BusState) (refusal : Refusal) → IsDeviceRefusal refusal → (old.honest ≡ true → IsSame old.chip new.chip)
     → (IsModelled old → RestoreJudges journal old.chip refusal) → PrepareErrors journal most old new refusal
 unit_tells journal most old new OtherUnit is same verdict = record { judged = refl; same = same; verdict = verdict }

@@ -27,7 +27,8 @@ use Rattle.nor_session.proofs.SavedBytes.{sector_at, byte_at, is_saved-some}
 abbrev pub saved_before : Content → ℕ → ℕ → Bool
 saved_before journal i s = is_some (saved_in (take i journal.saved) s)
 
--- Holds if the first `i` saved sectors were read and marked.
+-- Holds after the first `i` saved sectors were read once each. On a well-behaved bus with an idle chip of the journal's
+-- size, exactly the touched ones of these are marked as touched, and the raised ones as raised.
 pub record HasRescanned (journal : Content) (i : ℕ) (old new : BusState) (scanned : Scanned) : Type 0 where
   pub marks : AreMarks (least_after 0 (take i journal.saved)) scanned
   pub reads : scanned.reads ≡ i
@@ -50,21 +51,22 @@ nothing_rescanned {journal = journal} {state = state} {scanned = scanned} blank 
 later_marks : {m n : ℕ} {scanned : Scanned} → m ≤ n → AreMarks m scanned → AreMarks n scanned
 later_marks later are = search (are.below, arith)
 
--- one more record adds exactly its sector to those that are saved
+-- the first `i + 1` records have exactly the sectors of the first `i` records, and that of the next record
 more_before : (journal : Content) (i number : ℕ) (saved : List ℕ) (s : ℕ) → IsContent journal → slice_get journal.saved i ≡ Some (record { number = number; bytes = saved })
     → saved_before journal (i + 1) s ≡ ((s == number) || saved_before journal i s)
 more_before journal i number saved s is at =
     let more = saved_in-take_more journal i (record { number = number; bytes = saved }) s is at in
     grind (arith, nat_tests)
 
--- if a set is right for the sectors so far, it is right for the next sector too, once the result of that sector's test
--- is inserted
+-- if a set has exactly the sectors so far that pass a test, and the next sector `n` is inserted if it passes, the set
+-- has exactly the sectors up to `n` that pass
 tested : (n s : ℕ) (test : ℕ → Bool) (verdict before after old new : Bool) → verdict ≡ test n
     → after ≡ ((s == n) || before) → old ≡ (before && test s) → new ≡ ((verdict && (s == n)) || old)
     → new ≡ (after && test s)
 tested n s test verdict before after old new is more was inserted = grind (arith, nat_tests)
 
--- the target bytes of a saved sector are the saved ones; those of any other sector are the present ones
+-- the target bytes of a saved sector are the saved ones (`restored_saved`); those of any other sector are the present
+-- ones (`restored_other`)
 pub restored_saved : (journal : Content) (content : ℕ → ℕ) (a : ℕ) → is_saved journal (a / 4096) ≡ true → restored journal content a ≡ saved_byte journal a
 restored_saved journal content a is = rw is refl
 
@@ -130,7 +132,8 @@ rescanned_more {journal = journal} {i = i} {s = s} {saved = saved} {bytes = byte
 
 -- ---- the end
 
--- a sector that isn't saved isn't changed, so it is neither touched (`untouched_other`) nor raised (`unraised_other`)
+-- a restore changes only saved sectors, so any other sector is neither touched (`untouched_other`) nor raised
+-- (`unraised_other`)
 pub untouched_other : (journal : Content) (content : ℕ → ℕ) (s : ℕ) → is_saved journal s ≡ false → is_touched content (restored journal content) s ≡ false
 untouched_other journal content s none = search (arith, restored_other, sector_at, untouched)
 

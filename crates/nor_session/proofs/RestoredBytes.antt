@@ -1,4 +1,4 @@
--- Touched and raised sectors, compared with the bytes that a journal saved.
+-- Lemmas about touched and raised sectors, and about the bytes that a restore writes to them.
 use Rattle.std.proofs.Common.{◌≡◌, ◌<◌, ◌+◌, ◌*◌, ◌/◌, ◌%◌, ◌&&◌, ℕ, Bool, true, false, sym, arith, bit_and}
 use Rattle.std.specs.Prelude.{if◌then◌else◌}
 use Rattle.std.proofs.lemmas.Bool.{eqb-true, eq-eqb, both_ways, not-false, not_from_true, true_from_ne_false}
@@ -34,7 +34,6 @@ pub untouched_unraised : (content target_bytes : ℕ → ℕ) (s : ℕ) → is_t
 untouched_unraised content target_bytes s none =
     unraised content target_bytes s (λ i below. sym (untouched_byte content target_bytes (4096 * s + i) (rw (sector_at s i below) none)))
 
--- a touched sector has a byte that differs from its target byte
 pub touched_byte : (content target_bytes : ℕ → ℕ) (s : ℕ) → is_touched content target_bytes s ≡ true → (k : ℕ) × (k < 4096) × ¬ (content (4096 * s + k) ≡ target_bytes (4096 * s + k))
 unfolding is_touched
 touched_byte content target_bytes s some = search (arith, any_below-found, both_ways, eq-eqb, not_from_true)
@@ -43,7 +42,8 @@ touched_byte content target_bytes s some = search (arith, any_below-found, both_
 pub touched_saved : (journal : Content) (content : ℕ → ℕ) (s : ℕ) → is_touched content (restored journal content) s ≡ true → is_saved journal s ≡ true
 touched_saved journal content s some = search (arith, both_ways, true_from_ne_false, untouched_other)
 
--- if the touched sectors have the saved bytes, and all others are as they were, the content is the restored one
+-- at an address at which a restore wrote the saved byte if its sector is touched, and nothing otherwise, the byte is
+-- the target one
 pub written_restored : (journal : Content) (old mid new : ℕ → ℕ) (touched : ℕ → Bool) (a : ℕ) → ((s : ℕ) → touched s ≡ is_touched old (restored journal old) s) → mid a ≡ old a
     → new a ≡ (if touched (a / 4096) then saved_byte journal a else mid a) → new a ≡ restored journal old a
 written_restored journal old mid new touched a right same is = search (arith, touched_saved, untouched_byte)
@@ -53,7 +53,7 @@ written_restored journal old mid new touched a right same is = search (arith, to
 and_same : (b x y : Bool) → (b ≡ true → x ≡ y) → (b && x) ≡ (b && y)
 and_same b x y same = grind arith
 
--- of the target bytes, only those in touched sectors affect the number of pages to program
+-- target bytes outside the touched sectors don't affect the number of pages to program
 pub pages_same : (touched : ℕ → Bool) (old target_bytes target_bytes' : ℕ → ℕ) → ((a : ℕ) → touched (a / 4096) ≡ true → target_bytes a ≡ target_bytes' a)
     → count_below 65536 (is_programmed touched old target_bytes) ≡ count_below 65536 (is_programmed touched old target_bytes')
 unfolding is_page_other

@@ -38,13 +38,14 @@ use Rattle.nor_session.specs.Restore.{restored, FitsStatus, RestoreErrors}
 use Rattle.nor_session.proofs.Rescanned.{restored_saved, restored_other}
 use Rattle.nor_session.proofs.RestoredBytes.{touched_byte, touched_saved}
 
--- ---- readings keep a chip within
+-- ---- calls that only read keep a chip within the journal (`IsWithin`)
 
 calm_or_not : (state : BusState) → IsSteadyOrIdle state ⊎ ((state.steady ≡ false) × (state.chip.busy ≢ 0))
 calm_or_not state = grind arith
 
--- if an operation within the journal's addresses is interrupted, the bits that are never changed stay the original
--- ones, and so do all non-volatile bits if the status can't be written
+-- An operation that changes only these addresses (`WorksIn`) was interrupted. The bits that are never changed were the
+-- original ones, and still are. If the original chip's status can't be written and all non-volatile bits were the
+-- original ones, all of them still are.
 cut_kept : (p : ℕ → Bool) (first : Chip) (old new : KeptBits) (running : Running) → KeptCut running old new
     → WorksIn p first running → fixed_of old ≡ fixed_of first.kept
     → (fixed_of new ≡ fixed_of first.kept) × (is_writable first ≡ false → old ≡ first.kept → new ≡ first.kept)
@@ -73,7 +74,7 @@ looked_within p first most old new steady honest_reads within =
           search (arith, narrower)
     ]
 
--- ---- a loss of power keeps a chip within
+-- ---- a loss of power keeps a chip within the journal (`IsWithin`)
 
 idle_or_works : (state : BusState) → (state.steady ≡ false) ⊎ (state.chip.busy ≡ 0)
     → (state.chip.busy ≡ 0) ⊎ ((state.steady ≡ false) × (state.chip.busy ≢ 0))
@@ -114,14 +115,15 @@ guarded_same : (chip : Chip) (a b : ℕ) → IsGenuine chip.config → a / 4096 
 guarded_same chip a b genuine sector =
     search (arith, cases_Bool, cases_lt, guarded_within, is_protected-no_scheme, is_protected-past, sized_bounds)
 
--- ---- a touched sector may differ from the original chip
+-- ---- each address in a touched sector is open (`open_addresses`)
 
 pub touched_open : (journal : Content) (first chip : Chip) (a : ℕ) → IsKnown first.config → SavesChip journal first → ((b : ℕ) → open_addresses journal first b ≡ false → chip.bytes b ≡ first.bytes b)
     → is_touched chip.bytes (restored journal chip.bytes) (a / 4096) ≡ true → open_addresses journal first a ≡ true
 touched_open journal first chip a known saves same touched =
     search (arith, guarded_same, saved_byte-is, touched_byte, touched_saved)
 
--- changes of the touched sectors change a chip only at addresses at which it may differ from the original one
+-- if the journal could restore the original chip before a restore, the restore's changes leave a chip that is still
+-- within the journal (`IsWithin`)
 pub change_within : (journal : Content) (first : Chip) (touched raised : ℕ → Bool) (wanted : ℕ → ℕ) (old mid new : BusState) → CanRestore journal first old → IsWithin (open_addresses journal first) first mid
     → ((s : ℕ) → touched s ≡ is_touched old.chip.bytes (restored journal old.chip.bytes) s) → MayChange touched raised wanted mid new → IsWithin (open_addresses journal first) first new
 change_within journal first touched raised wanted old mid new can within right change =
@@ -140,19 +142,19 @@ given_back journal first old new saves config within config_now bytes kept =
 
 -- ---- a restorable chip is never refused
 
--- the non-volatile status bits that a restore can't write are the journal's
+-- if the journal has the original chip's status bits, and those of a chip differ from them at most in protection bits
+-- that can be written, that chip's status fits the journal (`FitsStatus`)
 fixed_told : (journal : Content) (first chip : Chip) → first.kept ≡ kept_in journal.status → chip.config ≡ first.config
     → fixed_of chip.kept ≡ fixed_of first.kept → (is_writable first ≡ false → chip.kept ≡ first.kept) → FitsStatus journal chip
 fixed_told journal first chip bits config fixed kept =
     let returned = fixed ∙ ap fixed_of bits in let all = λ (shut : is_writable first ≡ false). kept shut ∙ bits in search arith
 
--- if the non-volatile bits are those of the original chip, the protection bits are the journal's
 code_locked : (journal : Content) (first chip : Chip) → first.kept ≡ kept_in journal.status → chip.kept ≡ first.kept
     → code_of chip.kept ≡ code_of (kept_in journal.status)
 code_locked journal first chip bits stay = ap code_of (stay ∙ bits)
 
--- if the original chip is locked, and the chip differs from it only at open addresses (`open_addresses`), no touched
--- sector is protected
+-- The journal saves the original chip, whose status is locked. If another chip has its configuration and non-volatile
+-- bits, and differs from it only at open addresses, no touched sector of that chip is protected.
 free_held : (journal : Content) (first chip : Chip) → IsKnown first.config → SavesChip journal first → chip.config ≡ first.config → chip.kept ≡ first.kept → is_locked first.kept ≡ true
     → ((b : ℕ) → open_addresses journal first b ≡ false → chip.bytes b ≡ first.bytes b) → ¬ SomeProtected (is_touched chip.bytes (restored journal chip.bytes)) chip
 free_held journal first chip known saves config stay locked same some =

@@ -1,4 +1,4 @@
--- A journal that a session wrote can restore its chip.
+-- The journal that a session wrote can restore the chip from before that session.
 use Rattle.std.proofs.Common.{◌≡◌, ◌<◌, ◌/◌, ◌∙◌, ℕ, Bool, true, false, List, [], ◌∷◌, ◌*◌, ap, sym, arith}
 use Rattle.std.specs.Prelude.{◌&&◌, not}
 use Rattle.std.proofs.lemmas.Bool.{and_parts, and_from, both_ways, false_from_ne_true}
@@ -26,7 +26,8 @@ use Rattle.nor_session.specs.Session.{CanBeUndone}
 use Rattle.nor_session.specs.Rehearsing.{CanUndo}
 use Rattle.nor_session.proofs.JudgedAgain.{accepted_named, accepted_free}
 
--- a journal that has a chip's header, and saves sectors of that chip, saves the chip (`SavesChip`)
+-- a journal with the header of a chip, which saves sectors of that chip (`Saves`), saves the chip (`SavesChip`), if the
+-- non-volatile bits of status 2 are in range
 pub saves_chip : (first : Chip) (saved : ℕ → Bool) (journal : Content) → first.kept.two < 128 → SameHeader (header_of first) journal
     → Saves first.bytes saved journal → SavesChip journal first
 saves_chip first saved journal small same saves =
@@ -43,7 +44,7 @@ saved_free saved first text state a leads is = false_from_ne_true _ (λ both.
     let inside = leads.inside (a / 4096) is in let blocks = (sized_bounds first.config).blocks in
     both_ways _ (is_protected-sector first a (omega arith) (rw is at (leads.free locked (a / 4096)))) guarded)
 
--- If bytes can restore the original chip (`CanUndo`), the journal that is read from them can restore it.
+-- If bytes can restore the original chip (`CanUndo`), the journal that is read from them can restore it (`CanRestore`).
 pub can_give_back : (saved : ℕ → Bool) (first : Chip) (text : List ℕ) (state : BusState) (journal : Content) → CanUndo saved first text state
     → SameHeader (header_of first) journal × Saves first.bytes saved journal → CanRestore journal first state
 can_give_back saved first text state journal leads read = record {
@@ -56,7 +57,8 @@ can_give_back saved first text state journal leads read = record {
       leads.within;
 }
 
--- The bytes of a faithful vault that a session sealed can restore the original chip, if that is genuine.
+-- If `CanBeUndone` holds after a session with a faithful vault, and the original chip is genuine, the vault's bytes can
+-- restore that chip (`CanUndo`).
 pub restorable : (request : Request) (image : List ℕ) (old new : BusState) (vault : VaultState) → IsChip old.chip → IsGenuine old.chip.config → vault.telling ≡ true
     → CanBeUndone request image old new vault → CanUndo (is_touched old.chip.bytes (wanted request image old.chip)) old.chip vault.bytes new
 restorable request image old new vault is genuine telling undone = record {
@@ -72,7 +74,8 @@ restorable request image old new vault is genuine telling undone = record {
   within = undone.changes.within;
 }
 
--- A session's main promise follows from what it sent before the seal, and from what can be undone after it.
+-- `KeepsOriginal`, the main promise of a session, follows from `OnlyReads` before the seal and from `CanBeUndone` after
+-- it.
 pub keeps_first : (request : Request) (image : List ℕ) (most : ℕ) (old new : BusState) (vault : VaultState)
     → (old.honest ≡ true → IsChip old.chip) → (vault.sealed ≡ false → OnlyReads most old new)
     → (IsModelled old → vault.sealed ≡ true → CanBeUndone request image old new vault) → KeepsOriginal old new vault

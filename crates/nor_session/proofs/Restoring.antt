@@ -76,14 +76,14 @@ module _ (journal : Content) (most : ℕ) (old new : BusState) where
   looks_leave honest_reads =
       let fixed = λ (steady_or_idle : IsSteadyOrIdle old). ap fixed_of (honest_reads.stays.steady_or_idle steady_or_idle).kept in search arith
 
--- on a well-behaved bus, a chip that can be restored before a call that only reads can be restored after it
+-- on a well-behaved bus, a journal that can restore a chip before a call that only reads can restore it after the call
 pub looks_back : (journal : Content) (first : Chip) (most : ℕ) (old new : BusState) → old.honest ≡ true → OnlyReads most old new → CanRestore journal first old → CanRestore journal first new
 looks_back journal first most old new honest only_reads can =
     assumption (looked_within _ first most old new only_reads.nature.steady (only_reads.honest_reads honest) can.within)
 
 -- ---- the changes after the preparation
 
--- a journal that fits what the bus replied still fits it after the changes
+-- what the bus replied to the identification stays in its history, so the journal still fits it after the changes
 pub changed_fits : {journal : Content} {old mid new : BusState} → FitsReplies journal old mid → KeepsNature mid new
     → FitsReplies journal old new
 changed_fits fits later = record {
@@ -98,7 +98,7 @@ changed_fits fits later = record {
   fixed = fits.fixed;
 }
 
--- The results of a restore's preparation, and the state that its changes left.
+-- The result of a restore's preparation (from `old` to `mid`), and what its changes left (from `mid` to `new`).
 pub record AreChanged (journal : Content) (prepared : PreparedRestore) (old mid new : BusState) : Type 0 where
   pub room : length journal.saved ≤ 4096
   pub only_reads : OnlyReads (most_identity + length journal.saved) old mid
@@ -182,7 +182,7 @@ module _ (journal : Content) (prepared : PreparedRestore) (old mid new : BusStat
 
   module _ (sent : ℕ) (are : AreChanged journal prepared old mid new)
       (does : DoesChange prepared.changes (saved_byte journal) true mid new work) where
-    -- the report is within the bound for at most `writes` status writes
+    -- the report is within the bound for `writes` status writes, if the changes need at most that number
     restored_within : (writes : ℕ) → sent ≡ prepared.transactions + work.transactions
         → status_writes prepared.changes ≤ writes
         → IsWithinBound (length journal.saved) writes true (report_of prepared work sent)
@@ -260,6 +260,6 @@ module _ (journal : Content) (prepared : PreparedRestore) (old mid new : BusStat
               does.unsent (omega arith) ∙ are.only_reads.sent;
         }
 
--- if the journal can restore the original chip, a restore that succeeds leaves that chip
+-- if the journal can restore the original chip, a restore that succeeds on a modelled bus leaves that chip
 pub restored_back : (journal : Content) (first : Chip) (old new : BusState) (report : Report) → CanRestore journal first old → IsRestored journal old new report → IsSame first new.chip
 restored_back journal first old new report can done = search (arith, given_back)

@@ -14,7 +14,6 @@ use Rattle.nor_geometry.specs.Counts.{sector_count}
 use Rattle.nor_geometry.proofs.Counting.{count_below-none, count_below-same}
 use Rattle.nor_geometry.proofs.Verdicts.{count_below-insert}
 
--- the address at position `i` of sector `s` lies in this sector
 pub sector_at : (s i : ℕ) → i < 4096 → (4096 * s + i) / 4096 ≡ s
 sector_at s i below = omega arith
 
@@ -22,15 +21,14 @@ sector_at s i below = omega arith
 pub byte_at : (journal : Content) (s : ℕ) (bytes : List ℕ) (i : ℕ) → saved_in journal.saved s ≡ Some bytes → i < 4096 → slice_index bytes i ≡ saved_byte journal (4096 * s + i)
 byte_at journal s bytes i is below = search (arith, sector_at)
 
--- a sector whose bytes the journal has is saved
 pub is_saved-some : (journal : Content) (s : ℕ) (bytes : List ℕ) → saved_in journal.saved s ≡ Some bytes → is_saved journal s ≡ true
 is_saved-some journal s bytes is = ap is_some is
 
--- a journal saves no more sectors than a chip can have
+-- a journal with valid content saves at most 4,096 sectors, the number on the largest chip
 pub saved_room : (journal : Content) → IsContent journal → length journal.saved ≤ 4096
 saved_room journal is = search (arith, is_chip_size-in_blocks, saved_few)
 
--- ---- how many
+-- ---- the number of saved sectors
 
 -- true if one of these records has the sector
 abbrev has_record : List SavedSector → ℕ → Bool
@@ -43,7 +41,7 @@ not_below sectors least [] s rising below = refl
 not_below sectors least (first ∷ rest) s rising below =
     rw (ne_eqb first.number s (λ e. omega arith)) (not_below sectors (first.number + 1) rest s rising.2 (omega arith))
 
--- with one more record, one more sector is saved
+-- a list of records has the sector of its first record, and those of the others
 one_more : (first : SavedSector) (rest : List SavedSector) (s : ℕ) → has_record (first ∷ rest) s ≡ ((s == first.number) || has_record rest s)
 unfolding saved_in
 one_more first rest s = grind (arith, nat_tests)
@@ -58,7 +56,7 @@ counted n sectors least (first ∷ rest) upto rising =
     let later = counted n sectors (first.number + 1) rest upto rising.2 in
     omega arith
 
--- the number of records is the number of saved sectors
+-- each saved sector has one record, so the number of records is the number of saved sectors
 pub saved_count : (chip : ℕ → ℕ) (saved : ℕ → Bool) (journal : Content) → Saves chip saved journal → length journal.saved ≡ sector_count saved
 saved_count chip saved journal saves =
     let most = (is_chip_size-in_blocks journal.size saves.is.size).small in

@@ -116,8 +116,8 @@ module _ (request : Request) (image image' : List ℕ) (identity : Identity) (st
             does.unsent (omega arith) ∙ is.honest_reads.same_sent;
       }
 
-  -- after a check on a well-behaved bus, if the chip has the size that was found, the touched sectors have the target
-  -- bytes: they were read back and compared
+  -- after success on a well-behaved bus, if the request asks for a check and the chip has the size that was found, the
+  -- touched sectors have the target bytes: they were read back and compared
   pub session_checked : (opened new : BusState) (work : Work) → OnlyReads most_identity old opened
       → ReadsIdentity request.named old opened identity → Scans request identity.found.size image image' opened mid kept.scanned
       → Ready request identity status code kept old mid
@@ -151,7 +151,7 @@ module _ (request : Request) (image image' : List ℕ) (identity : Identity) (st
       let read = does.checked verifies (is.honest_reads.nature.honest ∙ honest) can a marked in
       read ∙ wanted_byte ∙ sym (ap (λ (n : ℕ). wanted_at request image n old.chip.bytes a) sized)
 
-  -- if the request needs no status write, the bound on the report's transactions includes none
+  -- on a modelled bus, if the request needs no status write, the bound on the report's transactions includes none
   pub spared : (new : BusState) (target_bytes : ℕ → ℕ) (verify : Bool) (work : Work) (sent : ℕ) → sent ≡ kept.scanned.reads
       → Ready request identity status code kept old mid → ReadyChip request image image' identity code kept old mid
       → ¬ NeedsStatusWrite request image old.chip

@@ -62,7 +62,7 @@ sends_then IsCode m n journal old mid new before after = record {
   unknown = after.unknown ∙ before.unknown;
 }
 
--- a bound for `n` calls is also one for more calls
+-- limits for `n` calls with a journal are also limits for more calls
 pub sends_most : (IsCode : ℕ → Type 0) (n most : ℕ) (journal : Content) (old new : BusState) → n ≤ most
     → SendsSaved IsCode n journal old new → SendsSaved IsCode most journal old new
 sends_most IsCode n most journal old new few sends = record {
@@ -103,7 +103,9 @@ sends_wider IsCode IsWider calls journal old new wider sends = record {
 
 -- ---- the bytes of a status write
 
--- if a status write has the status that was read with the protection bits `code`, the journal allows it (`WritesOnly`)
+-- A status write that sends the status that was read, with the protection bits `code`, is allowed (`WritesOnly`). The
+-- premises are that the bits that are never changed are the journal's, that `code` is below 64, and that `IsCode` holds
+-- for it.
 pub coded_only : (IsCode : ℕ → Type 0) (journal : Content) (status : Status) (code one two : ℕ) → code < 64
     → fixed_of (kept_in (bytes_of status)) ≡ fixed_of (kept_in journal.status) → IsCode code
     → is_status_with_code status code one two ≡ true → WritesOnly IsCode journal one two
@@ -122,8 +124,9 @@ coded_only IsCode journal status code one two small fixed is written =
 
 -- ---- changes after calls that only read
 
--- Holds if the changes touch only sectors that the journal saves, the bits that are never changed were read as the
--- journal has them, and the protection bits to write may be written.
+-- Holds if the changes are for a chip of the journal's size and touch only sectors that the journal saves, and the bits
+-- that are never changed were read as the journal has them. The raised sectors are touched. The target protection bits
+-- are below 64; `IsCode` holds for them and, if protection is lifted, for 0.
 pub record AreOfJournal (IsCode : ℕ → Type 0) (journal : Content) (changes : Changes) : Type 0 where
   pub sized : journal.size ≡ changes.size
   pub saved : (s : ℕ) → touched_in changes s ≡ true → is_saved journal s ≡ true

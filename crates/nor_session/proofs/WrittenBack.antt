@@ -1,4 +1,4 @@
--- A journal can restore its chip from files that are being overwritten, at each moment.
+-- Proofs of the laws about files that are being overwritten: the journal can restore the original chip from them.
 use Rattle.std.proofs.Common.{ap, arith, ◌/◌, ◌%◌, false, ◌≡◌, ◌∙◌, ◌⊎◌, ℕ, Bool, List, [], true, refl, sym, inl, inr}
 use Rattle.std.proofs.lemmas.List.{append-nil}
 use Rattle.nor_model.specs.Bus.{BusState}
@@ -28,8 +28,8 @@ pub either : (P : ℕ → Type 0) (x y z : ℕ) → (z ≡ x) ⊎ (z ≡ y) → 
 either P x y z (inl is) one two = rw is one
 either P x y z (inr is) one two = rw is two
 
--- if both chips have the same non-volatile bits, the chip that was opened has them too (`kept_over`); the same holds
--- for the bits that are never changed
+-- if the chips before and after the overwriting have the non-volatile bits `first`, so does the chip that was opened
+-- (`kept_over`); `fixed_over` says this for the bits that are never changed
 kept_over : {old new opened : Chip} (first : KeptBits) → IsWrittenOver old new opened → old.kept ≡ first
     → new.kept ≡ first → opened.kept ≡ first
 kept_over {old} {new} {opened} first over before after =
@@ -48,7 +48,7 @@ fixed_over {old} {new} {opened} first over before after =
     (ap (λ (f : ℕ × ℕ). f.1) before) (ap (λ (f : ℕ × ℕ). f.1) after) in
     rw (one, two) refl
 
--- if both chips differ from the original one only at these addresses, so does the chip that was opened
+-- if `IsWithin` holds for the chips before and after the overwriting, it holds for the chip that was opened
 pub within_both : (places : ℕ → Bool) (first : Chip) (old new opened : BusState) → IsWrittenOver old.chip new.chip opened.chip
     → IsWithin places first old → IsWithin places first new → IsWithin places first opened
 within_both places first old new opened over before after =
@@ -56,19 +56,18 @@ within_both places first old new opened over before after =
     let kept = λ (shut : is_writable first ≡ false). kept_over first.kept over (before.kept shut) (after.kept shut) in
     search (arith, either)
 
--- if the journal can restore the original chip from the chip before and from the one after, it can do so from each chip
--- that is opened while the files of the former are overwritten with the latter
+-- the proof of the law `restore_written_over`
 pub restore_over : (journal : Content) (first : Chip) (old new opened : BusState) → CanRestore journal first old
     → CanRestore journal first new → IsWrittenOver old.chip new.chip opened.chip → CanRestore journal first opened
 restore_over journal first old new opened before after over = search (arith, within_both)
 
--- if both are the same chip, the chip that was opened is the same too
+-- the proof of the law `same_written_over`
 pub same_over : (old new opened : Chip) → IsSame old new → IsWrittenOver old new opened → IsSame old opened
 same_over old new opened same over = let kept = kept_over old.kept over refl same.kept in search (arith, either)
 
 -- ---- after a session
 
--- the journal that is read from the bytes saves the same sectors as the journal that was written
+-- the journal that is read from the bytes has the header and the saved sectors of the journal that was written
 read_kept : (head : Content) (bytes : ℕ → ℕ) (saved : ℕ → Bool) (journal : Content) (kept : List ℕ) → JournalSaves head bytes saved kept
     → IsContent journal → kept ≡ text journal → SameHeader head journal × Saves bytes saved journal
 read_kept head bytes saved journal kept saves is read =
@@ -85,7 +84,7 @@ read_back request image old new vault journal modelled is telling undone sound r
     (restorable request image old new vault is modelled.genuine telling undone)
     (read_kept (header_of old.chip) old.chip.bytes _ journal vault.bytes (undone.journal telling) sound read)
 
--- the same bus with an idle chip
+-- this bus, with its chip made idle
 abbrev idle : BusState → BusState
 idle state = record state { chip = record state.chip { busy = 0 } }
 

@@ -29,15 +29,15 @@ touched_count changes = sector_count (touched_in changes)
 abbrev pub most_changed : Changes → ℕ
 most_changed changes = most_applied (touched_count changes) + touched_count changes
 
--- the number of sectors that are read back
+-- the number of sectors that the check reads back: the touched ones if `verify` is set, otherwise none
 abbrev pub read_back : Changes → Bool → ℕ
 read_back changes verify = if verify then touched_count changes else 0
 
 -- ---- the check, after all is written
 
 -- Holds after the check succeeded. The touched sectors were read if `verify` is set, and the work counts these reads.
--- No modifying command was sent. On a well-behaved bus contents and non-volatile status bits are as before, and if the
--- chip can be checked (`CanCheck`), each byte that was read is the target one.
+-- No modifying command was sent. On a well-behaved bus contents and non-volatile status bits are as before. If `verify`
+-- is set there and the chip can be checked (`CanCheck`), each byte of a touched sector is the target one.
 pub record DoesCheck (changes : Changes) (wanted : ℕ → ℕ) (verify : Bool) (written : Work) (old new : BusState)
     (work : Work) : Type 0 where
   pub erases : work.erases ≡ written.erases
@@ -50,10 +50,11 @@ pub record DoesCheck (changes : Changes) (wanted : ℕ → ℕ) (verify : Bool) 
   pub same : verify ≡ true → old.honest ≡ true → CanCheck (touched_in changes) old.chip
       → (a : ℕ) → touched_in changes (a / 4096) ≡ true → old.chip.bytes a ≡ wanted a
 
--- The meaning of an error of the check. On every bus the last transaction is the one at which the bus stopped, or the
--- read of the sector of the mismatch, and no other error occurs. On a well-behaved bus `Stopped` means that fewer
--- transactions were left than there are touched sectors. If the chip can be checked there (`CanCheck`), the address of
--- `Mismatch` is that of the first difference in the touched sectors.
+-- The meaning of an error of the check. On every bus the last transaction is the one at which the bus stopped
+-- (`Stopped`), or a read of the sector of the mismatch (`Mismatch`); no other error occurs. On a well-behaved bus
+-- `Stopped` means that fewer transactions were left than there are touched sectors, and that none is left. If the chip
+-- of such a bus can be checked (`CanCheck`), the address of `Mismatch` is that of the first difference in the touched
+-- sectors.
 abbrev pub CheckRefuses : Changes → (ℕ → ℕ) → (old new : BusState) → Refusal → Type 0
 CheckRefuses changes wanted old new Stopped = HasStopped (touched_count changes) old new
 CheckRefuses changes wanted old new (Mismatch address) = EndsReading address new.history
@@ -67,10 +68,10 @@ CheckRefuses changes wanted old new _ = ⊥
 abbrev pub HasBytes : (sectors : ℕ → Bool) → (wanted : ℕ → ℕ) → Chip → Type 0
 HasBytes sectors wanted chip = (a : ℕ) → sectors (a / 4096) ≡ true → chip.bytes a ≡ wanted a
 
--- Holds at every exit of the changes and their check. On every bus only touched sectors are targeted, or sectors past
--- the end of a chip that is touched as a whole, and the status is written only as the changes ask. On a well-behaved
--- bus the number of transactions is bounded, and if `CanApply` held at the start, the chip changes only as `MayChange`
--- allows.
+-- Holds at every exit of the changes and their check. On every bus the modifying commands that were sent are within
+-- `most_sent` (`SendsWithin`): the sectors targeted for the first time, the bytes of status writes, and the numbers of
+-- commands. On a well-behaved bus the number of transactions is bounded, and if `CanApply` held at the start, the chip
+-- changes only as `MayChange` allows.
 pub record LeavesChange (changes : Changes) (wanted : ℕ → ℕ) (old new : BusState) : Type 0 where
   pub spends : Spends (most_changed changes) old new
   pub sends : SendsWithin (most_sent changes) old new
@@ -78,8 +79,9 @@ pub record LeavesChange (changes : Changes) (wanted : ℕ → ℕ) (old new : Bu
       → MayChange (touched_in changes) (raised_in changes) wanted old new
 
 -- Holds after the changes and their check succeeded, with the counts of `work`. If there was nothing to change, no
--- modifying command was sent. If `verify` is set, and a well-behaved bus has an idle chip with the touched sectors
--- (`CanCheck`), each byte of a touched sector is the target one, even if the chip ignored commands.
+-- modifying command was sent. On a well-behaved bus, if `CanApply` held at the start, all changes were made
+-- (`HasApplied`). If `verify` is set there, and the chip was idle with the touched sectors on it (`CanCheck`), each
+-- byte of a touched sector is the target one, even if the chip ignored commands.
 pub record DoesChange (changes : Changes) (wanted : ℕ → ℕ) (verify : Bool) (old new : BusState)
     (work : Work) : Type 0 where
   pub erases : work.erases ≡ fewest_erases changes.kinds (changes.size / 4096) (raised_in changes)
@@ -100,10 +102,10 @@ pub record DoesChange (changes : Changes) (wanted : ℕ → ℕ) (verify : Bool)
   pub checked : verify ≡ true → old.honest ≡ true → CanCheck (touched_in changes) old.chip
       → HasBytes (touched_in changes) wanted new.chip
 
--- Holds if the changes and their check may fail with this error. On every bus the last transaction is the one at which
--- the bus stopped, a poll that showed BUSY (`Timeout`), or a read of the sector of the mismatch. On a well-behaved bus
--- `Stopped` means that fewer transactions were left than their bound (`most_changed`), `Timeout` does not occur, and
--- `Mismatch` does not occur if `CanApply` held at the start.
+-- Holds if the changes and their check may fail with this error: a stop, a timeout or a mismatch. On every bus the last
+-- transaction is the one at which the bus stopped, a poll that showed BUSY (`Timeout`), or a read of the sector of the
+-- mismatch. On a well-behaved bus `Stopped` means that fewer transactions were left than their bound (`most_changed`),
+-- `Timeout` does not occur, and `Mismatch` does not occur if `CanApply` held at the start.
 abbrev pub ChangeErrors : Changes → (ℕ → ℕ) → (old new : BusState) → Refusal → Type 0
 ChangeErrors changes wanted old new Stopped = HasStopped (most_changed changes) old new
 ChangeErrors changes wanted old new (Timeout address) = EndsBusy new.history × (old.honest ≡ true → ⊥)
@@ -111,8 +113,9 @@ ChangeErrors changes wanted old new (Mismatch address) =
     EndsReading address new.history × (old.honest ≡ true → CanApply changes wanted old.chip → ⊥)
 ChangeErrors changes wanted old new _ = ⊥
 
--- Holds on every bus: a timeout names an address in a touched sector, or 0 if a status write is needed; a mismatch
--- names an address in a touched sector.
+-- Holds for a timeout that names an address in a touched sector, or 0 if a status write is needed. Holds for a mismatch
+-- that names an address in a touched sector, and for every error of another kind. The changes and their check promise
+-- this on every bus.
 abbrev pub NamesTouchedSector : Changes → Refusal → Type 0
 NamesTouchedSector changes (Timeout address) =
     ((1 ≤ status_writes changes) × (address ≡ 0)) ⊎ (touched_in changes (address / 4096) ≡ true)

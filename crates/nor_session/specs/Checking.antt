@@ -33,16 +33,17 @@ pub record DoesChecks (sectors : ℕ → Bool) (wanted : ℕ → ℕ) (old new :
   pub same : old.honest ≡ true → CanCheck sectors old.chip
       → (a : ℕ) → sectors (a / 4096) ≡ true → old.chip.bytes a ≡ wanted a
 
--- The meaning of an error. On every bus the last transaction is the one at which the bus stopped, or the read of the
--- sector of the mismatch. On a well-behaved bus `Stopped` means that fewer transactions were left than there are
--- sectors in the set, and that all of them were used. If `CanCheck` holds there, the address of `Mismatch` is the first
--- one in these sectors at which the chip differs from the target.
+-- The meaning of an error of the verification. On every bus the last transaction is the one at which the bus stopped
+-- (`Stopped`), or a read of the sector of the mismatch (`Mismatch`). On a well-behaved bus `Stopped` means that fewer
+-- transactions were left than there are sectors in the set, and that none is left now. If `CanCheck` held on such a
+-- bus, the address of `Mismatch` is the first one in these sectors at which the chip differs from the target.
 abbrev pub CheckErrors : (ℕ → Bool) → (ℕ → ℕ) → (old new : BusState) → CheckFault → Type 0
 CheckErrors sectors wanted old new Stopped = HasStopped (sector_count sectors) old new
 CheckErrors sectors wanted old new (Mismatch address) = EndsReading address new.history
     × (old.honest ≡ true → CanCheck sectors old.chip → IsFirstMismatch sectors wanted old.chip.bytes address)
 
--- Holds on every bus: the address of a mismatch is in one of these sectors.
+-- Holds for a stop, and for a mismatch whose address is in one of these sectors. The verification promises this on
+-- every bus.
 abbrev pub NamesDifference : (ℕ → Bool) → CheckFault → Type 0
 NamesDifference sectors Stopped = ⊤
 NamesDifference sectors (Mismatch address) = sectors (address / 4096) ≡ true

@@ -24,8 +24,8 @@ pub record IsOfType (journal : Content) (config : Config) : Type 0 where
   pub id : journal.id ≡ id_of config
   pub size : journal.size ≡ config.size
 
--- Holds if the journal saves this chip: its ID and size; its unique ID, if the journal has one; its non-volatile status
--- bits; the bytes of the saved sectors.
+-- Holds if the journal is valid (`IsContent`) and saves this chip: its ID and size; its unique ID, if the journal has
+-- one; its non-volatile status bits; the bytes of the saved sectors.
 pub record SavesChip (journal : Content) (first : Chip) : Type 0 where
   pub kind : IsOfType journal first.config
   pub unit : IfSome journal.unique (λ unique. unique ≡ unique_of first.config)
@@ -37,8 +37,9 @@ pub record SavesChip (journal : Content) (first : Chip) : Type 0 where
 abbrev pub open_addresses : Content → Chip → ℕ → Bool
 open_addresses journal first a = is_saved journal (a / 4096) && not (is_locked first.kept && is_protected first a)
 
--- Holds if the journal can restore the original chip (`first`) on this bus. It saves that chip, which is known, and the
--- bus's chip differs from that chip only in bytes and bits that a restore can write.
+-- Holds if the journal can restore the original chip (`first`) on this bus. The journal saves that chip, which is
+-- known. The bus's chip differs from the original one only in bytes and bits that a restore can write, in BUSY and in
+-- WEL. On a bus that isn't steady, an operation in progress is limited too (`IsWithin`).
 pub record CanRestore (journal : Content) (first : Chip) (state : BusState) : Type 0 where
   pub known : IsKnown first.config
   pub saves : SavesChip journal first
@@ -51,7 +52,7 @@ pub record CanRestoreFrom (bytes : List ℕ) (first : Chip) (state : BusState) :
 
 -- ---- what the calls promise
 
--- The promise of a session at every exit, wherever it ended or was stopped.
+-- The promise of a session at every exit, wherever the session ended or was stopped.
 pub record KeepsOriginal (old new : BusState) (vault : VaultState) : Type 0 where
   -- if the vault isn't sealed, no modifying command was sent, on every bus
   pub unsent : vault.sealed ≡ false → new.sent ≡ old.sent

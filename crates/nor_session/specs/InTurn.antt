@@ -35,13 +35,13 @@ abbrev pub MayLosePower : (old new : BusState) → Type 0
 MayLosePower old new = IsSame old.chip new.chip ⊎ LosesPower old new
 
 -- Holds for the bus on which a run starts (`taken`), after a run that started on `old` and left `new`. Its chip is the
--- one that was left and may have lost its power since, or it was opened from files that were being overwritten with the
--- chip that was left.
+-- one that was left, and may have lost its power since. Or its chip was opened from files that held the chip of `old`
+-- and were being overwritten with the chip of `new`.
 abbrev pub IsTakenUp : (old new taken : BusState) → Type 0
 IsTakenUp old new taken = MayLosePower new taken ⊎ IsWrittenOver old.chip new.chip taken.chip
 
--- Holds if a restore changed nothing: it sent no modifying command, no sector was touched, erased or programmed, and no
--- status write was needed.
+-- Holds if a restore changed nothing: it sent no modifying command, its report counts no touched sector, erase or
+-- program, and no status write was needed.
 pub record ChangesNothing (journal : Content) (old new : BusState) (report : Report) : Type 0 where
   pub unsent : new.sent ≡ old.sent
   pub touched : report.touched ≡ 0

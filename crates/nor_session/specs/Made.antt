@@ -12,8 +12,8 @@ use Rattle.nor_geometry.specs.Counts.{sector_count}
 use Rattle.nor_plan.specs.Content.{is_touched, is_raised, once_erased, is_programmed}
 use Rattle.nor_request.specs.declared.report.Report.{Report}
 
--- Holds if this number of erases is the least possible: some list of that length erases exactly the raised sectors of
--- the chip, and no shorter list does.
+-- Holds if this number of erases is the least possible: some list of that many erases covers exactly the raised sectors
+-- of the chip, and no shorter list does.
 abbrev pub AreFewestErases : Config → (old wanted : ℕ → ℕ) → (erases : ℕ) → Type 0
 AreFewestErases config old wanted erases = IsLeastLength config.kinds (config.size / 4096) (is_raised old wanted) erases
 
@@ -22,8 +22,9 @@ abbrev pub pages_of : (old wanted : ℕ → ℕ) → ℕ
 pages_of old wanted =
     count_below 65536 (is_programmed (is_touched old wanted) (once_erased (is_raised old wanted) old) wanted)
 
--- Holds if the chip has the target bytes, the status bits that flashnor never changes are as they were, and the chip is
--- idle. The write enable latch is set only if it was set before.
+-- Holds if the chip has the target bytes and is idle, and its configuration and the status bits that flashnor never
+-- changes are as they were. The write enable latch is set only if it was set before. Nothing is said about the
+-- protection bits.
 pub record IsTargetChip (wanted : ℕ → ℕ) (old new : Chip) : Type 0 where
   pub config : new.config ≡ old.config
   pub bytes : (a : ℕ) → new.bytes a ≡ wanted a
@@ -31,9 +32,9 @@ pub record IsTargetChip (wanted : ℕ → ℕ) (old new : Chip) : Type 0 where
   pub idle : new.busy ≡ 0
   pub latch : new.latch ≡ true → old.latch ≡ true
 
--- Holds if only the raised sectors were erased, and the report is right. It has the chip type that the chip's replies
--- show, and the chip's status 1, of which BUSY and WEL are known only if the chip was idle. It counts the touched
--- sectors, the erases (the least possible number) and the programs.
+-- Holds if the erased sectors are those from before and the raised ones, and the report is right. The report has the
+-- chip type that the chip's replies show, and the chip's status 1, of which BUSY and WEL are known only if the chip was
+-- idle. The report counts the touched sectors, the erases (the least possible number) and the programs.
 pub record IsReported (wanted : ℕ → ℕ) (old new : BusState) (report : Report) : Type 0 where
   pub worn : (s : ℕ) → new.worn s ≡ (old.worn s || is_raised old.chip.bytes wanted s)
   pub shown : shown_as old.chip.config ≡ Ok (part_in report.found)

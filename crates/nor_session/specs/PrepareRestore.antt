@@ -69,25 +69,26 @@ IsDeviceRefusal OtherUnit = ⊤
 IsDeviceRefusal StatusDiffers = ⊤
 IsDeviceRefusal _ = ⊥
 
--- Holds if the journal fits each chip with this identification.
+-- Holds if the journal fits each chip that has this identification, and whose status 2 bits are in range.
 abbrev pub FitsIdentity : Content → Identity → Type 0
 FitsIdentity journal identity =
     (chip : Chip) → chip.kept.two < 128 → IsIdentityOf chip identity → FitsJournal journal chip
 
--- Holds if `shown` says correctly, for each chip with this identification, whether the status bits that a restore can't
--- write are the journal's.
+-- Holds if `shown` says correctly whether the status bits that a restore can't write are the journal's, for each chip
+-- that has this identification, and whose status 2 bits are in range.
 abbrev pub ShowsFixed : Content → Identity → Bool → Type 0
 ShowsFixed journal identity shown = (chip : Chip) → chip.kept.two < 128 → IsIdentityOf chip identity
     → MatchBool shown (FitsStatus journal chip) (¬ FitsStatus journal chip)
 
--- Holds if acceptance is right: if the check accepts the unique ID and status bits, the journal fits each chip that has
--- this identification and the journal's ID and size.
+-- Holds if acceptance is right: if the check accepts the unique ID and status bits, the journal fits the chip. This
+-- holds for each chip that has this identification and the journal's ID and size, and whose status 2 bits are in range.
 abbrev pub AcceptsDevice : Content → Identity → Result Unit Refusal → Type 0
 AcceptsDevice journal identity judged = (chip : Chip) → chip.kept.two < 128 → IsIdentityOf chip identity
     → IsOfType journal chip.config → OnOk judged (FitsJournal journal chip)
 
 -- Holds if a refusal is right. If the check refuses the unique ID or status bits, its error is that of the first failed
--- check, for each chip that has this identification and the journal's ID and size.
+-- check. This holds for each chip that has this identification and the journal's ID and size, and whose status 2 bits
+-- are in range.
 abbrev pub RefusesDevice : Content → Identity → Result Unit Refusal → Type 0
 RefusesDevice journal identity judged = (chip : Chip) → chip.kept.two < 128 → IsIdentityOf chip identity
     → IsOfType journal chip.config → IfErr judged (RestoreJudges journal chip)
@@ -111,7 +112,8 @@ PrepareErrors journal most old new refusal = IsRefusedFor journal old new refusa
 
 -- ---- the scan
 
--- Holds after a sector was read; its plan says what is needed to turn it into the saved sector.
+-- Holds after a sector was read: `bytes` are what was read, and the plan says what is needed to turn contents with
+-- these bytes into contents with the bytes `saved`.
 pub record PlansSaved (sector : ℕ) (saved bytes : List ℕ) (old new : BusState) (plan : SectorPlan) : Type 0 where
   pub small : (k : ℕ) → slice_index saved k < 256
   pub read : ReadsSector sector old new bytes
@@ -121,8 +123,9 @@ pub record PlansSaved (sector : ℕ) (saved bytes : List ℕ) (old new : BusStat
   pub planned : (content wanted : ℕ → ℕ) → AreBytesOf content bytes → AreBytesOf wanted saved
       → IsPlan content wanted 4096 plan
 
--- Holds after each saved sector was read once. The scan's marks are right on a well-behaved bus with an idle chip of
--- the journal's size: touched if a byte differs from the saved one, raised if a bit must go from 0 to 1.
+-- Holds after each saved sector was read once. Only saved sectors are marked. The marks are right on a well-behaved bus
+-- with an idle chip of the journal's size: touched if a byte differs from the saved one, raised if a bit must go from 0
+-- to 1.
 pub record ScansSaved (journal : Content) (old new : BusState) (scanned : Scanned) : Type 0 where
   pub marks : AreMarks (journal.size / 4096) scanned
   pub saved : (s : ℕ) → has scanned.touched s ≡ true → is_saved journal s ≡ true
@@ -151,8 +154,8 @@ pub record AreChanges (journal : Content) (identity : Identity) (scanned : Scann
   pub code : changes.code ≡ code_of (kept_in journal.status)
   pub six_bits : changes.code < 64
 
--- Holds if a status write is needed when these sectors are touched: the protection bits differ from the journal's, or a
--- touched sector is protected.
+-- Holds if a status write is needed, given that these sectors are touched: the protection bits differ from the
+-- journal's, or a touched sector is protected.
 abbrev pub NeedsStatusWith : Content → (touched : ℕ → Bool) → Chip → Type 0
 NeedsStatusWith journal touched chip =
     (code_of chip.kept ≢ code_of (kept_in journal.status)) ⊎ SomeProtected touched chip
@@ -169,12 +172,13 @@ pub record IsShut (journal : Content) (touched : ℕ → Bool) (chip : Chip) : T
   pub locked : is_locked chip.kept ≡ true
   pub needs : NeedsStatusWith journal touched chip
 
--- Holds if changes are returned only when the status of each chip with this identification may be changed accordingly.
+-- Holds if `MayChangeStatus` holds for each chip with this identification and for the changes that are returned, if
+-- any.
 abbrev pub MakesChanges : Content → Identity → (ℕ → Bool) → Result Changes Refusal → Type 0
 MakesChanges journal identity touched judged =
     (chip : Chip) → IsIdentityOf chip identity → IfOk judged (MayChangeStatus journal touched chip)
 
--- Holds if an error is returned only when the status of each chip with this identification is locked and must be
+-- Holds if an error is returned only if the status of each chip with this identification is locked and would have to be
 -- written.
 abbrev pub RefusesShut : Content → Identity → (ℕ → Bool) → Result Changes Refusal → Type 0
 RefusesShut journal identity touched judged =
@@ -182,8 +186,9 @@ RefusesShut journal identity touched judged =
 
 -- ---- the preparation as a whole
 
--- The result of the preparation on a modelled bus. The chip may be restored, was identified as what its ID or SFDP
--- says, and the changes that the journal asks for can be made to it. They write the status only if that is needed.
+-- The result of the preparation on a modelled bus. All checks of the restore pass for the chip, the chip was identified
+-- as what its ID or SFDP says, and the changes that the journal asks for can be made to the chip (`CanApply`). The
+-- changes write the status only if that is needed.
 pub record IsPreparedFor (journal : Content) (old new : Chip) (prepared : PreparedRestore) : Type 0 where
   pub accepted : RestoreAccepts journal old
   pub shown : shown_as old.config ≡ Ok (part_in prepared.found)
@@ -198,7 +203,10 @@ pub record IsPreparedFor (journal : Content) (old new : Chip) (prepared : Prepar
   pub needed : (prepared.changes.unlock || writes_code prepared.changes) ≡ true
       → NeedsStatusFrom journal old
 
--- All that a restore must know before it changes anything.
+-- The result of a restore's preparation on every bus. The changes fit the journal, and the counts are within their
+-- bounds. On a well-behaved bus the chip is as before and idle, and if it has the journal's size, the touched sectors
+-- are the saved ones whose bytes differ from the journal's. On a modelled bus the chip can be restored
+-- (`IsPreparedFor`).
 pub record IsPreparedRestore (journal : Content) (old new : BusState) (prepared : PreparedRestore) : Type 0 where
   pub consistent : AreConsistent prepared.changes
   pub sized : prepared.changes.size ≡ journal.size

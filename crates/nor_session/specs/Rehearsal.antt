@@ -46,7 +46,7 @@ pub record AllowsStops (stops : List ℕ) (least most : ℕ) (old new : BusState
 
 -- Describes the result of a rehearsal with this number of stops, on every bus. Restores were run if and only if the
 -- vault was sealed: at least one, and at most as many as there are stops, or one without stops. The session ended only
--- if the vault was sealed; without stops it ended.
+-- if the vault was sealed; without stops the session ended.
 pub record IsRehearsal (stops : ℕ) (vault : VaultState) (rehearsal : Rehearsal) : Type 0 where
   pub seal : rehearsal.sealed ≡ vault.sealed
   pub ended : rehearsal.ended ≡ true → rehearsal.sealed ≡ true
@@ -76,9 +76,9 @@ pub record SealFits (request : Request) (allowance : ℕ) (chip : Chip) (seal : 
   pub enough : seal ≡ true → 4 + scanned_sectors request chip.config.size ≤ allowance
   pub below : seal ≡ false → allowance < most_reads (scanned_sectors request chip.config.size)
 
--- Holds if `restores` restores from a journal of `sectors` sectors were run, with these stops in turn. Each one before
--- the last was stopped, so its stop was below the bound. The last one ended, so its stop, if it had one, was enough for
--- the shortest identification and the scan.
+-- Holds if these stops fit `restores` restores, in turn, from a journal of `sectors` sectors. Each restore before the
+-- last was stopped: its stop is below the bound. The last one ended: its stop, if it had one, is enough for the
+-- shortest identification and the scan.
 pub record AreRestores (sectors : ℕ) (stops : List ℕ) (restores : ℕ) : Type 0 where
   pub stopped : (i : ℕ) → i + 1 < restores → slice_index stops i < most_of sectors
   pub ended : restores ≤ length stops → 4 + sectors ≤ slice_index stops (restores - 1)
@@ -119,13 +119,14 @@ IsRehearsedCode what journal code = IsWrittenCode what journal code ⊎ IsSavedC
 -- The promises of a rehearsal on every bus.
 pub record RehearsalAlways (request : Request) (stops : List ℕ) (old new : BusState) (vault vault' : VaultState)
     (result : Result Rehearsal Refusal) : Type 0 where
-  -- whether the bus is well-behaved, steady and unlimited is as before
+  -- whether the bus is well-behaved, steady and unlimited is as before; on a well-behaved bus, so is the configuration
+  -- of its chip
   pub nature : SameNature old new
-  -- after success the allowances that were set are one for the session and one for each restore: exactly the stops in
-  -- turn and, for a call without a stop, the bound for a session on a chip of 16 MiB
+  -- After success one allowance was set for the session, and one for each restore. They are the stops in turn and, for
+  -- a call without a stop, the bound for a session on a chip of 16 MiB (`allowances_of`).
   pub allowed : IfOk result (λ r. new.allowances ≡ allowances_of stops (1 + r.restores) ++ old.allowances)
-  -- after an error the same holds for the session and the restores that were run; there were at most as many restores
-  -- as there are stops, or one without stops
+  -- After an error the allowances that were set are those of the session and of the restores that were run
+  -- (`AllowsStops`). There were at most as many restores as there are stops, or one without stops.
   pub tried : OnErr result (AllowsStops stops 1 (1 + max 1 (length stops)) old new)
   -- a successful result fits the vault and the stops
   pub counts : IfOk result (IsRehearsal (length stops) vault')
@@ -140,7 +141,7 @@ pub record RehearsalAlways (request : Request) (stops : List ℕ) (old new : Bus
   pub last_transaction : IfErr result (λ refusal. EndsAtError refusal new.history)
   -- if the vault isn't sealed, no modifying command was sent
   pub unsent : vault'.sealed ≡ false → new.sent ≡ old.sent
-  -- after the seal, all that was sent fits the journal in the vault (`SendsSaved`)
+  -- after the seal, the modifying commands that were sent fit the journal in the vault (`SendsSaved`)
   pub sends : vault'.sealed ≡ true → (journal : IsJournal vault'.bytes)
       × SendsSaved (IsRehearsedCode request.what journal.content) (1 + max 1 (length stops)) journal.content old new
   -- At every exit the status was written no more often than the request may need, and at most twice by each restore.
@@ -172,11 +173,13 @@ pub record RehearsalModelled (request : Request) (image stops : List ℕ) (old n
       → CanEnd request image (first_allowance stops) old.chip)
   -- the first allowance and the vault's seal fit each other (`SealFits`)
   pub seal : IfOk result (λ rehearsal. SealFits request (first_allowance stops) old.chip rehearsal.sealed)
-  -- the restores were run with the later stops, until one ended
+  -- after success, if the vault was sealed, the stops after the first fit the restores, of which the last one ended
+  -- (`AreRestores`)
   pub restores : IfOk result (λ rehearsal. rehearsal.sealed ≡ true
       → AreRestores (sector_count (is_touched old.chip.bytes (wanted request image old.chip))) (drop 1 stops)
       rehearsal.restores)
-  -- at the end, if no restore was run, or if session and first restore ended, the latch is set only if it was before
+  -- after success, if no restore was run, or if the session and the first restore ended, the write enable latch is set
+  -- only if it was set before
   pub latch : IfOk result (λ r. r.restores ≤ (if r.ended then 1 else 0) → new.chip.latch ≡ true → old.chip.latch ≡ true)
   -- the stop of the last restore, if it had one, fits the transactions that are left (`FitsLastStop`)
   pub last : IfOk result (λ rehearsal. rehearsal.sealed ≡ true

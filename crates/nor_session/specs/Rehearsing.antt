@@ -40,12 +40,12 @@ pub record CanUndo (saved : ℕ → Bool) (first : Chip) (text : List ℕ) (stat
   pub free : is_locked first.kept ≡ true → NoneProtected saved first
   pub within : IsWithin (addresses_of saved) first state
 
--- Holds at every exit of the session. On every bus, no modifying command was sent if the vault isn't sealed, and a
--- sealed vault holds a journal that all that was sent fits (`SendsSaved`). The status was written no more often than
--- the request may need. On a modelled bus, only touched sectors were erased. On a modelled bus with a sealed vault, the
--- request is accepted, and the vault's bytes can restore the original chip. On a modelled bus with an unsealed vault,
--- the latch is set only if it was set before; if this bus is steady or its chip was idle, bytes and non-volatile bits
--- are as they were.
+-- Holds at every exit of the session. On every bus, no modifying command was sent if the vault isn't sealed; if it is
+-- sealed, the modifying commands that were sent fit its journal (`SendsSaved`). The status was written no more often
+-- than the request may need. On a modelled bus, only touched sectors were erased. On a modelled bus with a sealed
+-- vault, the request is accepted, and the vault's bytes can restore the original chip. On a modelled bus with an
+-- unsealed vault, the latch is set only if it was set before. If this bus is steady or its chip was idle, bytes and
+-- non-volatile bits are then as they were.
 pub record LeavesSession (request : Request) (image : List ℕ) (old new : BusState) (vault : VaultState) : Type 0 where
   pub nature : SameNature old new
   pub same : IsModelled old → IsSteadyOrIdle old → vault.sealed ≡ false → IsSame old.chip new.chip
@@ -66,10 +66,10 @@ pub record HasWantedBits (what : What) (old new : Chip) : Type 0 where
   pub is_wanted : IsWantedCode what old code
   pub kept : new.kept ≡ with_code code old.kept
 
--- The session was allowed `allowance` transactions, and ended or was stopped. If it ended, the vault is sealed; if it
--- was stopped on a well-behaved bus, no transaction is left. On a modelled bus, the allowance fits the seal
--- (`SealFits`). If the session ended there, the chip has the target bytes and bits, the latch is set only if it was set
--- before, and `CanEnd` holds. If it was stopped there, the allowance was below the bound.
+-- The session was allowed `allowance` transactions, and ended or was stopped. If the session ended, the vault is
+-- sealed; if the session was stopped on a well-behaved bus, no transaction is left. On a modelled bus, the allowance
+-- fits the seal (`SealFits`). If the session ended there, the chip has the target bytes and bits, the latch is set only
+-- if it was set before, and `CanEnd` holds. If the session was stopped there, the allowance was below the bound.
 pub record RunsSession (request : Request) (image : List ℕ) (allowance : ℕ) (old new : BusState) (vault : VaultState)
     (ended : Bool) : Type 0 where
   pub seals : ended ≡ true → vault.sealed ≡ true
@@ -81,8 +81,9 @@ pub record RunsSession (request : Request) (image : List ℕ) (allowance : ℕ) 
   pub below : IsModelled old → ended ≡ false → allowance < most_of (old.chip.config.size / 4096)
   pub seal : IsModelled old → SealFits request allowance old.chip vault.sealed
 
--- Holds if the session returned this error. On a modelled bus it is the verdict, or the vault failed. On a well-behaved
--- bus it is neither a stop nor a timeout. On every bus the last transaction is as `EndsAtError` says.
+-- Holds if the session returned this error. On a modelled bus the error is the verdict, or the vault failed. On a
+-- well-behaved bus the error is neither a stop nor a timeout. On every bus the last transaction is as `EndsAtError`
+-- says.
 pub record RefusesSession (request : Request) (image : List ℕ) (old new : BusState) (before after : VaultState)
     (refusal : Refusal) : Type 0 where
   pub answers : SessionReturns before after refusal
@@ -95,8 +96,8 @@ pub record RefusesSession (request : Request) (image : List ℕ) (old new : BusS
 -- ---- the restores
 
 -- Holds at every exit of `restores` restores. On a modelled bus: the bus stays modelled, the journal can still restore
--- each chip that it could restore before, and only saved sectors were erased. On every bus: only saved sectors were
--- targeted, or sectors past the end of a chip saved whole, and each restore wrote the status at most twice.
+-- each chip that it could restore before, and only saved sectors were erased. On every bus: the modifying commands that
+-- were sent fit the journal (`SendsSaved`), and at most `2 * restores` of them are status writes.
 pub record LeavesRestores (journal : Content) (restores : ℕ) (old new : BusState) : Type 0 where
   pub nature : SameNature old new
   pub modelled : IsModelled old → IsModelled new
@@ -105,10 +106,11 @@ pub record LeavesRestores (journal : Content) (restores : ℕ) (old new : BusSta
   pub sends : SendsSaved (IsSavedCode journal) restores journal old new
   pub writes : WritesStatusAtMost (2 * restores) old new
 
--- One restore was allowed `allowance` transactions. On a modelled bus, if it ended, it restored each chip that the
--- journal could restore, and the latch is set only if it was set before. The allowance was then enough for the shortest
--- identification, the scan and the transactions that are left. On a well-behaved bus, if it was stopped, the allowance
--- was below the bound, and no transaction is left. On every bus, if it was stopped, nothing was sent after that.
+-- One restore was allowed `allowance` transactions. On a modelled bus, if the restore ended, each chip that the journal
+-- could restore is restored, and the latch is set only if it was set before. The allowance was then enough for the
+-- shortest identification, the scan and the transactions that are left. On a well-behaved bus, if the restore was
+-- stopped, the allowance was below the bound, and no transaction is left. On every bus, if the restore was stopped,
+-- nothing was sent after the stop.
 pub record RunsRestore (journal : Content) (allowance : ℕ) (old new : BusState) (ended : Bool) : Type 0 where
   pub back : IsModelled old → ended ≡ true → (first : Chip) → CanRestore journal first old → IsSame first new.chip
   pub latch : IsModelled old → ended ≡ true → new.chip.latch ≡ true → old.chip.latch ≡ true
@@ -117,8 +119,8 @@ pub record RunsRestore (journal : Content) (allowance : ℕ) (old new : BusState
   pub below : old.honest ≡ true → ended ≡ false → allowance < most_of (length journal.saved)
   pub last_transaction : ended ≡ false → EndsStopped new.history
 
--- Restores were run in turn until one ended, each with its own allowance (`allowances_of`). On a modelled bus they
--- restored each chip that the journal could restore, and if none was stopped, the latch is set only if it was set
+-- Restores were run in turn until one ended, each with its own allowance (`allowances_of`). On a modelled bus each chip
+-- that the journal could restore is restored, and if no restore was stopped, the latch is set only if it was set
 -- before.
 pub record RunsRestores (journal : Content) (stops : List ℕ) (old new : BusState) (restores : ℕ) : Type 0 where
   pub some : 1 ≤ restores
@@ -130,8 +132,8 @@ pub record RunsRestores (journal : Content) (stops : List ℕ) (old new : BusSta
   pub back : IsModelled old → (first : Chip) → CanRestore journal first old → IsSame first new.chip
 
 -- Holds if a restore returned this error. On a modelled bus that never occurs for a chip that the journal can restore.
--- On a well-behaved bus the error is neither a stop nor a timeout, since a journal has no more sectors than the largest
--- chip. On every bus the last transaction is as `EndsAtError` says.
+-- On a well-behaved bus, if the journal has at most 4,096 sectors, the error is neither a stop nor a timeout. On every
+-- bus the last transaction is as `EndsAtError` says.
 pub record StopsRestores (journal : Content) (old new : BusState) (refusal : Refusal) : Type 0 where
   pub answers : IsRestoreRefusal refusal
   pub last_transaction : EndsAtError refusal new.history
@@ -141,9 +143,9 @@ pub record StopsRestores (journal : Content) (old new : BusState) (refusal : Ref
 
 -- ---- restores from bytes
 
--- Restores were run in turn until one ended, each with its own allowance (`allowances_of`). On a modelled bus they
--- restored the original chip, if the bytes could restore it; and if none was stopped, the latch is set only if it was
--- set before.
+-- Restores were run in turn until one ended, each with its own allowance (`allowances_of`). On a modelled bus the
+-- original chip is restored, if the bytes could restore it; and if no restore was stopped, the latch is set only if it
+-- was set before.
 pub record Undoes (text : List ℕ) (stops : List ℕ) (old new : BusState) (restores : ℕ) : Type 0 where
   pub some : 1 ≤ restores
   pub most : restores ≤ length stops + 1
@@ -155,19 +157,21 @@ pub record Undoes (text : List ℕ) (stops : List ℕ) (old new : BusState) (res
   pub last : IsModelled old → (saved : ℕ → Bool) (first : Chip) → CanUndo saved first text old
       → FitsLastStop (sector_count saved) stops new.left restores
 
--- Holds if, on a modelled bus and if the bytes can restore the original chip, only sectors that they save were erased.
+-- Holds if the following is true: on a modelled bus, if the bytes can restore the original chip (`CanUndo`), only
+-- sectors that they save were erased.
 abbrev pub WearsSaved : List ℕ → (old new : BusState) → Type 0
 WearsSaved text old new = IsModelled old → (saved : ℕ → Bool) (first : Chip) → CanUndo saved first text old
     → (s : ℕ) → saved s ≡ false → new.worn s ≡ old.worn s
 
--- Holds on every bus: if the bytes are a journal, all that this number of restores sent fits it (`SendsSaved`).
+-- Holds if the following is true: if the bytes are a journal, the modifying commands that this number of restores sent
+-- fit it (`SendsSaved`). The restores promise this on every bus.
 abbrev pub SendsFromJournal : List ℕ → (restores : ℕ) → (old new : BusState) → Type 0
 SendsFromJournal text restores old new =
     (journal : IsJournal text) → SendsSaved (IsSavedCode journal.content) restores journal.content old new
 
--- Holds if the restores returned this error. If the bytes are a journal, it is an error of a restore. On a well-behaved
--- bus it is neither a stop nor a timeout. If the bytes can restore the original chip on a modelled bus, no error is
--- returned. On every bus the last transaction is as `EndsAtError` says.
+-- Holds if the restores returned this error. If the bytes are a journal, the error is one of a restore. On a
+-- well-behaved bus the error is neither a stop nor a timeout. If the bytes can restore the original chip on a modelled
+-- bus, no error is returned. On every bus the last transaction is as `EndsAtError` says.
 pub record RefusesUndo (text : List ℕ) (old new : BusState) (refusal : Refusal) : Type 0 where
   pub answers : IsJournal text → IsRestoreRefusal refusal
   pub last_transaction : EndsAtError refusal new.history
@@ -177,16 +181,17 @@ pub record RefusesUndo (text : List ℕ) (old new : BusState) (refusal : Refusal
 
 -- The effect of restores from these bytes with these stops, at every exit.
 pub record LeavesUndo (text stops : List ℕ) (old new : BusState) (result : Result ℕ Refusal) : Type 0 where
-  -- whether the bus is well-behaved, steady and unlimited is as before
+  -- whether the bus is well-behaved, steady and unlimited is as before; on a well-behaved bus, so is the configuration
+  -- of its chip
   pub nature : SameNature old new
   -- at every exit on a modelled bus, if the bytes can restore the original chip, only sectors that they save were
   -- erased
   pub wears : WearsSaved text old new
-  -- if the bytes are a journal, all that was sent fits it (`SendsSaved`)
+  -- if the bytes are a journal, the modifying commands that were sent fit it (`SendsSaved`)
   pub sends : SendsFromJournal text (length stops + 1) old new
-  -- each restore wrote the status at most twice, and at most one ran without a stop
+  -- at every exit at most two status writes were sent for each stop, and two more for a restore without a stop
   pub writes : WritesStatusAtMost (2 * (length stops + 1)) old new
-  -- if the restores ended on a modelled bus, and the bytes could restore the original chip, they restored it
+  -- if the restores ended on a modelled bus, and the bytes could restore the original chip, that chip is restored
   pub undoes : IfOk result (Undoes text stops old new)
   -- the restores succeed only if the last poll showed that the chip is ready
   pub polled_ready : OnOk result (new.polled_ready ≡ true)

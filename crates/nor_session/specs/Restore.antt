@@ -35,8 +35,7 @@ use Rattle.nor_session.specs.Session.{NamesSector, IsWithinBound, IsSavedCode, S
 
 -- ---- the target
 
--- the target byte of a restore at an address: in a saved sector the saved byte, elsewhere the byte that is there
--- (`old`)
+-- the target byte of a restore at an address: in a saved sector the saved byte, elsewhere the chip's own byte (`old`)
 abbrev pub restored : Content → (old : ℕ → ℕ) → (a : ℕ) → ℕ
 restored journal old a = if is_saved journal (a / 4096) then saved_byte journal a else old a
 
@@ -46,7 +45,7 @@ restored journal old a = if is_saved journal (a / 4096) then saved_byte journal 
 abbrev pub IsOfOtherDevice : Content → Config → Type 0
 IsOfOtherDevice journal config = IsSomeAnd journal.unique (λ unique. unique ≢ unique_of config)
 
--- Holds if the status bits that a restore may not write are the journal's: those that flashnor never changes, and
+-- Holds if the status bits that a restore never changes are the journal's: those that flashnor never changes, and
 -- without block protection all non-volatile bits.
 pub record FitsStatus (journal : Content) (chip : Chip) : Type 0 where
   pub fixed : fixed_of chip.kept ≡ fixed_of (kept_in journal.status)
@@ -80,14 +79,14 @@ abbrev pub index_in : List ℕ → ℕ → ℕ
 index_in [] n = 0
 index_in (first ∷ later) n = if first == n then 0 else 1 + index_in later n
 
--- Holds if the error is the verdict: it applies, and none that is checked before it does.
+-- Holds if the error is the verdict: it applies, and no error that is checked before it does.
 pub record IsRestoreVerdict (journal : Content) (chip : Chip) (refusal : Refusal) : Type 0 where
   pub holds : RestoreHolds journal chip refusal
   pub first : (other : Refusal)
       → index_in checked_in_order (refusal_number other) < index_in checked_in_order (refusal_number refusal)
       → ¬ RestoreHolds journal chip other
 
--- Holds if the chip is accepted for a restore: no error applies.
+-- Holds if the chip is accepted for a restore: none of the errors in `checked_in_order` applies.
 abbrev pub IsRestorable : Content → Chip → Type 0
 IsRestorable journal chip = (refusal : Refusal) → ¬ RestoreHolds journal chip refusal
 
@@ -106,9 +105,10 @@ HasFixedRead journal identity = fixed_of (kept_in (status_read identity)) ≡ fi
 abbrev pub HasUniqueRead : Content → Identity → Type 0
 HasUniqueRead journal identity = (journal.unique ≡ None) ⊎ (journal.unique ≡ Some identity.unique)
 
--- Holds if the journal fits what the bus replied to a restore's identification: the ID, the size (of the table's row of
--- that ID or, without a row, of the SFDP replies), the unique ID (a journal of format 1 has none), and the status bits
--- that flashnor never changes. `read` is the history of the bus after the identification.
+-- Holds if the journal fits what the bus replied to a restore's identification: the ID, the size, the unique ID (a
+-- journal of format 1 has none), and the status bits that flashnor never changes. The size is that of the table's row
+-- of the ID or, without a row, of the SFDP replies. `read` is the history of the bus at some point of the restore; the
+-- proof gives the history after the identification.
 pub record FitsReplies (journal : Content) (old new : BusState) : Type 0 where
   pub read : List Exchange
   pub before : Continues old.history read
@@ -127,8 +127,8 @@ IsRestoreRefusal refusal = list_any (λ n. refusal_number refusal == n) (12 ∷ 
 
 -- ---- on a modelled bus
 
--- Holds on a modelled bus: the error is the verdict; or the bus stopped, and fewer transactions were left at the start
--- than the bound.
+-- Holds if the error is the verdict; or 12, and fewer transactions were left at the start than the bound. A restore
+-- promises this on a modelled bus.
 abbrev pub RestoreErrors : Content → (old new : BusState) → Refusal → Type 0
 RestoreErrors journal old new Stopped = RanOut (most_of (length journal.saved)) old new
 RestoreErrors journal old new refusal = IsRestoreVerdict journal old.chip refusal
@@ -155,10 +155,10 @@ pub record IsRestored (journal : Content) (old new : BusState) (report : Report)
 
 -- The promises of a restore on every bus.
 pub record RestoreAlways (journal : Content) (old new : BusState) (result : Result Report Refusal) : Type 0 where
-  -- at every exit on a well-behaved bus, the transactions that were sent are within the bound for this number of
+  -- at every exit on a well-behaved bus, the transactions that were sent are within the bound for the number of saved
   -- sectors
   pub spends : Spends (most_of (length journal.saved)) old new
-  -- at every exit all that was sent fits the journal (`SendsSaved`)
+  -- at every exit the modifying commands that were sent fit the journal (`SendsSaved`)
   pub sends : SendsSaved (IsSavedCode journal) 1 journal old new
   -- at every exit, no modifying command was sent, or the journal fits what the bus replied to the identification
   pub fits : (new.sent ≡ old.sent) ⊎ FitsReplies journal old new
@@ -176,8 +176,8 @@ pub record RestoreAlways (journal : Content) (old new : BusState) (result : Resu
   pub reported : IfOk result (λ report. SendsCounted report.erases report.programs old new)
   -- a restore succeeds only if the last poll showed that the chip is ready
   pub polled_ready : OnOk result (new.polled_ready ≡ true)
-  -- after error 12, 13 or 14 the last transaction is the one at which the bus stopped, a poll that showed BUSY, or a
-  -- read of the sector of the mismatch (`EndsAtError`)
+  -- after error 12 the last transaction is the one at which the bus stopped, after 13 a poll that showed BUSY, and
+  -- after 14 a read of the sector of the mismatch (`EndsAtError`)
   pub last_transaction : IfErr result (λ refusal. EndsAtError refusal new.history)
 
 -- The promises of a restore on a well-behaved bus.
@@ -187,8 +187,8 @@ pub record RestoreHonest (journal : Content) (old new : BusState) (result : Resu
   pub honest_errors : IfErr result (HonestErrors (most_of (length journal.saved)) IsCheckedFirst old new)
   -- the report counts exactly the transactions that were sent
   pub counted : IfOk result (λ report. old.left ≡ new.left + report.transactions)
-  -- after success, if the chip has the journal's size, each saved sector in which a byte differed has the saved bytes;
-  -- it was read back and compared, so this holds even for a chip that isn't genuine
+  -- After success, if the chip has the journal's size, each saved sector in which a byte differed has the saved bytes.
+  -- The sector was read back and compared, so this holds even for a chip that isn't genuine.
   pub checked : IfOk result (λ report. old.chip.config.size ≡ journal.size
       → HasBytes (is_touched old.chip.bytes (restored journal old.chip.bytes)) (restored journal old.chip.bytes) new.chip)
 
@@ -196,12 +196,12 @@ pub record RestoreHonest (journal : Content) (old new : BusState) (result : Resu
 pub record RestoreModelled (journal : Content) (old new : BusState) (result : Result Report Refusal) : Type 0 where
   -- an error is the verdict, or a stop because too few transactions were left
   pub errors : IfErr result (RestoreErrors journal old new)
-  -- at every exit, only sectors in which a bit had to go from 0 to 1 were erased; if the bus is steady or the chip was
-  -- idle, the bytes outside the saved sectors and the status bits that flashnor never changes are as they were
+  -- At every exit, only sectors in which a bit had to go from 0 to 1 were erased. If the bus is steady or the chip was
+  -- idle, the bytes outside the saved sectors and the status bits that flashnor never changes are as they were.
   pub leaves : LeavesRestore journal old new
   -- after success the chip has what the journal saved
   pub done : IfOk result (IsRestored journal old new)
   -- if no status write is needed, none was sent
   pub unwritten : (¬ NeedsStatusFrom journal old.chip) → WritesStatusAtMost 0 old new
-  -- if no status write is needed, the bound on the report's transactions includes none
+  -- if no status write is needed, the bound on the report's transactions includes no status write
   pub spares : (¬ NeedsStatusFrom journal old.chip) → IfOk result (IsWithinBound (length journal.saved) 0 true)

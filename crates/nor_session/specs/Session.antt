@@ -39,7 +39,7 @@ use Rattle.nor_scan.specs.Verdict.{IsNamed, NeedsStatusWrite, IsVerdict, IsAccep
 -- ---- on every bus
 
 -- Holds for the errors of a session, which are 1 to 14. Error 11 occurs only if the vault failed. After errors 1 to 11
--- the vault isn't sealed, and after errors 1 to 8, which are returned before the vault is used, it is as it was.
+-- the vault isn't sealed. After errors 1 to 8, which are returned before the vault is used, the vault is as it was.
 pub record SessionReturns (old new : VaultState) (refusal : Refusal) : Type 0 where
   pub own : refusal_number refusal ≤ 14
   pub vault : refusal ≡ Vault → CountsRefusal old new
@@ -50,8 +50,8 @@ pub record SessionReturns (old new : VaultState) (refusal : Refusal) : Type 0 wh
 abbrev pub SavesSector : (sector : ℕ) → (bytes : List ℕ) → Type 0
 SavesSector sector bytes = (journal : IsJournal bytes) × (is_saved journal.content sector ≡ true)
 
--- Holds if the error is a timeout that names 0 or an address in a sector for which `IsSuch` holds, a mismatch that
--- names an address in such a sector, or any other error.
+-- Holds for a timeout that names 0 or an address in a sector for which `IsSuch` holds, for a mismatch that names an
+-- address in such a sector, and for every error of another kind.
 abbrev pub NamesSector : (IsSuch : (sector : ℕ) → Type 0) → Refusal → Type 0
 NamesSector IsSuch (Timeout address) = (address ≡ 0) ⊎ IsSuch (address / 4096)
 NamesSector IsSuch (Mismatch address) = IsSuch (address / 4096)
@@ -76,13 +76,13 @@ pub record IsPastChipEnd (journal : Content) (sector : ℕ) : Type 0 where
   pub whole : (s : ℕ) → s < journal.size / 4096 → is_saved journal s ≡ true
   pub behind : journal.size / 4096 ≤ sector
 
--- Holds for the protection bits of the chip that the journal saves, and for 0 (all clear).
+-- Holds for the protection bits that the journal saves, and for 0 (all clear).
 abbrev pub IsSavedCode : Content → (code : ℕ) → Type 0
 IsSavedCode journal code = (code ≡ 0) ⊎ (code ≡ code_of (kept_in journal.status))
 
--- Holds for the protection bits that a session may write. For a protection range these are the least defined value that
--- protects exactly this range on a chip of the journal's size. For a write or an erase they are 0 (to lift protection),
--- or those that the journal saves.
+-- Holds for the protection bits that a session may write. For a protection range it is the least defined value that
+-- protects exactly this range on a chip of the journal's size. For a write or an erase it is 0 (to lift protection), or
+-- the value that the journal saves.
 abbrev pub IsWrittenCode : What → Content → (code : ℕ) → Type 0
 IsWrittenCode (WpRange start len) journal code = IsLeastCode journal.size start len code
 IsWrittenCode _ journal code = IsSavedCode journal code
@@ -95,11 +95,12 @@ pub record WritesOnly (IsCode : (code : ℕ) → Type 0) (journal : Content) (on
   pub clear1 : one % 4 ≡ 0
   pub clear2 : two < 128
 
--- What was sent that may modify a chip, by a number of calls with the same journal. Each sector that was targeted is
--- one that had been targeted before, or that the journal saves, or it lies past the end of a chip that the journal
--- saves whole. All calls together sent, for each call and saved sector, at most one erase and sixteen page programs.
--- Each status write has bytes that had been written before, or is as `WritesOnly` says. No transaction that is unknown
--- to the model was sent.
+-- The modifying commands that a number of calls with the same journal sent. Each sector that was targeted is one that
+-- had been targeted before, or that the journal saves, or one past the end of a chip that the journal saves whole. Let
+-- `n` be the number of calls times that of saved sectors: all calls together sent at most `n` erases and `16 * n` page
+-- programs. The two bytes of each status write are those of an earlier one, from before the calls, or are as
+-- `WritesOnly` says. A transaction that is unknown to the model was sent only if such a transaction had been sent
+-- before the calls.
 pub record SendsSaved (IsCode : ℕ → Type 0) (calls : ℕ) (journal : Content) (old new : BusState) : Type 0 where
   pub targeted : (s : ℕ) → (is_targeted new.sent s ≡ is_targeted old.sent s)
       ⊎ ((is_saved journal s ≡ true) ⊎ IsPastChipEnd journal s)
@@ -109,8 +110,8 @@ pub record SendsSaved (IsCode : ℕ → Type 0) (calls : ℕ) (journal : Content
   pub programs : programs_of new.sent ≤ programs_of old.sent + calls * (16 * sector_count (is_saved journal))
   pub unknown : has_unknown new.sent ≡ has_unknown old.sent
 
--- Holds if no more erases and page programs were sent than the largest chip has sectors and pages, and no transaction
--- that is unknown to the model.
+-- Holds if at most 4,096 erases and at most 65,536 page programs were sent: the numbers of sectors and of pages of the
+-- largest chip. A transaction that is unknown to the model was sent only if such a transaction had been sent before.
 pub record SendsFew (old new : BusState) : Type 0 where
   pub erases : erases_of new.sent ≤ erases_of old.sent + 4096
   pub programs : programs_of new.sent ≤ programs_of old.sent + 65536
@@ -127,7 +128,8 @@ WritesStatusAtMost most old new = status_writes_of new.sent ≤ status_writes_of
 
 -- Bounds on the counts of a report, if `scanned` sectors are scanned and the status is written at most `writes` times.
 -- The identification takes at least four transactions, and an operation at least three (write enable, the command, a
--- poll). If `verify` is set, each touched sector is read back.
+-- poll). A touched sector may be read once more before its programs. If `verify` is set, each touched sector is read
+-- back.
 pub record IsWithinBound (scanned writes : ℕ) (verify : Bool) (report : Report) : Type 0 where
   pub touched : report.touched ≤ scanned
   pub erases : report.erases ≤ scanned
@@ -151,8 +153,8 @@ pub record EndsSealed (request : Request) (old new : BusState) (vault vault' : V
 -- ---- on a well-behaved bus
 
 -- The meaning of errors on a well-behaved bus. A stop occurs only if no transaction is left and fewer than `most` were
--- left at the start; a timeout does not occur. After an early error, one from before the first modifying command, bytes
--- and non-volatile status bits are as they were.
+-- left at the start; a timeout does not occur. After any other error for which `IsEarly` holds (one from before the
+-- first modifying command), bytes and non-volatile status bits are as they were.
 abbrev pub HonestErrors : (most : ℕ) → (IsEarly : Refusal → Type 0) → (old new : BusState) → Refusal → Type 0
 HonestErrors most IsEarly old new Stopped = RanOut most old new
 HonestErrors most IsEarly old new (Timeout address) = ⊥
@@ -160,8 +162,8 @@ HonestErrors most IsEarly old new refusal = IsEarly refusal → IsSame old.chip 
 
 -- ---- on a modelled bus
 
--- Holds on a modelled bus: the error is the verdict on the request; or the vault failed; or the bus stopped, and fewer
--- transactions were left at the start than the bound.
+-- Holds if the error is the verdict on the request; or 11, and the vault failed; or 12, and fewer transactions were
+-- left at the start than the bound. A session promises this on a modelled bus.
 abbrev pub SessionErrors : Request → List ℕ → (old new : BusState) → (vault vault' : VaultState) → Refusal → Type 0
 SessionErrors request image old new vault vault' Vault = CountsRefusal vault vault'
 SessionErrors request image old new vault vault' Stopped = RanOut (most_of (old.chip.config.size / 4096)) old new
@@ -179,9 +181,9 @@ pub record IsDone (request : Request) (image : List ℕ) (old new : BusState) (r
 
 -- Holds at every exit after the seal, on a modelled bus. The request is accepted. A faithful vault holds the journal of
 -- the original chip, which saves exactly the touched sectors. The chip changed only as `MayChange` allows: in bytes of
--- touched sectors and in protection bits. Only raised sectors were erased, and on a steady bus each byte outside these
--- is the old or the target one. At least four transactions (the shortest identification), and one for each scanned
--- sector, were sent.
+-- touched sectors, in protection bits that can be written, in BUSY and in WEL. Only raised sectors were erased, and on
+-- a steady bus each byte outside these is the old or the target one. At least four transactions (the shortest
+-- identification), and one for each scanned sector, were sent.
 pub record CanBeUndone (request : Request) (image : List ℕ) (old new : BusState) (vault : VaultState) : Type 0 where
   pub accepted : IsAccepted request image old.chip
   pub journal : vault.telling ≡ true
@@ -192,17 +194,17 @@ pub record CanBeUndone (request : Request) (image : List ℕ) (old new : BusStat
       (wanted request image old.chip) old new
   pub spent : new.left + (4 + scanned_sectors request old.chip.config.size) ≤ old.left
 
--- Holds if there are no bytes; or the chip is identified as a chip that the request allows, and the bytes are a prefix
--- of the only journal that the session could have written.
+-- Holds if there are no bytes; or the chip is identified, and has the requested name, if any, and the bytes are a
+-- prefix of the only journal that the session could have written.
 abbrev pub HoldsBegun : Request → (image : List ℕ) → Chip → (bytes : List ℕ) → Type 0
 HoldsBegun request image chip bytes = (bytes ≡ [])
     ⊎ (IsNamed request.named chip.config
     × IsJournalPrefix (header_of chip) chip.bytes (is_touched chip.bytes (wanted request image chip)) bytes)
 
--- Holds if a journal has the last replies of the bus before the seal. Its header has the ID, the unique ID and the
--- non-volatile status bits that the bus replied, and the size in the table's row of that ID or, without a row, the one
--- that the SFDP replies give. Each record has the bytes of the last reply to a read of its sector. `at_seal` is the
--- history of the bus at some point of the session; the proof gives the history at the seal.
+-- Holds if the bytes are a journal that has the last replies of the bus before the seal. Its header has the ID, the
+-- unique ID and the non-volatile status bits that the bus replied. The size in the header is that of the table's row of
+-- the ID or, without a row, of the SFDP replies. Each record has the bytes of the last reply to a read of its sector.
+-- `at_seal` is the history of the bus at some point of the session; the proof gives the history at the seal.
 pub record IsJournalOfReplies (old new : BusState) (bytes : List ℕ) : Type 0 where
   pub at_seal : List Exchange
   pub before : Continues old.history at_seal
@@ -218,18 +220,19 @@ pub record IsJournalOfReplies (old new : BusState) (bytes : List ℕ) : Type 0 w
 -- The promises of a session on every bus and with every vault.
 pub record SessionAlways (request : Request) (old new : BusState) (vault vault' : VaultState)
     (result : Result Report Refusal) : Type 0 where
-  -- if the vault isn't sealed, the session only read; on a well-behaved bus it sent at most the transactions of
-  -- identifying and scanning the largest chip
+  -- if the vault isn't sealed, the session only read; on a well-behaved bus the session sent at most the transactions
+  -- of identifying and scanning the largest chip
   pub only_reads : vault'.sealed ≡ false → OnlyReads (most_reads 4096) old new
   -- at every exit on a well-behaved bus, the transactions that were sent are within the bound for the largest chip
   pub spends : Spends (most_of 4096) old new
-  -- at every exit on every bus, no more erases and page programs were sent than the largest chip has sectors and pages
+  -- at every exit on every bus, the numbers of erases and page programs that were sent are at most those of the sectors
+  -- and pages of the largest chip; `SendsFew` also limits unknown transactions
   pub few : SendsFew old new
   -- at every exit the status was written no more often than the request may need
   pub writes : WritesStatusAtMost (most_status_writes request.what request.unlock) old new
   -- the vault is faithful at every exit if and only if it was faithful at the start
   pub telling : vault'.telling ≡ vault.telling
-  -- if a faithful vault is sealed, all that was sent fits its journal (`SendsSaved`)
+  -- if a faithful vault is sealed, the modifying commands that were sent fit its journal (`SendsSaved`)
   pub sends : vault'.sealed ≡ true → vault'.telling ≡ true → (journal : IsJournal vault'.bytes)
       × SendsSaved (IsWrittenCode request.what journal.content) 1 journal.content old new
   -- if a faithful vault is sealed, it holds a journal
@@ -240,12 +243,13 @@ pub record SessionAlways (request : Request) (old new : BusState) (vault vault' 
   pub answers : IfErr result (SessionReturns vault vault')
   -- a timeout or mismatch names an address that `NamesAddress` allows
   pub names : IfErr result (NamesAddress vault')
-  -- after success the vault is sealed and did not fail, and the report is within its bounds and counts what was sent
+  -- after success the vault is sealed and did not fail, and the report is within its bounds and counts the erases and
+  -- page programs that were sent
   pub ends : IfOk result (EndsSealed request old new vault vault')
   -- a session succeeds only if the last poll showed that the chip is ready
   pub polled_ready : OnOk result (new.polled_ready ≡ true)
-  -- after error 12, 13 or 14 the last transaction is the one at which the bus stopped, a poll that showed BUSY, or a
-  -- read of the sector of the mismatch (`EndsAtError`)
+  -- after error 12 the last transaction is the one at which the bus stopped, after 13 a poll that showed BUSY, and
+  -- after 14 a read of the sector of the mismatch (`EndsAtError`)
   pub last_transaction : IfErr result (λ refusal. EndsAtError refusal new.history)
 
 -- The promises of a session on a well-behaved bus.
@@ -256,8 +260,8 @@ pub record SessionHonest (request : Request) (image : List ℕ) (old new : BusSt
   pub honest_errors : IfErr result (HonestErrors (most_of 4096) (λ refusal. refusal_number refusal ≤ 11) old new)
   -- the report counts exactly the transactions that were sent
   pub counted : IfOk result (λ report. old.left ≡ new.left + report.transactions)
-  -- after success, if the request asks for a check and the chip has the size that was found, each touched sector has
-  -- the target bytes; it was read back and compared, so this holds even for a chip that isn't genuine
+  -- After success, if the request asks for verification and the chip has the size that was found, each touched sector
+  -- has the target bytes. The sector was read back and compared, so this holds even for a chip that isn't genuine.
   pub checked : IfOk result (λ report. request.verify ≡ true → old.chip.config.size ≡ report.found.size
       → HasBytes (is_touched old.chip.bytes (wanted request image old.chip)) (wanted request image old.chip) new.chip)
 
@@ -272,7 +276,7 @@ pub record SessionModelled (request : Request) (image : List ℕ) (old new : Bus
   pub done : IfOk result (IsDone request image old new)
   -- if the request needs no status write, none was sent
   pub unwritten : ¬ NeedsStatusWrite request image old.chip → WritesStatusAtMost 0 old new
-  -- if the request needs no status write, the bound on the report's transactions includes none
+  -- if the request needs no status write, the bound on the report's transactions includes no status write
   pub spares : ¬ NeedsStatusWrite request image old.chip
       → IfOk result (IsWithinBound (scanned_sectors request old.chip.config.size) 0 request.verify)
   -- a stop before the seal occurs only if fewer transactions were left at the start than the bound for the

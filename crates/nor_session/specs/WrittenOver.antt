@@ -3,7 +3,8 @@ use Rattle.std.specs.Prelude.{◌≡◌, ◌⊎◌, ℕ}
 use Rattle.nor_model.specs.Chip.{Chip}
 
 -- Holds for a chip that is opened from files that held the old chip and were being overwritten with the new one. Each
--- byte is the old or the new one, and so are the non-volatile bits of each status byte. The chip is idle.
+-- byte is the old or the new one, and so are the non-volatile bits of each status byte. The chip is idle, and has the
+-- configuration of the old one.
 pub record IsWrittenOver (old new opened : Chip) : Type 0 where
   pub config : opened.config ≡ old.config
   pub bytes : (a : ℕ) → (opened.bytes a ≡ old.bytes a) ⊎ (opened.bytes a ≡ new.bytes a)

@@ -46,8 +46,8 @@ impl From<CheckFault> for Refusal {
 /// touched sector. Returns the number of transactions.
 ///
 /// Returns `Stopped` if the bus stopped, and `Mismatch` if a byte differs. On any bus the address of a mismatch is in a
-/// touched sector. On a well-behaved bus, if the chip is idle and has the touched sectors, it is the first address in
-/// these at which the chip differs.
+/// touched sector. On a well-behaved bus, if the chip is idle and the touched sectors lie on it, the address is the
+/// first one in these sectors at which the chip differs from `source`.
 pub(crate) fn check_all<B: Bus, S: Source>(
     bus: &mut B,
     source: &S,

@@ -1,5 +1,5 @@
-//! A session after its request was checked against the identification. Its state is in a module of its own: this module
-//! can't construct the evidence `Restorer` except from a sealed vault or a journal.
+//! A session after its request was checked against the identification. `Judged` has a module of its own, which can
+//! construct the evidence `Restorer` only from a sealed vault or a journal.
 ghost use Rattle.std.specs.Prelude.{length};
 ghost use Rattle.nor_journal.specs.Vault.{IsFresh};
 ghost use Rattle.nor_session.specs.Judged.{IsJudged, SinceIdentity, KeepsPromise};
@@ -12,8 +12,8 @@ use nor_model::Bus;
 use nor_request::{Refusal, Report, Request};
 use nor_scan::{Identity, save};
 
-/// The state in which the request is checked against the identification, and nothing is saved yet. It holds all that a
-/// session uses until it returns.
+/// The state after the checks of the request against the identification, in which nothing is saved yet. A `Judged`
+/// holds all that a session uses until it returns.
 pub(crate) struct Judged<'a, B: Bus, V: Vault> {
     pub(crate) bus: &'a mut B,
     pub(crate) vault: &'a mut V,

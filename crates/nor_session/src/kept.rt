@@ -31,8 +31,8 @@ impl Restorer {
     }
 }
 
-/// The state in which all that may be changed is saved. Only this state changes the chip. It can't be dropped, so
-/// `finish` must use it up.
+/// The state in which all that may be changed is saved. Only this state changes the chip. A `Kept` can't be dropped, so
+/// `finish` must consume it.
 pub(crate) struct Kept<'a, B: Bus, S: Source> {
     pub(crate) bus: &'a mut B,
     pub(crate) source: &'a S,
@@ -42,6 +42,7 @@ pub(crate) struct Kept<'a, B: Bus, S: Source> {
 
 impl<'a, B: Bus, S: Source> Kept<'a, B, S> {
     /// Makes the changes. If `verify` is set, reads the touched sectors back and compares them with their target bytes.
+    /// Returns the counts of the work, or 12 (the bus stopped), 13 (the chip stayed busy) or 14 (a byte differs).
     pub(crate) fn finish(self, verify: bool) -> Result<Work, Refusal>
         requires consistent { AreConsistent self.changes.now }
         requires sourced { (s : ℕ) → has self.changes.now.touched s ≡ true → S.has self.source.now s ≡ true }
@@ -70,7 +71,8 @@ impl<'a, B: Bus, S: Source> Kept<'a, B, S> {
     }
 }
 
-/// The state in which all is written, and only the check is left. Only `Kept` constructs it, and it can't be dropped.
+/// The state in which all is written, and only the check is left. Only `Kept` constructs a `Done`, which can't be
+/// dropped.
 pub(crate) struct Done<'a, B: Bus, S: Source> {
     bus: &'a mut B,
     source: &'a S,

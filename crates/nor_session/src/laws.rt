@@ -15,25 +15,27 @@ ghost use Rattle.nor_session.specs.Restore.{IsRestored};
 ghost use Rattle.nor_session.specs.Session.{CanBeUndone, HoldsBegun};
 ghost use Rattle.nor_session.specs.WrittenOver.{IsWrittenOver};
 
-/// A restore that succeeds on a modelled bus changes nothing if the chip is already the saved one, for example after
-/// another restore.
+/// A restore that succeeds on a modelled bus changes nothing if its journal saves the chip in its present state
+/// (`SavesChip`), for example after another restore from that journal.
 pub fn restored_stays()
     ensures { (journal : Content) (first : Chip) (old new : BusState) (report : Report)
         → SavesChip journal first → IsSame first old.chip → IsRestored journal old new report
         → ChangesNothing journal old new report }
 {}
 
-/// A journal that can restore a chip still can after the chip has lost its power, if the bus isn't steady or the chip
-/// was idle. So the power may fail between a session that was stopped and its restore, and between restores.
+/// A journal that can restore the original chip can still do so after the chip has lost its power, if the bus wasn't
+/// steady or the chip was idle. So the power may fail between a session that was stopped and its restore, and between
+/// restores.
 pub fn power_lost_restores_original()
     ensures { (journal : Content) (first : Chip) (old new : BusState)
         → CanRestore journal first old → LosesPower old new → CanRestore journal first new }
 {}
 
-/// After two sessions, one after the other, the earlier journal can restore its chip as soon as a restore from the
-/// later journal has succeeded. Each run has a bus of its own. Other restores from the later journal may have been
-/// stopped before: then that journal can still restore its chip. Between two runs a chip may lose its power, or be in
-/// files that were not overwritten to their end.
+/// Two sessions, one after the other, left their journals in sealed `telling` vaults (`LeavesJournal`). Once a restore
+/// from the later journal has succeeded, the earlier journal can restore the chip from before the first session. All
+/// buses are modelled, and each run may have another one. Other restores from the later journal may have been stopped
+/// before: then that journal must still be able to restore its chip. Between two runs the chip may lose its power, if
+/// it was idle or its bus isn't steady, or be in files that were not completely overwritten (`IsTakenUp`).
 pub fn undone_is_restorable()
     ensures { (request later : Request) (image later_image : List ℕ) (old mid mid' new new' back : BusState)
         (journal other : Content) (report : Report)
@@ -43,10 +45,12 @@ pub fn undone_is_restorable()
         → IsRestored other new' back report → CanRestore journal old.chip back }
 {}
 
-/// Two sessions, one after the other, are undone by restores from their journals in the reverse order. Each run has a
-/// bus of its own. Before each restore that succeeds, other restores from its journal may have been stopped: then that
-/// journal can still restore its chip. Between two runs a chip may lose its power, or, after a session, be in files
-/// that were not overwritten to their end.
+/// Two sessions, one after the other, left their journals in sealed `telling` vaults (`LeavesJournal`). Restores from
+/// these journals in the reverse order leave the chip from before the first session. All buses are modelled, and each
+/// run may have another one. Before each restore that succeeds, other restores from its journal may have been stopped:
+/// then that journal must still be able to restore its chip. Between two runs the chip may lose its power, if it was
+/// idle or its bus isn't steady, or, after a session, be in files that were not completely overwritten (`MayLosePower`,
+/// `IsTakenUp`).
 pub fn undone_in_turn()
     ensures { (request later : Request) (image later_image : List ℕ) (old mid mid' new new' back back' end : BusState)
         (journal other : Content) (report last : Report)
@@ -66,9 +70,9 @@ pub fn read_restores_original()
         → IsContent journal → vault.bytes ≡ text journal → CanRestore journal old.chip new }
 {}
 
-/// A `telling` vault that was never sealed may hold the whole journal, for example if only its seal failed. If its
-/// bytes are read as a journal, that journal can restore the original chip of a modelled bus from an idle chip with the
-/// same bytes and non-volatile status bits.
+/// A `telling` vault that was never sealed may hold the whole journal, for example if only its seal failed. After a
+/// session on a modelled bus, if the vault's bytes are read as a journal, that journal can restore the original chip.
+/// The chip to be restored must be idle, with the original bytes and non-volatile status bits.
 pub fn begun_restores_original()
     ensures { (request : Request) (image : List ℕ) (old new : BusState) (bytes : List ℕ) (journal : Content)
         → IsModelled old → IsChip old.chip → HoldsBegun request image old.chip bytes
@@ -76,9 +80,9 @@ pub fn begun_restores_original()
         → CanRestore journal old.chip new }
 {}
 
-/// The chip's files held it as it was before a session on a modelled bus, and were being overwritten with the chip
-/// after the session. Wherever that was interrupted, the journal in the session's sealed `telling` vault can restore
-/// the original chip from these files.
+/// The chip's files held the chip from before a session on a modelled bus, and were being overwritten with the chip
+/// after it. Wherever the overwriting was interrupted, the journal that is read from the session's sealed `telling`
+/// vault can restore the original chip from these files.
 pub fn session_written_over()
     ensures { (request : Request) (image : List ℕ) (old new opened : BusState) (vault : VaultState) (journal : Content)
         → IsModelled old → IsChip old.chip → vault.telling ≡ true → CanBeUndone request image old new vault
@@ -86,16 +90,16 @@ pub fn session_written_over()
         → CanRestore journal old.chip opened }
 {}
 
-/// If a journal can restore the original chip both from the chip before a restore and from the chip after it, it can do
-/// so from files that were being overwritten, too. These held the chip before the restore, and were being overwritten
-/// with the one after it.
+/// The chip's files held the chip from before a restore, and were being overwritten with the chip after it. If a
+/// journal can restore the original chip from both of these chips, the journal can restore that chip from these files,
+/// wherever the overwriting was interrupted.
 pub fn restore_written_over()
     ensures { (journal : Content) (first : Chip) (old new opened : BusState)
         → CanRestore journal first old → CanRestore journal first new → IsWrittenOver old.chip new.chip opened.chip
         → CanRestore journal first opened }
 {}
 
-/// Files that are overwritten with the chip that they hold have that chip at each moment.
+/// Files that are overwritten with the same chip that they hold still hold that chip at each moment.
 pub fn same_written_over()
     ensures { (old new opened : Chip) → IsSame old new → IsWrittenOver old new opened → IsSame old opened }
 {}

@@ -18,7 +18,7 @@ use nor_journal::{Journal, MemVault, Vault};
 use nor_model::{Bus, Meter};
 
 /// The result of a rehearsal: whether the session ended, whether its vault was sealed, and how many restores were run
-/// until one ended (this counts the stopped ones too).
+/// until one ended (including the stopped ones; 0 if the vault wasn't sealed).
 #[derive(Clone, Copy, Debug, PartialEq, Eq)]
 pub struct Rehearsal {
     pub ended: bool,
@@ -31,13 +31,14 @@ pub struct Rehearsal {
 /// a number of transactions that is enough for every session and restore. Exactly one allowance is set for each of
 /// these calls: its stop or, without one, this number.
 ///
-/// There are at most 64 stops, and `vault` must be empty and unsealed. `image` and `request` are as for `session`.
+/// `stops` must have at most 64 entries, and `vault` must be empty and unsealed. `image` and `request` are as for
+/// `session`.
 ///
 /// On a modelled bus that is steady, or whose chip was idle at the start, the chip's contents and non-volatile status
 /// bits are as before at every exit.
 ///
 /// Returns an error of the session or, if the vault was sealed, of a restore. On a well-behaved bus errors 12 and 13 do
-/// not occur: a stop of the session or of a restore is part of the result.
+/// not occur: a stop from `stops` that interrupts the session or a restore is part of the result.
 pub fn rehearse<B: Meter>(
     bus: &mut B,
     vault: &mut MemVault,
@@ -71,13 +72,15 @@ pub fn rehearse<B: Meter>(
     })
 }
 
-// The most transactions of an identification: a probe of 65,540, status 2 and the unique ID.
+// The most transactions of an identification: at most 65,540 for the probe, and the reads of status 2 and the unique
+// ID.
 const OPENING: u64 = 65_542;
 
 // The most transactions of an operation: write enable, its command and 65,536 polls.
 const OPERATION: u64 = 65_538;
 
-// Returns a bound on the transactions of a session on a chip of 16 MiB. No session or restore needs more.
+// Returns a bound on the transactions of a session on a chip of 16 MiB. On a well-behaved bus no session or restore
+// sends more.
 fn most_needed() -> u64
     ensures { result ≡ most_of 4096 }
 {
@@ -85,8 +88,7 @@ fn most_needed() -> u64
     OPENING + 3 * sectors + OPERATION * (17 * sectors + 2)
 }
 
-// Returns the number of transactions that the session may send: the first stop or, without stops, the bound that no
-// call exceeds.
+// Returns the number of transactions that the session may send: the first stop or, without stops, `most_needed`.
 fn first_allowed(stops: &[u64]) -> u64
     ensures { result ≡ first_allowance stops.now }
 {
@@ -100,7 +102,8 @@ fn later(stops: &[u64]) -> &[u64]
     stops.get(1..).unwrap_or(&[])
 }
 
-// Runs the session with the first stop, if there is one. Returns whether it ended.
+// Allows the number of transactions of the first stop or, without stops, `most_needed`, and runs the session. Returns
+// whether the session ended. If the bus stopped, that is error 12 only if `stops` is empty.
 fn stopped_session<B: Meter>(
     bus: &mut B,
     vault: &mut MemVault,
@@ -127,7 +130,8 @@ fn stopped_session<B: Meter>(
     }
 }
 
-// Reads these bytes as a journal, and restores from it with these stops in turn. Returns how many restores were run.
+// Reads `text` as a journal, and restores from it with `stops` in turn (`restore_in_turn`). Returns how many restores
+// were run, error 15 if `text` isn't a journal, or an error of `restore_in_turn`.
 fn undo<B: Meter>(bus: &mut B, text: &[u8], stops: &[u64]) -> Result<u32, Refusal>
     requires few { length stops.now ≤ 64 }
     ensures { LeavesUndo text.now stops.now (B.state bus.old) (B.state bus.new) result }
@@ -138,8 +142,8 @@ fn undo<B: Meter>(bus: &mut B, text: &[u8], stops: &[u64]) -> Result<u32, Refusa
     }
 }
 
-// Runs restores until one ends, the first ones with these stops in turn and a last one without a stop. Returns how many
-// restores were run.
+// Runs restores until one ends: one with each of the stops in turn, then one with `most_needed` transactions. Returns
+// how many restores were run, error 12 if the last one was stopped too, or any other error that a restore returned.
 fn restore_in_turn<B: Meter>(
     bus: &mut B,
     journal: &Journal<'_>,
@@ -165,7 +169,8 @@ fn restore_in_turn<B: Meter>(
     Err(Refusal::Stopped)
 }
 
-// Allows the given number of transactions, and restores. Returns whether the restore ended; if not, the bus stopped.
+// Allows the given number of transactions, and restores. Returns whether the restore ended (if not, the bus stopped),
+// or an error of the restore other than 12.
 fn ends_under<B: Meter>(bus: &mut B, journal: &Journal<'_>, allowance: u64) -> Result<bool, Refusal>
     ensures leaves { LeavesRestores journal.now 1 (B.state bus.old) (B.state bus.new) }
     ensures allowed { (B.state bus.new).allowances ≡ allowance ∷ (B.state bus.old).allowances }

@@ -1,4 +1,4 @@
-//! A restore: gives the chip the sectors and protection bits that a journal saved.
+//! A restore: writes the sectors and protection bits that a journal saved back to the chip.
 ghost use Rattle.std.specs.Prelude.{◌≡◌, true};
 ghost use Rattle.nor_probe.specs.Known.{IsModelled};
 ghost use Rattle.nor_session.specs.Headline.{RestoresOriginal};
@@ -14,16 +14,18 @@ use nor_request::{Refusal, Report};
 /// Restores the saved sectors and the protection bits of `journal`, and verifies the sectors that it changed. Sectors
 /// that still have their saved bytes are not written.
 ///
-/// A journal of format 1 is accepted for any chip with its ID and size, one of format 2 only for the device whose
-/// unique ID it contains.
+/// A journal of format 2 is accepted only for the device whose unique ID it contains. A journal of format 1 contains no
+/// unique ID, so a restore from it compares only ID, size and status bits.
 ///
 /// On a modelled bus a restore that is stopped can be run again: if the journal could restore a chip at the start, it
-/// can restore that chip at every exit. In that case success leaves that chip, and the only possible error is 12.
+/// can restore that chip at every exit. In this case success leaves that chip, and the only possible error is 12.
 ///
-/// Returns error 1 (no chip), 2 (unknown chip), 16 (another ID or size), 20 (another device), 17 (other status bits) or
-/// 9 (status locked), checked in this order before anything is modified. Also returns 12 (the bus stopped), 13 (the
-/// chip stayed busy; not on a well-behaved bus) or 14 (the bytes that were read back differ). On any bus nothing is
-/// sent after the transaction that error 12, 13 or 14 reports.
+/// Before anything is modified, returns error 1 (no chip), 2 (unknown chip), 16 (another ID or size), 20 (another
+/// device), 17 (other status bits) or 9 (locked status must be written). They are checked in this order. Error 17 is
+/// for the status bits that flashnor never changes and, without block protection, for all non-volatile ones. Also
+/// returns 12 (the bus stopped), 13 (the chip stayed busy; not on a well-behaved bus) or 14 (the bytes that were read
+/// back differ; not on a modelled bus). On any bus nothing is sent after the transaction that error 12, 13 or 14
+/// reports.
 pub fn restore<B: Bus>(bus: &mut B, journal: &Journal<'_>) -> Result<Report, Refusal>
     ensures restores_original { IsModelled (B.state bus.old)
         → RestoresOriginal journal.now (B.state bus.old) (B.state bus.new) result }

@@ -18,19 +18,21 @@ use nor_scan::{identify, judge_identity};
 /// Saves each sector that it will touch to `vault`, and then makes the chip what `request` asks for.
 ///
 /// `vault` must be empty and unsealed. `image` is the session's only buffer besides fixed arrays. For a write or an
-/// erase it must be as long as the chip. For a write it holds the target byte at each included address; its other
-/// bytes, and all bytes for an erase, may have any value. For a protection range it is not used. Its contents
-/// afterwards are unspecified.
+/// erase `image` must be as long as the chip. For a write it holds the target byte at each included address; its other
+/// bytes, and all bytes for an erase, may have any value. For a protection range `image` is not used. After the call
+/// the contents of `image` are unspecified.
 ///
 /// On every bus no modifying command is sent before the vault is sealed, and the journal of a sealed `telling` vault
 /// has what the bus replied. On a modelled bus that journal can restore the original chip at every exit, even if the
 /// bus stopped inside a transaction. On a well-behaved bus that is steady, or whose chip was idle at the start, an exit
-/// before the seal leaves the contents and the non-volatile status bits as they were.
+/// before the seal leaves the contents and the non-volatile status bits as they were. On a modelled bus success leaves
+/// the target bytes and protection bits.
 ///
-/// Returns an error from 1 to 8 before it uses the vault, and one from 9 to 11 before the vault is sealed (`Refusal`
-/// has their meanings). Returns 14 (the bytes that were read back differ) only after the seal, and 12 (the bus stopped)
-/// or 13 (the chip stayed busy) before or after it. On a well-behaved bus 13 does not occur. On any bus nothing is sent
-/// after the transaction that error 12, 13 or 14 reports.
+/// Returns an error from 1 to 8 before the vault is used, and one from 9 to 11 before the vault is sealed (`Refusal`
+/// has their meanings). On a modelled bus an error from 1 to 10 is the verdict on the request (`IsVerdict`), and 14
+/// (the bytes that were read back differ) does not occur. On any bus 14 is returned only after the seal, and 12 (the
+/// bus stopped) or 13 (the chip stayed busy) before or after the seal. On a well-behaved bus 13 does not occur. On any
+/// bus nothing is sent after the transaction that error 12, 13 or 14 reports.
 pub fn session<B: Bus, V: Vault>(
     bus: &mut B,
     vault: &mut V,
@@ -59,7 +61,7 @@ pub fn session<B: Bus, V: Vault>(
     judged.answer()
 }
 
-/// A request that is accepted has no verdict that refuses it.
+/// A request that is accepted for an image and a chip has no verdict that refuses it.
 #[tactic(auto, using(nor_scan::proofs::OneVerdict::accepted_only))]
 pub fn accepted_alone()
     ensures { (request : Request) (image : List ℕ) (chip : Chip) (refusal : Refusal)

@@ -31,7 +31,8 @@ use Rattle.nor_wire.specs.Headline.{ReachesGenuine, CanRestoreChip, CanRestoreCh
 pub modelled : (port : PortState) (history : List Exchange) → ReachesGenuine port → IsModelled (over_port port history)
 modelled port history reaches = record { honest = reaches.honest; genuine = reaches.genuine }
 
--- A journal that can restore a chip on a bus that isn't steady can restore it on every bus to that chip.
+-- If a journal can restore the original chip (`first`) on a bus that isn't steady, it can do so on every bus to the
+-- same chip.
 pub on_every_bus : (journal : Content) (first : Chip) (state : BusState) → state.steady ≡ false
     → CanRestore journal first state → CanRestoreChip journal first state.chip
 on_every_bus journal first state unsteady can = λ other same. record {
@@ -49,7 +50,8 @@ on_every_bus journal first state unsteady can = λ other same. record {
   };
 }
 
--- The journal that is read from the bytes is the one that they encode.
+-- The proof of the law `read_restores_chip`: each content has its own encoding, so the journal that is read is the one
+-- that the bytes encode.
 pub read_from : (bytes : List ℕ) (first chip : Chip) (journal : Content) → CanRestoreChipFrom bytes first chip
     → IsContent journal → bytes ≡ text journal → CanRestoreChip journal first chip
 read_from bytes first chip journal from is read =
@@ -59,7 +61,8 @@ read_from bytes first chip journal from is read =
     let P : Content → Type 0 = λ j. CanRestoreChip j first chip in
     subst P same from.back
 
--- The loss of power is one on a bus that isn't steady.
+-- The proof of the law `disconnected_restores_chip`. `CanRestoreChip` holds for every bus to the chip, so also for one
+-- that isn't steady, and on that bus `lost_back` covers a busy chip.
 pub lost_from_chip : (journal : Content) (first old new : Chip) → CanRestoreChip journal first old
     → PowerLost old new → CanRestoreChip journal first new
 lost_from_chip journal first old new can lost = λ state same.
@@ -68,7 +71,7 @@ lost_from_chip journal first old new can lost = λ state same.
     lost_back journal first before state (can before refl)
     (record { known = inl refl; lost = subst P (sym same) lost })
 
--- A bus that ran out of transactions had a port with few calls left.
+-- If a bus over a port ran out of transactions (`RanOut`), the port had few calls left (`HadFewCalls`).
 few_calls : (transactions : ℕ) (old new : PortState) (history history' : List Exchange)
     → RanOut transactions (over_port old history) (over_port new history') → HadFewCalls transactions old
 few_calls transactions old new history history' ran = let below = ran.below in omega arith

@@ -8,18 +8,18 @@ use Rattle.nor_model.specs.Bus.{BusState, Allows, AtStop}
 use Rattle.nor_serprog.specs.Device.{IsCut}
 use Rattle.nor_wire.specs.SimPort.{device_over}
 
--- A list without items is empty.
 pub empty : (items : List ℕ) → (length items == 0) ≡ true → items ≡ []
 empty [] none = refl
 empty (first ∷ rest) none =
     let len = eqb-true (length (first ∷ rest)) 0 none in absurd (omega (arith, len))
 
--- A call that cannot end with success ended with an error.
+-- If the clause for success can't hold, the call failed, so its clause for an error holds.
 pub failed : {T E : Type 0} (result : Result T E) (P Q : Type 0) → OnOk result P → OnErr result Q → (P → ⊥) → Q
 failed (Ok value) P Q ok err never = absurd (never ok)
 failed (Err error) P Q ok err never = err
 
--- The erased sectors after a transaction, if an allowance was set before it.
+-- An allowance changes no chip and erases no sector. So the erased sectors after a transaction that follows one are
+-- those that the transaction adds to the ones before the allowance.
 worn_then : (n : ℕ) (out : List ℕ) (replies : ℕ) (old mid : BusState) (worn : ℕ → Bool) → Allows n old mid
     → ((s : ℕ) → worn s ≡ (mid.worn s || wears (done_of mid.chip out replies) s))
     → (s : ℕ) → worn s ≡ (old.worn s || wears (done_of old.chip out replies) s)

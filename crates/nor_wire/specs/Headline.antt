@@ -1,4 +1,5 @@
--- The main promise over serprog: wherever the port fails, the original chip at the programmer can be restored.
+-- The main promises over serprog: on an honest port to a genuine chip, the original chip can be restored from the
+-- journal in a sealed faithful vault, wherever the port fails.
 use Rattle.std.specs.Prelude.{◌≡◌, ◌<◌, ◌*◌, ◌/◌, ℕ, true, false, List, length, Result, IfErr, OnOk}
 use Rattle.nor_model.specs.Chip.{Chip, IsSame}
 use Rattle.nor_model.specs.Sent.{Sent}
@@ -33,8 +34,8 @@ pub record CanRestoreChipFrom (bytes : List ℕ) (first chip : Chip) : Type 0 wh
   pub journal : IsJournal bytes
   pub back : CanRestoreChip journal.content first chip
 
--- Holds if fewer calls of the port were left than a call to the engine with this bound of transactions may need: a
--- transaction takes three calls.
+-- Holds if fewer calls of the port were left than three for each of the given number of transactions. A transaction
+-- takes three calls.
 abbrev pub HadFewCalls : (transactions : ℕ) → PortState → Type 0
 HadFewCalls transactions port = port.left < 3 * transactions
 
@@ -48,8 +49,9 @@ pub record IsTargetOf (request : Request) (image : List ℕ) (old new : Chip) : 
   pub is_wanted : IsWantedCode request.what old code
   pub kept : new.kept ≡ with_code code old.kept
 
--- Holds for an error of a session: it is the verdict on the request; or the vault failed; or the port failed, and had
--- few calls left.
+-- Holds if the error of a session is the verdict on the request; or 11, and the vault failed; or 12, and the port had
+-- too few calls left for the session's bound (`HadFewCalls`). A session promises this on an honest port to a genuine
+-- chip.
 abbrev pub SessionFails : Request → (image : List ℕ) → PortState → (vault vault' : VaultState) → Refusal → Type 0
 SessionFails request image port vault vault' Vault = CountsRefusal vault vault'
 SessionFails request image port vault vault' Stopped = HadFewCalls (most_of (port.device.chip.config.size / 4096)) port
@@ -76,7 +78,7 @@ pub record SessionResults (request : Request) (image : List ℕ) (old new : Port
   pub done : OnOk result (IsTargetOf request image old.device.chip new.device.chip)
   -- after success the vault is sealed
   pub sealed : OnOk result (vault'.sealed ≡ true)
-  -- an error has one of three causes
+  -- an error is the verdict, a failure of the vault, or a failure of the port (`SessionFails`)
   pub errors : IfErr result (SessionFails request image old vault vault')
 
 -- ---- a restore
@@ -93,6 +95,6 @@ pub record RestoresOriginalChip (journal : Content) (old new : PortState)
       → OnOk result (IsSame first new.device.chip)
   -- after success the programmer's chip is idle
   pub idle : OnOk result (new.device.chip.busy ≡ 0)
-  -- the only possible error is a stop, because the port failed and had few calls left
+  -- the only possible error is a stop, because the port failed and had too few calls left for the bound (`HadFewCalls`)
   pub only_stops : (first : Chip) → CanRestoreChip journal first old.device.chip
       → IfErr result (λ refusal. (refusal ≡ Stopped) × HadFewCalls (most_of (length journal.saved)) old)

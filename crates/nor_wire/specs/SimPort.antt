@@ -9,11 +9,12 @@ use Rattle.nor_wire.specs.declared.sim_port.SimPort.{SimPort}
 abbrev pub simulated_chip : SimPort → SimBus
 simulated_chip port = port.chip
 
--- The number of calls that the port still carries out.
+-- The greatest number of calls that the port can still carry out.
 abbrev pub left_of : SimPort → ℕ
 left_of port = port.left
 
--- A programmer in front of the chip of this bus. Each call of the port sends whole frames, so none is ever begun.
+-- A programmer in front of the chip of this bus, with these bytes pending. The programmer keeps no part of a frame from
+-- one call of the port to the next, so `begun` is empty.
 abbrev pub device_over : BusState → (pending : List ℕ) → Device
 device_over bus pending = record {
   chip = bus.chip;
@@ -22,7 +23,7 @@ device_over bus pending = record {
   pending = pending;
 }
 
--- An honest port to this programmer.
+-- An honest port to the programmer in front of the chip of this bus (`device_over`), with `left` calls left.
 abbrev pub port_over : BusState → (pending : List ℕ) → (left : ℕ) → PortState
 port_over bus pending left = record {
   device = device_over bus pending;

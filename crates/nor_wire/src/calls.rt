@@ -15,10 +15,11 @@ use nor_session::{Refusal, Report, Request, restore, session};
 /// The port may fail at any call, and inside any exchange. On every port no modifying command is sent before the vault
 /// is sealed. On an honest port whose chip was idle, an exit before the seal leaves the chip's contents and
 /// non-volatile status bits as they were. On an honest port to a genuine chip, the journal of a sealed `telling` vault
-/// can restore the original chip at every exit, and success leaves the target, with the chip idle.
+/// can restore the original chip at every exit. There success leaves the target bytes and protection bits, with the
+/// chip idle and the vault sealed.
 ///
 /// On an honest port to a genuine chip an error is the verdict on the request, 11 (the vault failed), or 12 (the port
-/// failed).
+/// failed). On any other port it is one that `session` returns.
 pub fn session_over<P: Port + Drop, V: Vault>(
     bus: &mut SerprogBus<P>,
     vault: &mut V,
@@ -35,12 +36,13 @@ pub fn session_over<P: Port + Drop, V: Vault>(
 }
 
 /// Runs `restore` of nor_session on the chip at a programmer: writes the saved sectors and the protection bits of
-/// `journal` back to the chip, and verifies them.
+/// `journal` back to the chip, and verifies the sectors that it changed.
 ///
-/// The port may fail at any call, and inside any exchange. Then connect again, and run the restore again. On an honest
-/// port to a genuine chip, a journal that can restore a chip at the start can restore it at every exit. Success leaves
-/// that chip, idle, and the only possible error is 12 (the port failed). On every port, only what the journal allows is
-/// sent.
+/// The port may fail at any call, and inside any exchange. If it fails, connect again, and run the restore again. On an
+/// honest port to a genuine chip, if the journal can restore a chip at the start, it can restore that chip at every
+/// exit. In this case success leaves that chip, idle, and the only possible error is 12 (the port failed). In all other
+/// cases the errors are those of `restore`. On every port the modifying commands that are sent fit the journal
+/// (`SendsSaved`).
 pub fn restore_over<P: Port + Drop>(
     bus: &mut SerprogBus<P>,
     journal: &Journal<'_>,

@@ -5,8 +5,8 @@ ghost use Rattle.nor_model.specs.Power.{PowerLost};
 ghost use Rattle.nor_journal.specs.Text.{Content, IsContent, text};
 ghost use Rattle.nor_wire.specs.Headline.{CanRestoreChip, CanRestoreChipFrom};
 
-/// If the bytes of a vault can restore a chip, the journal that is read from them can. So what `session_over` promises
-/// is what `restore_over` needs.
+/// If the bytes of a vault can restore a chip, the journal that is read from these bytes can restore it. So what
+/// `session_over` promises is what `restore_over` needs.
 pub fn read_restores_chip()
     ensures { (bytes : List ℕ) (first chip : Chip) (journal : Content)
         → CanRestoreChipFrom bytes first chip → IsContent journal → bytes ≡ text journal

@@ -15,7 +15,8 @@ const NAK: u8 = 0x15;
 
 const O_SPIOP: u8 = 0x13;
 
-// The most bytes that a transaction reads, a sector, and its reply: ACK and these bytes.
+// The most bytes that a transaction may read: those of a sector. The programmer's reply is ACK and the bytes read, so
+// it has at most `MOST_PENDING` bytes.
 const MOST_READ: usize = 4096;
 
 const MOST_PENDING: usize = 1 + MOST_READ;
@@ -26,7 +27,7 @@ const COMMANDS: [u8; 33] = [
     0, 0, 0, 0,
 ];
 
-/// The call of a `SimPort` that failed.
+/// The call of a `SimPort` that failed: `send` (`Cut`) or `receive` (`Silent`).
 #[derive(Clone, Copy, Debug, PartialEq, Eq, Error)]
 pub enum SimFailure {
     #[error("the simulated port was cut")]
@@ -35,16 +36,18 @@ pub enum SimFailure {
     Silent,
 }
 
-/// A port to a serprog programmer that is simulated in memory, with a simulated chip. It is honest: it carries out the
-/// given number of calls, and then fails.
+/// A port to a serprog programmer that is simulated in memory, with a simulated chip. The port is honest: it carries
+/// out the given number of calls, and then fails.
 ///
-/// The programmer carries out each O_SPIOP that is sent by one call, and replies to the queries of a handshake
-/// (`Programmer::identify`). If the port fails while it sends an O_SPIOP, the chip stops as `SimBus::tear` and
-/// `SimBus::lose` set: the programmer sends the first bytes of the transaction, and the chip may lose its power. If the
-/// port fails later in an exchange, the chip has carried out the transaction, and the reply is lost.
+/// The programmer carries out an O_SPIOP frame only if one call of `send` sends that frame and nothing else. It replies
+/// to the queries of a handshake (`Programmer::identify`). If the port fails while it sends an O_SPIOP, the chip stops
+/// as `SimBus::tear` and `SimBus::lose` set. The programmer sends as many bytes of the transaction as `tear` set (none
+/// by default), and the chip loses its power only if `lose` set that. If the port fails later in an exchange, the chip
+/// has carried out the transaction, and the reply is lost.
 ///
-/// A call also fails if it sends an O_SPIOP before all replies were received, or one with more than 4,096 reply bytes,
-/// or if it requests more bytes than are pending. After any failure no call succeeds.
+/// A call also fails if it sends an O_SPIOP while a reply is pending, or one that requests more than 4,096 bytes. It
+/// fails, too, if it sends frames whose replies are longer than 4,097 bytes together with those that are pending, or if
+/// it requests more bytes than are pending. After any failure no call succeeds.
 #[derive(Drop)]
 pub struct SimPort {
     chip: SimBus,
@@ -53,7 +56,7 @@ pub struct SimPort {
 }
 
 impl SimPort {
-    /// Returns a port to a programmer with this chip. `left` is the number of calls that succeed.
+    /// Returns a port to a programmer with this chip. `left` is the greatest number of calls that can succeed.
     pub fn new(chip: SimBus, left: u64) -> SimPort
         ensures chip { simulated_chip result ≡ chip }
         ensures state { ⟦<SimPort as Port>⟧.state result ≡ port_over (⟦<SimBus as Bus>⟧.state chip) [] left }
@@ -72,14 +75,14 @@ impl SimPort {
         &self.chip
     }
 
-    /// Returns the number of calls that still succeed.
+    /// Returns the greatest number of calls that can still succeed.
     pub fn left(&self) -> u64
         ensures { result ≡ left_of self.now }
     {
         self.left
     }
 
-    /// Returns true if each reply was received.
+    /// Returns whether no byte of a reply is pending.
     pub fn is_idle(&self) -> bool
         ensures { result ≡ true → IsIdle (⟦<SimPort as Port>⟧.state self.now).device }
     {
@@ -87,7 +90,8 @@ impl SimPort {
     }
 
     // Carries out a frame of O_SPIOP: one transaction of the chip. The reply is ACK and the bytes that the chip
-    // returned.
+    // returned. Stops the chip at the transaction (`cut`) and returns `Cut` if no call is left, if a reply is pending,
+    // or if the frame requests more than 4,096 bytes.
     fn operate(&mut self, frame: &[u8]) -> Result<(), SimFailure>
         ensures sent { OnOk result (IsSent frame.now (⟦<SimPort as Port>⟧.state self.old)
             (⟦<SimPort as Port>⟧.state self.new)) }
@@ -190,7 +194,7 @@ fn acknowledged(bytes: &[u8]) -> ArrayVec<u8, MOST_PENDING>
     reply
 }
 
-// Makes one transaction of the chip.
+// Carries out one transaction of the chip.
 fn transact(chip: &mut SimBus, out: &[u8], reply: &mut [u8])
     ensures { (pending pending' : List ℕ) → StepsOnce out.now reply.new
         (device_over (⟦<SimBus as Bus>⟧.state chip.old) pending)
@@ -200,7 +204,8 @@ fn transact(chip: &mut SimBus, out: &[u8], reply: &mut [u8])
     let _ = chip.transfer(out, reply);
 }
 
-// Stops the chip inside a transaction.
+// Stops the chip at a transaction that sends `out`, after as many bytes as `SimBus::tear` set, and with or without a
+// loss of power, as `SimBus::lose` set.
 fn cut(chip: &mut SimBus, out: &[u8])
     ensures { (pending : List ℕ) → IsCut out.now (device_over (⟦<SimBus as Bus>⟧.state chip.old) pending)
         (device_over (⟦<SimBus as Bus>⟧.state chip.new) pending) }
@@ -209,8 +214,8 @@ fn cut(chip: &mut SimBus, out: &[u8])
     let _ = chip.transfer(out, &mut []);
 }
 
-// Replies to frames of which at most the last is an O_SPIOP, which is refused. Bytes after the last whole frame are
-// ignored. Returns false if the replies are too long.
+// Appends the reply to each of these frames (`reply_to`) to `pending`. Bytes after the last whole frame are ignored.
+// Returns false if the replies do not fit.
 fn reply_to_each(pending: &mut ArrayVec<u8, MOST_PENDING>, frames: &[u8]) -> bool {
     let mut rest = frames;
     for _ in 0..frames.len() {

@@ -107,8 +107,8 @@ any-key setting P each =
     (either _ _ _ each.stop (either _ _ _ each.unique (either _ _ _ each.busy
     (either _ _ _ each.power (λ none. cc))))))))
 
--- Holds after some settings were taken in: all of them have known keys and correct values, and the fields have their
--- values.
+-- Holds after some settings of `all` were taken in, and those of `left` remain. All settings have known keys and
+-- correct values if and only if those of `left` do, and `Open` holds for each key.
 pub record Gathered (all left : List Text) (said : Settings) : Type 0 where
   pub sound : list_all is_setting left ≡ list_all is_setting all
   pub keys : EachKey (λ T key is_value read place. Open all left key read (place said))

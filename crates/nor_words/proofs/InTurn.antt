@@ -13,7 +13,7 @@ pub yields_pieces : {made s : _} (text : Text) → s ≡ made → split_text mad
     → YieldsList (split_steps FindsChar (λ a b. b ≡ a)) (λ x. x.now) s (pieces_of text)
 yields_pieces text gives is more pattern = rw gives (YieldsList-from_str_split 44 text (lit< tt) is more pattern)
 
--- the piece at n is the first of the remaining ones
+-- the pieces from index n on are the piece at n and then those from n + 1 on
 pub turned : (pieces : List Text) (n : ℕ) (piece : Text) → (n < length pieces) × (piece ≡ get_or pieces n piece)
     → drop n pieces ≡ piece ∷ drop (n + 1) pieces
 turned pieces n piece at =

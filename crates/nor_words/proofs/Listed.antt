@@ -10,12 +10,13 @@ use Rattle.nor_words.specs.Numbers.{decimal_number}
 use Rattle.nor_words.specs.Stops.{stops_of}
 use Rattle.nor_words.proofs.InTurn.{turned}
 
--- the stops so far and those in the remaining pieces, or `None` if a piece isn't a stop or there are too many
+-- the stops so far and those in the remaining pieces, or `None` if one of these pieces isn't a number or there are more
+-- than 64 stops
 abbrev pub with_stops : List ℕ → List Text → Option (List ℕ)
 with_stops stops pieces = cond (list_all (reads decimal_number) pieces && nat_le (length stops + length pieces) 64)
     (Some (stops ++ filter_map decimal_number pieces)) None
 
--- the piece at `n`, which is one more stop or isn't a stop
+-- the piece at `n`: it isn't a number, or comes after 64 stops, or is one more stop
 module _ (stops : List ℕ) (pieces : List Text) (n : ℕ) (piece : Text)
     (at : (n < length pieces) × (piece ≡ get_or pieces n piece)) where
   pub stops-refused : decimal_number piece ≡ None → with_stops stops (drop n pieces) ≡ None

@@ -35,8 +35,8 @@ all_digits radix (c ∷ cs) all =
 abbrev pub at_most : ℕ → ℕ → Option ℕ
 at_most greatest n = cond (nat_le n greatest) (Some n) None
 
--- the numeral of a text of at most `most` digits is what `from_str_radix` returns, or `None` if that is above
--- `greatest`, which is below 2 to the power of 64
+-- for a text of at most `most` digits, `numeral` is the number that `from_str_radix` returns, or `None` if it returns
+-- an error or a number above `greatest`; `greatest` must be below 2 to the power of 64
 pub numeral-parsed : {E : Type 0} (radix most greatest : ℕ) (text : Text) (r : Result ℕ E) → radix ≤ 36
     → greatest < 2 ^ 64 → list_all (λ digit. is_digit digit radix) text ≡ true → length text ≤ most
     → ParsesUnsigned 64 radix text r

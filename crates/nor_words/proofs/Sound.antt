@@ -36,13 +36,13 @@ pub sound-none : (given : Texts) → first_fault (usage_faults given) ≡ None �
 sound-none given none =
     let no = none-holds _ _ _ _ _ _ _ _ none in record { range = no.0; journal = no.1; regions = no.2; stops = no.3 }
 
--- if a value isn't faulty and its parser returns nothing, the option is missing
+-- an option is missing if it has no wrong value (`is_no`), and parsing its value gives None
 not-there : {T : Type 0} (f : Text → Option T) (text : Option Text) → is_no (reads f) text ≡ false
     → option_and_then f text ≡ None → text ≡ None
 not-there f None sound none = refl
 not-there f (Some x) sound none = let bad = rw none at sound in cc
 
--- options without a fault that have no range, no `-w` and no `-E` ask for no change
+-- if `Sound` holds, the options ask for a change only if they have `-w`, `-E` or a parsed range
 pub no_change-wanted : (given : Texts) → Sound given → is_new_content given ≡ false
     → option_and_then range_of given.wp_range ≡ None → asks_change given ≡ false
 no_change-wanted given sound same none = rw (same, not-there range_of given.wp_range sound.range none) refl
@@ -51,7 +51,7 @@ no-use : (change : Bool) → not (nat_eq 0 (cond change 1 0)) ≡ false → chan
 no-use true h = cc
 no-use false h = refl
 
--- options without a fault that have no journal and no stops ask for no change
+-- if `Sound` holds, the options ask for a change only if they have a journal or parsed stops
 no_change-kept : (given : Texts) → Sound given → given.journal ≡ None → option_and_then stops_of given.rehearse ≡ None
     → asks_change given ≡ false
 no_change-kept given sound journal none =
@@ -70,7 +70,7 @@ change-wanted given want.Erase is = rw (or_right (is_some given.write) given.era
 change-wanted given (want.Range start len) is =
     or_right (is_new_content given) (is_some given.wp_range) (there range_of given.wp_range (start, len) is)
 
--- options without a fault that ask for a change, but have no journal, have stops
+-- if `Sound` holds, options that have a target of a change, but no journal, have parsed stops
 pub stops-kept : (given : Texts) (wanted : Wanted) (stops : Option (List ℕ)) → Sound given
     → IsWantedByArguments given wanted → option_and_then stops_of given.rehearse ≡ stops
     → given.journal ≡ None → is_some stops ≡ true

@@ -22,13 +22,13 @@ passes_test test text = option_map_or test text false
 abbrev pub is_no : (Text → Bool) → Option Text → Bool
 is_no test = passes_test (λ text. not (test text))
 
--- fault 6: true if a change doesn't have exactly one of `--journal` and `--rehearse`, or if any other operation has one
--- of them or both
+-- fault 6: true if `-w`, `-E` or `--wp-range` is given without exactly one of `--journal` and `--rehearse`, or if none
+-- of the three is given, and `--journal` or `--rehearse` is
 abbrev pub has_wrong_journal : Texts → Bool
 has_wrong_journal given =
     not (nat_eq (how_many (is_some given.journal ∷ is_some given.rehearse ∷ [])) (if asks_change given then 1 else 0))
 
--- fault 7: true if there is only one of `-l` and `-i`, or if there are both and the operation takes no regions
+-- fault 7: true if there is only one of `-l` and `-i`, or both without any of `-r`, `-v`, `-w` and `-E`
 abbrev pub has_wrong_regions : Texts → Bool
 has_wrong_regions given = (is_some given.layout || is_some given.names)
     && not (is_some given.layout && (is_some given.names && takes_regions given))
@@ -50,7 +50,7 @@ usage_faults given =
     )
     ∷ []
 
--- the first fault that the options have
+-- the first fault that the options have, or `None` if they have none
 abbrev pub first_fault : List Case → Option UsageFault
 first_fault [] = None
 first_fault (case ∷ cases) = if case.0 then Some case.1 else first_fault cases

@@ -9,7 +9,7 @@ use Rattle.nor_words.specs.declared.programmer.Programmer.{Programmer}
 use Rattle.nor_words.specs.Numbers.{byte_number, decimal_number, polls_of, unique_number}
 use Rattle.nor_words.specs.Text.{Text, pieces_of, key_of, value_of, reads}
 
--- Holds for the configuration of this emulated chip.
+-- Holds for the configuration of this emulated chip with a unique ID of zeros.
 abbrev pub IsConfigOfEmulated : Emulated → Config → Type 0
 IsConfigOfEmulated chip = IsMadeOf chip.part
 
@@ -42,7 +42,7 @@ may_have key value = list_any (λ known. bytes_eq key known.0 && known.1 value) 
 abbrev pub is_setting : Text → Bool
 is_setting setting = may_have (key_of setting) (value_of setting)
 
--- true if at most one of the settings has the key of this one
+-- true if at most one of `settings` has the same key as `setting`
 abbrev pub is_alone_in : List Text → Text → Bool
 is_alone_in settings setting = nat_le (count_by (has_key (key_of setting)) settings) 1
 

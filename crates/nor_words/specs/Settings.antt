@@ -30,7 +30,8 @@ pub record PutsAt {T : Type 0} (key : Text) (read : Text → Option T) (setting 
   pub met : has_key key setting ≡ true → (old ≡ None) × (read (value_of setting) ≡ new) × (is_some new ≡ true)
   pub other : has_key key setting ≡ false → new ≡ old
 
--- Holds if the setting was added to those that were stored before.
+-- Holds if the setting was added to those that were stored before. For a setting with an unknown key it holds if no
+-- field changed.
 abbrev pub AddsSetting : Text → (old new : Settings) → Type 0
 AddsSetting setting old new = EachKey (λ T key is_value read place. PutsAt key read setting (place old) (place new))
 

@@ -23,8 +23,8 @@ pub record IsJob (words : List Text) (job : Job) : Type 0 where
   pub sound : first_fault (usage_faults (given_by words)) ≡ None
   pub asked : IsAsked (given_by words) job
 
--- Holds if the arguments may have this fault: `clap` rejects them, or it accepts them and this is the first fault that
--- the options have. Any arguments may have the fault `Memory` (out of memory).
+-- Holds if the arguments may have this fault: `clap` may reject them with an error of this kind, or it accepts them and
+-- this is the first fault that the options have. Any arguments may have the fault `Memory` (out of memory).
 abbrev pub IsFault : List Text → UsageFault → Type 0
 IsFault words (why.Words error) = IsAmong (kind_of error) (refusals_of words)
 IsFault words why.Memory = ⊤

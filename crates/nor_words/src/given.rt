@@ -191,7 +191,8 @@ impl<'a> Given<'a> {
         self.wp_range.is_some() && self.parsed_range().is_none()
     }
 
-    // Fault 9: true if the value of `--rehearse` isn't a list of stops, or if `-p` has a `stop=` as well.
+    // Fault 9: true if the value of `--rehearse` isn't a list of stops, or if both `--rehearse` and a `stop=` in `-p`
+    // are given.
     fn has_wrong_stops(&self) -> bool
         ensures { result ≡ (is_no (reads stops_of) (texts_of self.now).rehearse
             || (is_some (texts_of self.now).rehearse && passes_test has_stop (texts_of self.now).programmer)) }
@@ -249,8 +250,8 @@ impl<'a> Given<'a> {
         self.read.is_some() || self.verify.is_some() || self.is_new_content()
     }
 
-    // Fault 6: true if a change doesn't have exactly one of `--journal` and `--rehearse`, or if any other operation has
-    // one of them or both.
+    // Fault 6: true if `-w`, `-E` or `--wp-range` is given without exactly one of `--journal` and `--rehearse`, or if
+    // none of the three is given, and `--journal` or `--rehearse` is.
     fn has_wrong_journal(&self) -> bool
         ensures { result ≡ has_wrong_journal (texts_of self.now) }
     {
@@ -269,7 +270,7 @@ impl<'a> Given<'a> {
         (self.no_verify || self.unlock) && !self.is_new_content()
     }
 
-    // Fault 7: true if there is only one of `-l` and `-i`, or if the operation takes no regions and there are both.
+    // Fault 7: true if there is only one of `-l` and `-i`, or both without any of `-r`, `-v`, `-w` and `-E`.
     fn has_wrong_regions(&self) -> bool
         ensures { result ≡ has_wrong_regions (texts_of self.now) }
     {
@@ -297,7 +298,7 @@ impl<'a> Given<'a> {
         })
     }
 
-    // Returns the target of a change, or `None` if the options have no `-w`, no `-E` and no range.
+    // Returns the target of a change, or `None` if the options have neither `-w` nor `-E`, and no range can be parsed.
     fn wanted(&self) -> Option<Wanted<'a>>
         ensures { MatchOption result ((is_new_content (texts_of self.now) ≡ false)
             × (option_and_then range_of (texts_of self.now).wp_range ≡ None))
@@ -325,7 +326,7 @@ impl<'a> Given<'a> {
         }
     }
 
-    // Returns the regions that are included, if `-l` and `-i` are given.
+    // Returns the regions that are included, or `None` if `-l` and `-i` are missing. Requires options without fault 7.
     fn regions(&self) -> Option<Regions<'a>>
         requires { has_wrong_regions (texts_of self.now) ≡ false }
         ensures { IsRegions (texts_of self.now) result }
@@ -336,7 +337,8 @@ impl<'a> Given<'a> {
         }
     }
 
-    // Returns an operation that isn't a change: a reading, a report, a restore, or only the identification.
+    // Returns an operation other than `Change`: a read, a comparison, a report, a restore, or only the identification.
+    // Requires options without `-L`, `-w`, `-E`, `--wp-range` and fault 7.
     fn plain_task(&self) -> Task<'a>
         requires { ((texts_of self.now).list ≡ false) × (asks_change (texts_of self.now) ≡ false)
             × (has_wrong_regions (texts_of self.now) ≡ false) }

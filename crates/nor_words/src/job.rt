@@ -29,8 +29,8 @@ pub struct ChipJob<'a> {
 pub struct HardwareJob<'a> {
     /// The value of `-p`, which isn't parsed.
     pub programmer: &'a str,
-    /// The operation, or the first of the usage faults 4 to 9. If the program finds that the value of `-p` is wrong,
-    /// that is usage fault 3, and comes first.
+    /// The operation, or the first of the usage faults 4 to 8. Fault 9 can't occur, because there is no `--rehearse`.
+    /// If the program finds that the value of `-p` is wrong, it must report usage fault 3 instead of these faults.
     pub operation: Result<Operation<'a>, UsageFault>,
 }
 
@@ -49,7 +49,7 @@ pub enum Task<'a> {
     Probe,
     /// `--flash-size`: print the size of the chip.
     FlashSize,
-    /// `--wp-status`: print the protected range, and whether it is locked.
+    /// `--wp-status`: print the protected range, and whether the status is locked.
     WpStatus,
     /// `--wp-list`: list the ranges that can be protected.
     WpList,
@@ -104,12 +104,12 @@ pub enum Wanted<'a> {
     Range { start: u32, len: u32 },
 }
 
-/// The use of a change's journal: kept in a file, or only rehearsed with.
+/// The use of the journal of a change: it is written into a file, or a rehearsal restores from it in memory.
 #[derive(Drop)]
 pub enum JournalUse<'a> {
     /// `--journal FILE`: write the journal into the named file.
     Journal { file: &'a str },
-    /// `--rehearse N,N,..`: rehearse the change. The first number stops the change after that many transactions, each
-    /// further number stops one restore.
+    /// `--rehearse N,N,..`: rehearse the change. The first number stops the change after that many transactions; each
+    /// further number stops one restore after that many. The last restore isn't stopped.
     Rehearse { stops: ArrayVec<u64, MOST_STOPS> },
 }

@@ -20,7 +20,8 @@
 //! - `stops.rt`: the value of `--rehearse`
 //! - `numbers.rt`: the numbers in values
 //!
-//! `specs/Words.antt` and `specs/Job.antt` define which arguments are which job, `specs/Faults.antt` the usage faults.
+//! `specs/Words.antt` and `specs/Job.antt` define which arguments ask for which job, `specs/Faults.antt` the usage
+//! faults.
 #![tactic(auto)]
 
 mod given;

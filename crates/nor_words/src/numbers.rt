@@ -61,8 +61,8 @@ fn read_numeral(text: &str, radix: u32, most: usize, greatest: u64) -> Option<u6
     }
 }
 
-// True if each byte of the text is a digit of this radix, so for an empty text, too. It excludes the leading plus that
-// `from_str_radix` accepts.
+// True if each byte of the text is a digit of this radix, so for an empty text, too. This test excludes the leading
+// plus that `from_str_radix` accepts.
 fn has_digits(text: &str, radix: u32) -> bool
     requires { (2 ≤ radix) × (radix ≤ 36) }
     ensures { result ≡ list_all (λ digit. is_digit digit radix) text.now }

@@ -241,7 +241,7 @@ fn new_command<'a>(alloc: Global) -> Command<'a>
         .after_help(NOTES)
 }
 
-// Returns the table, whose options the clause lists.
+// Returns the table `CHOICES`, whose options are `most_rules`.
 fn choices() -> &'static [Choice; 18]
     ensures { map chosen result.now ≡ most_rules }
 {

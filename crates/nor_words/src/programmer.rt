@@ -10,7 +10,7 @@ use nor_probe::{Part, emulated_part};
 /// A chip that the program emulates: `TINY64`, or a chip of the table.
 #[derive(Clone, Copy)]
 pub struct Emulated {
-    /// The chip type as which the chip is found.
+    /// The chip type that a probe of the chip finds.
     pub part: Part,
     pub ghost emulated: { IsEmulatedPart part },
 }
@@ -29,7 +29,7 @@ impl Emulated {
         Some(Emulated { part })
     }
 
-    /// Returns the configuration of the chip, which never changes.
+    /// Returns the configuration of the chip, with a unique ID of zeros.
     #[tactic(auto, using(nor_probe::proofs::Emulated::emulated_sized))]
     pub fn config(self) -> Config
         ensures { IsConfigOfEmulated self result }
@@ -69,10 +69,10 @@ pub struct Programmer<'a> {
     pub stop: Option<u64>,
     /// `unique=HEX`: the chip's unique ID, as 16 hexadecimal digits.
     pub unique: Option<[u8; 8]>,
-    /// `busy=N`: the number of polls that show BUSY after each operation.
+    /// `busy=N`: the number of polls that show BUSY after each program, erase or status write.
     pub busy: Option<u16>,
-    /// `power=HH`: each stop is a power failure, and each byte that a running program or erase works on becomes this
-    /// byte.
+    /// `power=HH`: each stop is a power failure. Each byte of the page or erase block in progress then becomes this
+    /// byte. A status write in progress is undone if this byte is even, and completed if it is odd.
     pub power: Option<u8>,
 }
 

@@ -25,13 +25,15 @@ pub enum UsageFault {
     TwoOperations,
     /// 5: the value of `--wp-range` isn't a start and a length.
     Range,
-    /// 6: `--journal` and `--rehearse`: a change of the chip needs exactly one, anything else none.
+    /// 6: `-w`, `-E` or `--wp-range` without exactly one of `--journal` and `--rehearse`, or any other arguments with
+    /// `--journal` or `--rehearse`.
     Journal,
-    /// 7: `-l` or `-i` without the other, or with an operation that takes no regions.
+    /// 7: `-l` or `-i` without the other, or both without any of `-r`, `-v`, `-w` and `-E`.
     Layout,
     /// 8: `-n` or `--unlock` without `-w` or `-E`.
     Unneeded,
-    /// 9: the value of `--rehearse` isn't 1 to 64 numbers, or the programmer has a `stop=` as well.
+    /// 9: the value of `--rehearse` isn't 1 to 64 numbers, or both `--rehearse` and a `stop=` of the programmer are
+    /// given.
     Stops,
     /// 10: out of memory.
     Memory,
@@ -59,7 +61,7 @@ impl UsageFault {
     }
 }
 
-// Not derived, because a derived `Display` has no contract.
+// Implemented by hand, because a derived `Display` has no contract.
 impl fmt::Display for UsageFault {
     ghost use Rattle.nor_words.specs.Faults.{usage_fault_text};
 

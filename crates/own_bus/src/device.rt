@@ -17,7 +17,8 @@ pub struct DevicePort<F> {
 }
 
 impl DevicePort<File> {
-    /// Opens a character device, and locks it against other programs. Nothing is sent.
+    /// Opens a character device for reading and writing, and locks it, which keeps out programs that lock it, too.
+    /// Nothing is sent.
     ///
     /// Returns `NoDevice` if the name refers to any other file, `InUse` if another program has locked the device, and
     /// `System` if the device is missing, or can't be opened or locked.

@@ -33,7 +33,8 @@ use played::{PlayedPort, PlayedWires};
 use std::alloc::Global;
 use std::{env, fs};
 
-/// The example's bus over a port. If many polls in a row show BUSY, it pauses between them. It reads data (03h) twice.
+/// The example's bus over a port. If many polls in a row show BUSY, it pauses between them. It reads data (03h) twice,
+/// and stops if the two readings differ.
 type PortBus<'a, P> = Paced<ReadTwice<SerprogBus<P>>, &'a HostRuntime>;
 
 fn main(rt: HostRuntime) -> Result<(), Fault> {
@@ -71,7 +72,7 @@ fn open<P: Port + Drop>(
 }
 
 // Runs the example without hardware: reads, changes and restores a simulated chip, and then interrupts a change of
-// another one.
+// another chip.
 fn play(rt: &HostRuntime) -> Result<(), Fault> {
     let mut bus = open(rt, PlayedPort::new(erased_chip(rt.alloc())?))?;
     let found = probe(&mut bus, None)?;
@@ -84,7 +85,7 @@ fn play(rt: &HostRuntime) -> Result<(), Fault> {
     cut_off(rt)
 }
 
-// Returns a chip of 65,536 bytes, all FFh.
+// Returns a simulated bus to a chip of 65,536 bytes, all FFh. It carries out `u64::MAX` transactions.
 fn erased_chip(alloc: Global) -> Result<SimBus, Fault> {
     let idle = Delays { now: 0, each: 0 };
     let erased = vec![in alloc; 0xFF; 65536]?;
@@ -93,7 +94,7 @@ fn erased_chip(alloc: Global) -> Result<SimBus, Fault> {
     Ok(chip)
 }
 
-// Reads the chip out into a new file.
+// Reads the chip out into the new file `chip.bin`, and prints the number of transactions.
 fn back_up<B: Bus>(rt: &HostRuntime, bus: &mut B) -> Result<(), Fault> {
     let mut backup = Disk::new(rt).vault_in_new("chip.bin")?;
     let report = read_out(bus, None, None, &mut backup)?;
@@ -102,7 +103,8 @@ fn back_up<B: Bus>(rt: &HostRuntime, bus: &mut B) -> Result<(), Fault> {
     Ok(())
 }
 
-// Writes the backup to the chip with its first byte changed to 5Ah. The journal is in a new file.
+// Writes the backup to the chip with its first byte changed to 5Ah. The journal is in a new file with the name
+// `journal`.
 fn change<B: Bus>(rt: &HostRuntime, bus: &mut B, journal: &str) -> Result<Report, Fault> {
     let mut image = fs::read(rt, "chip.bin")?;
     if let Some(first) = image.first_mut() {
@@ -113,8 +115,8 @@ fn change<B: Bus>(rt: &HostRuntime, bus: &mut B, journal: &str) -> Result<Report
     Ok(report)
 }
 
-// Tries a second change with the file name of the existing journal. The change must be refused, and the program prints
-// whether the journal stayed as it was.
+// Tries a second change with the file name of the existing journal. If that fails because the file exists, prints
+// whether the journal stayed as it was. Otherwise ends with the result of the change, and prints nothing.
 fn change_again<B: Bus>(rt: &HostRuntime, bus: &mut B) -> Result<(), Fault> {
     let before = fs::read(rt, "undo.journal")?;
     match change(rt, bus, "undo.journal") {
@@ -131,7 +133,8 @@ fn change_again<B: Bus>(rt: &HostRuntime, bus: &mut B) -> Result<(), Fault> {
     Ok(())
 }
 
-// Restores the chip from the journal, and compares it with the backup.
+// Restores the chip from the journal, and compares the chip with the backup. Prints the counts of the restore, and that
+// the chip equals the backup.
 fn undo<B: Bus>(rt: &HostRuntime, bus: &mut B) -> Result<(), Fault> {
     let saved = fs::read(rt, "undo.journal")?;
     let done = restore(bus, &Journal::read(&saved)?)?;
@@ -153,7 +156,7 @@ fn print_counts(rt: &HostRuntime, what: &str, done: &Report) -> Result<(), Fault
 }
 
 // Begins the change of an erased chip over wires that are cut after 10 transactions, while the session scans the chip.
-// Prints the error and its cause.
+// Prints the error, the number of modifying commands sent, and the cause of the error.
 fn cut_off(rt: &HostRuntime) -> Result<(), Fault> {
     let mut bus = OwnBus::new(PlayedWires::new(erased_chip(rt.alloc())?, 10));
     let refusal = match change(rt, &mut bus, "second.journal") {

@@ -129,12 +129,12 @@ impl fmt::Display for Cut {
 pub struct PlayedWires {
     chip: SimBus,
     left: u64,
-    /// The number of modifying commands that were sent.
+    /// The number of modifying commands that were sent before the wires were cut.
     pub modifying: u64,
 }
 
 impl PlayedWires {
-    /// Returns wires that carry out `left` transactions, and are cut then.
+    /// Returns wires to this chip that carry out `left` transactions, and then are cut.
     pub fn new(chip: SimBus, left: u64) -> PlayedWires {
         PlayedWires {
             chip,

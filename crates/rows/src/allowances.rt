@@ -1,4 +1,5 @@
-//! The allowances that a rehearsal sets on its bus: for each call its stop, or if it has none, a bound of every call.
+//! The allowances that a rehearsal sets on its bus: for each call the stop given for it, or without one the bound of a
+//! session on a chip of 16 MiB.
 ghost use Rattle.std.specs.Prelude.{◌≤◌, false, length};
 ghost use Rattle.std.proofs.lemmas.Bool.{false≢true};
 
@@ -14,7 +15,7 @@ use std::process::Abort;
 // The most allowances that a `MeteredBus` records.
 const MOST: usize = 8;
 
-// A bus that records the allowances that are set.
+// A simulated bus that records the first `MOST` allowances that are set.
 #[derive(Drop)]
 struct MeteredBus {
     bus: SimBus,
@@ -43,8 +44,8 @@ impl Meter for MeteredBus {
     }
 }
 
-// Returns the allowances of a session and of the given number of restores: their stops in turn, and for each call
-// without a stop the most that a session on a chip of 16 MiB may need.
+// Returns the allowances of a session and of the given number of restores: their stops in turn. A call without a stop
+// is allowed the most transactions that a session on a chip of 16 MiB may need. All other entries are 0.
 fn stops_in_turn(stops: &[u64], restores: u32) -> [u64; MOST] {
     let mut allowances = [0; MOST];
     for (call, allowance) in allowances.iter_mut().enumerate() {
@@ -55,8 +56,8 @@ fn stops_in_turn(stops: &[u64], restores: u32) -> [u64; MOST] {
     allowances
 }
 
-// Rehearses with these stops. Asserts that the rehearsal set the allowances of `stops_in_turn`, and no others. Returns
-// the number of restores.
+// Rehearses the session of `ABitRises` with these stops, of which there are at most 64. Asserts that the rehearsal set
+// the allowances of `stops_in_turn`, and no others. Returns the number of restores.
 fn rehearse_allowed(rt: &impl Abort, alloc: Global, stops: &[u64]) -> u32
     requires { length stops.now ≤ 64 }
 {
@@ -77,8 +78,8 @@ fn rehearse_allowed(rt: &impl Abort, alloc: Global, stops: &[u64]) -> u32
     restores
 }
 
-// The session sends 30 transactions, and seals its vault after 23. The stops around 65,542 are those around the most
-// transactions of an identification.
+// The session sends 30 transactions, and seals its vault after 23. An identification sends at most 65,542 transactions,
+// so stops around that number are tested, too.
 #[test]
 fn each_call_is_allowed_its_stop(rt: HostRuntime) {
     assert!(rt; rehearse_allowed(&rt, rt.alloc(), &[]) == 1);

@@ -1,4 +1,5 @@
-//! Calls keep their bounds of transactions on faulty buses and on the slowest chip.
+//! No call sends more transactions than its bound: probes, readings, sessions and restores on faulty buses, and a
+//! session and its restore on the slowest chip.
 ghost use Rattle.std.specs.Prelude.{◌≡◌, false};
 
 use crate::held::assert_held;
@@ -39,7 +40,7 @@ impl Reading {
         }
     }
 
-    // Makes the call, and returns whether it succeeded. The tests accept either.
+    // Makes the call, and returns true if it succeeded. The tests accept success and failure.
     fn ends(self, bus: &mut SpoiltBus<SimBus>, out: &mut MemVault, image: &[u8]) -> bool
         requires { (⟦<MemVault as Vault>⟧.state out.old).sealed ≡ false }
     {
@@ -51,7 +52,7 @@ impl Reading {
         }
     }
 
-    // Returns the number of transactions of the call on a bus with this fault.
+    // Returns the number of transactions that the call sends on a bus with the fault `spoil`, to the row's chip.
     fn sent(self, rt: &impl Abort, alloc: Global, row: Row, spoil: Spoil) -> u64 {
         let mut bus = spoilt(row.bus(rt, alloc, Start::IDLE), spoil);
         let mut out = MemVault::new(alloc);
@@ -61,7 +62,8 @@ impl Reading {
     }
 }
 
-// Asserts that each call keeps its bound on a bus with this fault. Returns the number of calls.
+// Asserts that each reading call sends at least one transaction on a bus with this fault, and at most its bound for a
+// chip of 16 sectors. Returns the number of calls.
 fn read_each(rt: &impl Abort, alloc: Global, row: Row, spoil: Spoil) -> u64 {
     let mut runs: u64 = 0;
     for reading in READINGS {
@@ -85,8 +87,8 @@ fn readings_on_buses_that_lie(rt: HostRuntime) {
     assert!(rt; runs == 23 * 4 * 4);
 }
 
-// Runs the row's session on each bus with a fault of the number `n`. `Lied` asserts the bound. Returns the number of
-// runs.
+// Runs the row's session on each bus with a fault of the number `n`. `Lied::session` asserts the bound. Returns the
+// number of runs.
 fn session_each(rt: &impl Abort, alloc: Global, row: Row, n: u8) -> u64 {
     let mut runs: u64 = 0;
     for spoil in lies(n) {
@@ -109,7 +111,7 @@ fn sessions_on_buses_that_lie(rt: HostRuntime) {
 }
 
 // Runs the restore on each bus with a fault of the number `n`, after a session that was stopped after ten transactions.
-// `Lied` asserts the bound. Returns the number of runs.
+// `Lied::restore` asserts the bound. Returns the number of runs.
 fn restore_each(rt: &impl Abort, stopped: &Runs, n: u8) -> u64 {
     let mut runs: u64 = 0;
     for spoil in lies(n) {
@@ -119,7 +121,7 @@ fn restore_each(rt: &impl Abort, stopped: &Runs, n: u8) -> u64 {
     runs
 }
 
-// The session was stopped after its erase, so that the restore sends 58 transactions without a fault.
+// The session is stopped after its erase, so the restore sends 58 transactions without a fault.
 #[test]
 fn restores_on_buses_that_lie(rt: HostRuntime) {
     let row = Row::TheRestOfASectorStays;
@@ -137,10 +139,11 @@ fn assert_written(rt: &impl Abort, alloc: Global, row: Row, bus: &SimBus) {
     assert!(rt; bus.bytes() == wanted.as_slice());
 }
 
-// The session and the restore nearly reach their common bound, which allows 274 operations: they send 271 and 241
-// operations, each with 65,536 polls. The restore identifies the chip with seven transactions, reads sixteen sectors,
-// fifteen of them again before it programs them, and all sixteen to verify them. It erases the last sector and programs
-// the 240 pages of the others.
+// The bound of the session, and of its restore, is `most(16)`, which allows 274 operations. The session sends 271
+// operations and the restore 241, each with 65,536 polls.
+//
+// The restore identifies the chip with seven transactions, reads sixteen sectors, fifteen of them again before it
+// programs them, and all sixteen to verify them. It erases the last sector and programs the 240 pages of the others.
 #[test]
 fn the_slowest_session_and_its_restore(rt: HostRuntime) {
     let row = Row::EachPageIsProgrammed;

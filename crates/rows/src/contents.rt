@@ -1,10 +1,10 @@
-//! Contents of chips: FFh, except a few bytes.
+//! Contents of chips: FFh, except a run of equal bytes and a run of given bytes.
 use nor_chip::SECTOR_LEN;
 use std::alloc::Global;
 use std::process::Abort;
 
-/// The contents of a whole chip: FFh, except `count` bytes `byte` from address `from` on. The bytes `run` replace both
-/// from address `at` on.
+/// The contents of a whole chip: FFh, except that `count` bytes from address `from` on have the value `byte`. The bytes
+/// of `run` replace these contents from address `at` on.
 #[derive(Clone, Copy)]
 pub struct Bytes {
     pub from: usize,
@@ -36,7 +36,7 @@ pub const ERASED: Bytes = Bytes {
     run: &[],
 };
 
-/// Returns contents that have `count` bytes of one value from address 0 on, and FFh elsewhere.
+/// Returns contents whose first `count` bytes have the value `byte`, and all others FFh.
 pub const fn first(count: usize, byte: u8) -> Bytes {
     Bytes {
         count,
@@ -45,7 +45,7 @@ pub const fn first(count: usize, byte: u8) -> Bytes {
     }
 }
 
-/// Returns contents that have these bytes from address `at` on, and FFh elsewhere.
+/// Returns contents that have the bytes `run` from address `at` on, and FFh elsewhere.
 pub const fn run(at: usize, run: &'static [u8]) -> Bytes {
     Bytes { at, run, ..ERASED }
 }
@@ -57,7 +57,7 @@ pub fn put_run(bytes: &mut [u8], at: usize, run: &[u8]) {
     }
 }
 
-/// Sets the byte at position `place`, if there is one.
+/// Sets the byte at position `place` to `byte`. Does nothing if `bytes` has no such position.
 pub fn put(bytes: &mut [u8], place: usize, byte: u8) {
     if let Some(found) = bytes.get_mut(place) {
         *found = byte;

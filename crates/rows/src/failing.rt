@@ -18,8 +18,8 @@ pub enum Fault {
     Busy,
 }
 
-/// A bus on which at most one transaction fails, or the polls of one wait. It carries out the transactions after that,
-/// up to its allowance, which begins anew after each failure.
+/// A bus on which at most one transaction fails, or the polls of one wait. All others are carried out, up to an
+/// allowance that begins anew after each failed transaction.
 #[derive(Drop)]
 pub struct OnceBus {
     pub bus: SimBus,
@@ -27,18 +27,18 @@ pub struct OnceBus {
     // the number of transactions before the one that fails; `None` if none fails
     behind: Option<u64>,
     allowed: u64,
-    /// The number of transactions requested, including the one that failed.
+    /// The number of transactions requested, including those that failed.
     pub asked: u64,
-    /// The first four bytes that transaction number `behind`, counted from 0, sent. If it sent fewer than four, this is
-    /// its first byte and three zeros. Before that transaction all four are zeros. With `Busy` the bytes are recorded
-    /// even if the transaction is no poll; then nothing fails.
+    /// The first four bytes that were sent by transaction `behind`, counted from 0. If it sent fewer than four, these
+    /// are its first byte and three zeros. Before that transaction all four are zeros. With `Busy` the bytes are
+    /// recorded even if the transaction isn't a poll; then nothing fails.
     pub met: [u8; 4],
     history: History,
 }
 
 impl OnceBus {
-    /// Returns a bus with the allowance `allowed`, on which the transaction after the first `behind` fails in the way
-    /// of `fault`. With `None` no transaction fails.
+    /// Returns a bus with the allowance `allowed`. After `behind` transactions, the next one fails as `fault` says; if
+    /// `behind` is `None`, no transaction fails.
     pub fn new(mut bus: SimBus, allowed: u64, fault: Fault, behind: Option<u64>) -> OnceBus {
         bus.allow(allowed);
         OnceBus {
@@ -61,7 +61,7 @@ impl OnceBus {
         }
     }
 
-    // True if this transaction, which sends `out`, fails.
+    // True if the next transaction, which sends `out`, fails.
     fn fails_at(&self, out: &[u8]) -> bool {
         let Some(behind) = self.behind else {
             return false;

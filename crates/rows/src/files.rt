@@ -15,15 +15,16 @@ use std::process::Abort;
 // The call that fails.
 #[derive(Clone, Copy, PartialEq, Eq)]
 enum Failure {
-    // The write after this number of others returns an error.
+    // The write that follows this number of writes returns an error.
     Write(usize),
-    // The write after this number of others accepts no bytes.
+    // The write that follows this number of writes accepts no bytes.
     Nothing(usize),
     // The first sync returns an error.
     Sync,
 }
 
-// A file in memory. It records its length at each write, even if the write fails, and at its last sync.
+// A file in memory. It records its length before each write, even if the write fails, and at its last sync, even if the
+// sync fails.
 #[derive(Drop)]
 struct OnceFile {
     failure: Option<Failure>,
@@ -63,7 +64,7 @@ impl OnceFile {
         }
     }
 
-    // True if the file received these writes and syncs, and has these bytes.
+    // True if the file's recorded writes, its recorded syncs and its bytes are the given ones.
     fn has(&self, writes: &[usize], syncs: Syncs, bytes: &[u8]) -> bool {
         self.writes.as_slice() == writes && self.syncs == syncs && self.bytes.as_slice() == bytes
     }
@@ -77,8 +78,8 @@ impl OnceFile {
             && Journal::read(&self.bytes).is_ok()
     }
 
-    // True if the last call on the file was write `n`, counted from 0, and its writes and bytes before that are those
-    // of `right`.
+    // True if the last call on the file was write `n`, counted from 0, and its earlier writes and its bytes are those
+    // of `right` before that write.
     fn ends_before(&self, right: &OnceFile, n: usize) -> bool {
         let (Some(writes), Some(before)) = (
             right.writes.get(0..n.saturating_add(1)),
@@ -123,8 +124,8 @@ impl VaultFile for OnceFile {
     }
 }
 
-// Runs a row's session whose vault is in a file that accepts at most `most` bytes per write. Asserts that the chip is
-// unchanged if the session returns an error. Returns the error, and the file.
+// Runs a row's session whose vault is in a file that accepts at most `most` bytes per write, and on which the call
+// `failure` fails. Asserts that the chip is unchanged if the session returns an error. Returns the error, and the file.
 fn keep(
     rt: &impl Abort,
     alloc: Global,
@@ -142,7 +143,8 @@ fn keep(
     (refusal, vault.into_inner())
 }
 
-// Makes a write or the sync fail. Asserts that the session returns error 11, and returns the file.
+// Runs a row's session as `keep` does, with a write or the sync that fails. Asserts that the session returns error 11,
+// and returns the file.
 fn fail(rt: &impl Abort, alloc: Global, row: Row, most: usize, failure: Failure) -> OnceFile {
     let (refusal, file) = keep(rt, alloc, row, most, Some(failure));
     assert!(rt; refusal == Some(Refusal::Vault));
@@ -150,8 +152,8 @@ fn fail(rt: &impl Abort, alloc: Global, row: Row, most: usize, failure: Failure)
 }
 
 // Runs the session twice. Write `n`, counted from 0, returns an error in the first run, and accepts no bytes in the
-// second. Asserts that this write was the last call on the file, and that the file holds the journal's bytes from
-// before it.
+// second. Asserts in both runs that this write was the last call on the file, and that the file holds the bytes that
+// `right` had before this write.
 fn fail_write(rt: &impl Abort, alloc: Global, row: Row, right: &OnceFile, n: usize) {
     for failure in [Failure::Write(n), Failure::Nothing(n)] {
         let file = fail(rt, alloc, row, right.most, failure);
@@ -160,8 +162,8 @@ fn fail_write(rt: &impl Abort, alloc: Global, row: Row, right: &OnceFile, n: usi
 }
 
 // Runs the session on a file that doesn't fail, and asserts the number of writes and the length of the journal. Then
-// makes each write fail in turn, and the sync. Asserts that all bytes were written before the sync, and that it isn't
-// repeated.
+// makes each write fail in turn, and then the sync. Asserts that all bytes were written before the sync, and that the
+// failed sync isn't repeated.
 fn fail_at_each(rt: &impl Abort, alloc: Global, row: Row, most: usize, counted: (usize, usize)) {
     let (writes, length) = counted;
     let (refusal, right) = keep(rt, alloc, row, most, None);
@@ -174,7 +176,7 @@ fn fail_at_each(rt: &impl Abort, alloc: Global, row: Row, most: usize, counted: 
 }
 
 // Each row has the most bytes per write, and the numbers of writes and of bytes. The header is one piece of 25 bytes,
-// each record is one of 4,100, and the end has two, of 4 and 32.
+// each record is one of 4,100, and the end mark and the digest are two pieces, of 4 and 32 bytes.
 const ROWS: [(Row, usize, (usize, usize)); 3] = [
     (Row::ABitRises, 5000, (1 + 1 + 2, 61 + 4100)),
     (Row::ABitRises, 1000, (1 + 5 + 2, 61 + 4100)),
@@ -192,7 +194,7 @@ fn a_file_that_fails_once_ends_the_session(rt: HostRuntime) {
     }
 }
 
-// Puts five bytes into a vault over a file that accepts two bytes per write and fails at the second write. Asserts that
+// Puts five bytes into a vault over a file that accepts two bytes per write, and whose second write fails. Asserts that
 // the error contains the number of bytes accepted before, and that the vault makes no further write or sync.
 fn put_half(rt: &impl Abort, alloc: Global, failure: Failure) {
     let mut vault = FileVault::new(OnceFile::new(alloc, 2, Some(failure)));
@@ -202,8 +204,8 @@ fn put_half(rt: &impl Abort, alloc: Global, failure: Failure) {
     assert!(rt; file.has(&[0, 2], Syncs::NONE, b"pi"));
 }
 
-// Puts five bytes into a vault over a file whose sync fails, and seals it. Asserts that the vault makes no further
-// write or sync.
+// Puts five bytes into a vault over a file whose sync fails, and seals it. Asserts that the seal is refused with 0
+// bytes kept, and that the vault makes no further write or sync.
 fn put_all(rt: &impl Abort, alloc: Global) {
     let mut vault = FileVault::new(OnceFile::new(alloc, 5, Some(Failure::Sync)));
     let told = [vault.put(b"piece"), vault.seal()];

@@ -1,5 +1,6 @@
-//! Two sessions that follow each other, and the two restores in reverse order. The first session is stopped after each
-//! number of transactions that is enough for its seal, and the second after each number of transactions.
+//! Two sessions on one chip, one after the other, and then the two restores in reverse order. The first session is
+//! stopped after each number of transactions that is enough for its seal, and the second after each number of
+//! transactions. Both also run to their end.
 use crate::held::assert_held;
 use crate::row::{Row, Start};
 use crate::runs::{AMPLE, Cut, Runs};
@@ -9,9 +10,9 @@ use nor_session::{Refusal, session};
 use std::alloc::Global;
 use std::process::Abort;
 
-// Runs a second session, which writes the image of another row, on the chip that a session left, with `allowed`
-// transactions. Asserts that it ends or is stopped. Returns the chip and the vault of the second session, and whether
-// it ended.
+// Runs a second session, which writes the image of the row `row`, on the chip that the first session left, with
+// `allowed` transactions. Asserts that it ends or is stopped. Returns the chip and the vault of the second session, and
+// whether it ended.
 fn write_again(rt: &impl Abort, alloc: Global, bus: SimBus, row: Row, allowed: u64) -> (Cut, bool) {
     let mut bus = bus;
     bus.allow(allowed);
@@ -23,8 +24,8 @@ fn write_again(rt: &impl Abort, alloc: Global, bus: SimBus, row: Row, allowed: u
     (Cut { bus, vault }, refusal.is_none())
 }
 
-// Restores from the second journal, if it is sealed, and then from the first. The restore from the second journal is
-// allowed `allowed` transactions, and is repeated if that stops it. Returns the chip.
+// Restores from the journal of the second session, if its vault is sealed, and then from that of the first. The restore
+// from the second journal is allowed `allowed` transactions, and runs again if that stops it. Returns the chip.
 fn undo_both(rt: &impl Abort, second: Cut, first: MemVault, allowed: u64) -> SimBus {
     let mut second = second;
     if second.vault.is_sealed() && second.restore(rt, allowed).is_none() {
@@ -42,8 +43,9 @@ fn undo_both(rt: &impl Abort, second: Cut, first: MemVault, allowed: u64) -> Sim
     first.bus
 }
 
-// Stops the second session after each number of transactions until it ends, on the chip that the first one left after
-// `n` transactions. Undoes both each time. Returns the number of transactions of the second session.
+// Stops the second session after each number of transactions until it ends, on the chip that the first session left
+// after `n` transactions. Each time, asserts that the two restores leave the chip as before the first session. Returns
+// the number of transactions of the second session.
 fn stop_second(rt: &impl Abort, alloc: Global, runs: &Runs, other: Row, n: u64) -> u64 {
     for m in 0..AMPLE {
         let Cut { bus, vault } = runs.cut(rt, n);
@@ -57,10 +59,12 @@ fn stop_second(rt: &impl Abort, alloc: Global, runs: &Runs, other: Row, n: u64) 
     panic!(rt; "no session behind {n} ended")
 }
 
-// The first session raises a bit of byte 0, and the second writes four bytes from FEh on; all are in the first sector.
-// The first session is stopped after 23 to 29 transactions, or it ends after 30. After 23 its journal is sealed. The
-// second session sends 23 transactions before its seal. It raises byte 0 with an erase, except if the first session was
-// stopped between its erase and its program: then the byte is FFh.
+// The first session raises a bit of byte 0, and the second writes FFh to byte 0 and four bytes from FEh on; all are in
+// the first sector. The first session is stopped after 23 to 29 transactions, or it ends after 30. After 23 its journal
+// is sealed.
+//
+// The second session sends 23 transactions before its seal. It raises byte 0 with an erase, except if the first session
+// was stopped between its erase and its program: then the byte is FFh.
 //
 // - After its seal the second session sends three transactions for each erase and program, and one to verify. If it
 //   doesn't erase the sector, it reads the sector again before the program.
@@ -68,8 +72,8 @@ fn stop_second(rt: &impl Abort, alloc: Global, runs: &Runs, other: Row, n: u64) 
 //   23 + 1 + 2 * 3 + 1. After 28 and 29, and at the end, it is 01h, and has to be raised again.
 const LENGTHS: [u64; 8] = [33, 33, 31, 31, 31, 33, 33, 33];
 
-// The lengths of the second session if the stop of the first one loses a reply. The chip is then as after one
-// transaction more.
+// The lengths of the second session if each stop loses a reply. At a stop of the first session the chip is then as
+// after one transaction more.
 const LENGTHS_AFTER_A_LOST_REPLY: [u64; 8] = [33, 31, 31, 31, 33, 33, 33, 33];
 
 #[test]

@@ -23,9 +23,10 @@ fn is_same_to_itself(length: usize) -> bool {
     }
 }
 
-// True if the comparisons find the only difference of two slices of this length: one bit of the byte at `place`.
-// `differs` must return true, and `bounds` the position, with either slice as the old one. `raises` must return true
-// only if the slice of `lower` is the old one.
+// True if the comparisons find the only difference of two slices of this length: bit 1 of the byte at `place`, which is
+// clear in `lower` and set in `higher`. `differs` must return true, and `bounds` the position, with either slice as the
+// old one. `raises` must return true only if the slice of `lower` is the old one. `spans` must return the span of that
+// byte and no other.
 fn differs_at(length: usize, place: usize) -> bool {
     let lower = [0xA5u8; LONGEST];
     let mut higher = [0xA5u8; LONGEST];

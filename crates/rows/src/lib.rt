@@ -8,26 +8,29 @@
 //! - `runs.rt`: runs a row's session and its restores, each stopped after a given number of transactions
 //! - `spoilt.rt`: runs a row's session, or a restore, on a faulty bus
 //! - `failing.rt`: a bus on which one transaction, or the polls of one wait, fail and all others succeed
-//! - `stages.rt`: calls on that bus, with each of their transactions or waits failing in turn
+//! - `stages.rt`: calls on the bus of `failing.rt`, with each of their transactions or waits failing in turn
 //! - `held.rt`: an assertion whose message has a number
 //!
 //! Stops and power failures:
 //!
-//! - `cuts.rt`: sessions that are stopped after each number of transactions, and one restore after each stop
-//! - `undone.rt`: sessions that are stopped, restores that are stopped, too, and a second restore
+//! - `cuts.rt`: sessions that are stopped after each number of transactions, and one restore after each stop that
+//!   follows the seal
+//! - `undone.rt`: sessions that are stopped, restores that are also stopped, and a second restore
 //! - `torn.rt`: sessions and restores that are stopped inside each of their transactions
 //! - `lost.rt`: sessions and restores that lose the reply to each of their transactions
-//! - `in_turn.rt`: two sessions, each stopped, and the two restores in reverse order
+//! - `in_turn.rt`: two successive sessions, each stopped, and their two restores in reverse order
 //! - `power.rt`: sessions and restores during which the chip loses its power
-//! - `rehearsed.rt`: rehearsals with each stop, and on faulty buses
+//! - `rehearsed.rt`: rehearsals with each stop of the session and of its first restore, and rehearsals on faulty buses
 //! - `allowances.rt`: how many transactions a rehearsal allows each of its calls
-//! - `once.rt`: after a stop or a timeout no call sends anything more; a spoilt sector isn't read again
+//! - `once.rt`: after a stop or a timeout no call except a rehearsal sends anything more; a spoilt sector isn't read
+//!   again
 //! - `readings.rt`: reading calls that are stopped, or whose vault refuses a piece; the status that they report
 //!
 //! Faulty buses, vaults and files:
 //!
 //! - `lies.rt`: the errors of sessions and restores on faulty buses, and restores after them on a well-behaved bus
-//! - `bounds.rt`: calls keep their bounds of transactions, on faulty buses and on the slowest chip
+//! - `bounds.rt`: probes, readings, sessions and restores keep their bounds of transactions on faulty buses, and a
+//!   session and its restore on the slowest chip
 //! - `vaults.rt`: sessions whose vault refuses a call
 //! - `files.rt`: sessions whose journal is in a file that fails once
 //! - `sinks.rt`: vaults and files that accept everything, refuse a call, write short or can't be synced
@@ -37,10 +40,10 @@
 //! serprog (nor_serprog), most of it over a port in memory:
 //!
 //! - `serprog_model.rt`: a port to a simulated programmer and chip
-//! - `serprog_frames.rt`: the bytes of six commands
+//! - `serprog_frames.rt`: the frames of five commands, and a transaction that is too long for a frame
 //! - `serprog_handshakes.rt`: how a link is synchronized, and how a programmer is identified
 //! - `serprog_buses.rt`: transactions over the bus, and faults of the programmer and the port
-//! - `serprog_stops.rt`: sessions and restores over an honest port (nor_wire), which fails at each of its calls
+//! - `serprog_stops.rt`: sessions and restores over an honest port (nor_wire), which fails at each of its calls in turn
 //! - `serprog_wrappers.rt`: paced polls, and readings that are made twice
 //!
 //! Single calls:

@@ -123,8 +123,9 @@ fn a_restore_that_programs(rt: HostRuntime) {
     }
 }
 
-// Transactions 8 to 23 of `ABitRises` scan the chip. If one is dropped, the session takes that sector for erased. Only
-// sector 0 differs from the image, so it is saved: its first byte is 00h, or FFh if its reading was dropped.
+// Transactions 8 to 23 of `ABitRises` scan the chip. If one is dropped, the session takes the sector that it reads for
+// erased. Only sector 0 differs from the image, so only this sector is saved: its first byte is 00h, or FFh if
+// transaction 8 was dropped.
 #[test]
 fn a_lie_before_the_seal_leaves_a_journal(rt: HostRuntime) {
     for n in 8..=23 {
@@ -148,8 +149,9 @@ fn is_fitting(spoil: Spoil, refusal: Option<Refusal>) -> bool {
     }
 }
 
-// Drops each transaction after the seal of a row's session in turn, and shows BUSY from each of them on. Asserts that a
-// restore on a well-behaved bus restores the chip. Returns the number of runs.
+// Drops each transaction after the seal of a row's session in turn, and in further runs shows BUSY from that
+// transaction on. Asserts that the session's error fits the fault, that the vault is sealed, and that a restore on a
+// well-behaved bus restores the chip. Returns the number of runs.
 fn lie_past_the_seal(rt: &impl Abort, alloc: Global, row: Row) -> u64 {
     let mut runs: u64 = 0;
     for n in row.sealed_at(Start::IDLE)..row.ends_at(Start::IDLE) {
@@ -183,8 +185,9 @@ fn any_lie_past_the_seal_is_undone(rt: HostRuntime) {
     }
 }
 
-// Stops a row's session, then drops each of the `length` transactions of the restore in turn, and shows BUSY from each
-// of them on. Asserts that a restore on a well-behaved bus then restores the chip.
+// Stops a row's session after `stop` transactions, then drops each of the `length` transactions of the restore in turn,
+// and in further runs shows BUSY from that transaction on. Asserts that a restore on a well-behaved bus then restores
+// the chip.
 fn lie_to_restores(rt: &impl Abort, alloc: Global, row: Row, stop: u64, length: u64) {
     let runs = Runs::new(rt, alloc, row, Start::IDLE);
     let sent = runs.cut(rt, stop).restore(rt, length);

@@ -17,8 +17,9 @@ fn change<S: Store>(files: &mut S) -> io::Result<()> {
     Ok(())
 }
 
-// Makes the change with files whose first `left` calls succeed. Returns the files that are left after `loss`. If
-// `is_torn` is true and the last of these calls is `write_over`, it writes only the first half of its bytes, and fails.
+// Makes the change with files on which at most `left` calls succeed, as `Memory` counts them. Returns the files that
+// are left after `loss`. If `is_torn` is true and the last of these calls is `write_over`, it writes only the first
+// half of its bytes, and fails.
 fn left_of(alloc: Global, left: u64, is_torn: bool, loss: Loss) -> Result<Memory, AllocError> {
     let mut files = Memory::new(alloc, left);
     files.put("image", b"abcd")?;
@@ -60,7 +61,7 @@ fn changes_are_lost_until_they_are_synced(rt: HostRuntime) -> Result<(), AllocEr
     Ok(())
 }
 
-// A write that is torn fails. Without a tear the same write succeeds.
+// With a tear, the only write fails. Without a tear, the same write succeeds.
 #[test]
 fn a_torn_write_fails(rt: HostRuntime) -> Result<(), AllocError> {
     for is_torn in [false, true] {
@@ -75,8 +76,8 @@ fn a_torn_write_fails(rt: HostRuntime) -> Result<(), AllocError> {
     Ok(())
 }
 
-// A host crash that loses all that wasn't synced: the bytes of a sealed vault in a file that existed remain, and those
-// of an unsealed vault are lost.
+// A host crash loses all that wasn't synced. The bytes of a sealed vault in a file that existed remain. The bytes of an
+// unsealed vault are lost, and the file has its old bytes.
 #[test]
 fn a_sealed_vault_is_durable(rt: HostRuntime) -> Result<(), io::Error> {
     for is_sealed in [false, true] {

@@ -26,7 +26,7 @@ impl Pair {
     }
 
     // Stops the session after `n` transactions, and loses the reply to the next one. Asserts that the chip is as after
-    // `n + 1` transactions, and the vault as after `n`.
+    // `n + 1` transactions, and the vault as after `n`. Returns the chip and the vault.
     fn lose(&self, rt: &impl Abort, n: u64) -> Cut {
         let left = self.lost.cut(rt, n);
         let chip = self.whole.cut(rt, n.saturating_add(1)).bus;
@@ -37,8 +37,9 @@ impl Pair {
         left
     }
 
-    // Stops the session as `lose` does, and its restore in the same way after `m` transactions. Asserts that the chip
-    // is as if the restore had been stopped after `m + 1`. Returns `None` if the restore ended.
+    // Stops the session as `lose` does, and loses the reply to transaction `m + 1` of the restore after it. Asserts
+    // that the chip is as if the restore had been stopped after `m + 1` transactions. Returns the chip and the vault,
+    // or `None` if the restore ended after at most `m` transactions.
     fn lose_again(&self, rt: &impl Abort, n: u64, m: u64) -> Option<Cut> {
         let mut left = self.lost.cut(rt, n);
         if left.restore(rt, m).is_some() {
@@ -66,8 +67,8 @@ fn assert_restored(rt: &impl Abort, runs: &Runs, mut left: Cut) {
     runs.assert_as_before(rt, &left.bus);
 }
 
-// Each row has its start and the first number of transactions after which the session stops. For the large chips this
-// is three transactions before the seal, or six on the slow one, whose first wait has three more polls.
+// Each row has its start and the first number of transactions after which the session stops. On the W25Q64FV this is
+// three transactions before the seal, or six on the slow one, whose first wait has three more polls.
 const SESSIONS: [(Row, Start, u64); 10] = [
     (Row::AByteIsProgrammed, Start::IDLE, 0),
     (Row::AByteIsProgrammed, Start::SLOW, 0),
@@ -92,8 +93,8 @@ fn each_lost_reply_of_a_session(rt: HostRuntime) {
     }
 }
 
-// Loses the reply to each transaction that the session sends after the seal, and then to each transaction of the
-// restore. Returns the number of replies that restores lost.
+// Loses the reply to each transaction that the session sends after the seal in turn, and after each of these stops to
+// each transaction of the restore in turn. Returns the number of replies that restores lost.
 fn lose_in_restores(rt: &impl Abort, pair: &Pair, row: Row, start: Start) -> u64 {
     let mut lost: u64 = 0;
     for n in row.sealed_at(start)..row.ends_at(start) {
@@ -102,8 +103,8 @@ fn lose_in_restores(rt: &impl Abort, pair: &Pair, row: Row, start: Start) -> u64
     lost
 }
 
-// Loses the reply to transaction `n + 1` of the session, and to each transaction of the restore. Returns the number of
-// replies that the restore lost.
+// Loses the reply to transaction `n + 1` of the session, and then to each transaction of the restore in turn. Asserts
+// that a further restore leaves the chip as before the session. Returns the number of replies that the restore lost.
 fn lose_in_restore(rt: &impl Abort, pair: &Pair, n: u64) -> u64 {
     for m in 0..AMPLE {
         let Some(left) = pair.lose_again(rt, n, m) else {
@@ -114,8 +115,9 @@ fn lose_in_restore(rt: &impl Abort, pair: &Pair, n: u64) -> u64 {
     panic!(rt; "no restore behind {n} ended")
 }
 
-// The number of replies that the restores of a row lose: the transactions of the restores that follow the stops of
-// `undone.rt`, without the first of these, at which the vault has just been sealed.
+// Each row has its start and the number of replies that its restores lose. A session that loses a reply leaves the chip
+// as at the next stop of `undone.rt`. So the number is the sum of the lengths of the restores there, without the one
+// that follows the first stop after the seal.
 const RESTORES: [(Row, Start, u64); 5] = [
     (Row::AByteIsProgrammed, Start::IDLE, 2 * 8 + 3 * 12),
     (

@@ -1,5 +1,6 @@
-//! After a stop or a timeout each call ends and sends nothing more, even though the bus would carry out further
-//! transactions, and further polls would show that the chip is ready. A sector with a spoilt reply isn't read again.
+//! After a stop or a timeout, a call other than a rehearsal ends and sends nothing more. The bus would carry out
+//! further transactions, and further polls would show that the chip is ready. After a stop, a rehearsal goes on only if
+//! a stop was given for the call that stopped. A sector with a spoilt reply isn't read again.
 use crate::failing::{Fault, OnceBus};
 use crate::held::assert_held;
 use crate::row::{Row, Start, erased};
@@ -15,7 +16,7 @@ use nor_session::{Refusal, Rehearsal, rehearse};
 use std::alloc::Global;
 use std::process::Abort;
 
-// An operation of nor_driver that sends transactions.
+// A function of nor_driver that sends transactions.
 #[derive(Clone, Copy)]
 enum Command {
     Poll,
@@ -31,7 +32,7 @@ enum Command {
 }
 
 impl Command {
-    // Carries out the operation. Returns true if its result is that the bus stopped.
+    // Calls the function. Returns true if its result is that the bus stopped.
     fn is_stopped(self, bus: &mut OnceBus) -> bool {
         match self {
             Command::Poll => poll(bus) == Err(Stopped),
@@ -51,7 +52,7 @@ impl Command {
         }
     }
 
-    // Runs the operation on a chip with these delays, with a stop at each of its `length` transactions in turn, and at
+    // Calls the function on a chip with these delays, with a stop at each of its `length` transactions in turn, and at
     // last without a stop. Asserts that after a stop it returns the stop and sends nothing more.
     fn stop_at_each(self, rt: &impl Abort, alloc: Global, delays: Delays, length: u64) {
         for n in 0..=length {
@@ -64,7 +65,7 @@ impl Command {
     }
 }
 
-// Each operation with the number of its transactions. The chip shows BUSY in two polls: after an erase, a program or a
+// Each function with the number of its transactions. The chip shows BUSY in two polls: after an erase, a program or a
 // status write, otherwise at first. So a wait has three polls, and an erase, a program or a status write has five
 // transactions.
 const COMMANDS: [(Command, u64); 13] = [
@@ -102,7 +103,7 @@ fn a_stop_ends_each_command(rt: HostRuntime) {
 // - The restore scans 19 sectors, sends two erases and 17 programs, reads 17 sectors before it programs them, and reads
 //   19 to verify them.
 //
-// On the W25Q64FV both scan two sectors, and read them to verify them:
+// On the W25Q64FV session and restore each scan two sectors, and read them again at the end to verify them:
 //
 // - The session sends two status writes, an erase and two programs, and reads one sector before it programs it.
 // - The restore sends two status writes, two erases and a program.
@@ -174,8 +175,7 @@ fn a_timeout_ends_each_call(rt: HostRuntime) {
 
 // Each call with the number of replies that are checked. On an idle chip a spoilt poll shows BUSY, so another poll
 // follows, and nothing else changes. A spoilt sector isn't read again: a comparison returns a mismatch at the sector's
-// first address, and `read_out` writes the spoilt bytes to the output. Each operation has a poll, and so has the
-// identification.
+// first address, and `read_out` returns no error. Each operation has a poll, and so has the identification.
 const REPLIES: [(Call, u64); 4] = [
     (Call::ReadOut, 1 + 2),
     (Call::Verify, 1 + 2),
@@ -191,8 +191,9 @@ fn a_spoilt_reply_is_taken_as_it_is(rt: HostRuntime) {
     }
 }
 
-// Returns the number of transactions of a restore after a session, or a session and a restore, that sent `sent`
-// transactions. Before the seal there is no restore; 8 suffice if the sector is as saved, and 13 include one program.
+// Returns the number of transactions of a restore after a session, or after a session and a restore, that sent `sent`
+// transactions in all. Before the seal there is no restore. A restore needs 8 transactions if the sector is as saved,
+// and 13 if it programs one byte.
 fn restore_behind(sent: u64) -> Option<u64> {
     match sent {
         0..=22 => None,
@@ -241,7 +242,8 @@ fn rehearse_behind(rt: &impl Abort, alloc: Global, behind: u64, stops: usize) ->
     (told, bus.asked)
 }
 
-// The session sends 30 transactions, and the restore after it thirteen. The eleventh of these programs the byte.
+// The session sends 30 transactions, and the restore after it 13. The eleventh transaction of the restore programs the
+// byte.
 #[test]
 fn a_stop_in_a_rehearsal(rt: HostRuntime) {
     for n in 0..30 + 13 {

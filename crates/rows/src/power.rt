@@ -1,19 +1,21 @@
 //! Sessions and restores during which the chip loses its power, at each transaction in turn. The chips show BUSY in two
 //! polls after each operation. An interrupted erase or program leaves 00h, 5Ah or FFh in the bytes that it works on.
 //!
-//! Each test counts its runs: one for a stop before the seal, and after any other stop one more than the restore has
-//! transactions. The end of the session counts as its last stop. An operation takes five transactions. After a loss of
-//! power the chip is idle, so the identification has one poll. A restore that only reads the sector has 8 transactions.
-//! Any other has 9 and five for each operation, and one more if it programs the sector without an erase, since it then
-//! reads it again.
+//! Each test counts its runs. A stop before the seal is one run. After any other stop the restore is stopped after 0,
+//! 1, .. transactions until it ends, so the number of runs is one more than its number of transactions. The end of the
+//! session counts as its last stop.
+//!
+//! An operation takes five transactions. After a loss of power the chip is idle, so the identification has one poll. A
+//! restore that only reads the sector has 8 transactions. Any other restore has 9 transactions, and five more for each
+//! operation. If it programs the sector without an erase, it reads the sector a second time, with one more transaction.
 use crate::held::assert_held;
 use crate::row::{Row, Start};
 use crate::runs::Runs;
 use std::alloc::Global;
 use std::process::Abort;
 
-// Runs a row with each fill byte: 00h, 5Ah and FFh. Asserts that the number of runs is `runs`, which is the same for
-// each fill, plus the number of runs after an interrupted operation, which `cut_off` has for each fill.
+// Runs a row with each fill byte: 00h, 5Ah and FFh. Asserts that the number of runs is `runs`, which is equal for each
+// fill, plus the number of runs after a stop that interrupts an operation. `cut_off` has the latter for each fill.
 fn lose_at_each(rt: &impl Abort, alloc: Global, row: Row, runs: u64, cut_off: [u64; 3]) {
     let [zeros, others, ones] = cut_off;
     for (fill, more) in [(0x00, zeros), (0x5A, others), (0xFF, ones)] {
@@ -24,8 +26,8 @@ fn lose_at_each(rt: &impl Abort, alloc: Global, row: Row, runs: u64, cut_off: [u
 }
 
 // 23 stops are before the seal. Three leave the byte as it was, and the restore has 8 transactions. Two interrupt the
-// page program, which fills the page. With FFh the byte is then as it was. With another fill, and after the last three
-// stops, the sector is erased, with 14 transactions.
+// page program, so the whole page has the fill byte. If that is FFh, the byte is as it was. With another fill, and
+// after the last three stops, the restore erases the sector, with 14 transactions.
 #[test]
 fn each_loss_behind_a_programmed_byte(rt: HostRuntime) {
     let runs = 23 + 3 * 9 + 3 * 15;
@@ -38,10 +40,10 @@ fn each_loss_behind_a_programmed_byte(rt: HostRuntime) {
     );
 }
 
-// 23 stops are before the seal. Two leave the byte as it was, and the restore has 8 transactions. After the six stops
-// that interrupt no operation, one program restores the byte, with 15 transactions. Two stops interrupt the erase, and
-// two the page program. With FFh one program is then enough, too. With another fill the sector is also erased, with 19
-// transactions.
+// 23 stops are before the seal. Two leave the byte as it was, and the restore has 8 transactions. After the six later
+// stops that interrupt no operation, one program restores the byte, with 15 transactions. Two stops interrupt the
+// erase, and two the page program. With the fill FFh one program is then enough, too. With another fill the restore
+// also erases the sector, with 19 transactions.
 #[test]
 fn each_loss_behind_a_bit_that_rises(rt: HostRuntime) {
     let runs = 23 + 2 * 9 + 6 * 16;
@@ -70,13 +72,14 @@ fn each_loss_behind_two_pages(rt: HostRuntime) {
     );
 }
 
-// 8 stops are before the seal, and two leave the sector as it was. Three after the erase leave 16 pages to program,
-// with 90 transactions: ten, and five for each page. Then three stops after each page program, and two during it, leave
-// 15, 14, .. 1 pages to program.
+// 8 stops are before the seal, and two leave the sector as it was. Three stops after the erase leave 16 pages to
+// program, with 90 transactions: ten, and five for each page. Then three stops after each page program, and two during
+// it, leave 15, 14, .. 1 pages to program.
 //
 // Two stops interrupt the erase, so that all pages have to be programmed. Two interrupt each page program, so that its
-// page has to be programmed again. The original sector is full of 00h. So with that fill nothing remains to be done
-// after an interrupted erase, and an interrupted page program leaves its page as it was originally.
+// page has to be programmed again: five more transactions. The bytes of the original sector are 00h. So with the fill
+// 00h nothing remains to be done after an interrupted erase, and an interrupted page program leaves its page as it was
+// originally.
 #[test]
 fn each_loss_behind_a_sector_that_mostly_stays(rt: HostRuntime) {
     let runs = 8 + 2 * 9 + 3 * 91 + 5 * (15 * 11 + 5 * 15 * 16 / 2);

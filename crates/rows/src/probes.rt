@@ -107,12 +107,11 @@ type Said = Result<(u32, Kinds), SfdpFault>;
 //
 // - from 00h on, the header, with the major revision at 05h
 // - from 08h on, the parameter header, with its major revision at 0Ah, the table's length at 0Bh and its address at 0Ch
-// - from 10h on, the table, with the erase granularity and the address bytes in double word 1, the size in double word
+// - from 10h on, the table, with the write granularity and the address bytes in double word 1, the size in double word
 //   2 (14h), and the erase types in double words 8 and 9 (2Ch)
 //
-// A table at FFFFFFh lies past the SFDP bytes, so each of its bytes is FFh. A table at 0 is the header, which begins
-// with 53 46 44 50. The address bytes field of double word 1 is 3 in the first and 2 in the second; a probe refuses
-// both.
+// A table at FFFFFFh lies past the SFDP bytes, so each of its bytes is FFh, and its field of the address bytes is 3. A
+// table at 0 is the header, which begins with 53 46 44 50, so that field is 2. A probe refuses both values.
 const SAYINGS: &[(usize, &[u8], Said)] = &[
     (0x00, &[], Ok((65_536, ALL_KINDS))),
     (0x0C, &[0xFF, 0xFF, 0xFF], Err(SfdpFault::Address)),
@@ -166,7 +165,7 @@ fn sfdp_says_a_geometry_or_its_first_fault(rt: HostRuntime) {
 const TINY64_SENT: &str = "05 > 04\n9f > fe1010\n\
     5a00000000 > 8 bytes\n5a00000800 > 8 bytes\n5a00001000 > 36 bytes\n";
 
-// The transactions to a chip without SFDP bytes. It replies FFh, so the probe reads the table at FFFFFFh.
+// The transactions to a chip without SFDP bytes. It replies to 5Ah with FFh, so the probe reads the table at FFFFFFh.
 const SILENT_SENT: &str = "05 > 04\n9f > aa1122\n\
     5a00000000 > 8 bytes\n5a00000800 > 8 bytes\n5affffff00 > 36 bytes\n";
 
@@ -174,7 +173,7 @@ const W25Q64FV_SENT: &str = "05 > 04\n9f > ef4017\n";
 
 const W25Q128FV_SENT: &str = "05 > 04\n9f > ef4018\n";
 
-// The chip of a probe, with or without a name. `Ones` and `Zeros` are IDs that mean that there is no chip.
+// The chip that is probed. `Ones` and `Zeros` have IDs that mean that there is no chip.
 #[derive(Clone, Copy)]
 enum Sample {
     Small,
@@ -279,8 +278,8 @@ const WAITED_LONG: Answer = Ok(Probed {
 const STOPPED: Answer = Err(ProbeFault::Stopped);
 
 // Each row has the number of polls that show BUSY at first, the fault of the bus, the number of allowed transactions,
-// and the result. `HONEST` is a fault that never occurs. On a faulty bus no clause distinguishes a stop from a timeout,
-// so this test checks which of the two is returned.
+// and the result. `HONEST` is a fault that never occurs, and with `STUCK` each poll shows BUSY. On a faulty bus no
+// clause states how many polls precede a timeout, so this test checks that there are 65,536.
 const WAITS: [(u16, Spoil, u64, Answer); 6] = [
     (3, HONEST, 8, WAITED),
     (3, HONEST, 7, STOPPED),

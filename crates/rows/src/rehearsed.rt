@@ -1,4 +1,4 @@
-//! The results of rehearsals: for each stop of the session and each stop of the restore after it, and on faulty buses.
+//! The results of rehearsals: with each stop of the session and each stop of the restore after it, and on faulty buses.
 ghost use Rattle.std.specs.Prelude.{◌≤◌, length};
 
 use crate::held::assert_held;
@@ -11,8 +11,8 @@ use nor_session::{Refusal, Rehearsal, rehearse};
 use std::alloc::Global;
 use std::process::Abort;
 
-// Rehearses the row's session with these stops, and asserts that afterwards the chip is as before. Returns the result,
-// and whether the vault is sealed.
+// Rehearses the row's session with these stops, at most 64, on an idle chip. Asserts that afterwards the chip is as
+// before. Returns the result, and whether the vault is sealed.
 fn rehearsed(
     rt: &impl Abort,
     alloc: Global,
@@ -30,8 +30,9 @@ fn rehearsed(
     (told, vault.is_sealed())
 }
 
-// Returns the number of transactions that a restore sends after the session was stopped after `stop` transactions.
-// Before the seal there is no restore; 8 suffice if the sector is as saved, and 13 include one program.
+// Returns the number of transactions that the restore of `ABitRises` sends after the session was stopped after `stop`
+// transactions. Before the seal there is no restore. A restore needs 8 transactions if the sector is as saved, and 13
+// if it programs one byte.
 fn restore_behind(stop: u64) -> Option<u64> {
     match stop {
         0..=22 => None,
@@ -62,8 +63,8 @@ fn each_pair_of_stops_tells_how_it_went(rt: HostRuntime) {
     }
 }
 
-// Returns the number of transactions of the restore after one that needs `needed` and was stopped after `sent`. The
-// eleventh of thirteen is the program; after it the sector is as saved.
+// Returns the number of transactions of the second restore, if the first one needs `needed` and was stopped after
+// `sent`. In a restore of 13 transactions the eleventh is the program; after it the sector is as saved.
 fn restore_again(needed: u64, sent: u64) -> u64 {
     if sent < 11 { needed } else { 8 }
 }
@@ -206,7 +207,7 @@ fn lies() -> [(Row, Spoil, Told); 8] {
     ]
 }
 
-// The error is returned even if stops are given, and nothing is sent after it.
+// In each row except the first, the error is returned even if stops are given, and nothing is sent after it.
 #[test]
 fn a_refusal_in_a_rehearsal_is_told(rt: HostRuntime) {
     for (row, spoil, told) in lies() {

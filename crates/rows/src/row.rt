@@ -10,7 +10,7 @@ use std::process::Abort;
 #[derive(Clone, Copy)]
 pub struct Start {
     pub delays: Delays,
-    /// Whether the write enable latch is set, as after a write enable.
+    /// True if the write enable latch is set, as after a write enable.
     pub latch: bool,
     /// If this is `Some`, the chip loses its power at a stop, and this byte determines what is left of a running
     /// operation (`SimBus::lose`).
@@ -20,7 +20,8 @@ pub struct Start {
 }
 
 impl Start {
-    /// An idle chip that shows no BUSY after operations, on a bus whose stop sends no byte and keeps the chip's power.
+    /// An idle chip that shows no BUSY after operations, with a clear write enable latch, on a bus whose stop sends no
+    /// byte and keeps the chip's power.
     pub const IDLE: Start = Start {
         delays: Delays { now: 0, each: 0 },
         latch: false,
@@ -51,14 +52,15 @@ impl Start {
         }
     }
 
-    // Returns the status bytes of a chip with these non-volatile status bits.
+    // Returns the status bytes of a chip with these non-volatile status bits, and with the write enable latch of this
+    // start.
     fn status(self, kept: [u8; 2]) -> [u8; 2] {
         let [one, two] = kept;
         if self.latch { [one | 0x02, two] } else { kept }
     }
 
     /// Returns the start of an idle chip that shows BUSY in two polls after each operation, and loses its power at a
-    /// stop.
+    /// stop, with the fill byte `fill`.
     pub const fn losing(fill: u8) -> Start {
         Start {
             delays: Delays { now: 0, each: 2 },
@@ -92,16 +94,16 @@ pub enum Row {
     NineSectorsAreErased,
     /// Erases the whole chip, with one command.
     TheChipIsErased,
-    /// Changes one included page of a sector full of 00h to FFh. The session erases the sector, and programs its other
-    /// fifteen pages again.
+    /// Changes one page, the only included one, from 00h to FFh, in a sector whose bytes are all 00h. The session
+    /// erases the sector, and programs its other fifteen pages again.
     TheRestOfASectorStays,
     /// Programs the last byte before the protected range.
     AByteBelowTheGuardIsProgrammed,
     /// Programs the first byte of the protected range. The session clears the protection bits first, and sets them
     /// again at the end.
     AGuardedByteIsProgrammed,
-    /// Changes every byte of a TINY64 without erases of 32 and 64 KiB. The session erases fifteen sectors, and programs
-    /// each page of all sixteen sectors.
+    /// Changes every byte of a TINY64 that lacks the erases of 32 and 64 KiB. The session erases fifteen sectors, and
+    /// programs each page of all sixteen sectors.
     EachPageIsProgrammed,
     /// Erases sectors 8 to 39 of a chip of 256 KiB, with three erases of 32, 64 and 32 KiB.
     ThirtyTwoSectorsAreErased,
@@ -144,7 +146,8 @@ fn sectors_alone(rt: &impl Abort) -> Config {
     Config::new([0xFE, 0x10, 0x10], 65_536, false, false, false, &sfdp).expect(rt, "a size")
 }
 
-/// Returns the configuration of a chip of 256 KiB that is known by its SFDP, with or without erases of 32 and 64 KiB.
+/// Returns the configuration of a chip of 256 KiB that is known by its SFDP. It has the erase of 32 KiB if `k32` is
+/// true, and that of 64 KiB if `k64` is true.
 pub fn large(rt: &impl Abort, k32: bool, k64: bool) -> Config {
     let mut sfdp = TINY64_SFDP;
     sfdp[0x16] = 0x1F;
@@ -172,7 +175,8 @@ struct Written {
     sealed: u32,
     // the number of transactions of the session, on a chip without delays
     length: u32,
-    // the number of the session's transactions that are erases, page programs and status writes; it waits for each
+    // the number of the session's transactions that are erases, page programs and status writes; the session waits
+    // after each of them
     operations: u32,
 }
 
@@ -187,7 +191,7 @@ impl Row {
         self.written().image.whole(rt, alloc, self.sectors())
     }
 
-    /// Returns the session's request. It verifies.
+    /// Returns the session's request: a write of the image, with verification.
     pub fn request(self, rt: &impl Abort, alloc: Global) -> Request {
         let Written { part, unlock, .. } = self.written();
         Request {
@@ -199,7 +203,8 @@ impl Row {
         }
     }
 
-    /// Returns a bus to the row's chip in the state `start`.
+    /// Returns a bus to the row's chip in the state `start`. The bus carries out no transaction before `allow` is
+    /// called.
     pub fn bus(self, rt: &impl Abort, alloc: Global, start: Start) -> SimBus {
         let bytes = self.before(rt, alloc);
         let config = self.written().chip.config(rt);
@@ -223,12 +228,14 @@ impl Row {
         self.written().chip.sectors()
     }
 
-    /// Returns the least number of allowed transactions with which the session seals its vault.
+    /// Returns the least number of allowed transactions with which the session seals its vault, on a chip in the state
+    /// `start`.
     pub fn sealed_at(self, start: Start) -> u64 {
         u64::from(self.written().sealed) + u64::from(start.delays.now)
     }
 
-    /// Returns the least number of allowed transactions with which the session succeeds.
+    /// Returns the least number of allowed transactions with which the session succeeds, on a chip in the state
+    /// `start`.
     pub fn ends_at(self, start: Start) -> u64 {
         let Written {
             length,
@@ -262,7 +269,8 @@ impl Row {
     }
 }
 
-/// Returns a bus to an erased chip.
+/// Returns a bus to an erased chip with this configuration, these status bytes and these delays. The bus carries out no
+/// transaction before `allow` is called.
 pub fn erased(
     rt: &impl Abort,
     alloc: Global,
@@ -280,7 +288,8 @@ pub fn included(rt: &impl Abort, alloc: Global, layout: Option<&[u8]>) -> Option
     Some(layout.include("part").expect(rt, "a region"))
 }
 
-// Returns a write to a TINY64. The identification sends seven transactions, the scan sixteen.
+// Returns a write to a TINY64, with the whole chip included. The identification sends seven transactions, the scan
+// sixteen.
 fn on_tiny64(old: Bytes, image: Bytes, length: u32, operations: u32) -> Written {
     Written {
         chip: Chip::Tiny64,
@@ -322,8 +331,8 @@ fn on_w25q64fv(image: Bytes, unlock: bool, length: u32, operations: u32) -> Writ
 }
 
 fn each_page_is_programmed() -> Written {
-    // After the identification and the scan, the session sends three transactions for each operation, one that reads
-    // the sector without an erase before it is programmed, and sixteen to verify.
+    // After the identification and the scan, the session sends three transactions for each operation. It also reads the
+    // one sector that it doesn't erase, before it programs that sector, and sixteen sectors to verify them.
     let operations = 15 + 16 * 16;
     let length = 23 + 3 * operations + 1 + 16;
     let old = first(61_440, 0x00);

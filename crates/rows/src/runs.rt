@@ -9,10 +9,10 @@ use nor_session::{Refusal, Report, restore, session};
 use std::alloc::Global;
 use std::process::Abort;
 
-/// A number of transactions that is enough for a restore of any row, except on the slowest chip.
+/// A number of transactions that is enough for a restore of any row, except with `Start::SLOWEST`.
 pub const AMPLE: u64 = 10_000;
 
-/// Runs a row's session on a bus to its chip, and returns its result.
+/// Runs a row's session on a bus to its chip, with an empty and unsealed vault. Returns the session's result.
 pub fn keep<B: Bus, V: Vault>(
     rt: &impl Abort,
     alloc: Global,
@@ -27,7 +27,7 @@ pub fn keep<B: Bus, V: Vault>(
     session(bus, vault, &mut image, &request)
 }
 
-/// The chip and the vault that a session left.
+/// The bus to the chip, and the vault, as a session left them.
 #[derive(Drop)]
 pub struct Cut {
     pub bus: SimBus,
@@ -36,8 +36,8 @@ pub struct Cut {
 
 impl Cut {
     /// Restores from the vault's journal, with `allowed` transactions. Returns the number of transactions sent if the
-    /// restore ends, and `None` if it was stopped. If it ends, asserts that the chip is idle, and that its write enable
-    /// latch is set only if it was set before.
+    /// restore ends, and `None` if it was stopped. If the restore ends, asserts that the chip is idle, and that its
+    /// write enable latch is set only if it was set before the restore.
     pub fn restore(&mut self, rt: &impl Abort, allowed: u64) -> Option<u64> {
         let journal = Journal::read(self.vault.bytes()).expect(rt, "a journal");
         self.bus.allow(allowed);
@@ -72,11 +72,12 @@ pub struct Runs {
     row: Row,
     start: Start,
     before: Vec<u8>,
-    // the number of bytes of its transaction that a restore's stop sends
+    // the number of bytes of its transaction that a restore's stop sends; `None` sends none
     torn: Option<u32>,
 }
 
 impl Runs {
+    /// Returns the runs of this row's session with this start. A restore's stop sends as much as the session's.
     pub fn new(rt: &impl Abort, alloc: Global, row: Row, start: Start) -> Runs {
         Runs {
             alloc,
@@ -95,9 +96,12 @@ impl Runs {
         }
     }
 
-    /// Runs the session on a new chip, with `allowed` transactions. Asserts that it ends, and that its vault is sealed,
-    /// if and only if the row's numbers say so. If it ends, asserts that the chip is idle and its write enable latch is
-    /// clear: each row's session ends with an operation or a reading after one, and operations clear the latch.
+    /// Runs the session on a new chip, with `allowed` transactions. Asserts that the session ends if and only if
+    /// `allowed` is at least `ends_at`, and that it then sent `ends_at` transactions. Asserts that the vault is sealed
+    /// if and only if `allowed` is at least `sealed_at`.
+    ///
+    /// If the session ends, asserts that the chip is idle and its write enable latch is clear: each row's session ends
+    /// with an operation or a reading after one, and operations clear the latch.
     pub fn cut(&self, rt: &impl Abort, allowed: u64) -> Cut {
         let mut bus = self.row.bus(rt, self.alloc, self.start);
         bus.allow(allowed);
@@ -156,8 +160,8 @@ impl Runs {
     }
 
     /// Stops the session after each number of transactions from `first` up to one less than its length, and restores if
-    /// its vault is sealed. If it isn't, asserts that the write enable latch is clear. Asserts that each run leaves the
-    /// chip as before. Returns the number of stopped sessions.
+    /// its vault is sealed. If the vault isn't sealed, asserts that the write enable latch is clear. Asserts that each
+    /// run leaves the chip as before. Returns the number of stopped sessions.
     pub fn stop_sessions(&self, rt: &impl Abort, first: u64) -> u64 {
         let mut stops: u64 = 0;
         for n in first..self.row.ends_at(self.start) {
@@ -196,8 +200,9 @@ impl Runs {
     }
 }
 
-// Restores with `allowed` transactions, and again with `AMPLE` if that was stopped. Returns whether the first restore
-// ended. If the vault isn't sealed, returns true and restores nothing.
+// Restores with `allowed` transactions, and again with `AMPLE` if the first restore was stopped. Returns whether the
+// first restore ended, and asserts that it then sent exactly `allowed` transactions. If the vault isn't sealed, returns
+// true and restores nothing.
 fn ends_within(rt: &impl Abort, cut: &mut Cut, allowed: u64) -> bool {
     if !cut.vault.is_sealed() {
         return true;
@@ -211,8 +216,8 @@ fn ends_within(rt: &impl Abort, cut: &mut Cut, allowed: u64) -> bool {
     true
 }
 
-/// Asserts that the chip is as before the row's session, and that the write enable latch is clear, as after a session
-/// that sent no write enable.
+/// Asserts that the chip is as before the row's session, that it is idle, and that the write enable latch is clear, as
+/// after a session that sent no write enable.
 pub fn assert_untouched(rt: &impl Abort, alloc: Global, row: Row, bus: &SimBus) {
     Runs::new(rt, alloc, row, Start::IDLE).assert_as_before(rt, bus);
     assert!(rt; bus.status() == row.status());

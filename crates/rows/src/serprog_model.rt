@@ -50,7 +50,7 @@ impl fmt::Display for Cause {
 }
 
 /// A programmer that follows flashrom's Documentation/serprog-protocol.txt. The fields from `version` to `buffer` have
-/// the replies to queries. `operations` is the number of O_SPIOP commands so far, `begun` has the bytes of an
+/// the replies to queries. `operations` is the number of complete O_SPIOP commands so far, `begun` has the bytes of an
 /// incomplete frame, and `pending` the replies that weren't received yet.
 #[derive(Drop)]
 pub struct Model {

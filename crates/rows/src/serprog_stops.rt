@@ -69,12 +69,13 @@ fn handshake(rt: &impl Abort, alloc: Global) -> u64 {
 }
 
 // Returns how many bytes the simulated bus must send at the stop that corresponds to a port that fails after `calls`
-// calls: `cut` if the port fails while it sends, and all if the reply is lost.
+// calls. These are `cut` bytes if the port fails while it sends a transaction, and all if the reply is lost.
 fn torn(calls: u64, cut: u32) -> u32 {
     if calls % CALLS == 0 { cut } else { u32::MAX }
 }
 
-// Returns the cuts to try at a port that fails after `calls` calls. If the reply is lost, there is no cut.
+// Returns the numbers of bytes to try as `cut` of a port that fails after `calls` calls. If the reply is lost, all
+// bytes were sent, so one number is enough.
 fn cuts(calls: u64) -> &'static [u32] {
     if calls % CALLS == 0 { &CUTS } else { &[0] }
 }
@@ -85,8 +86,9 @@ fn assert_same(rt: &impl Abort, chip: &SimBus, other: &SimBus, calls: u64) {
     assert_held(rt, same, calls);
 }
 
-// Runs a row's session over a port that fails after `calls` calls. Asserts that it returns the stop, and leaves chip
-// and vault as the corresponding stop of the simulated bus does. Returns that chip and vault.
+// Runs a row's session over a port that fails after `calls` calls. Asserts that the session returns the stop, and
+// leaves chip and vault as the corresponding stop of the simulated bus does. Returns the chip and vault that the stop
+// of the simulated bus left.
 fn stop_session(
     rt: &impl Abort,
     alloc: Global,
@@ -107,7 +109,8 @@ fn stop_session(
 }
 
 // Restores over a port that fails after `calls` calls. Asserts that the restore returns the stop, and leaves the chip
-// as the corresponding stop of the simulated bus does. `left` and `same` are what the session left, twice.
+// as the corresponding stop of the simulated bus does. `left` and `same` are what the session left, twice. Returns what
+// the stop of the simulated bus left.
 fn stop_restore(
     rt: &impl Abort,
     alloc: Global,
@@ -127,7 +130,8 @@ fn stop_restore(
     same
 }
 
-// Restores over a port that does not fail. Asserts that the chip is then as before the row's session.
+// Restores over a port that does not fail, if the vault is sealed. Asserts that the chip is then as before the row's
+// session.
 fn assert_restored(rt: &impl Abort, alloc: Global, row: Row, left: Cut) {
     let Cut { bus, vault } = left;
     let mut bus = bus_to(rt, alloc, bus, AMPLE, 0);
@@ -138,7 +142,7 @@ fn assert_restored(rt: &impl Abort, alloc: Global, row: Row, left: Cut) {
     Runs::new(rt, alloc, row, Start::IDLE).assert_as_before(rt, bus.port().chip());
 }
 
-// Each row with its chip and the number of transactions of its session.
+// Each row with its start and the number of transactions of its session.
 const SESSIONS: [(Row, Start, u64); 3] = [
     (Row::AByteIsProgrammed, Start::IDLE, 28),
     (Row::AByteIsProgrammed, Start::SLOW, 28 + 3 + 2),
@@ -208,7 +212,8 @@ fn each_cut_of_the_port_may_cost_the_power(rt: HostRuntime) {
     }
 }
 
-// Without a reply there is nothing to receive. After a failure no call succeeds, though calls were left.
+// Without a reply there is nothing to receive. After a failure no call succeeds, even if the port was allowed more
+// calls.
 #[test]
 fn more_is_requested_than_is_pending(rt: HostRuntime) {
     let chip = Row::AByteIsProgrammed.bus(&rt, rt.alloc(), Start::IDLE);

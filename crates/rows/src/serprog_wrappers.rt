@@ -30,7 +30,7 @@ impl Clock for Asked<'_> {
 }
 
 // The chip shows BUSY in 600 polls. The bus sends 16 polls without a pause, polls 17 to 512 after 1 ms each, and polls
-// 513 to 601 after 8 ms each.
+// 513 to 601 after 8 ms each. Poll 601 shows that the chip is ready, so the poll after it is sent without a pause.
 #[test]
 fn polls_of_a_busy_chip_are_paced(rt: HostRuntime) -> Result<(), Fail> {
     let delays = Delays { now: 600, each: 0 };

@@ -8,8 +8,8 @@ use nor_session::{Report, Request, session};
 use std::alloc::Global;
 use std::process::Abort;
 
-// Runs a session that writes FFh everywhere. The chip is full of FFh, except for `cleared` bytes 00h from 8000h on.
-// Returns the report.
+// Runs a session that writes FFh everywhere. The chip's bytes are FFh, except that `cleared` bytes from address 8000h
+// on are 00h. Returns the report.
 fn blank(
     rt: &impl Abort,
     alloc: Global,
@@ -30,9 +30,12 @@ fn blank(
     session(&mut bus, &mut vault, &mut image, &request).expect(rt, "the session ends")
 }
 
-// Each row has: whether the chip has erases of 32 KiB, and of 64 KiB; the number of erases that a session needs for
-// sectors 8 to 39; and its number of transactions: three for each erase, seven to identify the chip, 64 to scan it, and
-// 32 to verify the sectors.
+// Each row has:
+//
+// - whether the chip has erases of 32 KiB, and of 64 KiB
+// - the number of erases that a session needs for sectors 8 to 39
+// - the session's number of transactions: three for each erase, seven to identify the chip, 64 to scan it, and 32 to
+//   verify the sectors
 const UNITS: [(bool, bool, u32, u64); 4] = [
     (false, true, 17, 154),
     (true, false, 4, 115),
@@ -64,8 +67,8 @@ fn a_busy_chip_is_waited_for(rt: HostRuntime) {
     assert!(rt; report.transactions == 65_558 && report.found.status1 == 0x00);
 }
 
-// Runs the session of a request on an idle TINY64. At least one bit of its byte 0 must be raised, so one sector is
-// erased. Returns the number of transactions.
+// Runs the session of a request on an idle TINY64 whose byte 0 is 00h. The request must raise at least one bit of this
+// byte, so one sector is erased. Returns the number of transactions.
 fn sent_for(rt: &impl Abort, alloc: Global, request: &Request) -> u64 {
     let mut image = Row::ABitRises.wanted(rt, alloc);
     let mut bus = Row::ABitRises.bus(rt, alloc, Start::IDLE);
@@ -75,8 +78,8 @@ fn sent_for(rt: &impl Abort, alloc: Global, request: &Request) -> u64 {
     report.transactions
 }
 
-// An erase sends 7 transactions to identify the chip, 16 to scan it, and 3 for the erased sector. A write sends 3 more
-// for a program. Only a verified request reads the sector back.
+// A session that erases sends 7 transactions to identify the chip, 16 to scan it, and 3 for the erased sector. A
+// session that writes sends 3 more for a program. Only a session with verification reads the sector back.
 #[test]
 fn only_a_verified_request_reads_back(rt: HostRuntime) {
     assert!(rt; sent_for(&rt, rt.alloc(), &Request::erase()) == 26);

@@ -25,7 +25,8 @@ const SETS: &[(&[(u32, u32)], Option<&[(u32, u32)]>)] = &[
     (&[(1, u32::MAX), (0, 0)], Some(&[(0, u32::MAX)])),
 ];
 
-// Returns the set of the spans with these first and last addresses, at most eight.
+// Returns the set of the spans with these first and last addresses, or `None` if `Ranges::of` rejects them, or if there
+// are more than eight.
 fn set_of(ends: &[(u32, u32)]) -> Option<Ranges> {
     let mut spans = [Span::default(); 8];
     for (slot, (first, last)) in spans.iter_mut().zip(ends) {
@@ -53,8 +54,8 @@ fn spans_make_their_set(rt: HostRuntime) {
     }
 }
 
-// Returns the number of spans of a set of single addresses and the span `more`. The addresses are the first `addresses`
-// even numbers from 2 on, in falling order.
+// Returns the number of spans of a set, or `None` if `Ranges::of` rejects it. The set has single addresses, at most 65,
+// and the span `more`. The addresses are the first `addresses` even numbers from 2 on, in falling order.
 fn count_of(addresses: u32, more: Span) -> Option<usize> {
     let mut spans = [more; 66];
     for (slot, above) in spans.iter_mut().zip(0..addresses) {

@@ -29,8 +29,8 @@ const DIGEST: [u8; 32] = [
     0x83, 0xD5, 0xFA, 0x75, 0xB9, 0xC2, 0x79, 0x2D, 0x91, 0x66, 0x46, 0xFB, 0x18, 0x8C, 0x93, 0x13,
 ];
 
-/// Writes a journal for the ID, status and size in `chip`, with the unique ID zero. The journal saves sector 0, all
-/// FFh.
+/// Writes a journal for the ID, status and size in `chip`, with the unique ID zero, into a fresh vault. The journal
+/// saves sector 0, all FFh. Returns the vault's error.
 fn save<V: Vault>(vault: &mut V, chip: &Journal<'_>) -> Result<(), VaultFault>
     requires { IsFresh (V.state vault.old) }
 {
@@ -70,8 +70,9 @@ const CALLS: [(u64, usize, usize); 5] = [
     (5, 4161, 0),
 ];
 
-// Writes the journal into a vault that refuses one call, after some bytes of its piece. Asserts the result, the number
-// of refusals, whether the vault is sealed, and the bytes that it holds.
+// Writes the journal of `save` into a vault that refuses one call: `broken` has the number of that call and the number
+// of bytes of its piece that the vault keeps. Asserts `told`: the result, the number of refusals, and whether the vault
+// is sealed. Asserts that the vault holds the bytes `beginning`.
 fn assert_broken(
     rt: &impl Abort,
     alloc: Global,
@@ -89,8 +90,9 @@ fn assert_broken(
     assert_held(rt, holds, nth);
 }
 
-// Writes the journal into vaults that refuse each call in turn, after `kept` bytes of its piece. Asserts that the error
-// contains the number of bytes kept, and that the vault holds the prefix of the journal `right` that ends there.
+// Writes the journal into vaults that refuse each call in turn, after `kept` bytes of its piece, or after all if there
+// are fewer. Asserts that the error contains the number of bytes kept, and that the vault holds the prefix of the
+// journal `right` that ends with these bytes.
 fn refuse_each(rt: &impl Abort, alloc: Global, right: &[u8], kept: usize) {
     for (nth, before, piece) in CALLS {
         let put = piece.min(kept);
@@ -101,7 +103,8 @@ fn refuse_each(rt: &impl Abort, alloc: Global, right: &[u8], kept: usize) {
 }
 
 // The vault keeps a prefix of a refused piece, and the error contains the length of that prefix, so the vault holds a
-// prefix of the journal. No call has number 0 or 6: a vault that refuses one of these accepts the whole journal.
+// prefix of the journal. No call has number 0 or 6, so a vault that would refuse only call 0 or call 6 accepts the
+// whole journal.
 #[test]
 fn each_call_of_a_writer_is_refused(rt: HostRuntime) {
     let chip = Journal::read(&EMPTY).expect(&rt, "a journal");
@@ -117,8 +120,9 @@ fn each_call_of_a_writer_is_refused(rt: HostRuntime) {
     assert_broken(&rt, rt.alloc(), (6, 0), told, Some(right));
 }
 
-/// A file in memory that accepts at most `most` bytes per write, and fails after `writes` writes. If `syncs` is true,
-/// only `sync_all` succeeds, otherwise only `sync_data`.
+/// A file in memory that accepts at most `most` bytes per write, and whose writes after the next `writes` fail. If
+/// `syncs` is true, `sync_all` succeeds and `sync_data` fails, otherwise the reverse. `resized` is true if `set_len`
+/// was called.
 #[derive(Drop)]
 struct SmallFile {
     bytes: Vec<u8>,
@@ -201,8 +205,8 @@ const FILES: [(usize, u32, bool, Result<(), VaultFault>, usize); 9] = [
     (usize::MAX, 4, false, Err(VaultFault { kept: 0 }), 4161),
 ];
 
-// Writes the journal into the file. Returns the result, the length of the file, whether its bytes are that journal, and
-// whether the file was resized.
+// Writes the journal of `save` into the file. Returns the result, the length of the file, whether its bytes are the
+// journal of a TINY64, and whether the file was resized.
 fn saved(chip: &Journal<'_>, file: SmallFile) -> (Result<(), VaultFault>, usize, bool, bool) {
     let mut vault = FileVault::new(file);
     let told = save(&mut vault, chip);

@@ -20,7 +20,7 @@ pub fn most(sectors: u32) -> u64 {
     65_542 + 3 * sectors + 65_538 * (17 * sectors + 2)
 }
 
-/// Returns a bus fault of each of the four kinds, with the number `n`.
+/// Returns one fault of each kind of `Spoil`, with `n` as its reply byte, its transaction or its bit.
 pub fn lies(n: u8) -> [Spoil; 4] {
     let first = u64::from(n);
     [
@@ -31,7 +31,7 @@ pub fn lies(n: u8) -> [Spoil; 4] {
     ]
 }
 
-/// Returns a faulty bus over `bus`, which carries out `u64::MAX` transactions.
+/// Allows `bus` to carry out `u64::MAX` transactions, and returns a faulty bus over it.
 pub fn spoilt(mut bus: SimBus, spoil: Spoil) -> SpoiltBus<SimBus> {
     bus.allow(u64::MAX);
     SpoiltBus::new(bus, spoil)
@@ -46,8 +46,8 @@ pub struct Lied {
 }
 
 impl Lied {
-    /// Runs the row's session on a bus with this fault. Asserts that it keeps its bound, and that its vault holds a
-    /// journal if it is sealed.
+    /// Runs the row's session on a bus with this fault. Asserts that it sends at least one transaction and at most its
+    /// bound, and that its vault, if sealed, holds a journal.
     pub fn session(rt: &impl Abort, alloc: Global, row: Row, spoil: Spoil) -> Lied {
         let mut bus = spoilt(row.bus(rt, alloc, Start::IDLE), spoil);
         let mut vault = MemVault::new(alloc);
@@ -61,8 +61,8 @@ impl Lied {
         Lied { refusal, sent, cut }
     }
 
-    /// Runs a restore on a bus with this fault, after a session that was stopped on the well-behaved bus. Asserts that
-    /// the restore keeps its bound.
+    /// Runs a restore on a bus with this fault, after a session on the well-behaved bus that left `cut`, with a journal
+    /// in its vault. Asserts that the restore sends at least one transaction and at most its bound.
     pub fn restore(rt: &impl Abort, cut: Cut, spoil: Spoil) -> Lied {
         let Cut { bus, vault } = cut;
         let mut bus = spoilt(bus, spoil);
@@ -76,7 +76,7 @@ impl Lied {
         Lied { refusal, sent, cut }
     }
 
-    /// Restores on the well-behaved bus if the vault is sealed. Asserts that afterwards the chip is as before the
+    /// Restores on the bus without the fault, if the vault is sealed. Asserts that afterwards the chip is as before the
     /// session.
     pub fn assert_given_back(self, rt: &impl Abort, alloc: Global, row: Row) {
         let Lied { mut cut, .. } = self;

@@ -57,8 +57,8 @@ impl Job {
         }
     }
 
-    // Returns the address of the first byte 00h, and the number of successive sectors that have one at the same
-    // position.
+    // Returns the address of the first byte 00h, and the number of successive sectors that have a byte 00h at the same
+    // offset.
     fn cleared(self) -> (usize, usize) {
         match self {
             Job::OnTwoBlocks => (0xF010, 17),
@@ -137,7 +137,7 @@ pub struct Stage {
 }
 
 impl Stage {
-    /// Returns a stage for the job, with the journal of its session.
+    /// Returns a stage for the job, on a chip with these delays, with the journal of its session.
     pub fn new(rt: &impl Abort, alloc: Global, job: Job, delays: Delays) -> Stage {
         let mut stage = Stage {
             alloc,
@@ -162,8 +162,8 @@ impl Stage {
         vault.bytes().to_vec(self.alloc).expect(rt, "memory")
     }
 
-    // Returns a bus to the original chip, or for a restore to the chip that the session left. The bus allows the bound
-    // of a session.
+    // Returns a bus to the original chip, or for a restore to the chip that the session left. The bus fails as `fault`
+    // says after `behind` transactions, and allows the bound of a session.
     fn bus(&self, rt: &impl Abort, call: Call, fault: Fault, behind: Option<u64>) -> OnceBus {
         let bytes = if call == Call::Restore {
             &self.image
@@ -215,8 +215,8 @@ impl Stage {
         (refusal, bus.asked)
     }
 
-    /// Runs a call with a stop at each of its transactions in turn, and without a stop. Asserts that after a stop it
-    /// returns `Stopped` and sends nothing more. Returns the call's number of transactions.
+    /// Runs a call with a stop at each of its transactions in turn, and without a stop. Asserts that after a stop the
+    /// call returns `Stopped` and sends nothing more. Returns the call's number of transactions.
     pub fn stop_at_each(&self, rt: &impl Abort, call: Call) -> u64 {
         let (right, length) = self.right(rt, call);
         for n in 0..=length {
@@ -233,9 +233,9 @@ impl Stage {
         length
     }
 
-    /// Shows BUSY in all 65,536 polls of each wait of a call in turn, and never afterwards. The chip is idle, so that
-    /// without a fault each wait has one poll. Asserts that the call then returns a timeout and sends nothing more.
-    /// Returns the number of waits.
+    /// Shows BUSY in all 65,536 polls of each wait of a call in turn, and never afterwards. The stage must have no
+    /// delays, so that without a fault each wait has one poll. Asserts that the call then returns a timeout and sends
+    /// nothing more. Returns the number of waits.
     pub fn time_out_each(&self, rt: &impl Abort, call: Call) -> u64 {
         let (_, length) = self.right(rt, call);
         let mut waits: u64 = 0;
@@ -252,8 +252,9 @@ impl Stage {
         waits
     }
 
-    /// Spoils each reply of a call in turn. Checks the result if the reply is a poll's, or a sector's that is verified
-    /// or written to the output. Returns the number of replies that were checked.
+    /// Spoils each reply of a call in turn. Checks the result if the reply is that of a poll, or of a sector that is
+    /// verified or written to the output. `touched` is the number of sectors that a session or restore verifies. The
+    /// stage must have no delays. Returns the number of replies that were checked.
     pub fn spoil_each(&self, rt: &impl Abort, call: Call, touched: u64) -> u64 {
         let right = self.right(rt, call);
         let mut spoilt: u64 = 0;
@@ -269,10 +270,11 @@ impl Stage {
     }
 }
 
-// Returns the expected error and number of transactions of a call if the reply of transaction `n`, counted from 0, is
-// spoilt. `right` has both without a fault, `touched` is the number of sectors that the call verifies at its end, and
-// `met` has the first bytes of that transaction. Returns `None` unless the reply is that of a poll, or of a sector that
-// is verified or written to the output.
+// Returns the expected error and number of transactions of a call on an idle chip if the reply of transaction `n`,
+// counted from 0, is spoilt. `right` has both without a fault, `touched` is the number of sectors that a session or
+// restore verifies at its end, and `met` has the first bytes that transaction `n` sent.
+//
+// Returns `None` unless the reply is that of a poll, or of a sector that is verified or written to the output.
 fn told_of_spoilt(
     call: Call,
     touched: u64,

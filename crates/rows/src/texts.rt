@@ -9,7 +9,7 @@ use std::process::Abort;
 
 const LONG: usize = 1_000_000;
 
-// Returns the bytes `before`, a million bytes `byte`, and the bytes `after`.
+// Returns the bytes `before`, a million bytes of the value `byte`, and the bytes `after`.
 fn long(rt: &impl Abort, alloc: Global, before: &[u8], byte: u8, after: &[u8]) -> Vec<u8> {
     let run = [byte; 1000];
     let mut text = before.to_vec(alloc).expect(rt, "memory");
@@ -24,7 +24,7 @@ const fn in_line(line: usize, fault: LineFault) -> Option<LayoutFault> {
     Some(LayoutFault::InLine { line, fault })
 }
 
-// Returns the fault of a layout's line, if there is one.
+// Returns the layout fault that has the given line number and line fault, or `None` for `None`.
 fn fault_of(told: Option<(usize, LineFault)>) -> Option<LayoutFault> {
     let (line, fault) = told?;
     in_line(line, fault)
@@ -56,9 +56,9 @@ fn layouts_of_a_million_bytes(rt: HostRuntime) {
     }
 }
 
-// A name has bytes from 21h to 7Eh, except comma and colon. If its byte is a line feed, the line ends there and the
-// name is empty. An address has only hexadecimal digits. If its byte is a line feed, line 1 is empty, and line 2 has no
-// start address.
+// A name of one byte may be any byte from 21h to 7Eh, except comma and colon. If the byte is a line feed, the line ends
+// there and the name is empty. An address of one byte must be a hexadecimal digit. If the byte is a line feed, line 1
+// is empty, and line 2 has no start address.
 #[test]
 fn a_name_and_an_address_of_each_byte(rt: HostRuntime) {
     for byte in 0..=255 {
@@ -85,8 +85,9 @@ const fn is_of_name(byte: u8) -> bool {
     matches!(byte, 0x21..=0x7E) && byte != b',' && byte != b':'
 }
 
-// The contract of `Layout::read` lets it return out of memory for any line with a region, so it doesn't exclude a body
-// that does so for some names. This test excludes that for all names of two bytes.
+// By its contract, `Layout::read` may return out of memory for any text with a line that adds a region, after lines
+// without a fault. So the contract allows a body that does this for some names. This test rejects such a body for all
+// names of two bytes.
 #[test]
 fn each_name_of_two_bytes(rt: HostRuntime) {
     for first in 0x21..=0x7E {

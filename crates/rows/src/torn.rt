@@ -15,8 +15,8 @@ const SHORT: [u32; 7] = [0, 1, 2, 3, 4, 5, 6];
 // which four precede the data. A test with each number would take minutes.
 const LONG: [u32; 10] = [0, 1, 2, 3, 4, 5, 6, 132, 259, 260];
 
-// Two chips that keep their power, one of them busy at first and after each operation, and three chips that lose it,
-// one for each fill of `power.rt`.
+// Returns two chips that keep their power, one of them busy at first and after each operation, and three chips that
+// lose it at a stop, one for each fill of `power.rt`.
 fn starts() -> [Start; 5] {
     [
         Start::IDLE,
@@ -27,8 +27,8 @@ fn starts() -> [Start; 5] {
     ]
 }
 
-// The chips for the rows with protection, which take longest. With an even fill a loss of power leaves the old bits of
-// a running status write, with an odd fill the new bits.
+// Returns the chips for the rows with protection, which take longest. With an even fill a loss of power leaves the old
+// bits of a running status write, with an odd fill the new bits.
 fn few_starts() -> [Start; 3] {
     [Start::IDLE, Start::losing(0x5A), Start::losing(0xFF)]
 }
@@ -43,7 +43,7 @@ struct Stops {
 impl Stops {
     const NONE: Stops = Stops { kept: 0, lost: 0 };
 
-    // Returns these stops and `more` stops in runs with this start.
+    // Returns these numbers after `more` stops in runs with this start were added.
     fn with(self, start: Start, more: u64) -> Stops {
         let Stops { kept, lost } = self;
         if start.fill.is_some() {
@@ -55,7 +55,7 @@ impl Stops {
         }
     }
 
-    // Returns the sum of these stops and others.
+    // Returns the sums of these numbers and those of `others`.
     fn and(self, others: Stops) -> Stops {
         Stops {
             kept: self.kept.saturating_add(others.kept),
@@ -65,6 +65,7 @@ impl Stops {
 }
 
 // Stops a row's session after each number of transactions from `first` on, for each start and each number of bytes.
+// Restores each time as `Runs::stop_sessions` does. Returns the numbers of stopped sessions.
 fn stop_sessions(
     rt: &impl Abort,
     alloc: Global,
@@ -82,8 +83,8 @@ fn stop_sessions(
     stops
 }
 
-// Stops the session at each transaction that follows the seal, and the restore after each of these stops. Returns the
-// number of stopped restores.
+// Stops the session at each transaction that follows the seal, and after each of these stops the restore at each of its
+// transactions. Returns the number of stopped restores.
 fn stop_restores(rt: &impl Abort, torn: &Runs, row: Row, start: Start) -> Stops {
     let mut stops = Stops::NONE;
     for n in row.sealed_at(start)..row.ends_at(start) {
@@ -92,8 +93,8 @@ fn stop_restores(rt: &impl Abort, torn: &Runs, row: Row, start: Start) -> Stops 
     stops
 }
 
-// Stops sessions and restores for each start and each number of bytes. A restore's stop sends the same number of bytes
-// as its session's stop.
+// Stops sessions and restores as `stop_restores` does, for each start of `starts` and each number of bytes. A restore's
+// stop sends the same number of bytes as its session's stop. Returns the numbers of stopped restores.
 fn stop_all(rt: &impl Abort, alloc: Global, row: Row, counts: &[u32]) -> Stops {
     let mut stops = Stops::NONE;
     for start in starts() {
@@ -180,16 +181,21 @@ fn each_cut_of_a_session_on_a_protected_chip(rt: HostRuntime) {
     assert!(rt; stops == SESSIONS_IN_THE_RANGE);
 }
 
-// The restore's stop sends the same number of bytes as the session's stop. Each number is the sum of the lengths of all
-// restores. For the programmed byte it was also calculated by hand:
+// Each row has the number of stopped restores after which the chip keeps its power, and the number after which it loses
+// it. Each restore is stopped at each of its transactions, so these are the sums of the lengths of all restores. A
+// restore's stop sends the same number of bytes (0 to 6) as its session's stop. For the row that programs a byte the
+// sums were also calculated by hand:
 //
-// - On an idle chip three stops that send up to four bytes leave the byte as it was, and two leave it programmed. These
-//   restores have 8 and 12 transactions. The third stop programs the byte if it sends five or six bytes:
-//   5 * 48 + 2 * 52 = 344.
-// - On a slow chip the next restore also waits for the remaining polls that show BUSY. A poll that was cut is no longer
-//   one of them: 83 + 4 * 81 + 2 * 89 = 585.
-// - On a chip that loses its power a restore has 14 transactions if it erases. 10 restores for each fill follow a loss
-//   during the page program, and erase unless the fill is FFh. The other restores have 432 transactions for each fill.
+// - On an idle chip the session is stopped at five transactions after the seal: read, write enable, program, poll,
+//   verification. The first three of these stops leave the byte as it was, and the last two leave it programmed. A
+//   restore has 8 transactions after the former and 12 after the latter: 48 for each number of bytes up to four. With
+//   five or six bytes the third stop programs the byte too, which makes 52: 5 * 48 + 2 * 52 = 344.
+// - On a slow chip the session also sends two polls that show BUSY, and the next restore waits for those that remain. A
+//   poll that was cut after its first byte is no longer one of them. The sums are 83 if no byte is sent, 81 for one to
+//   four bytes, and 89 for five or six: 83 + 4 * 81 + 2 * 89 = 585.
+// - On a chip that loses its power a restore that erases has 14 transactions, and any other has 8. For each fill, 10
+//   restores follow a power failure during the page program; they erase unless the fill is FFh: 10 * (14 + 14 + 8). The
+//   lengths of the other restores add up to 432 for each fill.
 const RESTORES: [(Row, u64, u64); 4] = [
     (Row::AByteIsProgrammed, 344 + 585, 3 * 432 + 10 * 36),
     (Row::ABitRises, 1688, 3402),
@@ -228,8 +234,8 @@ fn each_cut_of_a_restore_after_a_part_of_a_page(rt: HostRuntime) {
     assert!(rt; stops == RESTORES_OF_TWO_PAGES);
 }
 
-// A restore has 8 transactions if the sector is as it was. Otherwise it has 10, and one operation for each page that
-// differs. Before these it waits for the remaining polls that show BUSY.
+// A restore has 8 transactions if the sector is as it was. Otherwise it has 10 transactions, and one page program for
+// each page that differs. Before these it waits for the remaining polls that show BUSY.
 const RESTORES_OF_PAGES: Stops = Stops {
     kept: 60_106,
     lost: 127_387,
@@ -242,10 +248,10 @@ fn each_cut_of_a_restore_that_programs_pages(rt: HostRuntime) {
     assert!(rt; stops == RESTORES_OF_PAGES);
 }
 
-// The session is stopped three times, since each run on this chip takes long: in the status write that lifts the
-// protection, in the page program, and in the status write that restores the protection. An operation takes three
-// transactions and the polls that show BUSY. The sector is read before its program. No transaction sends more than five
-// bytes.
+// The session is stopped at only three transactions, since each run on this chip takes long: the status write that
+// lifts the protection, the page program, and the status write that restores the protection. An operation takes three
+// transactions and the polls that show BUSY. The session reads the sector before its program. No transaction sends more
+// than five bytes.
 const RESTORES_IN_THE_RANGE: Stops = Stops {
     kept: 172,
     lost: 408,

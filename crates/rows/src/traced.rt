@@ -1,5 +1,5 @@
-//! The lines that a trace reports as lost if its log refuses them. By the contract of `TraceBus`, only this report
-//! depends on the log.
+//! When `TraceBus` reports a line as lost: tests with a log that refuses writes or flushes. By the contract of
+//! `TraceBus`, only this report depends on what the log refuses.
 use crate::held::assert_held;
 use crate::row::{Start, erased};
 use nor_chip::{Bus, Config, Meter, SimBus, TraceBus};
@@ -69,7 +69,8 @@ const FORMS: [Form; 3] = [
     },
 ];
 
-// Sends a transaction, with a log that accepts `good` writes before it refuses one. Returns whether the line is lost.
+// Sends a transaction, with a log that accepts `good` writes before it refuses one. Returns whether the bus reports its
+// line as lost.
 fn loses(
     rt: &impl Abort,
     alloc: Global,
@@ -89,8 +90,8 @@ fn loses(
     bus.lost()
 }
 
-// Sends a transaction of this form, and asserts its reply. Returns whether its line is lost, and whether the log has
-// exactly that line.
+// Sends a transaction of this form, and asserts its reply. Returns whether its line is reported as lost, and whether
+// the log has exactly that line.
 fn sent(rt: &impl Abort, alloc: Global, form: Form, good: u8) -> (bool, bool) {
     let mut lines = Vec::new(alloc);
     let mut reply = vec![in alloc; 0xAA; form.reply.len()].expect(rt, "memory");
@@ -99,8 +100,8 @@ fn sent(rt: &impl Abort, alloc: Global, form: Form, good: u8) -> (bool, bool) {
     (is_lost, lines.as_slice() == form.line)
 }
 
-// A line is reported as lost if and only if the log doesn't have all of it. It is lost if the log accepts at most one
-// write, and isn't lost if it accepts seven. The reply is the same in either case.
+// A line is reported as lost if and only if the log doesn't have all of it. A line is lost if the log accepts at most
+// one write before it refuses one, and isn't lost if the log accepts seven. The reply is the same in either case.
 #[test]
 fn a_line_is_lost_exactly_where_it_is_not_whole(rt: HostRuntime) {
     for form in FORMS {
@@ -112,8 +113,8 @@ fn a_line_is_lost_exactly_where_it_is_not_whole(rt: HostRuntime) {
     }
 }
 
-// Sends a transaction, with a buffered log over a sink that accepts `good` writes before it refuses one, and flushes if
-// `flushes` is true. Returns whether the line is lost before a flush of the bus, and after it.
+// Sends a transaction, with a buffered log over a sink that accepts `good` writes before it refuses one, and accepts
+// flushes if `flushes` is true. Returns whether a line is reported as lost before a flush of the bus, and after it.
 fn flushed(
     rt: &impl Abort,
     alloc: Global,
@@ -134,8 +135,8 @@ fn flushed(
     (before, bus.lost())
 }
 
-// A line in the log's buffer is reported as lost if a flush of the bus fails: because the sink refuses to write the
-// line, or because the sink received the line and refuses to flush it. It isn't lost if the flush succeeds.
+// A line in the log's buffer is reported as lost if a flush of the bus fails. The flush fails if the sink refuses to
+// write the line, or if the sink received the line and refuses to flush it. The line isn't lost if the flush succeeds.
 #[test]
 fn what_the_sink_refuses_is_lost_at_the_latest_by_a_flush(rt: HostRuntime) {
     for (good, flushes) in [(0, true), (0, false), (1, false)] {

@@ -1,13 +1,14 @@
-//! Sessions that are stopped after each number of transactions. Each restore after that is stopped after each number of
-//! its own transactions, and a second restore follows.
+//! Sessions that are stopped after each number of transactions. A restore after a stop is itself stopped after each
+//! number of its own transactions, and a second restore follows.
 //!
-//! Each test counts its runs. A stop before the seal is one run. After any other stop, the restore is run with 0, 1, ..
-//! allowed transactions until it succeeds. The number of runs is one more than the restore's number of transactions.
+//! Each test counts its runs. A stop before the seal is one run. The end of the session counts as its last stop. After
+//! a stop that follows the seal, the restore is run with 0, 1, .. allowed transactions until it succeeds. So the number
+//! of runs for that stop is one more than the restore's number of transactions.
 //!
 //! A restore identifies the chip, with seven transactions on a TINY64 and four on a W25Q64FV, and reads the one saved
-//! sector. If the sector and the protection are as saved, it ends. Otherwise it sends its operations, each with a write
-//! enable and a poll. If it programs the sector without an erase, it reads it again first. If it changes the sector, it
-//! reads it at the end to verify it.
+//! sector. If the sector and the protection are as saved, the restore ends. Otherwise it sends its operations: each is
+//! a write enable, a command and a poll, and on a slow chip two more polls. If the restore programs the sector without
+//! an erase, it reads the sector again first. If it changes the sector, it reads the sector at the end to verify it.
 use crate::row::{Row, Start};
 use crate::runs::Runs;
 
@@ -21,16 +22,17 @@ const BYTE: u64 = 23 + 3 * 9 + 3 * 13;
 const SLOW_BYTE: u64 = 26 + 3 * 9 + 17 + 16 + 3 * 15;
 
 // A bit rises: 23 stops are before the seal. Two leave the byte as it was, and the restore has 8 transactions. Three
-// leave it erased, and three with its target value. Neither value lacks a bit of the original one, so one program is
-// enough, and the restore has 13 transactions.
+// leave the byte FFh, and three 01h. To restore 00h from either value bits only fall, so one program is enough, and the
+// restore has 13 transactions.
 const BIT: u64 = 23 + 2 * 9 + 6 * 14;
 
-// A bit rises on a slow chip. After the erase, and likewise after the program, one stop leaves two polls that show BUSY
-// to the next identification, one leaves one, and three leave none. These restores have 17, 16 and 15 transactions.
+// A bit rises on a slow chip: 26 stops are before the seal, and two leave the byte as it was. After the erase, and
+// likewise after the program, one stop leaves two polls that show BUSY to the next identification, one leaves one, and
+// three leave none. These restores have 17, 16 and 15 transactions.
 const SLOW_BIT: u64 = 26 + 2 * 9 + 2 * (18 + 17 + 3 * 16);
 
 // Two pages are programmed: 23 stops are before the seal. Three leave the bytes as they were, and the restore has 8
-// transactions. Six leave some programmed, so their sector is erased, with 12 transactions.
+// transactions. Six leave some or all of the four bytes programmed, so their sector is erased, with 12 transactions.
 const TWO_PAGES: u64 = 23 + 3 * 9 + 6 * 13;
 
 // A sector is erased, and all of its pages except one are programmed again: 8 stops are before the seal. Two leave the
@@ -70,8 +72,9 @@ fn each_stop_on_a_chip_with_its_latch_set(rt: HostRuntime) {
     }
 }
 
-// Three stops are before the seal. Then two leave the chip as it was, four without its protection, three also with the
-// byte programmed, and three with the protection set again. The restores have 5, 8, 12 and 15 transactions.
+// The first stop is after 2,049 transactions. Three stops are before the seal. Then two leave the chip as it was, four
+// without its protection, three also with the byte programmed, and three with the byte programmed and the protection
+// set again. The restores have 5, 8, 12 and 15 transactions.
 #[test]
 fn each_stop_behind_a_guarded_byte(rt: HostRuntime) {
     let row = Row::AGuardedByteIsProgrammed;

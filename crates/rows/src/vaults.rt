@@ -32,8 +32,9 @@ fn refuse(
     (refusal, vault.failures(), held.is_sealed(), holds_journal)
 }
 
-// Refuses each of the session's `calls` calls of the vault in turn, and then the one after the last, which isn't made.
-// If the refused call is `whole_from` or a later one, the vault holds a whole journal.
+// Refuses each of the session's `calls` calls of the vault in turn. Asserts error 11, one refusal, an unsealed vault,
+// and that the vault holds a whole journal if and only if the refused call is `whole_from` or a later one. Then refuses
+// the call after the last, which isn't made, and asserts success.
 fn refuse_each(rt: &impl Abort, alloc: Global, row: Row, calls: u64, kept: usize, whole_from: u64) {
     for nth in 1..=calls {
         let left = refuse(rt, alloc, row, nth, kept);

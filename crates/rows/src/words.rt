@@ -60,8 +60,8 @@ fn write_with(rt: &impl Abort, alloc: Global, choice: u32) -> Vec<String> {
     words
 }
 
-// The contract of `request_of` lets it return out of memory for any arguments, so it doesn't exclude a body that always
-// does, or one that does for some number of arguments. These tests exclude both, for 1 to 14 arguments.
+// By its contract, `request_of` may return out of memory for any arguments. So the contract allows a body that always
+// does, or that does for some number of arguments. These tests reject both, for 1 to 14 arguments.
 #[test]
 fn words_memory(rt: HostRuntime) {
     for words in OTHERS {

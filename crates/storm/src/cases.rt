@@ -78,7 +78,7 @@ fn chip_for(alloc: Global, dice: &mut Dice) -> Result<Chip, Fault> {
     }
 }
 
-// Draws a request for a chip. Returns it with the spans that it includes.
+// Draws a request for a chip. Returns the request with the spans that it includes, or `None` for the whole chip.
 fn request_for(
     alloc: Global,
     dice: &mut Dice,
@@ -130,7 +130,7 @@ fn change_length(dice: &mut Dice, chip: &Chip, image: &mut Vec<u8>) -> Result<()
     Ok(())
 }
 
-// Changes the first or the last byte of the protected range, if there is one.
+// Changes the first or the last byte of the protected range, unless the range is empty.
 fn change_guarded(dice: &mut Dice, chip: &Chip, image: &mut [u8]) {
     let (start, len) = guards::guarded_places(guards::code_of(chip.status), chip.config.size);
     let last = start.saturating_add(len).saturating_sub(1);
@@ -154,7 +154,7 @@ fn what_for(dice: &mut Dice, chip: &Chip) -> What {
     dice.pick(What::Write, &[What::Write, What::Erase])
 }
 
-// Draws the name in the request: none, the chip's name, or another one.
+// Draws the name in the request: none for 19 of 24 requests, the chip's name for 4 of 24, otherwise any name.
 fn name_for(dice: &mut Dice, chip: &Chip) -> Option<ChipName> {
     let right = verdicts::name_of(&chip.config);
     let listed = chips::row(dice).map_or(right, |part| part.name);

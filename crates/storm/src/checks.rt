@@ -65,8 +65,9 @@ fn is_quiet(bus: &SimBus, chip: &Chip) -> bool {
     now & 0x01 == 0 && (now & 0x02 == 0 || chip.status[0] & 0x02 != 0)
 }
 
-/// Checks that a refused session returned this error, changed neither the bytes nor the non-volatile status bits, left
-/// the chip idle and its vault unsealed, set no write enable latch, and sent the expected transactions.
+/// Checks that a refused session returned this error, and sent the expected transactions, with no modifying command.
+/// The chip must be idle, with its bytes and non-volatile status bits as before, and with its write enable latch set
+/// only if it was set before. The vault must be unsealed.
 pub fn check_refused(alloc: Global, case: &Case, refusal: Refusal, ran: &Ran) -> Result<(), Fault> {
     agree_all(&[
         (ran.answer == Err(refusal), "the refusal of a session"),
@@ -80,8 +81,8 @@ pub fn check_refused(alloc: Global, case: &Case, refusal: Refusal, ran: &Ran) ->
     traces::check_lines(sent, lines.text(), "a refused session")
 }
 
-/// Checks that an accepted session reached its target, reported the expected work, saved exactly the touched sectors,
-/// and sent these lines.
+/// Checks that an accepted session succeeded, reached its target, reported the expected work, sealed a journal of
+/// exactly the touched sectors, and sent these lines.
 pub fn check_ended(case: &Case, wanted: &Wanted, lines: &str, ran: &Ran) -> Result<(), Fault> {
     let Ok(report) = ran.answer else {
         return Err(Fault::Differs("an accepted session ends"));
@@ -98,7 +99,7 @@ pub fn check_ended(case: &Case, wanted: &Wanted, lines: &str, ran: &Ran) -> Resu
     traces::check_lines(sent, lines, "a session")
 }
 
-/// Checks that the report describes this chip and counts this work.
+/// Checks that the report describes this chip, and counts the touched sectors, erases and programs of this work.
 pub fn check_report(chip: &Chip, work: Work, report: &Report) -> Result<(), Fault> {
     check_found(chip, &report.found)?;
     let touched = u64::from(report.touched) == work.touched;

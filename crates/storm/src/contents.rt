@@ -42,7 +42,7 @@ pub fn sector(dice: &mut Dice, sectors: u32) -> u32 {
     }
 }
 
-/// Returns the bytes of a sector.
+/// Returns the bytes of the sector with this number, or no bytes if there is no such sector.
 pub fn sector_at(bytes: &[u8], number: u32) -> &[u8] {
     let start = number.saturating_mul(SECTOR_LEN) as usize;
     bytes
@@ -50,7 +50,8 @@ pub fn sector_at(bytes: &[u8], number: u32) -> &[u8] {
         .unwrap_or(&[])
 }
 
-/// Fills a chip with FFh or 00h, or one small chip in five with random bytes. Then changes up to eight runs of sectors.
+/// Fills a chip with FFh or 00h. One in five chips of up to 256 KiB gets random bytes instead. Then changes up to eight
+/// runs of sectors.
 pub fn paint(dice: &mut Dice, bytes: &mut [u8]) {
     let base = dice.pick(Style::Erased, &[Style::Erased, Style::Cleared]);
     let small = bytes.len() <= 262_144;
@@ -68,8 +69,8 @@ pub fn paint(dice: &mut Dice, bytes: &mut [u8]) {
     }
 }
 
-/// Makes an image from a chip's bytes: changes up to six runs of sectors. For about one small chip in five it first
-/// replaces all bytes.
+/// Makes an image from a chip's bytes: changes up to six runs of sectors. For about one in five chips of up to 256 KiB
+/// it first replaces all bytes.
 pub fn alter(dice: &mut Dice, image: &mut [u8]) {
     let small = image.len() <= 262_144;
     if small && dice.hits(1, 10) {

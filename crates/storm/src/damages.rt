@@ -13,8 +13,8 @@ enum Damage {
     Changed,
 }
 
-/// Truncates a copy of the journal, appends a byte to it, or changes one of its bytes, and checks that `Journal::read`
-/// rejects the result.
+/// Truncates a copy of the journal, appends a byte to it, or changes one of its bytes. Checks that `Journal::read`
+/// rejects the result: a truncated journal with `Short`, and a longer one with `Long`.
 pub fn check(alloc: Global, dice: &mut Dice, journal: &[u8]) -> Result<(), Fault> {
     let mut bytes = journal.to_vec(alloc)?;
     let damage = make(dice, &mut bytes)?;

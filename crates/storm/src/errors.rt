@@ -29,7 +29,7 @@ impl<T: Drop> From<AllocFailed<T>> for CallError {
     }
 }
 
-/// Returns the error, if there is one.
+/// Returns the given error as a failure, or success if there is none.
 pub fn refuse(refusal: Option<Refusal>) -> Result<(), CallError> {
     match refusal {
         Some(refusal) => Err(CallError::Refused(refusal)),

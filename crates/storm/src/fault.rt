@@ -1,4 +1,4 @@
-//! The faults that end a run before its last case.
+//! The faults that end a run early.
 
 use nor_chip::WrongLength;
 use nor_journal::JournalFault;
@@ -6,7 +6,7 @@ use nor_layout::LayoutFault;
 use std::alloc::{AllocError, AllocFailed};
 use std::io;
 
-/// The fault that ended a run before its last case.
+/// The fault that ended a run: before its first case, at a case, or when a result was printed.
 #[derive(Debug, Drop)]
 pub enum Fault {
     /// The command line can't be read, or a line can't be printed.
@@ -18,13 +18,13 @@ pub enum Fault {
     /// The result differs from that of the reference implementation. The text names the difference.
     Differs(&'static str),
     /// The call, which the text names, sent other, fewer or more transactions than the reference implementation. The
-    /// number is that of the first transaction that differs, counted from 1.
+    /// number is that of the first transaction that differs, is missing or is additional, counted from 1.
     Sends(&'static str, u64),
     /// A comparison did not detect a planted error. The text names the error.
     Untold(&'static str),
 }
 
-/// Returns `Differs` if `agrees` is false.
+/// Returns `Differs` with the text `what` if `agrees` is false.
 pub fn agree(agrees: bool, what: &'static str) -> Result<(), Fault> {
     if agrees {
         Ok(())
@@ -33,8 +33,8 @@ pub fn agree(agrees: bool, what: &'static str) -> Result<(), Fault> {
     }
 }
 
-/// Returns `Differs` for the first comparison that is false. Callers pass a list, since the prover would prove each
-/// exit of several calls separately.
+/// Returns `Differs` with the text of the first comparison that is false, if there is one. Callers pass a list, since
+/// the prover would prove each exit of several calls of `agree` separately.
 pub fn agree_all(things: &[(bool, &'static str)]) -> Result<(), Fault> {
     for (agrees, what) in things {
         if !*agrees {

@@ -41,7 +41,7 @@ pub fn is_undefined(code: u8) -> bool {
     code / 16 % 2 == 1 && code % 8 == 6
 }
 
-// Returns the length of the range at an end of the chip that SEC and BP select.
+// Returns the length of the range at an end of the chip that SEC and BP select, for defined protection bits.
 fn part_len(code: u8, size: u32) -> u32 {
     let by_sectors = code / 16 % 2 == 1;
     match (by_sectors, code % 8) {
@@ -78,20 +78,20 @@ pub fn guarded_places(code: u8, size: u32) -> (u32, u32) {
     }
 }
 
-/// True if this address is protected.
+/// True if this address is protected, on a chip of this size with block protection.
 pub fn guards(code: u8, size: u32, address: u32) -> bool {
     let (start, len) = guarded_places(code, size);
     start <= address && address < start.saturating_add(len)
 }
 
-/// True if an address of the sector is protected.
+/// True if an address of the sector is protected, on a chip of this size with block protection.
 pub fn guards_some(code: u8, size: u32, sector: u32) -> bool {
     let start = sector.saturating_mul(4096);
     (0..4096).any(|place| guards(code, size, start.saturating_add(place)))
 }
 
-/// Returns the least defined value of the protection bits that protects exactly `len` bytes from `start` on. If `len`
-/// is 0, `start` doesn't matter.
+/// Returns the least defined value of the protection bits that protects exactly `len` bytes from `start` on, if there
+/// is one. If `len` is 0, `start` doesn't matter.
 pub fn least_code(start: u32, len: u32, size: u32) -> Option<u8> {
     (0..64).find(|code| !is_undefined(*code) && protects_exactly(*code, start, len, size))
 }

@@ -84,8 +84,9 @@ pub fn check_refused(
     )
 }
 
-/// Checks the vault of a session that stopped after `sent` transactions, before its seal. If the chip was identified,
-/// it must hold the header and the records of the touched sectors that were scanned; otherwise nothing.
+/// Checks the vault of a session that stopped after `sent` transactions, before its seal. If the identification was
+/// complete, the vault must hold the header and the records of the touched sectors that were scanned. Otherwise the
+/// vault must be empty.
 pub fn check_stopped(
     alloc: Global,
     case: &Case,

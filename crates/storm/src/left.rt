@@ -23,7 +23,7 @@ pub struct Accepted<'a> {
     pub lines: &'a str,
 }
 
-/// A chip after a call that succeeded or was stopped.
+/// A chip, and its model, after a call that succeeded or was stopped.
 #[derive(Drop)]
 pub struct Left {
     pub bus: SimBus,

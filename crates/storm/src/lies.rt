@@ -116,8 +116,8 @@ fn tell_restore(alloc: Global, bus: Faulty, saved: Saved<'_>) -> Told {
     Told { answer, sent }
 }
 
-// Checks that the call returned the same error as the reference implementation, including the address, and sent the
-// same transactions.
+// Checks that the call sent the same transactions as the reference implementation, and returned the same error,
+// including the address. If both succeeded, the report must count these transactions.
 fn check(ran: &Ran, told: Told, call: &'static str) -> Result<(), Fault> {
     let count = check_sent(ran.sent.as_slice(), told.sent.as_slice(), call)?;
     check_answer(ran.answer, told.answer, count)
@@ -255,8 +255,8 @@ fn lie_for(dice: &mut Dice, count: u64) -> Lie {
     }
 }
 
-// Draws a fault of a `SpoiltBus`. A fault at one transaction, or from one on, is in the last quarter of the call for
-// half of the draws, and anywhere for the other half.
+// Draws a fault of a `SpoiltBus`. The transaction of `Drop` or `BusyFrom` is in the last quarter of the call for half
+// of the draws, otherwise it is any from 0 to `count`. A `Drop` at 0 has no effect, as transactions are counted from 1.
 fn spoil_for(dice: &mut Dice, count: u64) -> Spoil {
     let late = count / 4 * 3;
     let number = if dice.hits(1, 2) {
@@ -272,7 +272,7 @@ fn spoil_for(dice: &mut Dice, count: u64) -> Spoil {
     }
 }
 
-// Returns a bus to a copy of the chip with this fault. The bus never stops.
+// Returns a bus with this fault to a copy of the chip. The bus never stops.
 fn liar(alloc: Global, chip: &Chip, lie: Lie) -> Result<Faulty, Fault> {
     let bus = chip.bus(alloc, Stop::NEVER)?;
     let (spoil, high) = match lie {

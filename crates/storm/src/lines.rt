@@ -21,7 +21,7 @@ pub struct Lines {
 }
 
 impl Lines {
-    /// Returns an empty list for a chip in this state.
+    /// Returns a list without lines, for a chip in this state.
     pub fn new(alloc: Global, chip: &Chip) -> Lines {
         Lines {
             text: String::new(alloc),
@@ -83,21 +83,21 @@ impl Lines {
         self.lost |= writeln!(self.text, "03{address:06x} > {SECTOR_LEN} bytes").is_err();
     }
 
-    /// Appends an operation that erases the block at an address with this opcode.
+    /// Appends an operation that erases the block at `address`: a write enable, a command with `opcode`, and a wait.
     pub fn erase(&mut self, opcode: &str, address: u32) {
         self.enable();
         self.lost |= writeln!(self.text, "{opcode}{address:06x}").is_err();
         self.finish(opcode);
     }
 
-    /// Appends an operation that erases the whole chip.
+    /// Appends an operation that erases the whole chip (C7h).
     pub fn erase_chip(&mut self) {
         self.enable();
         self.put("c7\n");
         self.finish("c7");
     }
 
-    /// Appends an operation that programs bytes from an address on.
+    /// Appends an operation that programs `bytes` from `address` on (02h).
     pub fn program(&mut self, address: u32, bytes: &[u8]) {
         self.enable();
         self.lost |= write!(self.text, "02{address:06x}").is_err();
@@ -108,7 +108,7 @@ impl Lines {
         self.finish("02");
     }
 
-    /// Appends an operation that writes both status bytes.
+    /// Appends an operation that writes both status bytes (01h).
     pub fn write_status(&mut self, status: Status) {
         let [status1, status2] = status;
         self.enable();

@@ -110,7 +110,7 @@ fn run_all(rt: &HostRuntime, job: Job) -> Result<ExitCode, Fault> {
 }
 
 // Runs the cases of a seed, and prints the tally. Returns the number of cases that agreed before the first failure, and
-// the number of failures: 0 or 1. If a kind of case is too rare, that is a failure, too.
+// the number of failures: 0 or 1. A tally that is not sufficient (`Tally::is_sufficient`) is a failure, too.
 fn run(rt: &HostRuntime, job: Job, seed: u64) -> Result<(u64, u64), Fault> {
     let (tally, failed) = runs::run(rt.alloc(), job, seed);
     eprintln!(rt; "Seed {seed}. {tally}")?;

@@ -15,8 +15,8 @@ pub struct Stop {
     pub after: u64,
     /// The number of bytes that are sent of the next transaction, all if it has fewer. With `None` no byte is sent.
     pub cut: Option<u32>,
-    /// The byte that each byte of a running program or erase becomes if the chip then loses its power. If it is even, a
-    /// running status write is undone. With `None` the chip keeps its power.
+    /// The fill byte of a loss of power at the stop, or `None` if the chip keeps its power. Each byte of the page or
+    /// block of a running program or erase becomes the fill byte. If it is even, a running status write is undone.
     pub fill: Option<u8>,
 }
 
@@ -45,7 +45,7 @@ pub struct Model {
     work: Work,
 }
 
-// The operation of a busy chip.
+// The operation that a busy chip performs, so that a loss of power can interrupt it.
 #[derive(Clone, Copy)]
 enum Work {
     // An operation that began before the model was made. The model doesn't know its kind.
@@ -111,8 +111,8 @@ impl Model {
         }
     }
 
-    // Carries out a transaction that sends these bytes. Transactions that only read, except polls, don't change the
-    // model.
+    // Carries out a transaction that sends these bytes, as hexadecimal digits. Only polls and modifying commands change
+    // the model. A 04h is ignored, since no call sends it.
     fn carry_out(&mut self, sent: &str) {
         let opcode = sent.get(..2).unwrap_or("");
         match (opcode, sent.len() / 2) {
@@ -132,7 +132,7 @@ impl Model {
         Pace::of(&self.chip)
     }
 
-    // Sets BUSY and the write enable latch as a transaction with this opcode does.
+    // Sets BUSY and the write enable latch as after a transaction with this opcode that the chip carried out.
     fn pass(&mut self, opcode: &str) {
         self.set_pace(self.pace().behind(opcode));
     }
@@ -157,8 +157,8 @@ impl Model {
         self.pace().bits() == 0b0000_0010
     }
 
-    // Writes SRP, QE, BP, TB, SEC and CMP as sent, if the chip is idle, its latch is set and its status isn't locked.
-    // An LB bit that is set stays set, and the reserved bit keeps its value.
+    // Writes the non-volatile status bits as sent, if the chip is idle, its latch is set and its status isn't locked.
+    // There are two exceptions: an LB bit that is set stays set, and the reserved bit keeps its value.
     fn write_status(&mut self, one: u8, two: u8) {
         let before = guards::kept(self.chip.status);
         if !self.is_ready() || guards::is_locked(before) {
@@ -195,8 +195,8 @@ impl Model {
         }
     }
 
-    // Clears bits from an address on. After the last byte of the page, programming continues at the first byte of the
-    // page.
+    // Programs the bytes after the address in `sent`, if the chip accepts the operation: bits change only from 1 to 0.
+    // After the last byte of the page, programming continues at the first byte of the page.
     fn program(&mut self, sent: &str) {
         let address = self.address_of(sent);
         if !self.takes(address, 1) {
@@ -232,7 +232,8 @@ impl Model {
         self.set_pace(pace.without_power());
     }
 
-    // Interrupts the operation. A status write leaves the old bits if `fill` is even, and the new bits if it is odd.
+    // Interrupts the operation. A program or an erase leaves `fill` in each byte of its page or block. A status write
+    // leaves the old bits if `fill` is even, and the new bits if it is odd. An unknown operation changes nothing.
     fn cut_off(&mut self, fill: u8) {
         match self.work {
             Work::Bytes(start, len) => self.fill(start, len, fill),
@@ -250,7 +251,7 @@ fn sent_by(line: &str) -> &str {
     }
 }
 
-// Returns one of the bytes sent, by its position.
+// Returns the byte at a position, counted from 0, of the bytes whose hexadecimal digits are `sent`.
 fn byte_at(sent: &str, place: usize) -> u8 {
     let from = place.saturating_mul(2);
     let digits = sent.get(from..from.saturating_add(2)).unwrap_or("");

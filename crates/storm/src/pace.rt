@@ -27,7 +27,8 @@ impl Pace {
         u8::from(self.busy > 0) | u8::from(self.latch) << 1
     }
 
-    /// Returns the pace after the chip carried out a transaction with this opcode.
+    /// Returns the pace after the chip carried out a transaction with this opcode. For an operation the chip must be
+    /// idle, and its write enable latch set.
     pub fn behind(self, opcode: &str) -> Pace {
         match opcode {
             "05" => self.behind_poll(),
@@ -64,7 +65,7 @@ impl Pace {
         pace
     }
 
-    /// Returns the pace after the transactions of a trace.
+    /// Returns the pace after the chip carried out the transactions of a trace.
     pub fn behind_lines(self, lines: &str) -> Pace {
         let mut pace = self;
         for line in lines.lines() {

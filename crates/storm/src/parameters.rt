@@ -14,8 +14,8 @@ pub struct Told {
     pub k64: bool,
 }
 
-/// Draws SFDP bytes that describe a chip of this size with these erase types. Bytes that `read` ignores are random or
-/// FFh.
+/// Draws SFDP bytes that describe a chip of this size with these erase types. Bytes that don't change the result of
+/// `read` are random or FFh.
 pub fn show(dice: &mut Dice, told: Told) -> Shown {
     let mut shown = [0xFF; 256];
     let at = dice.pick(0x10, &[0x10, 0x30, 0x80]);
@@ -129,7 +129,7 @@ fn wrong_density(dice: &mut Dice) -> [u8; 4] {
     dice.pick(0_u32, &wrong).to_le_bytes()
 }
 
-/// Overwrites bytes from a position on.
+/// Overwrites bytes from the position `at` on with those of `piece`.
 pub fn put(shown: &mut Shown, at: usize, piece: &[u8]) {
     for (place, byte) in shown.iter_mut().skip(at).zip(piece) {
         *place = *byte;
@@ -163,7 +163,7 @@ pub fn read(shown: &Shown, size: u32) -> Result<Told, SfdpFault> {
 
 // Returns the size and erase types that double words 1 to 9 describe, or the first fault.
 fn read_table(table: &[u8; 36]) -> Result<Told, SfdpFault> {
-    // Bits 17 and 18 of the first double word.
+    // Bits 17 and 18 of the first double word. 2 (only four address bytes) and 3 (reserved) are rejected.
     if table[2] / 2 % 4 >= 2 {
         return Err(SfdpFault::Address);
     }

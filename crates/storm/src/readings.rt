@@ -14,7 +14,7 @@ use nor_read::{Protection, read_out, verify, wp_status};
 use nor_session::{Refusal, Report};
 use std::alloc::Global;
 
-/// The calls that only read.
+/// The calls that only read: `probe`, `wp_status`, `read_out` and `verify`.
 #[derive(Clone, Copy)]
 pub enum Reading {
     Probe,
@@ -203,9 +203,9 @@ fn first_difference(case: &Case) -> Option<Refusal> {
     None
 }
 
-/// Compares the protection or the copy that a successful call on a faulty bus returned with the chip that the replies
-/// described to the reference implementation. Does not compare the report of a copy or a verification. A probe has no
-/// result here.
+/// Checks the protection or the copy that a successful call on a faulty bus returned. It must be that of the chip that
+/// the replies described to the reference implementation. The reports of copies and verifications, and the results of
+/// probes, are not checked.
 pub fn check_known(alloc: Global, known: &Case, told: &Told) -> Result<(), Fault> {
     match told {
         Told::Found | Told::Comparison(_) => Ok(()),
@@ -243,8 +243,8 @@ fn copy_of(alloc: Global, case: &Case) -> Result<Vec<u8>, Fault> {
     Ok(copy)
 }
 
-// Checks the report on protection. It must have an empty range as two zeros, and no range if the protection bits are
-// undefined.
+// Checks the report on protection: the protected range, whether the status is locked, and the chip's size. An empty
+// range must be two zeros. For undefined protection bits there must be no range.
 fn check_protection(case: &Case, told: Protection) -> Result<(), Fault> {
     let code = guards::code_of(case.chip.status);
     let size = case.chip.config.size;
@@ -284,8 +284,9 @@ struct Copied {
     sent: Vec<u8>,
 }
 
-// Checks a readout into a vault that refuses one of its calls. The error must be that of the readout without this
-// refusal, or have the number of bytes that the vault has, with those that it kept of the refused piece.
+// Checks a readout into a vault that refuses one of its calls. The readout must return error 19 with the number of
+// bytes in the vault, which include those that the vault kept of the refused piece. Otherwise it must return the error
+// that it returns without this refusal.
 fn check_refused_copy(alloc: Global, dice: &mut Dice, case: &Case) -> Result<(), Fault> {
     let nth = u64::from(dice.below(case.chip.sectors() / 16)).saturating_add(1);
     let kept = dice.pick(0, &[1, 4095, 65_535]);
@@ -313,7 +314,8 @@ fn copy_out(alloc: Global, case: &Case, bus: SimBus, (nth, kept): (u64, usize)) 
 }
 
 // Checks the bytes and the trace of a readout whose vault refused a call. The vault must have the first `written` bytes
-// of the contents. Sectors are read and written 16 at a time, and none is read after the 16 that contain the next byte.
+// of the copy. A readout reads and writes 16 sectors at a time. No sector must be read after the 16 that contain the
+// first byte missing from the vault.
 fn check_part(alloc: Global, case: &Case, written: u64, copied: &Copied) -> Result<(), Fault> {
     check_first(alloc, case, written, copied.out.inner().bytes())?;
     let piece = u32::try_from(written / 65_536).unwrap_or(u32::MAX);

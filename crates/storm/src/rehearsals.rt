@@ -16,9 +16,9 @@ use std::alloc::Global;
 struct Plan {
     // the numbers of transactions after which the session and the two restores stop
     stops: [u64; 3],
-    // the number of bytes of its transaction that each stop sends
+    // the number of bytes that are sent of the transaction at each stop; `None` for no byte
     cut: Option<u32>,
-    // the fill byte, if a stop loses the power
+    // the fill byte, if the chip loses its power at each stop
     fill: Option<u8>,
 }
 

@@ -55,8 +55,8 @@ struct Whole<'a> {
     refusal: Option<Refusal>,
 }
 
-/// Checks restores from the journal of a session that succeeded, on a random chip. Returns the error with which the
-/// restore is refused, if any.
+/// Checks restores of a random chip from the journal of a session that succeeded: without a stop, with a stop, and on a
+/// faulty bus. Returns the error with which the restore is refused, if any.
 pub fn check(
     alloc: Global,
     dice: &mut Dice,
@@ -136,8 +136,9 @@ fn check_ended(whole: Whole<'_>, ran: &Restored) -> Result<(), Fault> {
     checks::check_wanted(whole.wanted, &ran.bus)
 }
 
-// Checks the restore with a random stop. If the stop is after all of these lines, the restore must have its result
-// without a stop; otherwise it must return `Stopped` after the lines before the stop.
+// Checks the restore with a random stop. `lines` has the lines that it sends without a stop. If the stop is after all
+// of them, the restore must have its result without a stop, otherwise it must return `Stopped` after the lines before
+// the stop. In both cases the chip must equal the model.
 fn check_stopped(
     alloc: Global,
     dice: &mut Dice,
@@ -181,7 +182,7 @@ fn check_stop(wanted: Option<Refusal>, lines: &str, ran: &Restored) -> Result<()
 }
 
 // Draws a chip to restore: one time in twelve an unrelated small chip, otherwise the journal's chip with other bytes.
-// Half of these have other status bits or another unique ID, too.
+// For half of the latter the status bits or the unique ID are drawn, too.
 fn other_chip(alloc: Global, dice: &mut Dice, chip: &Chip) -> Result<Chip, Fault> {
     if dice.hits(1, 12) {
         return chips::small(alloc, dice);

@@ -67,7 +67,8 @@ fn check_case(
     check_session(alloc, dice, case, &ran, tally)
 }
 
-// Checks a session, which may be refused after the identification, refused after the scan, or accepted.
+// Checks a session, which may be refused with one of errors 1 to 8 before the scan, refused with error 9 or 10 after
+// the scan, or accepted.
 fn check_session(
     alloc: Global,
     dice: &mut Dice,
@@ -91,7 +92,7 @@ fn check_session(
     }
 }
 
-// Checks a session that is refused after its scan.
+// Checks a session that is refused with error 9 or 10, after its scan.
 fn check_late(
     alloc: Global,
     dice: &mut Dice,
@@ -121,8 +122,8 @@ fn check_accepted(
     go_on(alloc, dice, accepted, ran, tally)
 }
 
-// Checks an accepted session, and the same session with stops and restores. Also checks a rehearsal one time in four,
-// and a damaged journal and restores on another chip one time in three.
+// Checks an accepted session, and the same session with a random stop and, if it sealed its vault, the restores after
+// it. Also checks a rehearsal one time in four, and a damaged journal and restores of another chip one time in three.
 fn go_on(
     alloc: Global,
     dice: &mut Dice,

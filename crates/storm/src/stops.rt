@@ -16,8 +16,9 @@ use nor_journal::{Journal, MemVault};
 use nor_session::Refusal;
 use std::alloc::Global;
 
-/// Runs an accepted session with a random stop. If it sealed its vault, restores, with further stops, until a restore
-/// succeeds. Returns the numbers of stops inside a transaction.
+/// Runs an accepted session with a random stop, and checks the chip and the vault after it. If the session sealed its
+/// vault, runs restores, up to four of them with stops, until one succeeds. Returns the numbers of stops inside a
+/// transaction.
 pub fn check(alloc: Global, dice: &mut Dice, accepted: Accepted<'_>) -> Result<Cuts, Fault> {
     let stop = Stop {
         after: stop_for(dice, accepted.case, accepted.wanted),
@@ -58,7 +59,8 @@ fn check_stop(
 }
 
 /// Runs a refused session with a random stop. If the stop is after all its transactions, the session must return the
-/// error `refusal`, otherwise `Stopped`.
+/// error `refusal`, otherwise `Stopped`. In both cases the session must send exactly the transactions before the stop,
+/// leave the vault unsealed, and leave the chip's bytes and non-volatile status bits as they were.
 pub fn check_refused(
     alloc: Global,
     dice: &mut Dice,
@@ -101,8 +103,8 @@ fn check_refusal(
     traces::check_lines(ran.lines()?, first, "a refused session that was stopped")
 }
 
-/// Draws the number of transactions after which a session stops: one time in four any number, otherwise one that is
-/// enough for the seal.
+/// Draws the number of transactions after which a session stops, up to all that it sends: one time in four any number,
+/// otherwise one that is enough for the seal.
 pub fn stop_for(dice: &mut Dice, case: &Case, wanted: &Wanted) -> u64 {
     let whole = lengths::session(case, wanted.work(&case.chip));
     if dice.hits(1, 4) {
@@ -147,8 +149,8 @@ fn check_outside(chip: &Chip, wanted: &Wanted, bytes: &[u8]) -> Result<(), Fault
     Ok(())
 }
 
-// Checks, if the chip kept its power, that in each sector that isn't raised, bits changed only from 1 to 0, and only
-// bits that are 0 in the target.
+// Checks that in each sector that isn't raised, bits changed only from 1 to 0, and only bits that are 0 in the target.
+// Checks nothing if the stop has a fill byte, since the chip may then have lost its power.
 fn check_gentle(case: &Case, wanted: &Wanted, bus: &SimBus, fill: Option<u8>) -> Result<(), Fault> {
     if fill.is_some() {
         return Ok(());
@@ -172,9 +174,9 @@ fn is_gentle(old: &[u8], new: &[u8], now: &[u8]) -> bool {
         .all(|((old, new), now)| *new & !*now == 0 && *now & !*old == 0)
 }
 
-// Restores with up to four stops, and at last without a stop, until a restore succeeds. At each stop the chip loses its
-// power if it did at the session's stop. Returns the counts `cuts` with these restores' stops inside a transaction
-// added.
+// Runs up to four restores with stops until one succeeds, otherwise a last one without a stop, which must succeed. At
+// each stop the chip loses its power if the session's stop `first` has a fill byte. Returns `cuts` with the stops of
+// these restores inside a transaction added.
 fn give_back(
     alloc: Global,
     dice: &mut Dice,
@@ -197,7 +199,7 @@ fn give_back(
     Ok(cuts)
 }
 
-// Draws the stop of a restore. The chip loses its power if it did at the session's stop.
+// Draws the stop of a restore. Its fill byte is that of the session's stop `first`.
 fn next_stop(dice: &mut Dice, accepted: Accepted<'_>, first: Stop) -> Stop {
     let (case, wanted) = (accepted.case, accepted.wanted);
     let most = lengths::session(case, wanted.work(&case.chip));
@@ -208,7 +210,7 @@ fn next_stop(dice: &mut Dice, accepted: Accepted<'_>, first: Stop) -> Stop {
     }
 }
 
-// Restores with a stop, and checks the chip if the restore did not succeed.
+// Runs a restore with a stop, and checks the chip if the restore did not succeed.
 fn give_some(
     alloc: Global,
     accepted: Accepted<'_>,

@@ -4,16 +4,16 @@ use crate::model::Stop;
 use nor_session::Refusal;
 use std::fmt;
 
-/// Returns the least number of cases of each kind in a run of `cases` cases: five if `cases` is 500 or more, otherwise
-/// 0.
+/// Returns the least number of cases of each kind that `is_sufficient` checks, for a run of `cases` cases: 5 if `cases`
+/// is 500 or more, otherwise 0.
 pub fn least(cases: u64) -> u64 {
     if cases < 500 { 0 } else { 5 }
 }
 
-/// The numbers of cases by their result.
+/// The numbers of cases of each kind, and of stops inside a transaction.
 #[derive(Clone, Copy)]
 pub struct Tally {
-    /// Accepted sessions. Each was also run with a random stop, and restored if its vault was sealed.
+    /// Accepted sessions. Each was also run with a random stop, and then restored if the vault was sealed by then.
     pub accepted: u64,
     /// Refused sessions, by the number of their error.
     pub refused: [u64; 21],
@@ -51,7 +51,8 @@ impl Cuts {
         losses: 0,
     };
 
-    /// Returns the counts, with one more for a session if it was stopped inside a transaction.
+    /// Returns the counts after a session with this stop. If the session was stopped inside a transaction, `sessions`
+    /// is one higher, and so is `losses` if the stop has a fill byte.
     pub fn with_session(self, stop: Stop, ended: bool) -> Cuts {
         let more = u64::from(!ended && stop.cut.is_some());
         Cuts {
@@ -60,7 +61,8 @@ impl Cuts {
         }
     }
 
-    /// Returns the counts, with one more for a restore if it was stopped inside a transaction.
+    /// Returns the counts after a restore with this stop. If the restore was stopped inside a transaction, `restores`
+    /// is one higher, and so is `losses` if the stop has a fill byte.
     pub fn with_restore(self, stop: Stop, ended: bool) -> Cuts {
         let more = u64::from(!ended && stop.cut.is_some());
         Cuts {
@@ -97,8 +99,9 @@ impl Tally {
     };
 
     /// True if the counts are sufficient for this number of cases. Accepted sessions, accepted restores, reading calls,
-    /// the three kinds of stops inside a transaction, and sessions with each of errors 1 to 10 must each reach
-    /// `least(cases)`. No session may have another error.
+    /// the three counts of stops inside a transaction, and sessions with each of errors 1 to 10 must each reach
+    /// `least(cases)`. No session may have another error. Rehearsals, refused restores and sessions on faulty buses are
+    /// not checked.
     pub fn is_sufficient(&self, cases: u64) -> bool {
         let least = least(cases);
         let mut refused = self.refused.iter().enumerate();

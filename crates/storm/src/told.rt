@@ -123,7 +123,7 @@ impl Caller<'_> {
         Ok(())
     }
 
-    // Makes the changes that restore the chip, and verifies them.
+    // Checks for error 9, makes the changes that restore the chip, and verifies them.
     fn give_back(&mut self, saved: Saved<'_>, chip: &mut Chip) -> Result<(), CallError> {
         let wanted = restores::restored_of(self.alloc, chip, saved)?;
         refuse(verdicts::of_lock(chip, saved, &wanted))?;
@@ -152,8 +152,8 @@ impl Caller<'_> {
         Err(CallError::Refused(Refusal::Timeout { address }))
     }
 
-    // Finds the chip: waits, reads the ID, and reads SFDP if the ID isn't in the table. Returns the chip's
-    // configuration and its status 1, or the error of the probe.
+    // Finds the chip: waits, reads the ID, and reads SFDP unless the ID is in the table or means that there is no chip.
+    // Returns the chip's configuration and its status 1, or the error of the probe.
     fn find(&mut self, named: Option<ChipName>) -> Result<(Config, u8), CallError> {
         let status1 = self.wait(0)?;
         let mut id = [0; 3];
@@ -335,7 +335,8 @@ fn unread(alloc: Global, config: Config, status: Status) -> Result<Chip, Fault> 
     })
 }
 
-// Returns the request and image of the case, with the chip that the replies describe.
+// Returns the case with the chip that the replies describe. The included addresses are only in `included`, which is
+// what the reference implementation reads, and not in the request.
 fn asked_of(alloc: Global, case: &Case, chip: Chip) -> Result<Case, Fault> {
     Ok(Case {
         chip,

@@ -53,7 +53,7 @@ pub fn check_refused(case: &Case, refusal: Refusal, sent: &str) -> Result<(), Fa
     )
 }
 
-/// Checks that no modifying command was sent before all sectors were saved, and that only raised sectors were erased.
+/// Checks that a session sent no modifying command before the seal, and erased only raised sectors.
 pub fn check_ended(case: &Case, wanted: &Wanted, sent: &str) -> Result<(), Fault> {
     let saving = usize::try_from(lengths::saving(case)).unwrap_or(usize::MAX);
     agree(
@@ -68,7 +68,7 @@ pub fn check_ended(case: &Case, wanted: &Wanted, sent: &str) -> Result<(), Fault
     )
 }
 
-// True if the line is a modifying command.
+// True if the line begins with the opcode of a modifying command.
 fn changes(line: &str) -> bool {
     CHANGING.iter().any(|opcode| line.starts_with(*opcode))
 }
@@ -81,8 +81,8 @@ fn erases_raised(line: &str, sectors: u32, wanted: &Wanted) -> bool {
     }
 }
 
-// Returns the first sector that an erase command erases, and the number of sectors. `sectors` is the number of sectors
-// on the chip.
+// Returns the first sector that the command of this line erases, and the number of erased sectors, or `None` if it
+// erases nothing. `sectors` is the number of sectors on the chip.
 fn erased_by(line: &str, sectors: u32) -> Option<(u32, u32)> {
     if line == "c7" {
         return Some((0, sectors));

@@ -1,18 +1,19 @@
 //! The transactions that each call must send, in order, with one line for each: a part of the reference implementation.
 //!
 //! A wait is a number of polls (05h) until one shows BUSY clear. An operation is a write enable (06h), a command, and a
-//! wait. One 03h reads a sector of 4,096 bytes. A call that is stopped sends a prefix of the lines that it sends
-//! without a stop. A session or restore has these steps:
+//! wait. One 03h reads a sector of 4,096 bytes. If a call is stopped, its lines are a prefix of its lines without a
+//! stop: the transaction that a stop interrupts has no line. A session or restore has these steps:
 //!
 //! 1. Find the chip: a wait, the ID, and three reads of SFDP. The SFDP is not read if the ID is in the table, or means
 //!    that there is no chip.
 //! 2. Identify the device: status 2 and the unique ID.
-//! 3. Read the sectors that may change, in ascending order.
+//! 3. Read the sectors that hold an included address (session) or were saved (restore), in ascending order. A session
+//!    that only sets a protection range reads none.
 //! 4. Clear the protection bits, if a touched sector is protected.
 //! 5. Erase the raised sectors.
-//! 6. Program the touched sectors, in ascending order.
+//! 6. Program the touched sectors, in ascending order. A sector that wasn't erased is read first.
 //! 7. Set the protection bits of the target, if they differ.
-//! 8. Verify: read the touched sectors again, in ascending order.
+//! 8. Verify: read the touched sectors again, in ascending order. A session does so only if the request asks for it.
 
 use crate::cases::Case;
 use crate::chips::Chip;
@@ -61,7 +62,7 @@ pub fn refused_session(alloc: Global, case: &Case, refusal: Refusal) -> Result<L
     lines.whole()
 }
 
-/// Returns the lines of a restore of these sectors that succeeds.
+/// Returns the lines of a restore that succeeds, from a journal that saved the touched sectors of `saved`.
 pub fn restore(
     alloc: Global,
     chip: &Chip,
@@ -95,7 +96,7 @@ pub fn refused_restore(
     lines.whole()
 }
 
-// Appends steps 1 to 3 of a restore. Step 3 reads each saved sector.
+// Appends steps 1 to 3 of a restore. Step 3 reads the touched sectors of `saved`, which the journal saved.
 fn scan_saved(lines: &mut Lines, chip: &Chip, saved: &[Sector]) {
     find(lines, chip);
     identify(lines);
@@ -119,7 +120,8 @@ pub fn reading(alloc: Global, case: &Case, below: u32) -> Result<Lines, Fault> {
     lines.whole()
 }
 
-/// Returns the lines of a report on protection: step 1, and then a read of status 2 if `is_found` is true.
+/// Returns the lines of a report on protection: step 1, and then a read of status 2 if `is_found` is true. The caller
+/// passes true if the probe returns no error.
 pub fn protection(alloc: Global, chip: &Chip, is_found: bool) -> Result<Lines, Fault> {
     let mut lines = Lines::new(alloc, chip);
     find(&mut lines, chip);
@@ -248,7 +250,7 @@ pub fn program_sector(lines: &mut Lines, chip: &Chip, wanted: &Wanted, number: u
     }
 }
 
-// Appends the program of a page, from the first byte that differs to the last one.
+// Appends the program of a page, from the first byte that must be programmed to the last one, if there is any.
 fn program_page(lines: &mut Lines, start: u32, (old, new): (&[u8], &[u8]), is_erased: bool) {
     if let Some((first, last)) = span(old, new, is_erased) {
         let bytes = new.get(first..last.saturating_add(1)).unwrap_or(&[]);

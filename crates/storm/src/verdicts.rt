@@ -13,7 +13,7 @@ pub fn is_in_table(config: &Config) -> bool {
     name_of(config) != ChipName::Sfdp
 }
 
-/// Returns the name that a probe must find for the chip.
+/// Returns the name that a probe must find for the chip: `Sfdp` if its ID isn't in the table.
 pub fn name_of(config: &Config) -> ChipName {
     part_of(config.id).map_or(ChipName::Sfdp, |part| part.name)
 }
@@ -23,7 +23,7 @@ pub fn is_no_chip(config: &Config) -> bool {
     config.id == [0xFF; 3] || config.id == [0x00; 3]
 }
 
-/// Returns the error of a probe: no chip, an unknown chip, or a name other than the requested one.
+/// Returns the first error that a probe must return, if any: no chip, an unknown chip, or another name than `named`.
 pub fn of_probe(config: &Config, named: Option<ChipName>) -> Option<Refusal> {
     if is_no_chip(config) {
         return Some(Refusal::NoChip);
@@ -104,14 +104,15 @@ pub fn of_changes(case: &Case, wanted: &Wanted) -> Option<Refusal> {
     }
 }
 
-/// The contents of a journal: the original chip, and which of its sectors were saved.
+/// The contents of a journal: the original chip, and its sectors. The touched ones were saved.
 #[derive(Clone, Copy)]
 pub struct Saved<'a> {
     pub chip: &'a Chip,
     pub sectors: &'a [Sector],
 }
 
-/// Returns the first error that a restore must return, if any. `wanted` is the target of the restore.
+/// Returns the first of errors 1, 2, 16, 20, 17 and 9 that a restore must return, if any. `wanted` is the target of the
+/// restore.
 pub fn of_restore(chip: &Chip, saved: Saved<'_>, wanted: &Wanted) -> Option<Refusal> {
     of_probe(&chip.config, None)
         .or(of_journal(&chip.config, saved))
@@ -129,8 +130,8 @@ pub fn of_journal(config: &Config, saved: Saved<'_>) -> Option<Refusal> {
     }
 }
 
-/// Returns an error if the journal is for another device, or if status bits that a restore can't write differ from the
-/// journal's.
+/// Returns error 20 if the journal is for another device, or error 17 if status bits that no restore writes differ from
+/// the journal's.
 pub fn of_unit(chip: &Chip, saved: Saved<'_>) -> Option<Refusal> {
     if chip.config.unique != saved.chip.config.unique {
         return Some(Refusal::OtherUnit);

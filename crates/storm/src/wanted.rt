@@ -64,7 +64,7 @@ impl Wanted {
         })
     }
 
-    /// Returns the first touched sector of the chip that has a protected address.
+    /// Returns the number of the first touched sector that has a protected address on this chip, if there is one.
     pub fn first_guarded(&self, chip: &Chip) -> Option<u32> {
         if !chip.config.scheme {
             return None;
@@ -147,7 +147,7 @@ fn take_span(case: &Case, span: Span, bytes: &mut [u8]) {
 }
 
 // Returns the target's non-volatile status bits. For a request of a protection range they have the least protection
-// bits that protect exactly this range.
+// bits that protect exactly this range; if there are none, the bits are the chip's own, as for the other requests.
 fn wanted_status(case: &Case) -> Status {
     let status = guards::kept(case.chip.status);
     let What::WpRange { start, len } = case.request.what else {
@@ -190,8 +190,8 @@ fn rises(old: &[u8], new: &[u8]) -> bool {
     old.iter().zip(new).any(|(old, new)| *new & !*old != 0)
 }
 
-// Returns the number of pages of a sector to program: those not all FFh if the sector is erased, otherwise those that
-// change.
+// Returns the number of pages of a sector to program. If the sector is raised, so that it is erased first, these are
+// the pages whose target isn't all FFh, otherwise those that change.
 fn pages_of(old: &[u8], new: &[u8], raised: bool) -> u32 {
     let mut pages = 0_u32;
     for (old, new) in old.chunks(256).zip(new.chunks(256)) {
@@ -205,9 +205,12 @@ fn pages_of(old: &[u8], new: &[u8], raised: bool) -> u32 {
     pages
 }
 
-// Returns the fewest erases: one if each sector of the chip is raised. Otherwise, if the chip has erases of these
-// sizes, one for each aligned 64 KiB with only raised sectors, and one for each such 32 KiB outside these; and one for
-// each remaining raised sector.
+// Returns the least number of erases for the raised sectors. If each sector of the chip is raised, this is one.
+// Otherwise it is the sum of these, where 64 KiB and 32 KiB count only if the chip has that erase type:
+//
+// - one for each aligned 64 KiB with only raised sectors
+// - one for each other aligned 32 KiB with only raised sectors
+// - one for each other raised sector
 fn fewest_erases(sectors: &[Sector], chip: &Chip) -> u64 {
     if are_raised(sectors) {
         return 1;

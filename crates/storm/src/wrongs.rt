@@ -10,7 +10,7 @@ use crate::{lines, traces, transactions, verdicts};
 use nor_session::Refusal;
 use std::alloc::Global;
 
-/// Plants errors, and returns a fault if a comparison doesn't detect one.
+/// Plants errors, and returns `Untold` if a comparison doesn't detect one of them.
 pub fn check(alloc: Global) -> Result<(), Fault> {
     check_places()?;
     check_session(alloc)?;
@@ -26,7 +26,7 @@ fn must_tell(told: Result<(), Fault>, what: &'static str) -> Result<(), Fault> {
     }
 }
 
-// Checks that the comparison of traces reports a wrong, a missing and an additional line with its number.
+// Checks that the comparison of traces reports the number of a line that is wrong, missing or additional.
 fn check_places() -> Result<(), Fault> {
     let rows = [
         ("05 > 00\n9f > fe1010\n", None),

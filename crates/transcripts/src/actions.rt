@@ -24,8 +24,8 @@ pub fn take(alloc: Global, bus: &mut Way<'_>, action: Action<'_>) -> Result<(), 
     }
 }
 
-// Sends a transaction that the bus must carry out. The reply buffer first gets bytes that all differ from the expected
-// ones, so that the comparison fails if the bus writes nothing.
+// Sends a transaction that the bus must carry out, and compares the reply. The reply buffer first gets bytes that all
+// differ from the expected ones, so that the comparison fails if the bus does not write each of them.
 fn carry(alloc: Global, bus: &mut Way<'_>, exchange: Exchange<'_>) -> Result<(), Fault> {
     let out = bytes_of(alloc, exchange.out)?;
     let wanted = bytes_of(alloc, exchange.reply)?;
@@ -37,7 +37,7 @@ fn carry(alloc: Global, bus: &mut Way<'_>, exchange: Exchange<'_>) -> Result<(),
     agree_bytes(alloc, &reply, &wanted)
 }
 
-// Sends a transaction at which the bus must stop, and checks that the bytes of the reply buffer stay as they were.
+// Sends a transaction at which the bus must stop, and checks that it leaves the bytes in the reply buffer as they were.
 fn stop(alloc: Global, bus: &mut Way<'_>, exchange: Exchange<'_>) -> Result<(), Fault> {
     let out = bytes_of(alloc, exchange.out)?;
     let wanted = bytes_of(alloc, exchange.reply)?;

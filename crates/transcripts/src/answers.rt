@@ -9,7 +9,7 @@ use nor_chip::{Config, Delays, Offered, SimBus, offered};
 use std::alloc::{AllocError, Global};
 use std::str::Lines;
 
-/// The chip after the actions of a case, and the number of transactions that the bus did not stop.
+/// The chip after the actions of a case, and the number of transactions that succeeded (which the bus did not stop).
 #[derive(Drop)]
 pub struct Left {
     pub chip: SimBus,
@@ -82,7 +82,7 @@ impl<'a> Answers<'a> {
         }
     }
 
-    /// Checks that the trace has no further lines. Does nothing if no check of the case compared a line of the trace.
+    /// Checks that the trace has no further lines. Checks nothing if no check of the case compared a line of the trace.
     pub fn end(mut self, alloc: Global) -> Result<(), Fault> {
         match self.trace.next() {
             Some(line) if self.is_traced => {
@@ -145,7 +145,7 @@ impl<'a> Answers<'a> {
     }
 }
 
-// Returns `made` if `Config::new` accepts this size with this number of SFDP bytes, else `none`.
+// Returns `made` if `Config::new` accepts the size and the number of SFDP bytes that `words` has, otherwise `none`.
 fn made(alloc: Global, words: &str) -> Result<&'static str, Fault> {
     let (size, count) = words.split_once(' ').ok_or(Fault::Unread)?;
     let sfdp = vec![in alloc; 0xAB; count.parse::<usize>()?]?;

@@ -11,9 +11,9 @@ use nor_chip::{MOST_SECTORS, Status};
 use nor_driver::{Erase, EraseBlock, OperationError, erase, program_page, wait, write_status};
 use std::alloc::{AllocError, Global};
 
-/// Calls the function, and returns as text the number of transactions that it sent, or `stop`, or `timeout ADDRESS`. If
-/// a wait succeeds, the text begins with the status 1 of its last poll. Returns `Unread` if an argument can't be parsed
-/// or breaks the function's premises.
+/// Calls the function and returns its result as text: the number of transactions that it sent, `stop`, or `timeout
+/// ADDRESS`. If a wait succeeds, the text begins with the status 1 of its last poll. Returns `Unread` if an argument
+/// can't be parsed or breaks the function's premises.
 pub fn answer(alloc: Global, bus: &mut Way<'_>, call: Call<'_>) -> Result<String, Fault> {
     match call {
         Call::Wait(address) => match wait(bus, address) {
@@ -53,8 +53,8 @@ fn protect(alloc: Global, bus: &mut Way<'_>, status: [u8; 2], code: u32) -> Resu
     Ok(text_of(alloc, write_status(bus, Status::of(status), code))?)
 }
 
-// Returns the erase with this opcode that begins at this sector. Returns `Unread` if the opcode isn't 20h, 52h, D8h or
-// C7h, the sector isn't below 4,096, or the erase block isn't aligned.
+// Returns the erase with this opcode whose block begins at this sector. Returns `Unread` if the opcode isn't 20h, 52h,
+// D8h or C7h, if the sector isn't below 4,096, or if no such erase block begins at it.
 fn erase_of(opcode: &str, sector: u32) -> Result<Erase, Fault>
     ensures reachable { IfOk result (λ erase. erase.sector < 4096) }
     ensures aligned { IfOk result (λ erase. is_aligned erase.unit erase.sector ≡ true) }
@@ -79,7 +79,7 @@ fn erase_of(opcode: &str, sector: u32) -> Result<Erase, Fault>
     Ok(erased)
 }
 
-// Returns the count of transactions, `stop`, or `timeout ADDRESS` as text.
+// Returns the result of a call as text: the number of transactions, `stop`, or `timeout ADDRESS`.
 fn text_of(alloc: Global, outcome: Result<u32, OperationError>) -> Result<String, AllocError> {
     match outcome {
         Ok(count) => format!(in alloc; "{count}"),

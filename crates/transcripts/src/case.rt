@@ -80,8 +80,8 @@ impl Case<'_> {
         self.ask(alloc, Answers::new(setup.config, chip, &log))
     }
 
-    // Performs all actions on a new bus, and returns the chip and the number of transactions. Returns the fault of the
-    // first action that fails, or `Lost` if a line of the trace was lost.
+    // Performs all actions on a new bus. Returns the chip, and the number of transactions that the bus did not stop.
+    // Returns the fault of the first action that fails, or `Lost` if a line of the trace was lost.
     fn act(&self, alloc: Global, setup: Setup, log: &mut Vec<u8>) -> Result<Left, LineFault> {
         let mut bus = match setup.bus(alloc, log) {
             Ok(bus) => bus,
@@ -119,7 +119,7 @@ impl Case<'_> {
     }
 }
 
-// Adds the line number to a fault.
+// Returns the outcome, with the number of the line if it is a fault.
 fn at(line: usize, outcome: Result<(), Fault>) -> Result<(), LineFault> {
     match outcome {
         Ok(()) => Ok(()),

@@ -33,8 +33,8 @@ fn word(is_protected: bool) -> &'static str {
     if is_protected { "guarded" } else { "free" }
 }
 
-/// Returns `guarded` if `unit_protected` finds a protected address from `start` up to, but not including, `end`, else
-/// `free`. Returns `Unread` if the range is empty or isn't on the chip.
+/// Returns `guarded` if `unit_protected` finds a protected address from `start` up to, but not including, `end`,
+/// otherwise `free`. Returns `Unread` if the range is empty or reaches past the chip's end.
 pub fn unit(
     config: Config,
     status: [u8; 2],

@@ -1,7 +1,10 @@
 //! `transcripts` reads cases from standard input and plays each on a simulated chip. It compares the replies, the
 //! trace, and the state that the chip has at the end, with those that the case states. It prints a line for each case
-//! that fails, and how many passed and failed. If a line can't be parsed, it plays no case and prints only that line's
-//! number and fault.
+//! that fails, and how many passed and failed.
+//!
+//! All lines are parsed before the first case is played. If a line can't be parsed, the program plays no case, and
+//! prints only the number and the fault of that line. Values that are only parsed when their line is played, such as
+//! the bytes of a transaction, make the case fail instead.
 //!
 //! - `main.rt`: reads the cases, plays them and prints the results
 //! - `case.rt`: parses the text into cases, and plays one case

@@ -12,7 +12,7 @@ pub type Way<'a> = TraceBus<SpoiltBus<SimBus>, &'a mut Vec<u8>>;
 // A setting with which the faulty bus spoils nothing, because a byte has no bit 8.
 const HONEST: Spoil = Spoil::Low(8);
 
-/// The parsed line `chip`: the chip, and the initial state of the chip and of the bus to it.
+/// The parsed line `chip` of a case: the chip, and the initial state of the chip and of the bus to it.
 #[derive(Clone, Copy)]
 pub struct Setup {
     pub config: Config,
@@ -99,9 +99,9 @@ fn spoil_of(key: &str, value: &str) -> Result<Spoil, Fault> {
     }
 }
 
-// Returns the configuration with this name. In addition to the emulated chips there are two chips of 128 KiB, which are
-// larger than an erase block of 64 KiB. `BLOCKS` has erase blocks of 32 and 64 KiB and no block protection; `SECTORS`
-// has block protection and no erase blocks of 32 and 64 KiB.
+// Returns the configuration with this name, if there is one. In addition to the emulated chips there are two chips of
+// 128 KiB, so that an erase of 64 KiB is not one of the whole chip. `BLOCKS` has the erases of 32 and 64 KiB, but no
+// block protection. `SECTORS` has block protection, but not these erases.
 fn config_of(name: &str) -> Option<Config> {
     let id = [0xAA, 0x11, 0x22];
     match name {

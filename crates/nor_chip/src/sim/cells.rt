@@ -4,7 +4,7 @@ ghost use Rattle.nor_chip.specs.Cells.{HasPageProgrammed, IsFilled};
 
 use nor_geometry::PAGE_LEN;
 
-// ANDs the sent bytes into `bytes`, from index `from`.
+// ANDs the sent bytes into `bytes`, from index `from` on. They must not reach past the end of `bytes`.
 fn clear_bits(bytes: &mut [u8], from: usize, sent: &[u8])
     requires { from + length sent.now ≤ length bytes.old }
     ensures inside { (i : ℕ) → i < length sent.now
@@ -17,8 +17,8 @@ fn clear_bits(bytes: &mut [u8], from: usize, sent: &[u8])
     }
 }
 
-// Programs within one page: starts at `at` and wraps around at the end of the page. Each byte is ANDed with the last
-// byte that was sent for it.
+// Programs within one page, which must lie in `bytes`: starts at `at` and wraps around at the end of the page. Each
+// byte for which at least one byte was sent is ANDed with the last of these.
 pub(crate) fn program(bytes: &mut [u8], at: usize, sent: &[u8])
     requires { at / 256 * 256 + 256 ≤ length bytes.old }
     ensures { HasPageProgrammed at sent.now bytes.old bytes.new }
@@ -32,7 +32,7 @@ pub(crate) fn program(bytes: &mut [u8], at: usize, sent: &[u8])
     clear_bits(bytes, page, back);
 }
 
-// Sets `len` bytes to this byte, from index `start`.
+// Sets `len` bytes, from index `start` on, to `byte`. They must lie in `bytes`.
 pub(crate) fn fill(bytes: &mut [u8], start: usize, len: usize, byte: u8)
     requires { start + len ≤ length bytes.old }
     ensures { IsFilled byte start len bytes.old bytes.new }
@@ -40,7 +40,7 @@ pub(crate) fn fill(bytes: &mut [u8], start: usize, len: usize, byte: u8)
     bytes[start..start + len].fill(byte);
 }
 
-// Reads from index `at`, and continues at index 0 after the last byte.
+// Reads from index `at`, which must be an index of `bytes`, and continues at index 0 after the last byte.
 pub(crate) fn read_round(bytes: &[u8], at: usize, reply: &mut [u8])
     requires { at < length bytes.now }
     ensures { (i : ℕ) → i < length reply.new

@@ -115,7 +115,8 @@ impl Flash {
         }
     }
 
-    // Begins an operation. If operations take no time (`each` is 0), it has ended already.
+    // Begins the operation `running`: the chip is busy for `each` polls. If `each` is 0, the operation has ended
+    // already.
     fn begin(&mut self, running: Running)
         requires { RunsInside self.old.config.size running }
         ensures begins { Begins running self.old.each (chip_of self.old) (chip_of self.new) }
@@ -182,8 +183,8 @@ impl Flash {
         }
     }
 
-    // Makes the chip lose its power: a running operation is interrupted, the write enable latch is cleared, and nothing
-    // runs any more. `cut` describes the effect of `fill`.
+    // Makes the chip lose its power. If the chip is busy, its operation is interrupted, with the effect of `fill` that
+    // `PowerLostWith` describes. Then the write enable latch is clear, and nothing runs.
     pub(crate) fn lose_power(&mut self, fill: u8)
         ensures cut { PowerLostWith fill (chip_of self.old) (chip_of self.new) }
         ensures pace { self.new.each ≡ self.old.each }
@@ -195,9 +196,9 @@ impl Flash {
         self.busy = 0;
     }
 
-    // Interrupts the running operation. Each byte that a program or erase works on becomes `fill`. A status write is
-    // undone if `fill` is even; if `fill` is odd, the status bits keep the values that it wrote. If the operation is
-    // unknown, bytes and status bits stay.
+    // Leaves bytes and status bits as a power failure during the operation `running` leaves them. Each byte that a
+    // program or an erase works on becomes `fill`. A status write is undone if `fill` is even; otherwise the bits that
+    // it wrote stay. If the operation is unknown, bytes and bits stay.
     fn cut(&mut self, fill: u8)
         ensures cut { CutsOff fill (chip_of self.old) (chip_of self.new) }
         ensures pace { self.new.each ≡ self.old.each }
@@ -218,7 +219,7 @@ impl Flash {
         }
     }
 
-    // Performs one transaction, and returns the command that the chip carried out.
+    // Performs one transaction. Returns the command that the chip carried out, or `Ignored` if it carried out none.
     pub(crate) fn step(&mut self, out: &[u8], reply: &mut [u8]) -> Command
         ensures steps { Step (chip_of self.old) out.now reply.new (chip_of self.new) }
         ensures done { result ≡ done_of (chip_of self.old) out.now (length reply.new) }

@@ -12,7 +12,7 @@ use Rattle.nor_session.proofs.Targeting.{none_written, none_sent, change_sends, 
 use Rattle.nor_session.proofs.OfJournal.{restore_of_journal, counted}
 use Rattle.nor_session.proofs.restores.restore.Goals as goal
 
--- the exit with an error from before the first change
+-- all clauses, if the preparation returned an error
 pub returns-in_err-prepared : goal.returns-in_err-prepared
 returns-in_err-prepared g c =
     let journal = c.args.journal.now in let most = most_identity + length journal.saved in
@@ -38,7 +38,7 @@ returns-in_err-prepared g c =
           search (rules, none_written);
     })
 
--- the exit at which the changes failed
+-- all clauses, if the changes or their check failed
 pub returns-in_err-work : goal.returns-in_err-work
 returns-in_err-work g c =
     let journal = c.args.journal.now in let prepared = c.in_ok-prepared.prepared in
@@ -73,7 +73,7 @@ returns-in_err-work g c =
       };
     })
 
--- the exit after success
+-- the sum of the transactions in the report doesn't overflow
 pub overflow_add-result : goal.overflow_add-result
 overflow_add-result g c =
     let are : AreChanged c.args.journal.now c.in_ok-prepared.prepared (g.B.Bus.state c.args.bus.now)

@@ -9,7 +9,6 @@ record_at-requires c =
     let count = length-sectors_in c.self.inside.count c.self.inside.records.now in
     omega (arith, ap (λ (j : Content). length j.saved) c.self.view_is, c.self.invariant.1.within)
 
--- the result is the sector at the index
 pub returns : goal.returns
 returns c =
     let it = sector_saved c.self.inside.head c.self.inside.records.now c.self.inside.count c.args.i _ _ c.self.view_is

@@ -5,7 +5,7 @@ use Rattle.std.proofs.lemmas.Str.{IsUtf8-past_char, chars-nil, chars_past_char}
 use Rattle.nor_lines.specs.Escapes.{escaped, escaped_character}
 use Rattle.nor_lines.proofs.escapes.EscapedDisplay.fmt.Goals as goal
 
--- a text is escaped character by character: its first character, and then the rest
+-- The escapes of a UTF-8 text are those of its first character, followed by those of its rest.
 escaped_step : (text rest : List ℕ) (character : ℕ) → IsUtf8 text → text ≡ encode_utf8 character ++ rest
     → escaped text ≡ escaped_character character ++ escaped rest
 escaped_step text rest character utf8 is = ap (flat_map escaped_character) (chars_past_char text rest character utf8 is)
@@ -28,7 +28,7 @@ loop-character-preserved g c =
           ),
     )
 
--- after the loop, every character was written
+-- After the loop no character is left, so all were written (for a plain formatter).
 pub returns-clause-writes : goal.returns-clause-writes
 returns-clause-writes g c = λ plain _.
     let so_far = c.loop-character.invariant.1 plain in

@@ -1,4 +1,4 @@
--- `new` makes a history with no transaction and no allowance. Assumes `Logic`.
+-- The proof that `History::new` makes a history with no transaction and no allowance, from the laws of `Logic`.
 use Rattle.std.proofs.Common.{[], ◌∷◌, refl}
 use seplogic.Ra.Ura.{Ura}
 use mir.Syntax.{Fn}

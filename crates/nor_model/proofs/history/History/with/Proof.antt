@@ -1,4 +1,5 @@
--- `with` names the lists of the new history. Assumes `Logic`.
+-- The proof that `History::with` returns the history with the event, from the laws of `Logic`. It names the new lists,
+-- since no code computes them.
 use Rattle.std.proofs.Common.{List, [], ◌∷◌, ◌++◌, refl}
 use seplogic.Ra.Ura.{Ura}
 use mir.Syntax.{Fn}
