@@ -11,7 +11,7 @@ use Rattle.nor_driver.specs.Ready.{StaysReady}
 use Rattle.nor_driver.specs.Limits.{Limits, SendsWithin, SendsExactly}
 use Rattle.nor_driver.specs.Operations.{most_operation}
 use Rattle.nor_plan.specs.Planned.{planned}
-use Rattle.nor_plan.specs.SectorSet.{has}
+use Rattle.nor_plan.specs.SectorSet.{has, LiesBelow}
 use Rattle.nor_apply.specs.declared.changes.Changes.{Changes}
 use Rattle.nor_apply.specs.declared.changes.Work.{Work}
 use Rattle.nor_geometry.specs.Below.{count_below}
@@ -63,6 +63,14 @@ sending changes erases programs status_writes = record {
 abbrev pub most_sent : Changes → Limits
 most_sent changes =
     sending changes (sector_count (raised_in changes)) (16 * sector_count (touched_in changes)) (status_writes changes)
+
+-- Holds if the changes fit each other. The touched sectors lie below the size, which is at most 16 MiB; the raised
+-- sectors are touched; and the target protection bits are a number below 64.
+pub record AreConsistent (changes : Changes) : Type 0 where
+  pub inside : LiesBelow changes.touched (changes.size / 4096)
+  pub raised : (s : ℕ) → raised_in changes s ≡ true → touched_in changes s ≡ true
+  pub small : changes.size ≤ 16777216
+  pub six_bits : changes.code < 64
 
 -- Holds if the changes can be made. The chip is idle, and has the size, the erase types and the non-volatile status
 -- bits that `changes` names. The touched sectors lie on it, and have a protected address only if all protection bits

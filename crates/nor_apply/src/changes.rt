@@ -1,9 +1,9 @@
 //! All changes of a session or restore, in order.
-ghost use Rattle.std.specs.Prelude.{◌≡◌, ◌<◌, ◌≤◌, ◌/◌, ℕ, true, IfOk, IfErr};
-ghost use Rattle.nor_plan.specs.SectorSet.{has, LiesBelow};
+ghost use Rattle.std.specs.Prelude.{◌≡◌, ℕ, true, IfOk, IfErr};
+ghost use Rattle.nor_plan.specs.SectorSet.{has};
 ghost use Rattle.nor_geometry.specs.Counts.{sector_count};
 ghost use Rattle.nor_driver.specs.Waits.{OperationFails};
-ghost use Rattle.nor_apply.specs.Applying.{LeavesApply, DoesApply, NamesChange, writes_code, touched_in, most_applied};
+ghost use Rattle.nor_apply.specs.Applying.{AreConsistent, LeavesApply, DoesApply, NamesChange, writes_code, touched_in, most_applied};
 
 use crate::Source;
 use crate::erases::erase_all;
@@ -55,9 +55,10 @@ pub struct Work {
 /// the protection bits if `changes.unlock` is set. Then it erases the raised sectors with the fewest erases, and
 /// programs the touched sectors. At the end it writes the protection bits if they are not the target ones.
 ///
-/// The touched sectors must lie below `changes.size`, which is at most 16 MiB. Every raised sector must be touched,
-/// `source` must have every touched sector, and `changes.code` must be below 64. On any bus, erases and programs target
-/// only touched sectors; if these are the whole chip, they may target addresses past its end, too.
+/// The changes must fit each other (`AreConsistent`): the touched sectors lie below `changes.size`, which is at most
+/// 16 MiB; every raised sector is touched; and `changes.code` is below 64. `source` must have every touched sector. On
+/// any bus, erases and programs target only touched sectors; if these are the whole chip, they may target addresses
+/// past its end, too.
 ///
 /// On a well-behaved bus, after success the changes are complete if `CanApply` held at the start. Besides the
 /// conditions above and target bytes below 256, `CanApply` requires:
@@ -75,10 +76,7 @@ pub fn apply<B: Bus, S: Source>(
     source: &S,
     changes: &Changes,
 ) -> Result<Work, OperationError>
-    requires inside { LiesBelow changes.now.touched (changes.now.size / 4096) }
-    requires raised { (s : ℕ) → has changes.now.raised s ≡ true → has changes.now.touched s ≡ true }
-    requires small { changes.now.size ≤ 16777216 }
-    requires code { changes.now.code < 64 }
+    requires consistent { AreConsistent changes.now }
     requires sourced { (s : ℕ) → has changes.now.touched s ≡ true → S.has source.now s ≡ true }
     ensures leaves { LeavesApply changes.now (S.wanted source.now) (B.state bus.old) (B.state bus.new) }
     ensures does { IfOk result (DoesApply changes.now (S.wanted source.now) (B.state bus.old) (B.state bus.new)) }

@@ -17,7 +17,7 @@
 //!
 //!     ghost wanted = { λ same a. slice_index same.0 (a % 4096) };
 //!
-//!     fn sector(&self, _sector: u32) -> &[u8] {
+//!     fn sector(&self, _sector: u32) -> &[u8; 4096] {
 //!         &self.0
 //!     }
 //! }

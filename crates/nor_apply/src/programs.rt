@@ -1,5 +1,5 @@
 //! Page programs of a set of sectors.
-ghost use Rattle.std.specs.Prelude.{◌≡◌, ◌<◌, ◌*◌, ℕ, true, length, IfOk, IfErr};
+ghost use Rattle.std.specs.Prelude.{◌≡◌, ◌<◌, ◌*◌, ℕ, true, IfOk, IfErr};
 ghost use Rattle.nor_plan.specs.SectorSet.{has};
 ghost use Rattle.nor_geometry.specs.Counts.{sector_count};
 ghost use Rattle.nor_driver.specs.Waits.{OperationFails};
@@ -54,11 +54,10 @@ pub fn program_all<B: Bus, S: Source>(
 fn program_sector<B: Bus>(
     bus: &mut B,
     sector: u32,
-    wanted: &[u8],
+    wanted: &[u8; SECTOR_LEN as usize],
     erased: bool,
 ) -> Result<Tally, OperationError>
-    requires reachable { sector < 4096 }
-    requires whole { length wanted.now ≡ 4096 }
+    requires { sector < 4096 }
     ensures leaves { LeavesSector sector wanted.now erased (B.state bus.old) (B.state bus.new) }
     ensures does { IfOk result (DoesSector sector wanted.now erased (B.state bus.old) (B.state bus.new)) }
     ensures fails { IfErr result (OperationFails most_sector (B.state bus.old) (B.state bus.new)) }
@@ -74,15 +73,19 @@ fn program_sector<B: Bus>(
 }
 
 // Reads a sector into `bytes`, unless it was erased. Returns the number of transactions, 0 or 1.
-fn load<B: Bus>(bus: &mut B, sector: u32, erased: bool, bytes: &mut [u8]) -> Result<u64, Stopped>
-    requires reachable { sector < 4096 }
-    requires whole { length bytes.old ≡ 4096 }
+fn load<B: Bus>(
+    bus: &mut B,
+    sector: u32,
+    erased: bool,
+    bytes: &mut [u8; SECTOR_LEN as usize],
+) -> Result<u64, Stopped>
+    requires { sector < 4096 }
     ensures { Loads sector erased bytes.old bytes.new result (B.state bus.old) (B.state bus.new) }
 {
     if erased {
         return Ok(0);
     }
-    read_sector(bus, sector, bytes)?;
+    read_sector(bus, sector, &mut *bytes)?;
     Ok(1)
 }
 
@@ -90,12 +93,10 @@ fn load<B: Bus>(bus: &mut B, sector: u32, erased: bool, bytes: &mut [u8]) -> Res
 fn program_spans<B: Bus>(
     bus: &mut B,
     sector: u32,
-    old: &[u8],
-    wanted: &[u8],
+    old: &[u8; SECTOR_LEN as usize],
+    wanted: &[u8; SECTOR_LEN as usize],
 ) -> Result<Tally, OperationError>
-    requires reachable { sector < 4096 }
-    requires whole { length old.now ≡ 4096 }
-    requires wanted_whole { length wanted.now ≡ 4096 }
+    requires { sector < 4096 }
     ensures leaves { LeavesSpans sector old.now wanted.now (B.state bus.old) (B.state bus.new) }
     ensures does { IfOk result (DoesSpans sector old.now wanted.now (B.state bus.old) (B.state bus.new)) }
     ensures fails { IfErr result (OperationFails most_pages (B.state bus.old) (B.state bus.new)) }

@@ -1,5 +1,7 @@
 //! The source of the target bytes.
-ghost use Rattle.std.specs.Prelude.{◌≡◌, ◌<◌, ◌+◌, ◌*◌, ℕ, Bool, true, length, slice_index};
+ghost use Rattle.std.specs.Prelude.{◌≡◌, ◌<◌, ◌+◌, ◌*◌, ℕ, Bool, true, slice_index};
+
+use nor_geometry::SECTOR_LEN;
 
 /// The target bytes of some sectors: an image, or the records of a journal. A sector has 4,096 bytes. Contracts see the
 /// bytes by address.
@@ -11,8 +13,7 @@ pub trait Source {
     ghost wanted: { Self → ℕ → ℕ };
 
     /// Returns the 4,096 target bytes of a sector that the source has.
-    fn sector(&self, sector: u32) -> &[u8]
+    fn sector(&self, sector: u32) -> &[u8; SECTOR_LEN as usize]
         requires { has self.now sector ≡ true }
-        ensures whole { length result.now ≡ 4096 }
         ensures bytes { (i : ℕ) → i < 4096 → slice_index result.now i ≡ wanted self.now (4096 * sector + i) };
 }

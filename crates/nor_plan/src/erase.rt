@@ -58,7 +58,7 @@ fn next_erase(set: &SectorSet, kinds: Kinds, whole: bool, from: u32) -> Option<(
 {
     for sector in from..MOST_SECTORS {
         if set.contains(sector) {
-            let unit = block_of(set, kinds, whole, sector);
+            let unit = block_of(set, kinds, whole, sector as u16);
             let erase = Erase {
                 unit,
                 sector: sector as u16,
@@ -74,8 +74,7 @@ fn next_erase(set: &SectorSet, kinds: Kinds, whole: bool, from: u32) -> Option<(
 /// Returns the erase block with which `sector` is erased, if it is in the set. The block is the chip if `whole` is
 /// true, else the largest of the chip's blocks of 64, 32 and 4 KiB that holds `sector` and lies in the set.
 #[tactic(auto, unfolding(crate::specs::Planned::planned_block))]
-fn block_of(set: &SectorSet, kinds: Kinds, whole: bool, sector: u32) -> EraseBlock
-    requires { sector < 4096 }
+fn block_of(set: &SectorSet, kinds: Kinds, whole: bool, sector: u16) -> EraseBlock
     ensures { result ≡ planned_block whole kinds (has set.now) sector }
 {
     if whole {
@@ -90,13 +89,11 @@ fn block_of(set: &SectorSet, kinds: Kinds, whole: bool, sector: u32) -> EraseBlo
 }
 
 /// Returns whether the aligned block of `count` sectors that holds `sector` lies in the set.
-fn is_block(set: &SectorSet, count: u32, sector: u32) -> bool
-    requires some { 0 < count }
-    requires few { count ≤ 16 }
-    requires there { sector < 4096 }
+fn is_block(set: &SectorSet, count: u16, sector: u16) -> bool
+    requires { 0 < count }
     ensures { result ≡ holds_block (has set.now) count sector }
 {
-    is_run(set, sector - sector % count, count)
+    is_run(set, u32::from(sector - sector % count), u32::from(count))
 }
 
 /// Returns whether all of the `count` sectors from `from` on are in the set.

@@ -1,9 +1,12 @@
 -- Lemmas about the status that an identification read. Each chip with this identification has the protection bits of
--- that status, and the status of the chip is locked if and only if that status is.
-use Rattle.std.proofs.Common.{◌≡◌, ◌∷◌, [], ℕ, ◌/◌, arith}
+-- that status, and the status of the chip is locked if and only if that status is. No sector past the end of a chip is
+-- protected.
+use Rattle.std.proofs.Common.{◌≡◌, ◌≤◌, ◌∷◌, [], ℕ, ◌+◌, ◌-◌, ◌*◌, ◌/◌, false, refl, arith}
 use Rattle.std.proofs.lemmas.Bool.Decides.{nat_tests}
 use Rattle.nor_model.specs.Chip.{Chip, KeptBits, is_locked, kept_in}
-use Rattle.nor_model.specs.Guard.{code_of}
+use Rattle.nor_model.specs.Guard.{code_of, is_block_protected}
+use Rattle.nor_model.proofs.Guarded.{is_protected-past}
+use Rattle.nor_model.proofs.Sizes.{sized_bounds}
 use Rattle.nor_scan.specs.declared.identity.Identity.{Identity}
 use Rattle.nor_scan.specs.Identity.{status_read}
 use Rattle.nor_scan.specs.Saving.{IsIdentityOf}
@@ -19,3 +22,8 @@ lock_bits one two kept low high = grind (arith, nat_tests)
 pub lock_same : {chip : Chip} {identity : Identity} → IsIdentityOf chip identity
     → is_locked (kept_in (status_read identity)) ≡ is_locked chip.kept
 lock_same {chip} {identity} is = lock_bits identity.found.status1 identity.status2 chip.kept is.one is.two
+
+pub past_end : (chip : Chip) (s : ℕ) → chip.config.size / 4096 ≤ s → is_block_protected chip (4096 * s) 4096 ≡ false
+past_end chip s past =
+    let sectors = (sized_bounds chip.config).sectors in
+    rw (is_protected-past chip (4096 * s) (omega arith), is_protected-past chip (4096 * s + 4096 - 1) (omega arith)) refl

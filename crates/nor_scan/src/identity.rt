@@ -1,16 +1,9 @@
-//! The identification with which every session and restore begins: finds the chip, and reads status 2 and the unique
-//! ID.
-ghost use Rattle.std.specs.Prelude.{◌≡◌, ◌≤◌, IfOk, IfErr, OnErr};
-ghost use Rattle.nor_model.specs.Status.{bytes_of};
-ghost use Rattle.nor_driver.specs.OnlyReads.{OnlyReads, HasStopped};
-ghost use Rattle.nor_probe.specs.Found.{most_probe};
-ghost use Rattle.nor_scan.specs.Identity.{ReadsIdentity, status_read, ReadsRest, most_identity};
-ghost use Rattle.nor_request.specs.Errors.{IdentificationErrors};
+//! The result of the identification of a chip.
+ghost use Rattle.std.specs.Prelude.{◌≡◌, IsTrue};
+ghost use Rattle.nor_model.specs.Size.{is_chip_size};
 
-use nor_driver::{read_status2, read_unique};
-use nor_model::{Bus, Status, Stopped};
-use nor_probe::{ChipName, Found, Probed, probe_counted};
-use nor_request::Refusal;
+use nor_model::Status;
+use nor_probe::Found;
 
 /// The result of the identification.
 #[derive(Clone, Copy)]
@@ -20,47 +13,17 @@ pub struct Identity {
     pub unique: [u8; 8],
     /// The number of transactions that the identification sent.
     pub transactions: u64,
+    pub ghost sized: { IsTrue (is_chip_size found.size) },
 }
 
 impl Identity {
+    ghost use Rattle.nor_model.specs.Status.{bytes_of};
+    ghost use Rattle.nor_scan.specs.Identity.{status_read};
+
     /// Returns both status registers as they were read.
     pub fn status(&self) -> Status
         ensures { bytes_of result ≡ status_read self.now }
     {
         Status::of([self.found.status1, self.status2])
     }
-}
-
-/// Waits until the chip is ready, finds it by its ID or SFDP, and reads status 2 and the unique ID. With `named` the
-/// chip must have this name. On a well-behaved bus at most 65,542 transactions are sent.
-///
-/// Returns error 1 (no chip), 2 (unknown chip), 3 (other name), 12 (the bus stopped) or 13 with address 0 (the chip
-/// stayed busy; not on a well-behaved bus).
-pub fn identify<B: Bus>(bus: &mut B, named: Option<ChipName>) -> Result<Identity, Refusal>
-    ensures leaves { OnlyReads most_identity (B.state bus.old) (B.state bus.new) }
-    ensures identifies { IfOk result (ReadsIdentity named (B.state bus.old) (B.state bus.new)) }
-    ensures errors { IfErr result (IdentificationErrors most_identity named (B.state bus.old) (B.state bus.new)) }
-{
-    let probed = probe_counted(bus, named)?;
-    let identity = read_on(bus, probed)?;
-    Ok(identity)
-}
-
-/// Reads status 2 and the unique ID of the chip that was found, with two transactions. `probed` must count at most
-/// 65,540 transactions. Returns `Stopped` if the bus stopped; on a well-behaved bus this means that fewer than two
-/// transactions were left.
-pub fn read_on<B: Bus>(bus: &mut B, probed: Probed) -> Result<Identity, Stopped>
-    requires { probed.transactions ≤ most_probe }
-    ensures leaves { OnlyReads 2 (B.state bus.old) (B.state bus.new) }
-    ensures reads { IfOk result (ReadsRest probed (B.state bus.old) (B.state bus.new)) }
-    ensures stops { OnErr result (HasStopped 2 (B.state bus.old) (B.state bus.new)) }
-{
-    let status2 = read_status2(bus)?;
-    let unique = read_unique(bus)?;
-    Ok(Identity {
-        found: probed.found,
-        status2,
-        unique,
-        transactions: probed.transactions + 2,
-    })
 }

@@ -1,9 +1,8 @@
 //! Checks whether a request is accepted, and with which error it is refused otherwise.
-ghost use Rattle.std.specs.Prelude.{◌≡◌, ◌<◌, ◌≤◌, ◌*◌, ◌/◌, ◌==◌, ℕ, Bool, true, false, length, IfOk, IfErr, IfSome, IfNone, MatchOption, MatchBool, IsTrue};
+ghost use Rattle.std.specs.Prelude.{◌≡◌, ◌<◌, ◌≤◌, ◌*◌, ◌==◌, ℕ, Bool, true, false, length, IfOk, IfErr, IfSome, IfNone, MatchOption, MatchBool};
 ghost use Rattle.nor_model.specs.Chip.{Chip, kept_in};
 ghost use Rattle.nor_model.specs.Guard.{is_undefined, protected_by, code_of};
-ghost use Rattle.nor_model.specs.Size.{is_chip_size};
-ghost use Rattle.nor_plan.specs.SectorSet.{has, LiesBelow};
+ghost use Rattle.nor_plan.specs.SectorSet.{has};
 ghost use Rattle.nor_request.specs.Request.{is_data};
 ghost use Rattle.nor_scan.specs.Identity.{status_read};
 ghost use Rattle.nor_scan.specs.Judging.{IsFoundCode, IsIdentityRefusal, IsScanRefusal, Lifts};
@@ -16,9 +15,8 @@ use nor_model::{code_for, unit_protected};
 use nor_plan::SectorSet;
 use nor_request::{Refusal, Request, What};
 
-/// Checks a request against the identification. The size that was found must be one that a chip may have. `image` is
-/// the image's length in bytes. Returns the target protection bits as a number below 64; for a write or an erase these
-/// are the bits that were read.
+/// Checks a request against the identification. `image` is the image's length in bytes. Returns the target protection
+/// bits as a number below 64; for a write or an erase these are the bits that were read.
 ///
 /// Returns the error with the lowest number that applies:
 ///
@@ -28,7 +26,6 @@ use nor_request::{Refusal, Request, What};
 ///   this range).
 #[tactic(auto, using(crate::proofs::Held::code_same, crate::proofs::OneVerdict::opening_judged, crate::proofs::OneVerdict::opening_accepted))]
 pub fn judge_identity(request: &Request, identity: &Identity, image: usize) -> Result<u8, Refusal>
-    requires { IsTrue (is_chip_size identity.now.found.size) }
     ensures six_bits { IfOk result (λ code. code < 64) }
     ensures sized { IfOk result (λ code. is_data request.now.what ≡ true → image ≡ identity.now.found.size) }
     ensures faults { IfErr result IsIdentityRefusal }
@@ -67,12 +64,9 @@ pub fn judge_identity(request: &Request, identity: &Identity, image: usize) -> R
     }
 }
 
-/// Returns the first sector of `touched` that has a protected address by the status that was read, or `None`. The size
-/// that was found must be one that a chip may have, and the sectors must be on a chip of this size.
+/// Returns the first sector of `touched` that has a protected address by the status that was read, or `None`.
 #[tactic(auto, using(crate::proofs::Held::code_same))]
 pub fn first_protected(touched: &SectorSet, identity: &Identity) -> Option<u32>
-    requires sized { IsTrue (is_chip_size identity.now.found.size) }
-    requires below { LiesBelow touched.now (identity.now.found.size / 4096) }
     ensures held { FindsProtected (has touched.now) identity.now result }
     ensures reachable { IfSome result (λ sector. sector < 4096) }
     ensures found { IfSome result (λ sector. has touched.now sector ≡ true) }
@@ -108,8 +102,8 @@ fn needs_status(
     }
 }
 
-/// Checks a request against the touched sectors, which must be on a chip of the size that was found; that size must be
-/// one that a chip may have. `code` is the result of `judge_identity`. Returns whether protection must be lifted.
+/// Checks a request against the touched sectors. `code` is the result of `judge_identity`. Returns whether protection
+/// must be lifted.
 ///
 /// Returns error 9 if the status registers must be written and are locked, or else 10 if a touched sector is protected
 /// and the request doesn't unlock. Error 10 has the address of the first protected sector of `touched`.
@@ -120,8 +114,6 @@ pub fn judge_scan(
     touched: &SectorSet,
     code: u8,
 ) -> Result<bool, Refusal>
-    requires sized { IsTrue (is_chip_size identity.now.found.size) }
-    requires below { LiesBelow touched.now (identity.now.found.size / 4096) }
     ensures faults { IfErr result IsScanRefusal }
     ensures lifts { IfOk result (Lifts request.now touched.now) }
     ensures accepts { AcceptsScan request.now identity.now code (has touched.now) result }

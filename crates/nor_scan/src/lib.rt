@@ -1,7 +1,8 @@
 //! The part of a session before the first modifying command: identifies the chip, checks the request, scans the
 //! sectors, and writes the touched ones to the journal. nor_session adds the changes.
 //!
-//! - `identity.rt`: the identification, for sessions and restores
+//! - `identity.rt`: the result of the identification
+//! - `identifying.rt`: the identification, for sessions and restores
 //! - `judging.rt`: checks a request against the identification, and against the touched sectors
 //! - `scanning.rt`: reads the sectors, and finds those that the session will touch
 //! - `saving.rt`: scans the sectors, checks the touched ones, and seals the journal
@@ -32,12 +33,14 @@
 //! `specs/SavedScan.antt` what is saved.
 #![tactic(auto)]
 
+mod identifying;
 mod identity;
 mod judging;
 mod saving;
 mod scanning;
 
-pub use identity::{Identity, identify, read_on};
+pub use identifying::{identify, read_on};
+pub use identity::Identity;
 pub use judging::{first_protected, judge_identity};
 pub use saving::{SavedScan, save};
 pub use scanning::Scanned;

@@ -1,6 +1,5 @@
 //! Scans the chip and, before anything is changed, saves what the session will change.
-ghost use Rattle.std.specs.Prelude.{◌≡◌, ◌/◌, true, length, IfOk, IfErr, OnOk, OnErr, IsTrue};
-ghost use Rattle.nor_model.specs.Size.{is_chip_size};
+ghost use Rattle.std.specs.Prelude.{◌≡◌, ◌/◌, true, length, IfOk, IfErr, OnOk, OnErr};
 ghost use Rattle.nor_model.specs.History.{KeepsReplies, begins_with};
 ghost use Rattle.nor_journal.specs.Saved.{JournalSaves};
 ghost use Rattle.nor_scan.specs.Replied.{bytes_read};
@@ -27,8 +26,8 @@ pub struct SavedScan {
 }
 
 /// Scans the chip, writes the touched sectors to the vault, checks the request against them, and seals the vault.
-/// `vault` must be empty and unsealed. The size that was found must be one that a chip may have; for a write or an
-/// erase `image` must be as long. `code` is the result of `judge_identity`.
+/// `vault` must be empty and unsealed; for a write or an erase `image` must be as long as the chip that was found.
+/// `code` is the result of `judge_identity`.
 ///
 /// No modifying command is sent. After success on any bus, a `telling` vault holds a journal of exactly the sectors in
 /// `scanned.touched`. Its header is the one that `identity` gives, and each record has the bytes of the last reply to a
@@ -51,7 +50,6 @@ pub fn save<B: Bus, V: Vault>(
     identity: &Identity,
     code: u8,
 ) -> Result<SavedScan, Refusal>
-    requires sized { IsTrue (is_chip_size identity.now.found.size) }
     requires whole { is_data request.now.what ≡ true → length image.old ≡ identity.now.found.size }
     requires fresh { IsFresh (V.state vault.old) }
     ensures leaves { OnlyReads (scanned_sectors request.now identity.now.found.size)

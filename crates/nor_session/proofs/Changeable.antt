@@ -18,7 +18,7 @@ use Rattle.nor_plan.specs.SectorSet.{has}
 use Rattle.nor_plan.specs.declared.set.SectorSet.{SectorSet}
 use Rattle.nor_apply.specs.declared.changes.Changes.{Changes}
 use Rattle.nor_geometry.specs.Counts.{sector_count}
-use Rattle.nor_apply.specs.Applying.{CanApply, writes_code}
+use Rattle.nor_apply.specs.Applying.{AreConsistent, CanApply, writes_code}
 use Rattle.nor_scan.specs.declared.identity.Identity.{Identity}
 use Rattle.nor_scan.specs.declared.scanning.Scanned.{Scanned}
 use Rattle.nor_request.specs.declared.refusal.Refusal.TheVariants.{StatusLocked}
@@ -186,4 +186,5 @@ module _ {journal : Content} {identity : Identity} {scanned : Scanned} {changes 
       omega arith in
       let fixed : fixed_of (kept_in (bytes_of changes.status)) ≡ fixed_of (kept_in journal.status)
       = rw (are.one, are.two) read.fixed in
-      search (rules, arith, below, saved, rises_touched, rested_all read, idle_now, touched_if, prepared_for sent)
+      let consistent : AreConsistent changes = search (rules, arith, below, rises_touched) in
+      search (rules, arith, saved, rested_all read, idle_now, touched_if, prepared_for sent)

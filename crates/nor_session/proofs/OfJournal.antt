@@ -93,9 +93,9 @@ pub restore_of_journal : {journal : Content} {old mid : BusState} {prepared : Pr
 restore_of_journal is = record {
   sized = sym is.sized;
   saved = is.saved;
-  raised = is.raised;
+  raised = is.consistent.raised;
   fixed = is.fixed;
-  small = is.six_bits;
+  small = is.consistent.six_bits;
   lifted = λ lifts. inl refl;
   code = inr is.code;
 }

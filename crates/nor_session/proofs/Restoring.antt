@@ -211,7 +211,7 @@ module _ (journal : Content) (prepared : PreparedRestore) (old mid new : BusStat
         let can : CanCheck (touched_in prepared.changes) mid.chip = record {
           idle = are.is.idle honest;
           inside = λ s is. rw config
-              (let inside = are.is.inside s is in let same = are.is.sized in omega arith);
+              (let inside = are.is.consistent.inside s is in let same = are.is.sized in omega arith);
         } in
         does.checked refl (are.only_reads.nature.honest ∙ honest) can a touched
         ∙ sym (restored_saved journal old.chip.bytes a (are.is.saved (a / 4096) touched))
@@ -243,7 +243,7 @@ module _ (journal : Content) (prepared : PreparedRestore) (old mid new : BusStat
             replied = for.replied;
             sectors = are.is.count ∙ ap sector_count touched;
             erases = fewest_at old.chip.config _ work.erases
-                (λ s is. let inside = are.is.inside s (are.is.raised s (for.raised s ∙ is)) in let size = for.size in omega arith)
+                (λ s is. let inside = are.is.consistent.inside s (are.is.consistent.raised s (for.raised s ∙ is)) in let size = for.size in omega arith)
                 (let erases = does.erases in let kinds = for.kinds in let size = for.size in cc);
             programs = (let programs = does.programs honest for.can in
                 let saved = λ (s : ℕ). touched_saved journal old.chip.bytes s in

@@ -14,12 +14,12 @@ use Rattle.nor_journal.specs.Text.{Content}
 use Rattle.nor_journal.specs.Saved.{is_saved, saved_byte}
 use Rattle.nor_plan.specs.declared.plan.SectorPlan.{SectorPlan}
 use Rattle.nor_plan.specs.Plan.{AreBytesOf, IsPlan}
-use Rattle.nor_plan.specs.SectorSet.{has, LiesBelow}
+use Rattle.nor_plan.specs.SectorSet.{has}
 use Rattle.nor_probe.specs.declared.probes.ProbeFault.TheVariants as Probes
 use Rattle.nor_probe.specs.Known.{shown_as, IsModelled}
 use Rattle.nor_probe.specs.Found.{part_in}
 use Rattle.nor_apply.specs.declared.changes.Changes.{Changes}
-use Rattle.nor_apply.specs.Applying.{writes_code, CanApply}
+use Rattle.nor_apply.specs.Applying.{AreConsistent, writes_code, CanApply}
 use Rattle.nor_scan.specs.declared.identity.Identity.{Identity}
 use Rattle.nor_scan.specs.declared.scanning.Scanned.{Scanned}
 use Rattle.nor_request.specs.declared.refusal.Refusal.{Refusal}
@@ -208,11 +208,8 @@ pub record IsPreparedFor (journal : Content) (old new : Chip) (prepared : Prepar
 -- are the saved ones whose bytes differ from the journal's. On a modelled bus the chip can be restored
 -- (`IsPreparedFor`).
 pub record IsPreparedRestore (journal : Content) (old new : BusState) (prepared : PreparedRestore) : Type 0 where
-  pub inside : LiesBelow prepared.changes.touched (prepared.changes.size / 4096)
-  pub raised : (s : ℕ) → has prepared.changes.raised s ≡ true → has prepared.changes.touched s ≡ true
-  pub small : prepared.changes.size ≤ 16777216
+  pub consistent : AreConsistent prepared.changes
   pub sized : prepared.changes.size ≡ journal.size
-  pub six_bits : prepared.changes.code < 64
   pub saved : (s : ℕ) → has prepared.changes.touched s ≡ true → is_saved journal s ≡ true
   pub fixed : fixed_of (kept_in (bytes_of prepared.changes.status)) ≡ fixed_of (kept_in journal.status)
   pub code : prepared.changes.code ≡ code_of (kept_in journal.status)

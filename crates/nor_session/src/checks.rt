@@ -1,5 +1,5 @@
 //! Verifies the changed sectors at the end of a session or restore.
-ghost use Rattle.std.specs.Prelude.{◌≡◌, ◌<◌, ℕ, true, length, IfOk, IfErr, OnOk};
+ghost use Rattle.std.specs.Prelude.{◌≡◌, ◌<◌, ℕ, true, IfOk, IfErr, OnOk};
 ghost use Rattle.nor_driver.specs.OnlyReads.{OnlyReads};
 ghost use Rattle.nor_plan.specs.SectorSet.{has};
 ghost use Rattle.nor_session.specs.declared.checks.CheckFault.TheVariants as Faults;
@@ -76,11 +76,10 @@ pub(crate) fn check_all<B: Bus, S: Source>(
 fn check_sector<B: Bus>(
     bus: &mut B,
     sector: u32,
-    wanted: &[u8],
+    wanted: &[u8; SECTOR_LEN as usize],
     bytes: &mut [u8; SECTOR_LEN as usize],
 ) -> Result<(), CheckFault>
     requires reachable { sector < 4096 }
-    requires whole { length wanted.now ≡ 4096 }
     ensures leaves { OnlyReads 1 (B.state bus.old) (B.state bus.new) }
     ensures does { OnOk result
         (DoesChecks (only sector) (byte_of sector wanted.now) (B.state bus.old) (B.state bus.new) 1) }

@@ -2,10 +2,10 @@
 //!
 //! Only `Kept` changes a chip, and it is constructed only with evidence of a sealed vault or of a journal that was
 //! read.
-ghost use Rattle.std.specs.Prelude.{◌≡◌, ◌<◌, ◌≤◌, ◌/◌, ℕ, Bool, true, IfOk, IfErr};
+ghost use Rattle.std.specs.Prelude.{◌≡◌, ◌≤◌, ℕ, Bool, true, IfOk, IfErr};
 ghost use Rattle.nor_driver.specs.OnlyReads.{OnlyReads};
-ghost use Rattle.nor_plan.specs.SectorSet.{has, LiesBelow};
-ghost use Rattle.nor_apply.specs.Applying.{most_applied};
+ghost use Rattle.nor_plan.specs.SectorSet.{has};
+ghost use Rattle.nor_apply.specs.Applying.{AreConsistent, most_applied};
 ghost use Rattle.nor_session.specs.Changing.{touched_count, LeavesChange, DoesChange, ChangeErrors, NamesTouchedSector, DoesCheck, CheckRefuses};
 
 use crate::checks::check_all;
@@ -44,10 +44,7 @@ impl<'a, B: Bus, S: Source> Kept<'a, B, S> {
     /// Makes the changes. If `verify` is set, reads the touched sectors back and compares them with their target bytes.
     /// Returns the counts of the work, or 12 (the bus stopped), 13 (the chip stayed busy) or 14 (a byte differs).
     pub(crate) fn finish(self, verify: bool) -> Result<Work, Refusal>
-        requires inside { LiesBelow self.changes.now.touched (self.changes.now.size / 4096) }
-        requires raised { (s : ℕ) → has self.changes.now.raised s ≡ true → has self.changes.now.touched s ≡ true }
-        requires small { self.changes.now.size ≤ 16777216 }
-        requires code { self.changes.now.code < 64 }
+        requires consistent { AreConsistent self.changes.now }
         requires sourced { (s : ℕ) → has self.changes.now.touched s ≡ true → S.has self.source.now s ≡ true }
         ensures leaves { LeavesChange self.entry.changes.now (S.wanted self.entry.source.now)
             (B.state self.entry.bus.now) (B.state self.exit.0.now) }

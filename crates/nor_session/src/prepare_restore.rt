@@ -1,9 +1,8 @@
 //! The steps of a restore before it changes anything: it identifies the chip, which the journal must fit, reads the
 //! saved sectors, and finds out which changes are needed.
-ghost use Rattle.std.specs.Prelude.{◌≡◌, ◌<◌, ◌≤◌, ◌/◌, true, None, length, IfOk, IfErr, OnOk, OnErr, MatchBool, IsTrue};
-ghost use Rattle.nor_model.specs.Size.{is_chip_size};
+ghost use Rattle.std.specs.Prelude.{◌≡◌, ◌<◌, ◌≤◌, true, None, length, IfOk, IfErr, OnOk, OnErr, MatchBool};
 ghost use Rattle.nor_driver.specs.OnlyReads.{OnlyReads, HasStopped};
-ghost use Rattle.nor_plan.specs.SectorSet.{has, LiesBelow};
+ghost use Rattle.nor_plan.specs.SectorSet.{has};
 ghost use Rattle.nor_scan.specs.Identity.{ReadsIdentity, most_identity};
 ghost use Rattle.nor_request.specs.declared.refusal.Refusal.TheVariants as Refusals;
 ghost use Rattle.nor_session.specs.Bounds.{most_reads};
@@ -12,6 +11,7 @@ ghost use Rattle.nor_session.specs.PrepareRestore.{IsDeviceRefusal, FitsIdentity
 ghost use Rattle.nor_session.specs.PrepareRestore.{AcceptsDevice, RefusesDevice, PlansSaved, ScansSaved};
 ghost use Rattle.nor_session.specs.PrepareRestore.{AreChanges, MakesChanges, RefusesShut, IsPreparedRestore, PrepareErrors};
 
+use crate::sources::as_sector;
 use nor_apply::Changes;
 use nor_driver::read_sector;
 use nor_geometry::SECTOR_LEN;
@@ -136,7 +136,7 @@ fn scan_saved<B: Bus>(bus: &mut B, journal: &Journal<'_>) -> Result<Scanned, Sto
     let mut bytes = [0; SECTOR_LEN as usize];
     for i in 0..journal.count() {
         let (sector, saved) = journal.sector(i);
-        let plan = plan_saved(bus, sector, saved, &mut bytes)?;
+        let plan = plan_saved(bus, sector, as_sector(saved), &mut bytes)?;
         scanned.mark(sector, plan);
     }
     Ok(scanned)
@@ -146,11 +146,10 @@ fn scan_saved<B: Bus>(bus: &mut B, journal: &Journal<'_>) -> Result<Scanned, Sto
 fn plan_saved<B: Bus>(
     bus: &mut B,
     sector: u32,
-    saved: &[u8],
+    saved: &[u8; SECTOR_LEN as usize],
     bytes: &mut [u8; SECTOR_LEN as usize],
 ) -> Result<SectorPlan, Stopped>
-    requires reachable { sector < 4096 }
-    requires whole { length saved.now ≡ 4096 }
+    requires { sector < 4096 }
     ensures leaves { OnlyReads 1 (B.state bus.old) (B.state bus.new) }
     ensures plans { IfOk result (PlansSaved sector saved.now bytes.new (B.state bus.old) (B.state bus.new)) }
     ensures stops { OnErr result (HasStopped 1 (B.state bus.old) (B.state bus.new)) }
@@ -165,8 +164,6 @@ fn judge_changes(
     identity: &Identity,
     scanned: &Scanned,
 ) -> Result<Changes, Refusal>
-    requires sized { IsTrue (is_chip_size identity.now.found.size) }
-    requires below { LiesBelow scanned.now.touched (identity.now.found.size / 4096) }
     ensures changes { IfOk result (AreChanges journal.now identity.now scanned.now) }
     ensures locked { IfErr result (λ refusal. refusal ≡ Refusals.StatusLocked) }
     ensures accepts { MakesChanges journal.now identity.now (has scanned.now.touched) result }

@@ -18,9 +18,9 @@ impl Source for Image<'_> {
 
     ghost wanted = { λ image a. slice_index image.bytes.now a };
 
-    fn sector(&self, sector: u32) -> &[u8] {
+    fn sector(&self, sector: u32) -> &[u8; SECTOR_LEN as usize] {
         let start = SECTOR_LEN as usize * sector as usize;
-        &self.bytes[start..start + SECTOR_LEN as usize]
+        as_sector(&self.bytes[start..start + SECTOR_LEN as usize])
     }
 }
 
@@ -35,7 +35,15 @@ impl Source for Saved<'_> {
 
     ghost wanted = { λ saved a. saved_byte saved.journal.now a };
 
-    fn sector(&self, sector: u32) -> &[u8] {
-        self.journal.find(sector).unwrap()
+    fn sector(&self, sector: u32) -> &[u8; SECTOR_LEN as usize] {
+        as_sector(self.journal.find(sector).unwrap())
     }
+}
+
+/// Returns a slice of 4,096 bytes as an array.
+pub(crate) fn as_sector(bytes: &[u8]) -> &[u8; SECTOR_LEN as usize]
+    requires { length bytes.now ≡ 4096 }
+    ensures { result.now ≡ bytes.now }
+{
+    bytes.as_array().unwrap()
 }

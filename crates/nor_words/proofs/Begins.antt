@@ -27,10 +27,10 @@ pub is_programmer-unnamed : (text : Text) → option_and_then emulated_named (sa
 is_programmer-unnamed text unnamed = grind arith
 
 -- a parser applied to an optional value returns what `option_and_then` does
-pub and_then-read : {T : Type 0} (f : Text → Option T) (o : Option (Bor Text)) (r : Option T)
+pub and_then_read : {T : Type 0} (f : Text → Option T) (o : Option (Bor Text)) (r : Option T)
     → MatchOption o (r ≡ None) (λ x. r ≡ f x.now) → option_and_then f (option_map (λ x. x.now) o) ≡ r
-and_then-read f None r h = sym h
-and_then-read f (Some x) r h = sym h
+and_then_read f None r h = sym h
+and_then_read f (Some x) r h = sym h
 
 -- `option_and_then` with `Some` returns the optional value as it is
 pub and_then-some : {T : Type 0} (o : Option T) → option_and_then Some o ≡ o

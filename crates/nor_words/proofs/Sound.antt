@@ -71,9 +71,9 @@ change-wanted given (want.Range start len) is =
     or_right (is_new_content given) (is_some given.wp_range) (there range_of given.wp_range (start, len) is)
 
 -- if `Sound` holds, options that have a target of a change, but no journal, have parsed stops
-pub stops-kept : {T : Type 0} (view : T → List ℕ) (given : Texts) (wanted : Wanted) (stops : Option T) → Sound given
-    → IsWantedByArguments given wanted → option_and_then stops_of given.rehearse ≡ option_map view stops
+pub stops-kept : (given : Texts) (wanted : Wanted) (stops : Option (List ℕ)) → Sound given
+    → IsWantedByArguments given wanted → option_and_then stops_of given.rehearse ≡ stops
     → given.journal ≡ None → is_some stops ≡ true
-stops-kept view given wanted (Some stops) sound is same journal = refl
-stops-kept view given wanted None sound is same journal =
+stops-kept given wanted (Some stops) sound is same journal = refl
+stops-kept given wanted None sound is same journal =
     let no = no_change-kept given sound journal same in let yes = change-wanted given wanted is in cc

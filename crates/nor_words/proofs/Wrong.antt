@@ -3,7 +3,7 @@ use Rattle.std.proofs.Common.{◌≡◌, ◌&&◌, ◌||◌, ℕ, false, List, O
 use Rattle.std.proofs.Common.{not, option_map, refl, sym}
 use Rattle.std.specs.Prelude.{option_and_then}
 use Rattle.std.specs.Borrow.{Bor}
-use Rattle.std.specs.Option.{IsSomeAnd, MatchOption, option_map_or}
+use Rattle.std.specs.Option.{IsSomeAnd, MatchOption}
 use Rattle.nor_words.specs.Text.{Text, reads}
 use Rattle.nor_words.specs.Faults.{is_no, passes_test}
 use Rattle.nor_words.specs.Programmer.{IsProgrammer, has_stop, is_programmer_text}
@@ -30,39 +30,29 @@ pub wrong-read : {T : Type 0} (f : Text → Option T) (text : Option (Bor Text))
 wrong-read f None found means = refl
 wrong-read f (Some t) found means = rw means refl
 
--- the programmer has a `stop=` if and only if its text has one
-stops-beside : (text : Option Text) (found : Option Programmer) → Means text found
-    → option_map_or (λ programmer. is_some programmer.stop) found false ≡ passes_test has_stop text
-stops-beside None None means = refl
-stops-beside None (Some p) means = absurd means
-stops-beside (Some t) None means = rw means refl
-stops-beside (Some t) (Some p) means = rw (means.sound, means.stop) refl
-
 is_some-viewed : {S U : Type 0} (v : S → U) (found : Option S) → is_some (option_map v found) ≡ is_some found
 is_some-viewed v None = refl
 is_some-viewed v (Some x) = refl
 
 pub wrong-stops : {S : Type 0} (v : S → List ℕ) (rehearse : Option (Bor Text)) (programmer : Option Text)
-    (found : Option Programmer) (stops : Option S) → Means programmer found
-    → option_and_then stops_of (text_at rehearse) ≡ option_map v stops
-    → (is_some rehearse && (not (is_some stops) || option_map_or (λ programmer. is_some programmer.stop) found false))
+    (stops : Option S) → option_and_then stops_of (text_at rehearse) ≡ option_map v stops
+    → (is_some rehearse && (not (is_some stops) || passes_test has_stop programmer))
     ≡ (is_no (reads stops_of) (text_at rehearse) || (is_some (text_at rehearse) && passes_test has_stop programmer))
-wrong-stops v None programmer found stops means read = refl
-wrong-stops v (Some t) programmer found stops means read =
-    rw (read, is_some-viewed v stops, stops-beside programmer found means) refl
+wrong-stops v None programmer stops read = refl
+wrong-stops v (Some t) programmer stops read = rw (read, is_some-viewed v stops) refl
 
 -- ---- the result of `and_then` with a parser
 
-pub means-read : (text : Option (Bor Text)) (found : Option Programmer)
+pub means_read : (text : Option (Bor Text)) (found : Option Programmer)
     → MatchOption text (found ≡ None)
     (λ t. MatchOption found (is_programmer_text t.now ≡ false) (IsProgrammer t.now))
     → Means (text_at text) found
-means-read None found h = rw h refl
-means-read (Some t) None h = h
-means-read (Some t) (Some p) h = h
+means_read None found h = rw h refl
+means_read (Some t) None h = h
+means_read (Some t) (Some p) h = h
 
-pub viewed-read : {S U : Type 0} (f : Text → Option U) (v : S → U) (text : Option (Bor Text)) (found : Option S)
+pub viewed_read : {S U : Type 0} (f : Text → Option U) (v : S → U) (text : Option (Bor Text)) (found : Option S)
     → MatchOption text (found ≡ None) (λ t. option_map v found ≡ f t.now)
     → option_and_then f (text_at text) ≡ option_map v found
-viewed-read f v None found h = rw h refl
-viewed-read f v (Some t) found h = sym h
+viewed_read f v None found h = rw h refl
+viewed_read f v (Some t) found h = sym h

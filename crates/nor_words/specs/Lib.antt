@@ -12,4 +12,3 @@ pub mod Job
 pub mod Words
 -- Results of the private functions that parse values.
 pub mod Settings
-pub mod Meaning

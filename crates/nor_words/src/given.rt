@@ -1,14 +1,13 @@
 //! The values that the arguments give the options; the job that the options ask for, or the first fault that they have.
 ghost use Rattle.std.specs.Prelude.{◌≡◌, ◌&&◌, ◌||◌, None, Some, false, true, is_some, not, option_map, option_and_then};
 ghost use Rattle.std.specs.Prelude.{MatchOption, MatchResult};
-ghost use Rattle.std.specs.Option.{option_map_or};
+ghost use Rattle.std.specs.Option.{IsSomeAnd};
 ghost use Rattle.clap.specs.Words.{found_of, rows_of};
 ghost use Rattle.nor_words.specs.Given.{given_in, is_set_in, operations, is_new_content, asks_change, takes_regions};
 ghost use Rattle.nor_words.specs.Faults.{first_fault, has_wrong_journal, has_wrong_regions, is_no, passes_test, usage_faults};
 ghost use Rattle.nor_words.specs.Job.{IsAsked, IsJournalUse, IsRegions, IsTask, IsWantedByArguments};
-ghost use Rattle.nor_words.specs.Meaning.{IsMeaning};
 ghost use Rattle.nor_words.specs.Numbers.{range_of};
-ghost use Rattle.nor_words.specs.Programmer.{has_stop, is_programmer_text};
+ghost use Rattle.nor_words.specs.Programmer.{IsProgrammer, has_stop, is_programmer_text};
 ghost use Rattle.nor_words.specs.Stops.{stops_of};
 ghost use Rattle.nor_words.specs.Text.{reads};
 
@@ -47,15 +46,6 @@ pub struct Given<'a> {
     rehearse: Option<&'a str>,
 }
 
-// The values that are parsed here; all other values are names. A field is `None` if its option is missing, or if its
-// value can't be parsed.
-#[derive(Drop)]
-struct Meaning<'a> {
-    programmer: Option<Programmer<'a>>,
-    range: Option<(u32, u32)>,
-    stops: Option<ArrayVec<u64, MOST_STOPS>>,
-}
-
 impl<'a> Given<'a> {
     ghost use Rattle.nor_words.specs.Given.{texts_of};
 
@@ -91,15 +81,14 @@ impl<'a> Given<'a> {
             (λ job. (first_fault (usage_faults (texts_of self.entry)) ≡ None) × IsAsked (texts_of self.entry) job)
             (λ fault. first_fault (usage_faults (texts_of self.entry)) ≡ Some fault) }
     {
-        let meaning = self.meaning();
-        if let Some(fault) = self.fault(&meaning) {
+        if let Some(fault) = self.fault() {
             return Err(fault);
         }
-        match meaning.programmer {
+        match self.parsed_programmer() {
             Some(programmer) if !self.list => Ok(Job::Chip(ChipJob {
                 programmer,
                 named: self.chip.map(ChipName::of),
-                task: self.task(meaning.range, meaning.stops),
+                task: self.task(),
             })),
             _ => Ok(Job::List),
         }
@@ -131,29 +120,42 @@ impl<'a> Given<'a> {
         }
     }
 
-    // Parses the values of `-p`, `--wp-range` and `--rehearse`.
-    fn meaning(&self) -> Meaning<'a>
-        ensures { IsMeaning (texts_of self.now) result }
+    // Returns the programmer that `-p` describes, or `None` if `-p` is missing or describes none.
+    #[tactic(auto, using(crate::proofs::Wrong::means_read))]
+    fn parsed_programmer(&self) -> Option<Programmer<'a>>
+        ensures { MatchOption result (passes_test is_programmer_text (texts_of self.now).programmer ≡ false)
+            (λ programmer. IsSomeAnd (texts_of self.now).programmer (λ text. IsProgrammer text programmer)) }
     {
-        Meaning {
-            programmer: self.programmer.and_then(Programmer::read),
-            range: self.wp_range.and_then(read_range),
-            stops: self.rehearse.and_then(read_stops),
-        }
+        self.programmer.and_then(Programmer::read)
+    }
+
+    // Returns the range that `--wp-range` gives, or `None` if the option is missing or its value can't be parsed.
+    #[tactic(auto, using(crate::proofs::Begins::and_then_read))]
+    fn parsed_range(&self) -> Option<(u32, u32)>
+        ensures { option_and_then range_of (texts_of self.now).wp_range ≡ result }
+    {
+        self.wp_range.and_then(read_range)
+    }
+
+    // Returns the stops that `--rehearse` gives, or `None` if the option is missing or its value can't be parsed.
+    #[tactic(auto, using(crate::proofs::Wrong::viewed_read))]
+    fn parsed_stops(&self) -> Option<ArrayVec<u64, MOST_STOPS>>
+        ensures { option_and_then stops_of (texts_of self.now).rehearse ≡ option_map (λ stops. stops.items) result }
+    {
+        self.rehearse.and_then(read_stops)
     }
 
     // Returns the first of the faults 2 to 9 that the options have, if any.
-    fn fault(&self, meaning: &Meaning<'a>) -> Option<UsageFault>
-        requires { IsMeaning (texts_of self.now) meaning.now }
+    fn fault(&self) -> Option<UsageFault>
         ensures { result ≡ first_fault (usage_faults (texts_of self.now)) }
     {
         if self.lacks_programmer() {
             Some(UsageFault::NoProgrammer)
-        } else if self.has_wrong_programmer(meaning) {
+        } else if self.has_wrong_programmer() {
             Some(UsageFault::Programmer)
         } else if self.operations() > 1 {
             Some(UsageFault::TwoOperations)
-        } else if self.has_wrong_range(meaning) {
+        } else if self.has_wrong_range() {
             Some(UsageFault::Range)
         } else if self.has_wrong_journal() {
             Some(UsageFault::Journal)
@@ -161,7 +163,7 @@ impl<'a> Given<'a> {
             Some(UsageFault::Layout)
         } else if self.has_unneeded() {
             Some(UsageFault::Unneeded)
-        } else if self.has_wrong_stops(meaning) {
+        } else if self.has_wrong_stops() {
             Some(UsageFault::Stops)
         } else {
             None
@@ -176,29 +178,36 @@ impl<'a> Given<'a> {
     }
 
     // Fault 3: true if the value of `-p` doesn't describe a programmer.
-    fn has_wrong_programmer(&self, meaning: &Meaning<'a>) -> bool
-        requires { IsMeaning (texts_of self.now) meaning.now }
+    fn has_wrong_programmer(&self) -> bool
         ensures { result ≡ is_no is_programmer_text (texts_of self.now).programmer }
     {
-        self.programmer.is_some() && meaning.programmer.is_none()
+        self.programmer.is_some() && self.parsed_programmer().is_none()
     }
 
     // Fault 5: true if the value of `--wp-range` isn't a start and a length.
-    fn has_wrong_range(&self, meaning: &Meaning<'a>) -> bool
-        requires { IsMeaning (texts_of self.now) meaning.now }
+    fn has_wrong_range(&self) -> bool
         ensures { result ≡ is_no (reads range_of) (texts_of self.now).wp_range }
     {
-        self.wp_range.is_some() && meaning.range.is_none()
+        self.wp_range.is_some() && self.parsed_range().is_none()
     }
 
     // Fault 9: true if the value of `--rehearse` isn't a list of stops, or if both `--rehearse` and a `stop=` in `-p`
     // are given.
-    fn has_wrong_stops(&self, meaning: &Meaning<'a>) -> bool
-        requires { IsMeaning (texts_of self.now) meaning.now }
+    fn has_wrong_stops(&self) -> bool
         ensures { result ≡ (is_no (reads stops_of) (texts_of self.now).rehearse
             || (is_some (texts_of self.now).rehearse && passes_test has_stop (texts_of self.now).programmer)) }
     {
-        self.rehearse.is_some() && (meaning.stops.is_none() || meaning.has_stop())
+        self.rehearse.is_some() && (self.parsed_stops().is_none() || self.has_stop())
+    }
+
+    // True if the value of `-p` describes a programmer and has a `stop=`.
+    fn has_stop(&self) -> bool
+        ensures { result ≡ passes_test has_stop (texts_of self.now).programmer }
+    {
+        match self.parsed_programmer() {
+            Some(programmer) => programmer.stop.is_some(),
+            None => false,
+        }
     }
 
     // Returns the number of operations that are asked for.
@@ -272,15 +281,12 @@ impl<'a> Given<'a> {
         }
     }
 
-    // Returns the operation on the chip. Requires options without `-L` and without a fault, and the parsed values of
-    // `--wp-range` and `--rehearse`.
-    fn task(&self, range: Option<(u32, u32)>, stops: Option<ArrayVec<u64, MOST_STOPS>>) -> Task<'a>
-        requires { ((texts_of self.now).list ≡ false) × (first_fault (usage_faults (texts_of self.now)) ≡ None)
-            × (option_and_then range_of (texts_of self.now).wp_range ≡ range)
-            × (option_and_then stops_of (texts_of self.now).rehearse ≡ option_map (λ stops. stops.items) stops) }
+    // Returns the operation on the chip. Requires options without `-L` and without a fault.
+    fn task(&self) -> Task<'a>
+        requires { ((texts_of self.now).list ≡ false) × (first_fault (usage_faults (texts_of self.now)) ≡ None) }
         ensures { IsTask (texts_of self.now) result }
     {
-        let Some(wanted) = self.wanted(range) else {
+        let Some(wanted) = self.wanted() else {
             return self.plain_task();
         };
         Task::Change(Change {
@@ -288,17 +294,17 @@ impl<'a> Given<'a> {
             regions: self.regions(),
             unlock: self.unlock,
             verify: !self.no_verify,
-            journal_use: self.journal_use(stops),
+            journal_use: self.journal_use(),
         })
     }
 
-    // Returns the target of a change, or `None` if the options have neither `-w` nor `-E`, and `range` is `None`.
-    fn wanted(&self, range: Option<(u32, u32)>) -> Option<Wanted<'a>>
-        requires { option_and_then range_of (texts_of self.now).wp_range ≡ range }
-        ensures { MatchOption result ((is_new_content (texts_of self.now) ≡ false) × (range ≡ None))
+    // Returns the target of a change, or `None` if the options have neither `-w` nor `-E`, and no range can be parsed.
+    fn wanted(&self) -> Option<Wanted<'a>>
+        ensures { MatchOption result ((is_new_content (texts_of self.now) ≡ false)
+            × (option_and_then range_of (texts_of self.now).wp_range ≡ None))
             (IsWantedByArguments (texts_of self.now)) }
     {
-        match (self.write, range) {
+        match (self.write, self.parsed_range()) {
             (Some(image), _) => Some(Wanted::Write { image }),
             (None, Some((start, len))) => Some(Wanted::Range { start, len }),
             (None, None) if self.erase => Some(Wanted::Erase),
@@ -307,16 +313,15 @@ impl<'a> Given<'a> {
     }
 
     // Returns the use of a change's journal. Requires stops if there is no `--journal`, so the `unwrap` can't fail.
-    fn journal_use(&self, stops: Option<ArrayVec<u64, MOST_STOPS>>) -> JournalUse<'a>
-        requires read { option_and_then stops_of (texts_of self.now).rehearse
-            ≡ option_map (λ stops. stops.items) stops }
-        requires kept { (texts_of self.now).journal ≡ None → is_some stops ≡ true }
+    fn journal_use(&self) -> JournalUse<'a>
+        requires { (texts_of self.now).journal ≡ None
+            → is_some (option_and_then stops_of (texts_of self.now).rehearse) ≡ true }
         ensures { IsJournalUse (texts_of self.now) result }
     {
         match self.journal {
             Some(file) => JournalUse::Journal { file },
             None => JournalUse::Rehearse {
-                stops: stops.unwrap(),
+                stops: self.parsed_stops().unwrap(),
             },
         }
     }
@@ -348,18 +353,6 @@ impl<'a> Given<'a> {
             (None, None, None) if self.wp_status => Task::WpStatus,
             (None, None, None) if self.wp_list => Task::WpList,
             (None, None, None) => Task::Probe,
-        }
-    }
-}
-
-impl Meaning<'_> {
-    // True if the programmer has a `stop=`.
-    fn has_stop(&self) -> bool
-        ensures { result ≡ option_map_or (λ programmer. is_some programmer.stop) self.now.programmer false }
-    {
-        match &self.programmer {
-            Some(programmer) => programmer.stop.is_some(),
-            None => false,
         }
     }
 }

@@ -14,7 +14,7 @@ pub returns-in_err-erased : goal.returns-in_err-erased
 returns-in_err-erased g c =
     let so = lifted c.args.changes.now (g.S.Source.wanted c.args.source.now) c.write_code.ensures.leaves
     c.in_ok-lifted.ensures.does in
-    let halted = erases_halted so c.requires.raised c.erase_all.ensures.leaves c.in_err-erased.ensures.fails
+    let halted = erases_halted so c.requires.consistent.raised c.erase_all.ensures.leaves c.in_err-erased.ensures.fails
     c.in_err-erased.ensures.names in
     grind (arith, common_steps, halted)
 
@@ -22,7 +22,7 @@ pub returns-in_err-programmed : goal.returns-in_err-programmed
 returns-in_err-programmed g c =
     let so = lifted c.args.changes.now (g.S.Source.wanted c.args.source.now) c.write_code.ensures.leaves
     c.in_ok-lifted.ensures.does in
-    let then = erased so c.requires.raised c.erase_all.ensures.leaves c.in_ok-erased.ensures.does in
+    let then = erased so c.requires.consistent.raised c.erase_all.ensures.leaves c.in_ok-erased.ensures.does in
     let halted = programs_halted c.in_ok-erased.erased.count then c.program_all.ensures.leaves (omega (arith, c.in_ok-erased.ensures.does.fewer))
     c.in_err-programmed.ensures.fails
     c.in_err-programmed.ensures.names in
@@ -33,7 +33,7 @@ all_done : (g : _) (c : In_ok-programmed g) → Parts c.args.changes.now (g.S.So
     (g.B.Bus.state c.args.bus.now) (g.B.Bus.state c.write_code.new.bus) (g.B.Bus.state c.erase_all.new.bus)
     (g.B.Bus.state c.program_all.new.bus) c.in_ok-lifted.lifted c.in_ok-erased.erased c.in_ok-programmed.programmed
 all_done g c = record {
-  inside = c.requires.raised;
+  inside = c.requires.consistent.raised;
   lift_leaves = c.write_code.ensures.leaves;
   lifts = c.in_ok-lifted.ensures.does;
   erases_leave = c.erase_all.ensures.leaves;

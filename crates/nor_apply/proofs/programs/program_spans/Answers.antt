@@ -1,4 +1,4 @@
-use Rattle.std.proofs.Common.{ℕ, ◌+◌, refl, ap, arith}
+use Rattle.std.proofs.Common.{ℕ, ◌+◌, refl, ap, arith, rules}
 use Rattle.std.proofs.lemmas.Grind.{common_steps}
 use Rattle.nor_plan.specs.Spans.{spans_left}
 use Rattle.nor_apply.proofs.ProgrammingSpans.{spans_none, spans_more, few_spans, spans_halted, does_ended, leaves_ended}
@@ -8,7 +8,7 @@ pub loop-span-init : goal.loop-span-init
 loop-span-init g c =
     let listed = c.spans-span-items.ensures in
     record {
-      so_far = spans_none _ c.requires.whole c.requires.wanted_whole listed.pages listed.spans
+      so_far = spans_none _ (search rules) (search rules) listed.pages listed.spans
           (ap spans_left c.into_iter-span-iterator.ensures.into_iter_gives);
     }
 

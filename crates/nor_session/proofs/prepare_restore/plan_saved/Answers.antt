@@ -1,4 +1,4 @@
-use Rattle.std.proofs.Common.{◌≡◌, ◌∙◌, ℕ, length, subst, arith}
+use Rattle.std.proofs.Common.{◌≡◌, ◌∙◌, ℕ, length, subst, arith, rules}
 use Rattle.nor_plan.specs.Plan.{IsPlan}
 use Rattle.nor_session.proofs.prepare_restore.plan_saved.Goals as goal
 
@@ -6,7 +6,7 @@ pub returns-clause-plans : goal.returns-clause-plans
 returns-clause-plans g c =
     let long : length c.read_sector.new.bytes ≡ 4096 = omega arith in
     record {
-      small = λ k. omega (arith, c.type_inv.saved k);
+      small = λ k. search rules;
       read = c.in_ok-read_sector.ensures.does;
       whole = long;
       polled_ready = λ ready. c.read_sector.ensures.polled_ready ∙ ready;

@@ -7,12 +7,12 @@ use Rattle.nor_session.proofs.kept.Kept.finish.Goals as goal
 
 pub check-requires-clause-fits : goal.check-requires-clause-fits
 check-requires-clause-fits g c =
-    fits_work c.args.self.changes.now (g.S.Source.wanted c.args.self.source.now) _ _ _ c.requires.raised c.in_ok-work.ensures.does
+    fits_work c.args.self.changes.now (g.S.Source.wanted c.args.self.source.now) _ _ _ c.requires.consistent.raised c.in_ok-work.ensures.does
 
 pub returns-clause-does : goal.returns-clause-does
 returns-clause-does g c =
     IfOk-weaker c.check.result _ _
-    (λ work checking. checked c.args.self.changes.now (g.S.Source.wanted c.args.self.source.now) c.args.verify _ _ _ _ work c.requires.raised c.apply.ensures.leaves c.in_ok-work.ensures.does checking)
+    (λ work checking. checked c.args.self.changes.now (g.S.Source.wanted c.args.self.source.now) c.args.verify _ _ _ _ work c.requires.consistent.raised c.apply.ensures.leaves c.in_ok-work.ensures.does checking)
     c.check.ensures.does
 
 pub returns-clause-leaves : goal.returns-clause-leaves

@@ -5,8 +5,4 @@ use Rattle.nor_words.proofs.given.Given.has_wrong_programmer.Goals as goal
 
 pub returns-then-is_some : goal.returns-then-is_some
 returns-then-is_some c =
-    grind (arith, nat_tests, wrong-programmer c.args.self.now.programmer _ c.requires.programmer)
-
-pub returns-else-is_some : goal.returns-else-is_some
-returns-else-is_some c =
-    grind (arith, nat_tests, wrong-programmer c.args.self.now.programmer _ c.requires.programmer)
+    grind (arith, nat_tests, wrong-programmer c.args.self.now.programmer _ c.parsed_programmer.ensures)

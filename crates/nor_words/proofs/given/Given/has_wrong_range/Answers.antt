@@ -6,8 +6,4 @@ use Rattle.nor_words.proofs.given.Given.has_wrong_range.Goals as goal
 
 pub returns-then-is_some : goal.returns-then-is_some
 returns-then-is_some c =
-    grind (arith, nat_tests, wrong-read range_of c.args.self.now.wp_range _ c.requires.range)
-
-pub returns-else-is_some : goal.returns-else-is_some
-returns-else-is_some c =
-    grind (arith, nat_tests, wrong-read range_of c.args.self.now.wp_range _ c.requires.range)
+    grind (arith, nat_tests, wrong-read range_of c.args.self.now.wp_range _ c.parsed_range.ensures)

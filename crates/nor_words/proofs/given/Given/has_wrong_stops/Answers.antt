@@ -7,17 +7,11 @@ use Rattle.nor_words.proofs.given.Given.has_wrong_stops.Goals as goal
 pub returns-then-is_none : goal.returns-then-is_none
 returns-then-is_none c =
     let wrong = wrong-stops (λ stops. stops.items) c.args.self.now.rehearse (texts_of c.args.self.now).programmer
-    c.args.meaning.now.programmer c.args.meaning.now.stops c.requires.programmer c.requires.stops in
+    c.parsed_stops.result c.parsed_stops.ensures in
     grind (arith, nat_tests)
 
 pub returns-else-is_none : goal.returns-else-is_none
 returns-else-is_none c =
     let wrong = wrong-stops (λ stops. stops.items) c.args.self.now.rehearse (texts_of c.args.self.now).programmer
-    c.args.meaning.now.programmer c.args.meaning.now.stops c.requires.programmer c.requires.stops in
-    grind (arith, nat_tests)
-
-pub returns-else-is_some : goal.returns-else-is_some
-returns-else-is_some c =
-    let wrong = wrong-stops (λ stops. stops.items) c.args.self.now.rehearse (texts_of c.args.self.now).programmer
-    c.args.meaning.now.programmer c.args.meaning.now.stops c.requires.programmer c.requires.stops in
+    c.parsed_stops.result c.parsed_stops.ensures in
     grind (arith, nat_tests)

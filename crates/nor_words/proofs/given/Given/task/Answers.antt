@@ -1,4 +1,4 @@
-use Rattle.std.proofs.Common.{rules}
+use Rattle.std.proofs.Common.{refl, rules}
 use Rattle.nor_words.specs.Given.{texts_of}
 use Rattle.nor_words.proofs.Sound.{no_change-wanted, sound-none, stops-kept}
 use Rattle.nor_words.proofs.given.Given.task.Goals as goal
@@ -7,9 +7,9 @@ pub plain_task-requires : goal.plain_task-requires
 plain_task-requires c =
     let sound = sound-none (texts_of c.args.self.now) c.requires.1 in search (rules, no_change-wanted)
 
-pub journal_use-requires-clause-kept : goal.journal_use-requires-clause-kept
-journal_use-requires-clause-kept c = stops-kept (λ stops. stops.items) (texts_of c.args.self.now) c.in-Some.wanted
-    c.args.stops (sound-none (texts_of c.args.self.now) c.requires.1) c.in-Some.ensures c.requires.3
+pub journal_use-requires : goal.journal_use-requires
+journal_use-requires c = stops-kept (texts_of c.args.self.now) c.in-Some.wanted _
+    (sound-none (texts_of c.args.self.now) c.requires.1) c.in-Some.ensures refl
 
 pub regions-requires : goal.regions-requires
 regions-requires c = (sound-none (texts_of c.args.self.now) c.requires.1).regions

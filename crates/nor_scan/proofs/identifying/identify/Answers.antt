@@ -2,7 +2,7 @@ use Rattle.std.proofs.Common.{arith}
 use Rattle.std.proofs.lemmas.Grind.{common_steps}
 use Rattle.nor_driver.proofs.ReadsInTurn.{looks_on}
 use Rattle.nor_scan.proofs.Replied.{identified_by}
-use Rattle.nor_scan.proofs.identity.identify.Goals as goal
+use Rattle.nor_scan.proofs.identifying.identify.Goals as goal
 
 pub returns-in_err-identity-clause-leaves : goal.returns-in_err-identity-clause-leaves
 returns-in_err-identity-clause-leaves g c =

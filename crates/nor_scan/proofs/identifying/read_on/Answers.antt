@@ -1,6 +1,6 @@
 use Rattle.std.proofs.Common.{arith}
 use Rattle.nor_driver.proofs.ReadsInTurn.{looks_on}
-use Rattle.nor_scan.proofs.identity.read_on.Goals as goal
+use Rattle.nor_scan.proofs.identifying.read_on.Goals as goal
 
 pub returns-in_err-unique-clause-leaves : goal.returns-in_err-unique-clause-leaves
 returns-in_err-unique-clause-leaves g c =

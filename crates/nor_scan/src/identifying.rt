@@ -1,0 +1,50 @@
+//! The identification with which every session and restore begins: finds the chip, and reads status 2 and the unique
+//! ID.
+ghost use Rattle.std.specs.Prelude.{◌≤◌, IfOk, IfErr, OnErr, IsTrue};
+ghost use Rattle.nor_model.specs.Size.{is_chip_size};
+ghost use Rattle.nor_driver.specs.OnlyReads.{OnlyReads, HasStopped};
+ghost use Rattle.nor_probe.specs.Found.{most_probe};
+ghost use Rattle.nor_scan.specs.Identity.{ReadsIdentity, ReadsRest, most_identity};
+ghost use Rattle.nor_request.specs.Errors.{IdentificationErrors};
+
+use crate::identity::Identity;
+use nor_driver::{read_status2, read_unique};
+use nor_model::{Bus, Stopped};
+use nor_probe::{ChipName, Probed, probe_counted};
+use nor_request::Refusal;
+
+/// Waits until the chip is ready, finds it by its ID or SFDP, and reads status 2 and the unique ID. With `named` the
+/// chip must have this name. On a well-behaved bus at most 65,542 transactions are sent.
+///
+/// Returns error 1 (no chip), 2 (unknown chip), 3 (other name), 12 (the bus stopped) or 13 with address 0 (the chip
+/// stayed busy; not on a well-behaved bus).
+pub fn identify<B: Bus>(bus: &mut B, named: Option<ChipName>) -> Result<Identity, Refusal>
+    ensures leaves { OnlyReads most_identity (B.state bus.old) (B.state bus.new) }
+    ensures identifies { IfOk result (ReadsIdentity named (B.state bus.old) (B.state bus.new)) }
+    ensures errors { IfErr result (IdentificationErrors most_identity named (B.state bus.old) (B.state bus.new)) }
+{
+    let probed = probe_counted(bus, named)?;
+    let identity = read_on(bus, probed)?;
+    Ok(identity)
+}
+
+/// Reads status 2 and the unique ID of the chip that was found, with two transactions. `probed` must have what a probe
+/// returns: a size that a chip may have, and at most 65,540 transactions.
+///
+/// Returns `Stopped` if the bus stopped; on a well-behaved bus this means that fewer than two transactions were left.
+pub fn read_on<B: Bus>(bus: &mut B, probed: Probed) -> Result<Identity, Stopped>
+    requires few { probed.transactions ≤ most_probe }
+    requires sized { IsTrue (is_chip_size probed.found.size) }
+    ensures leaves { OnlyReads 2 (B.state bus.old) (B.state bus.new) }
+    ensures reads { IfOk result (ReadsRest probed (B.state bus.old) (B.state bus.new)) }
+    ensures stops { OnErr result (HasStopped 2 (B.state bus.old) (B.state bus.new)) }
+{
+    let status2 = read_status2(bus)?;
+    let unique = read_unique(bus)?;
+    Ok(Identity {
+        found: probed.found,
+        status2,
+        unique,
+        transactions: probed.transactions + 2,
+    })
+}
