@@ -227,7 +227,7 @@ PLANTS = {
         CRATES, "crates/nor_plan/specs/Bytes.antt", r"\A", "use Rattle.nor_journal.specs.Vault.{IsFresh}\n",
         "crates.txt is to have 'nor_plan: nor_journal "),
     "a library of the kit that only a source names": (
-        CRATES, "crates/nor_layout/src/places.rt", r"use crate::ranges::Span;", "use crate::ranges::Span;\nuse hex::encode;",
+        CRATES, "crates/nor_layout/src/positions.rt", r"use crate::ranges::Span;", "use crate::ranges::Span;\nuse hex::encode;",
         "crates.txt is to have 'nor_layout: nor_geometry arrayvec hex'"),
     "a crate below one that it uses": (
         CRATES, "crates.txt", r"nor_geometry:\nnor_model: nor_geometry bitflags\n",

@@ -26,9 +26,9 @@ whole_seen len seen found is whole = grind (arith, take_all, length-take)
 pub left_seen : (files : FilesState) → AreAtRest files → ((name : Name) → files.may_leave name (files.view.seen name))
     → (name : Option (Bor Text)) (len : ℕ) (found : Found) → IsFileFound files.view name len found
     → IfSome found (λ all. length all ≡ len) → (was : Found) → MayFind name was found files
-left_seen files rest unsent None len found is whole was = is
-left_seen files rest unsent (Some name) len found is whole was =
-    inl (rw (whole_seen len (files.view.seen name.now) found (is (known_at_rest rest name.now)) whole) (unsent name.now))
+left_seen files rest may_stay None len found is whole was = is
+left_seen files rest may_stay (Some name) len found is whole was =
+    inl (rw (whole_seen len (files.view.seen name.now) found (is (known_at_rest rest name.now)) whole) (may_stay name.now))
 
 whole_of : (found : Found) (n m : ℕ) → n ≡ m → IsSomeAnd found (λ all. length all ≡ n)
     → IfSome found (λ all. length all ≡ m)
@@ -48,13 +48,13 @@ aside_of : (other : Bor Text) (was found left : Found) (len : ℕ) (mid new : Fi
     → IfSome found (λ all. length all ≡ len) → LeavesAsLong (Some other) mid new → (was ≡ None) × (left ≡ None)
     → (kept : Found) × MayFind (Some other) found kept new × IfSome kept (λ all. length all ≡ len)
     × ((left ≡ kept) ⊎ ((was ≡ None) × (left ≡ None)))
-aside_of other was None left len mid new rest unsent is whole long aside = (None, inr (refl, refl), tt, inr aside)
-aside_of other was (Some all) left len mid new rest unsent is whole long aside =
+aside_of other was None left len mid new rest may_stay is whole long aside = (None, inr (refl, refl), tt, inr aside)
+aside_of other was (Some all) left len mid new rest may_stay is whole long aside =
     let seen = whole_seen len (mid.view.seen other.now) (Some all) (is (known_at_rest rest other.now)) whole in
     let has = new.view.seen other.now in (
       has,
-      inl (unsent other.now),
-      whole_of has (length all) len whole (long all (sym seen) has (unsent other.now)),
+      inl (may_stay other.now),
+      whole_of has (length all) len whole (long all (sym seen) has (may_stay other.now)),
       inr aside,
     )
 
@@ -67,13 +67,13 @@ pub pick : (one other : Option (Bor Text)) (was found left : Found) (len : ℕ) 
     → IfSome left (λ all. length all ≡ len)
     → (kept : Found) × MayFind other found kept new × IfSome kept (λ all. length all ≡ len)
     × ((left ≡ kept) ⊎ ((was ≡ None) × (left ≡ None)))
-pick None None was found left len mid new same rest unsent is whole long can fits = (left, can, fits, inl refl)
-pick (Some one) (Some other) was found left len mid new same rest unsent is whole long can fits = elim can [
+pick None None was found left len mid new same rest may_stay is whole long can fits = (left, can, fits, inl refl)
+pick (Some one) (Some other) was found left len mid new same rest may_stay is whole long can fits = elim can [
   | inl may ↦ (left, inl (rw same may), fits, inl refl)
-  | inr aside ↦ aside_of other was found left len mid new rest unsent is whole long aside
+  | inr aside ↦ aside_of other was found left len mid new rest may_stay is whole long aside
 ]
-pick None (Some other) was found left len mid new same rest unsent is whole long can fits = absurd same
-pick (Some one) None was found left len mid new same rest unsent is whole long can fits = absurd same
+pick None (Some other) was found left len mid new same rest may_stay is whole long can fits = absurd same
+pick (Some one) None was found left len mid new same rest may_stay is whole long can fits = absurd same
 
 -- An idle chip with the original chip's configuration is restorable, if each byte and the non-volatile status bits are
 -- those of a restorable chip or of the original chip.

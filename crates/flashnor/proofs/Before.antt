@@ -76,9 +76,9 @@ module _ (programmer : Programmer) (old new : FilesState) (image : LeavesNoMoreO
       → LeavesNoMore any old new)
       → ((file : Bor Text) → journal_of kept ≡ Some file → LeavesOrEmpty file.now old new)
       → KeepsChange programmer kept old new
-  keeps_begun (uses.Journal file) unsent leave empty =
+  keeps_begun (uses.Journal file) stay_but leave empty =
       inl (record { image = image; status = status; others = leave; empty = empty file refl })
-  keeps_begun (uses.Rehearse stops) unsent leave empty = unsent refl
+  keeps_begun (uses.Rehearse stops) stay_but leave empty = stay_but refl
 
   keeps_unmade : (done : Task) → (puts_back done ≡ false → StayBut programmer (made_by done) old new)
       → ((any : Name) → IsNot old.view.nature programmer.trace any → IsNot old.view.nature (made_by done) any
@@ -86,14 +86,14 @@ module _ (programmer : Programmer) (old new : FilesState) (image : LeavesNoMoreO
       → ((journal : Bor Text) → done ≡ task.Restore journal → LeavesNoMore journal.now old new)
       → ((file : Bor Text) → journal_by done ≡ Some file → LeavesOrEmpty file.now old new)
       → KeepsFiles programmer done old new
-  keeps_unmade (task.Change change) unsent leave source empty = keeps_begun change.journal_use unsent leave empty
-  keeps_unmade (task.Restore journal) unsent leave source empty = inl (record {
+  keeps_unmade (task.Change change) stay_but leave source empty = keeps_begun change.journal_use stay_but leave empty
+  keeps_unmade (task.Restore journal) stay_but leave source empty = inl (record {
     image = image;
     status = status;
     journal = source journal refl;
     others = λ name not. leave name not tt;
   })
-  keeps_unmade _ unsent leave source empty = unsent refl
+  keeps_unmade _ stay_but leave source empty = stay_but refl
 
 -- A run that changed no file keeps the promise of its task about the files.
 pub keeps_still : (files : FilesState) (programmer : Programmer) (done : Task) → KeepsFiles programmer done files files

@@ -26,7 +26,7 @@ use Rattle.nor_files.specs.Files.{FilesState, IsKnownFile, View}
 use Rattle.flashnor.specs.Changes.{FailsSession, HasKeptChange, HasMadeChange, ReportsChange}
 use Rattle.nor_lines.specs.Readings.{AnswersCall, HasReadOut}
 use Rattle.nor_lines.specs.Requests.{AreRangesOf, request_for}
-use Rattle.nor_lines.specs.Sessions.{HasRunInFile, TellsReport}
+use Rattle.nor_lines.specs.Sessions.{HasRunInFile, ReportsDone}
 use Rattle.flashnor.specs.Requests.{IsBufferOf}
 use Rattle.flashnor.specs.Run.{ChangesChip, DoesRead}
 use Rattle.nor_lines.specs.declared.answers.Answer.{Answer}
@@ -78,7 +78,7 @@ module _ (request : Request) (image : List ℕ) (old new : BusState) (vault vaul
 
   kept_by : (result : Result Report Refusal) (outcome : Result Answer Refusal)
       → SessionAlways request old new vault vault' result → SessionHonest request image old new result
-      → SessionModelled request image old new vault vault' result → AnswersCall TellsReport result outcome
+      → SessionModelled request image old new vault vault' result → AnswersCall ReportsDone result outcome
       → HasKeptChange request image old new vault vault' outcome
   kept_by (Ok report) (Ok (answer.Done returned)) always honest model passed =
       kept always.only_reads model.undo _ (rw passed model.done) (λ ok. always.ends.sealed)

@@ -39,8 +39,8 @@ module _ (files after : FilesState) (on_chip : ChipJob) (unwritten : Unwritten) 
   pub ends_called : (outcome : Result Answer Refusal) (returned : Result Answer Fault)
       → IsCalled files after on_chip unwritten outcome → IsReportedAs outcome returned
       → EndsChipJob files after on_chip unwritten returned
-  ends_called (Ok found) returned called errors = rw errors called
-  ends_called (Err refusal) returned called errors = rw errors (inl called)
+  ends_called (Ok found) returned called reported = rw reported called
+  ends_called (Err refusal) returned called reported = rw reported (inl called)
 
   -- a fault from before the call ends the job
   fails_ends : (fault : Fault) → FailsJob files.view on_chip fault → EndsChipJob files after on_chip unwritten (Err fault)
@@ -63,39 +63,39 @@ module _ (files after : FilesState) (on_chip : ChipJob) (unwritten : Unwritten) 
 -- ---- what the files hold
 
 -- `HoldsResult` needs a proof only for a call that returned an answer, since it claims nothing after an error.
-pub holds_told : (on_chip : ChipJob) (unwritten : Unwritten) (outcome : Result Answer Refusal)
+pub holds_reported : (on_chip : ChipJob) (unwritten : Unwritten) (outcome : Result Answer Refusal)
     (returned : Result Answer Fault) (old new : FilesState) → IsReportedAs outcome returned
     → ((found : Answer) → outcome ≡ Ok found → unwritten ≡ all_written
     → HoldsTask on_chip.programmer on_chip.named on_chip.task found old new)
     → HoldsResult on_chip unwritten returned old new
-holds_told on_chip unwritten (Ok found) returned old new errors holds = rw errors (holds found refl)
-holds_told on_chip unwritten (Err refusal) returned old new errors holds = rw errors tt
+holds_reported on_chip unwritten (Ok found) returned old new reported holds = rw reported (holds found refl)
+holds_reported on_chip unwritten (Err refusal) returned old new reported holds = rw reported tt
 
 -- `HoldsChange` claims nothing for a rehearsal
-looked_kept : (programmer : Programmer) (named : Option ChipName) (change : Change) (kept : JournalUse)
+readonly_change : (programmer : Programmer) (named : Option ChipName) (change : Change) (kept : JournalUse)
     (found : Answer) (old new : FilesState) → keeps_journal kept ≡ false
     → HoldsChange programmer named change kept found old new
-looked_kept programmer named change (uses.Journal file) found old new only_reads = absurd cc
-looked_kept programmer named change (uses.Rehearse stops) found old new only_reads = tt
+readonly_change programmer named change (uses.Journal file) found old new not_put_back = absurd cc
+readonly_change programmer named change (uses.Rehearse stops) found old new not_put_back = tt
 
-looked_task : (programmer : Programmer) (named : Option ChipName) (done : Task) (found : Answer) (old new : FilesState)
+readonly_task : (programmer : Programmer) (named : Option ChipName) (done : Task) (found : Answer) (old new : FilesState)
     → puts_back done ≡ false → HoldsTask programmer named done found old new
-looked_task programmer named (task.Change change) found old new only_reads =
-    looked_kept programmer named change change.journal_use found old new only_reads
-looked_task programmer named (task.Restore journal) found old new only_reads = absurd cc
-looked_task programmer named _ found old new only_reads = tt
+readonly_task programmer named (task.Change change) found old new not_put_back =
+    readonly_change programmer named change change.journal_use found old new not_put_back
+readonly_task programmer named (task.Restore journal) found old new not_put_back = absurd cc
+readonly_task programmer named _ found old new not_put_back = tt
 
-looked_told : (on_chip : ChipJob) (unwritten : Unwritten) (returned : Result Answer Fault) (old new : FilesState)
+readonly_result : (on_chip : ChipJob) (unwritten : Unwritten) (returned : Result Answer Fault) (old new : FilesState)
     → puts_back on_chip.task ≡ false → HoldsResult on_chip unwritten returned old new
-looked_told on_chip unwritten (Ok found) old new only_reads =
-    λ _. looked_task on_chip.programmer on_chip.named on_chip.task found old new only_reads
-looked_told on_chip unwritten (Err fault) old new only_reads = tt
+readonly_result on_chip unwritten (Ok found) old new not_put_back =
+    λ _. readonly_task on_chip.programmer on_chip.named on_chip.task found old new not_put_back
+readonly_result on_chip unwritten (Err fault) old new not_put_back = tt
 
-pub holds_looked : (on_chip : ChipJob) (result : Result Work Fault) (old new : FilesState)
+pub holds_readonly : (on_chip : ChipJob) (result : Result Work Fault) (old new : FilesState)
     → puts_back on_chip.task ≡ false
     → IfOk result (λ work. HoldsResult on_chip work.unwritten work.answer old new)
-holds_looked on_chip (Ok work) old new only_reads = looked_told on_chip work.unwritten work.answer old new only_reads
-holds_looked on_chip (Err fault) old new only_reads = tt
+holds_readonly on_chip (Ok work) old new not_put_back = readonly_result on_chip work.unwritten work.answer old new not_put_back
+holds_readonly on_chip (Err fault) old new not_put_back = tt
 
 -- ---- runs
 

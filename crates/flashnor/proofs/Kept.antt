@@ -8,7 +8,7 @@ use Rattle.std.proofs.lemmas.List.{get_or_past}
 use Rattle.nor_model.specs.Bus.{BusState}
 use Rattle.nor_model.specs.Chip.{KeptBits}
 use Rattle.nor_model.specs.Chip.{status_of}
-use Rattle.nor_model.proofs.Kept.{kept_told}
+use Rattle.nor_model.proofs.Kept.{kept_in-status_of}
 use Rattle.nor_model.specs.declared.config.Config.{Config}
 use Rattle.nor_probe.specs.declared.table.ChipName.{ChipName}
 use Rattle.nor_files.specs.Files.{AreAtRest, FilesState, Found, IsDurable, KeepsFile, View, is_lawful}
@@ -28,7 +28,7 @@ use Rattle.flashnor.specs.Changes.{HasMadeChange}
 use Rattle.nor_lines.specs.Stored.{IsKeptFile}
 use Rattle.flashnor.specs.Chips.{ArePutBack, IsContentOf, OpensChip}
 use Rattle.flashnor.specs.Endings.{all_written}
-use Rattle.flashnor.specs.Holding.{AreAmid, AreHeld, AreReady, IsReadyIfNamed, MakesDurable, StandsFor, was}
+use Rattle.flashnor.specs.Holding.{AreAmid, AreHeld, AreReady, IsReadyIfNamed, MakesDurable, FillsMissing, was}
 use Rattle.flashnor.specs.Left.{IsNoFileOf, IsOpenedFrom, IsRestorableFrom, LeavesAsLong, MayFind, Opened}
 use Rattle.nor_lines.specs.Requests.{AreRangesOf, request_for}
 use Rattle.flashnor.specs.Requests.{IsBufferOf}
@@ -54,12 +54,12 @@ use Rattle.flashnor.proofs.Reopened.{as_long, as_many, found_either, of_gone, of
 module _ (job : ChipJob) (held : Held) (s0 s1 s2 : FilesState) (bus bus' : BusState)
     (roles : FilesHaveOneRole s0.view.nature job) (read : IsContentOf s0.view job.programmer held.content)
     (opens : OpensChip job.programmer held.content bus)
-    (rest : AreAtRest s0) (is_touched_protected : AreHeld job.programmer held s0 s1)
+    (rest : AreAtRest s0) (are_held : AreHeld job.programmer held s0 s1)
     (nature1 : s1.view.nature ≡ s0.view.nature) (nature2 : s2.view.nature ≡ s1.view.nature)
     (stay : is_lawful s1.view ≡ true → StayApart job.programmer.trace (made_by job.task) s1 s2)
     (setup : bus'.chip.config ≡ bus.chip.config) where
-  unsent : AreAtRest s1
-  unsent = rest_on nature1 rest is_touched_protected.stay
+  at_rest : AreAtRest s1
+  at_rest = rest_on nature1 rest are_held.stay
 
   abbrev first : Opened job.programmer s0
   first = record { content = held.content; read = read; bus = bus; opens = opens }
@@ -75,10 +75,10 @@ module _ (job : ChipJob) (held : Held) (s0 s1 s2 : FilesState) (bus bus' : BusSt
       → IsReadyIfNamed name there had put s2
   ready None there had put traced other settled many = tt
   ready (Some name) there had put traced other settled many =
-      let stays = stay unsent.lawful name.now (not_after job.programmer.trace name.now nature1 traced)
+      let stays = stay at_rest.lawful name.now (not_after job.programmer.trace name.now nature1 traced)
       (not_after (made_by job.task) name.now nature1 other) in
       record {
-        known = known_after nature2 stays (known_at_rest unsent name.now);
+        known = known_after nature2 stays (known_at_rest at_rest name.now);
         settled = settled_after stays settled;
         as_many = many;
       }
@@ -89,14 +89,14 @@ module _ (job : ChipJob) (held : Held) (s0 s1 s2 : FilesState) (bus bus' : BusSt
   ready_both = record {
     image = λ put are. ready job.programmer.image held.image_there _ put roles.image_trace
         (image_made s0.view.nature job roles)
-        is_touched_protected.image (opened_many first ∙ sym (ap (λ (c : Config). c.size) setup) ∙ sym are.len);
+        are_held.image (opened_many first ∙ sym (ap (λ (c : Config). c.size) setup) ∙ sym are.len);
     status = ready job.programmer.status held.status_there _ (status_of bus'.chip) roles.status_trace
-        (status_made s0.view.nature job roles) is_touched_protected.status status_many;
+        (status_made s0.view.nature job roles) are_held.status status_many;
   }
 
   -- ---- what may be left of both files
 
-  module _ (s3 : FilesState) (amid : View) (stands : StandsFor job.programmer held) (small : bus'.chip.kept.two < 128)
+  module _ (s3 : FilesState) (amid : View) (fills_missing : FillsMissing job.programmer held) (small : bus'.chip.kept.two < 128)
       (but : IsViewBut job.programmer.trace s0.view amid)
       (last : is_lawful s2.view ≡ true → StayApart job.programmer.image job.programmer.status s2 s3)
       (is_amid : AreAmid job.programmer held.image_there held.status_there held.content.bytes.items
@@ -106,12 +106,12 @@ module _ (job : ChipJob) (held : Held) (s0 s1 s2 : FilesState) (bus bus' : BusSt
 
     image_whole : LeavesAsLong job.programmer.image s0 s3
     image_whole =
-        as_long job.programmer.image held.image_there _ _ s0 s1 s3 is_touched_protected.stay is_touched_protected.image
+        as_long job.programmer.image held.image_there _ _ s0 s1 s3 are_held.stay are_held.image
         (opened_many first ∙ sym put_len) is_amid.image
 
     status_whole : LeavesAsLong job.programmer.status s0 s3
     status_whole =
-        as_long job.programmer.status held.status_there _ _ s0 s1 s3 is_touched_protected.stay is_touched_protected.status status_many
+        as_long job.programmer.status held.status_there _ _ s0 s1 s3 are_held.stay are_held.status status_many
         is_amid.status
 
     -- A chip that a later run may open is between the old and the new one (`IsWrittenOver`), even if a file that was
@@ -123,12 +123,12 @@ module _ (job : ChipJob) (held : Held) (s0 s1 s2 : FilesState) (bus bus' : BusSt
         let holds = opens.holds in
         let byte = found_either held.content.bytes.items is_amid.put (replicate bus.chip.config.size 255)
         job.programmer.image held.image_there s3 read.bytes.found image
-        (λ gone. rw (opened_size first) (stands.image gone))
+        (λ gone. rw (opened_size first) (fills_missing.image gone))
         (λ none. rw (opened_size first) (of_none s0.view job.programmer.image _ _ _ none read.bytes))
         (λ none. rw (opened_size first) (of_gone read.bytes none)) is_amid.image can
         (subst (λ (n : ℕ). IfSome image (λ has. length has ≡ n)) (sym put_len) from.whole) in
         let bit = found_either held.content.status (status_of bus'.chip) (0 ∷ 0 ∷ []) job.programmer.status
-        held.status_there s3 read.status.found status stands.status
+        held.status_there s3 read.status.found status fills_missing.status
         (λ none. of_none s0.view job.programmer.status _ _ _ none read.status) (λ none. of_gone read.status none)
         is_amid.status can_status from.two in
         let one_of = λ (kept : KeptBits). kept.one in let two_of = λ (kept : KeptBits). kept.two in
@@ -146,11 +146,11 @@ module _ (job : ChipJob) (held : Held) (s0 s1 s2 : FilesState) (bus bus' : BusSt
           ];
           one = elim (bit 0) [
             | inl is ↦ inl (ap one_of from.kept ∙ ap (λ (b : ℕ). b / 4) is ∙ sym (ap one_of holds.kept))
-            | inr is ↦ inr (ap one_of from.kept ∙ ap (λ (b : ℕ). b / 4) is ∙ ap one_of (kept_told bus'.chip small))
+            | inr is ↦ inr (ap one_of from.kept ∙ ap (λ (b : ℕ). b / 4) is ∙ ap one_of (kept_in-status_of bus'.chip small))
           ];
           two = elim (bit 1) [
             | inl is ↦ inl (ap two_of from.kept ∙ ap (λ (b : ℕ). b % 128) is ∙ sym (ap two_of holds.kept))
-            | inr is ↦ inr (ap two_of from.kept ∙ ap (λ (b : ℕ). b % 128) is ∙ ap two_of (kept_told bus'.chip small))
+            | inr is ↦ inr (ap two_of from.kept ∙ ap (λ (b : ℕ). b % 128) is ∙ ap two_of (kept_in-status_of bus'.chip small))
           ];
           idle = from.idle;
         }
@@ -163,7 +163,7 @@ module _ (job : ChipJob) (held : Held) (s0 s1 s2 : FilesState) (bus bus' : BusSt
     last_stays : (name : Text) → IsNot s0.view.nature job.programmer.image name
         → IsNot s0.view.nature job.programmer.status name → KeepsFile name s2 s3
     last_stays name image status =
-        last (lawful_after nature2 unsent.lawful) name (not_after job.programmer.image name (nature2 ∙ nature1) image)
+        last (lawful_after nature2 at_rest.lawful) name (not_after job.programmer.image name (nature2 ∙ nature1) image)
         (not_after job.programmer.status name (nature2 ∙ nature1) status)
 
     file_stays : (file : Bor Text) → AreTwo s0.view.nature job.programmer.image (Some file)
@@ -176,15 +176,15 @@ module _ (job : ChipJob) (held : Held) (s0 s1 s2 : FilesState) (bus bus' : BusSt
     others_stay : (made : Option (Bor Text)) → StayApart job.programmer.trace made s1 s2 → (name : Text)
         → IsNoFileOf s0.view.nature job.programmer name → IsNot s0.view.nature made name → KeepsFile name s0 s3
     others_stay made stay' name none other =
-        stays_on (is_touched_protected.stay name)
+        stays_on (are_held.stay name)
         (stays_on (call_stays made stay' name none.trace other) (last_stays name none.image none.status))
 
     -- After a change that sealed its vault, the journal in its file can restore the original chip, and is durable.
-    leads_kept : {request : Request} {image : List ℕ} {outcome : Result Answer Refusal} (file : Bor Text)
+    restorable_kept : {request : Request} {image : List ℕ} {outcome : Result Answer Refusal} (file : Bor Text)
         → (made : HasMadeChange request image (uses.Journal file) bus bus' amid s2 outcome)
         → IsKeptFile file.now made.vault' s3 → made.vault'.sealed ≡ true
-        → (leads : IsRestorableFrom file.now first s3) × IsDurable file.now (Some (text leads.journal)) s3
-    leads_kept file made in_file is =
+        → (restorable : IsRestorableFrom file.now first s3) × IsDurable file.now (Some (text restorable.journal)) s3
+    restorable_kept file made in_file is =
         let saves = (made.done.undo is).journal in_file.telling in (
           record {
             journal = saves.content;
@@ -206,7 +206,7 @@ module _ (job : ChipJob) (held : Held) (s0 s1 s2 : FilesState) (bus bus' : BusSt
         → HasMadeChange request image kept bus bus' amid s2 outcome
         → KeepsChange job.programmer kept s0 s3
     keeps_change (uses.Journal file) keeps stay' one other traced made =
-        let in_file = kept_after (file_stays file one other) (made.kept_in (lawful_after nature2 unsent.lawful)) in
+        let in_file = kept_after (file_stays file one other) (made.kept_in (lawful_after nature2 at_rest.lawful)) in
         let not = not_that s0.view.nature job.programmer.trace file traced in
         inr (record {
           missing = missing_before job.programmer.trace file s0.view amid not but made.missing (known_at_rest rest file.now);
@@ -216,7 +216,7 @@ module _ (job : ChipJob) (held : Held) (s0 s1 s2 : FilesState) (bus bus' : BusSt
           first = first;
           sealed = made.vault'.sealed;
           same = λ is i s later can can_s from. (made.done.over later (over i s later can can_s from)).same is;
-          back = λ is. (leads_kept file made in_file is).0;
+          back = λ is. (restorable_kept file made in_file is).0;
         })
     keeps_change (uses.Rehearse stops) keeps stay' one other traced made = absurd cc
 
@@ -238,7 +238,7 @@ module _ (job : ChipJob) (held : Held) (s0 s1 s2 : FilesState) (bus bus' : BusSt
           journal = does.journal;
           sound = does.sound;
           read = reads_before job.programmer.trace journal.now 16793662 _ s0.view amid not but does.read;
-          stays = stays_on (is_touched_protected.stay journal.now)
+          stays = stays_on (are_held.stay journal.now)
               (stays_on (call_stays None stay' journal.now not tt) (file_stays journal one other));
           back = λ chip can i s later left left_status from.
               does.restored.over chip later can (over i s later left left_status from);
@@ -262,9 +262,9 @@ module _ (job : ChipJob) (held : Held) (s0 s1 s2 : FilesState) (bus bus' : BusSt
           → HasMadeChange (request_for change named ranges) image kept bus bus' amid s2 (Ok found)
           → HoldsChange job.programmer named change kept found s0 s3
       holds_change change named found (uses.Journal file) keeps two_layout two_image one other ranges are image is made =
-          let in_file = kept_after (file_stays file one other) (made.kept_in (lawful_after nature2 unsent.lawful)) in
+          let in_file = kept_after (file_stays file one other) (made.kept_in (lawful_after nature2 at_rest.lawful)) in
           let sealed = made.done.sealed refl in
-          let leads = leads_kept file made in_file sealed in
+          let restorable = restorable_kept file made in_file sealed in
           record {
             first = first;
             last = bus';
@@ -275,8 +275,8 @@ module _ (job : ChipJob) (held : Held) (s0 s1 s2 : FilesState) (bus bus' : BusSt
                 but is;
             target = made.done.returned;
             held = put_all;
-            leads = leads.0;
-            settled = leads.1;
+            restorable = restorable.0;
+            settled = restorable.1;
           }
       holds_change change named found (uses.Rehearse stops) keeps two_layout two_image one other ranges are image is made =
           absurd cc
@@ -306,7 +306,7 @@ module _ (job : ChipJob) (held : Held) (s0 s1 s2 : FilesState) (bus bus' : BusSt
             target = does.restored.returned;
             back = does.restored.back;
             held = put_all;
-            stays = stays_on (is_touched_protected.stay journal.now)
+            stays = stays_on (are_held.stay journal.now)
                 (stays_on (call_stays None stay' journal.now not tt) (file_stays journal one other));
           }
       holds_task _ named found puts stay' two_layout two_image one other traced does = absurd cc

@@ -15,16 +15,16 @@ use Rattle.nor_lines.specs.declared.messages.Fault.TheVariants as end
 use Rattle.flashnor.specs.declared.printing.Ending.{Ending}
 
 -- The print of a line, and after it that of other lines, append both, if the first line is known.
-pub tells_both : (line : Option (List ℕ)) (a b c : Option (List ℕ)) (others : List ℕ) → IfSome line (Appends a b) → Appends b c others
+pub appends_both : (line : Option (List ℕ)) (a b c : Option (List ℕ)) (others : List ℕ) → IfSome line (Appends a b) → Appends b c others
     → IfSome (option_append line (Some others)) (Appends a c)
-tells_both None a b c others one two = tt
-tells_both (Some first) a b c others one two = appends_then a b c first others one two
+appends_both None a b c others one two = tt
+appends_both (Some first) a b c others one two = appends_then a b c first others one two
 
-tells_well : (outcome : Result Answer Fault) (unwritten : Unwritten) (err err' : Option (List ℕ)) → IsAnswered outcome
+appends_unwritten : (outcome : Result Answer Fault) (unwritten : Unwritten) (err err' : Option (List ℕ)) → IsAnswered outcome
     → Appends err err' (lines_of_unwritten unwritten) → IfSome (lines_printed outcome unwritten) (Appends err err')
-tells_well (Ok found) unwritten err err' answered returned = returned
-tells_well (Err (end.Usage (usage.Words error))) unwritten err err' answered returned = tt
-tells_well _ unwritten err err' answered returned = absurd answered
+appends_unwritten (Ok found) unwritten err err' answered reported = reported
+appends_unwritten (Err (end.Usage (usage.Words error))) unwritten err err' answered reported = tt
+appends_unwritten _ unwritten err err' answered reported = absurd answered
 
 -- `HasPrinted` holds after a run with an answer or help
 pub printed_well : (outcome : Result Answer Fault) (unwritten : Unwritten) (out out' err err' : Option (List ℕ)) (ending : Ending)
@@ -34,7 +34,7 @@ printed_well outcome unwritten out out' err err' ending is_printed answered prin
   few = ends.few;
   exact = (λ none. let both = ends.exact.0 none in (ends.printed ∙ both.0, both.1), λ both. ends.exact.1 (sym ends.printed ∙ both.0, both.1));
   printed = λ is. prints (sym ends.printed ∙ is);
-  returned = λ is. tells_well outcome unwritten err err' answered (ends.returned is);
+  reported = λ is. appends_unwritten outcome unwritten err err' answered (ends.reported is);
   no_output = λ none. absurd (none answered);
   silent = λ _ all. ends.silent all;
 }
@@ -47,7 +47,7 @@ printed_badly fault unwritten out err err' ending never ends = record {
   few = omega (arith, ends.status);
   exact = (λ none. absurd (omega (arith, ends.status, none)), λ both. absurd (never_both (sym ends.printed ∙ both.0)));
   printed = λ is. absurd (never_both (sym ends.printed ∙ is));
-  returned = ends.returned;
+  reported = ends.reported;
   no_output = λ _. refl;
   silent = λ answered _. absurd (never answered);
 }

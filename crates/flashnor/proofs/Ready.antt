@@ -3,7 +3,7 @@ use Rattle.std.proofs.Common.{◌≡◌, ◌∙◌, ◌<◌, ℕ, Option, None, 
 use Rattle.nor_model.specs.Bus.{Allows, BusState}
 use Rattle.nor_model.specs.Chip.{Chip, IsSame}
 use Rattle.nor_driver.specs.OnlyReads.{IsSteadyOrIdle, OnlyReads}
-use Rattle.nor_driver.proofs.ReadsInTurn.{looks_more, looks_none as looks_at_none}
+use Rattle.nor_driver.proofs.ReadsInTurn.{only_reads_more, only_reads_none as only_reads_zero}
 use Rattle.nor_probe.specs.Known.{IsModelled, shown_as}
 use Rattle.nor_probe.specs.Found.{Finds, IsWanted, ProbeErrors, part_in, most_probe}
 use Rattle.nor_probe.specs.declared.probes.Found.{Found}
@@ -28,8 +28,8 @@ modelled_ready programmer bus ready = record {
   genuine = (known_with programmer.chip programmer.unique bus.chip.config ready.config).genuine;
 }
 
-pub calm_ready : (programmer : Programmer) (bus : BusState) → IsReady programmer bus → IsSteadyOrIdle bus
-calm_ready programmer bus ready = inr ready.idle
+pub steady_or_idle-ready : (programmer : Programmer) (bus : BusState) → IsReady programmer bus → IsSteadyOrIdle bus
+steady_or_idle-ready programmer bus ready = inr ready.idle
 
 -- the chip type that a ready bus shows is that of the emulated chip
 shows : (programmer : Programmer) (bus : BusState) (part : Part) → IsReady programmer bus
@@ -80,9 +80,9 @@ opens_held programmer content allowed first last held allowance allows = record 
 
 -- ---- identification before a restore
 
-pub looked_same : (most : ℕ) (old new : BusState) → OnlyReads most old new → old.honest ≡ true → IsSteadyOrIdle old
+pub same_after_reads : (most : ℕ) (old new : BusState) → OnlyReads most old new → old.honest ≡ true → IsSteadyOrIdle old
     → IsSame old.chip new.chip
-looked_same most old new only_reads honest steady_or_idle = ((only_reads.honest_reads honest).stays.steady_or_idle steady_or_idle)
+same_after_reads most old new only_reads honest steady_or_idle = ((only_reads.honest_reads honest).stays.steady_or_idle steady_or_idle)
 
 given_name : (named : Option ChipName) (chip : Chip) (part : Part) → shown_as chip.config ≡ Ok part
     → IsWanted named part.name → HasGivenName named chip
@@ -111,5 +111,5 @@ passes_none bus modelled steady_or_idle = record {
 }
 
 -- `OnlyReads` holds for a call that sent nothing
-pub looks_none : (most : ℕ) (bus : BusState) → OnlyReads most bus bus
-looks_none most bus = looks_more 0 most bus bus (omega arith) (looks_at_none bus)
+pub only_reads_none : (most : ℕ) (bus : BusState) → OnlyReads most bus bus
+only_reads_none most bus = only_reads_more 0 most bus bus (omega arith) (only_reads_zero bus)

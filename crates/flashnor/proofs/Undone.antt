@@ -14,7 +14,7 @@ use Rattle.nor_model.specs.Makers.{HasParts}
 use Rattle.nor_chip.specs.Sim.{sim_state}
 use Rattle.nor_model.specs.Size.{is_chip_size}
 use Rattle.nor_model.specs.Chip.{status_of}
-use Rattle.nor_model.proofs.Kept.{kept_told}
+use Rattle.nor_model.proofs.Kept.{kept_in-status_of}
 use Rattle.nor_model.specs.declared.config.Config.{Config}
 use Rattle.nor_model.specs.declared.config.Kinds.{Kinds}
 use Rattle.nor_files.specs.Calls.{LeavesNoMore}
@@ -33,7 +33,7 @@ use Rattle.flashnor.specs.Endings.{all_written}
 use Rattle.flashnor.specs.Found.{emulated_part}
 use Rattle.flashnor.specs.Left.{IsOpenedFrom, KeepsRestorable, IsRestorableFrom, LeavesRestorable, MayFind, Opened}
 use Rattle.nor_lines.specs.Stored.{ArePut, IsRead, LeavesNoMoreOf}
-use Rattle.flashnor.specs.Undone.{HaveOneChip, LeavesFirst, NameOne, Restores, RestoresFirst}
+use Rattle.flashnor.specs.Undone.{HaveOneChip, LeavesOriginal, NameOne, Restores, RestoresFrom}
 use Rattle.nor_lines.specs.declared.answers.Answer.{Answer}
 use Rattle.flashnor.specs.declared.holding.Unwritten.{Unwritten}
 use Rattle.nor_lines.specs.declared.messages.Fault.{Fault}
@@ -118,17 +118,17 @@ module _ (programmer : Programmer) (file : Text) (start : FilesState) (first : O
     (other : Programmer) (same : HaveOneChip programmer other) where
   -- If a host crash can leave no more of the journal than before, and no more may be found of the chip's files than
   -- before, the journal can still restore the original chip.
-  leads_less : (old new : FilesState) → LeavesNoMore file old new
+  restorable_less : (old new : FilesState) → LeavesNoMore file old new
       → ((found : Found) → MayFind programmer.image first.read.bytes.found found new
       → MayFind programmer.image first.read.bytes.found found old)
       → ((found : Found) → MayFind programmer.status first.read.status.found found new
       → MayFind programmer.status first.read.status.found found old)
       → IsRestorableFrom file first old → IsRestorableFrom file first new
-  leads_less old new journal image status leads = record {
-    journal = leads.journal;
-    sound = leads.sound;
-    left = λ left can. leads.left left (journal left can);
-    back = λ i s opened can_i can_s from. leads.back i s opened (image i can_i) (status s can_s) from;
+  restorable_less old new journal image status restorable = record {
+    journal = restorable.journal;
+    sound = restorable.sound;
+    left = λ left can. restorable.left left (journal left can);
+    back = λ i s opened can_i can_s from. restorable.back i s opened (image i can_i) (status s can_s) from;
   }
 
   -- if no image was found at first, the original chip has the bytes that stand for a missing image
@@ -141,14 +141,14 @@ module _ (programmer : Programmer) (file : Text) (start : FilesState) (first : O
   first_kept : first.read.status.found ≡ None → kept_in (0 ∷ 0 ∷ []) ≡ first.bus.chip.kept
   first_kept none = sym (first.opens.holds.kept ∙ ap kept_in (of_gone first.read.status none))
 
-  module _ (mid : FilesState) (rest : AreAtRest mid) (unsent : (name : Name) → mid.may_leave name (mid.view.seen name))
-      (leads : IsRestorableFrom file first mid) where
+  module _ (mid : FilesState) (rest : AreAtRest mid) (may_stay : (name : Name) → mid.may_leave name (mid.view.seen name))
+      (restorable : IsRestorableFrom file first mid) where
     -- the journal that the run reads is the one that was left in the file
     one_journal : (journal : Journal) → IsContent journal → IsRead mid.view file 16793662 (text journal)
-        → journal ≡ leads.journal
+        → journal ≡ restorable.journal
     one_journal journal is reads =
-        same_journal leads.journal journal 16793662 leads.sound is (reads (known_at_rest rest file)
-        ∙ ap (option_map (take 16793662)) (leads.left (mid.view.seen file) (unsent file)))
+        same_journal restorable.journal journal 16793662 restorable.sound is (reads (known_at_rest rest file)
+        ∙ ap (option_map (take 16793662)) (restorable.left (mid.view.seen file) (may_stay file)))
 
     -- the chip that a run opens from the files `mid`
     module _ (found : Opened other mid) where
@@ -174,14 +174,14 @@ module _ (programmer : Programmer) (file : Text) (start : FilesState) (first : O
       can_back : (journal : Journal) → IsContent journal → IsRead mid.view file 16793662 (text journal)
           → CanRestore journal first.bus.chip found.bus
       can_back journal is reads =
-          rw (one_journal journal is reads) (leads.back found.read.bytes.found found.read.status.found found.bus
+          rw (one_journal journal is reads) (restorable.back found.read.bytes.found found.read.status.found found.bus
           (found_one programmer.image other.image _ _ mid same.image
-          (left_seen mid rest unsent other.image _ _ found.read.bytes.is_found found.read.bytes.whole _))
+          (left_seen mid rest may_stay other.image _ _ found.read.bytes.is_found found.read.bytes.whole _))
           (found_one programmer.status other.status _ _ mid same.status
-          (left_seen mid rest unsent other.status _ _ found.read.status.is_found found.read.status.whole _)) from)
+          (left_seen mid rest may_stay other.status _ _ found.read.status.is_found found.read.status.whole _)) from)
 
     -- the contents `image` and `status` of the chip's files, which a later run may find after a restore
-    module _ (new : FilesState) (unsent' : (name : Name) → new.may_leave name (new.view.seen name))
+    module _ (new : FilesState) (may_stay' : (name : Name) → new.may_leave name (new.view.seen name))
         (kept : LeavesRestorable other file mid new) (image status : Found) (later : BusState)
         (can_image : MayFind programmer.image first.read.bytes.found image new)
         (can_status : MayFind programmer.status first.read.status.found status new)
@@ -201,13 +201,13 @@ module _ (programmer : Programmer) (file : Text) (start : FilesState) (first : O
 
       kept_image : Kept other.image first.read.bytes.found found.read.bytes.found image (emulated_part other.chip).size
       kept_image =
-          pick programmer.image other.image _ _ image _ mid new same.image rest unsent' found.read.bytes.is_found
+          pick programmer.image other.image _ _ image _ mid new same.image rest may_stay' found.read.bytes.is_found
           found.read.bytes.whole kept.image can_image
           (subst (λ (n : ℕ). IfSome image (λ all. length all ≡ n)) size_of is.whole)
 
       kept_status : Kept other.status first.read.status.found found.read.status.found status 2
       kept_status =
-          pick programmer.status other.status _ _ status 2 mid new same.status rest unsent' found.read.status.is_found
+          pick programmer.status other.status _ _ status 2 mid new same.status rest may_stay' found.read.status.is_found
           found.read.status.whole kept.status can_status is.two
 
       -- the bus that a later run would open if none of the files that the restore found were moved aside
@@ -219,7 +219,7 @@ module _ (programmer : Programmer) (file : Text) (start : FilesState) (first : O
         };
       }
 
-      can_state : CanRestore leads.journal first.bus.chip state
+      can_state : CanRestore restorable.journal first.bus.chip state
       can_state =
           subst (λ (j : Journal). CanRestore j first.bus.chip state)
           (one_journal kept.journal kept.sound kept.read) (kept.back first.bus.chip
@@ -240,9 +240,9 @@ module _ (programmer : Programmer) (file : Text) (start : FilesState) (first : O
       abbrev bits_in : Found → KeptBits
       bits_in left = kept_in (unwrap_or left (0 ∷ 0 ∷ []))
 
-      can_later : CanRestore leads.journal first.bus.chip later
+      can_later : CanRestore restorable.journal first.bus.chip later
       can_later =
-          mixed_back leads.journal first.bus.chip state later can_state is.config
+          mixed_back restorable.journal first.bus.chip state later can_state is.config
           (λ a. elim kept_image.3 [
             | inl same' ↦ inl (is.bytes a ∙ ap (byte_in a) same'
                 ∙ ap (λ (c : Config). slice_index (unwrap_or kept_image.0 (replicate c.size 255)) a) (sym setup))
@@ -255,16 +255,16 @@ module _ (programmer : Programmer) (file : Text) (start : FilesState) (first : O
           is.idle
 
     -- `IsRestorableFrom` still holds for the files that a restore leaves at any exit.
-    leads_restored : (new : FilesState) → ((name : Name) → new.may_leave name (new.view.seen name))
+    restorable_at_exit : (new : FilesState) → ((name : Name) → new.may_leave name (new.view.seen name))
         → KeepsRestorable other file mid new → IsRestorableFrom file first new
-    leads_restored new unsent' (inl none) =
-        leads_less mid new none.journal (λ i. less_of programmer.image other.image _ i mid new same.image none.image)
-        (λ s. less_of programmer.status other.status _ s mid new same.status none.status) leads
-    leads_restored new unsent' (inr kept) = record {
-      journal = leads.journal;
-      sound = leads.sound;
-      left = λ left may. leads.left left (kept.stays.leaves left may);
-      back = can_later new unsent' kept;
+    restorable_at_exit new may_stay' (inl none) =
+        restorable_less mid new none.journal (λ i. less_of programmer.image other.image _ i mid new same.image none.image)
+        (λ s. less_of programmer.status other.status _ s mid new same.status none.status) restorable
+    restorable_at_exit new may_stay' (inr kept) = record {
+      journal = restorable.journal;
+      sound = restorable.sound;
+      left = λ left may. restorable.left left (kept.stays.leaves left may);
+      back = can_later new may_stay' kept;
     }
 
   -- ---- at the end
@@ -294,8 +294,8 @@ module _ (programmer : Programmer) (file : Text) (start : FilesState) (first : O
           ∙ sym (first.opens.holds.bytes a)
     ])
 
-    leaves_first : LeavesFirst first new
-    leaves_first image status opened can can_status from' =
+    opens_original : LeavesOriginal first new
+    opens_original image status opened can can_status from' =
         let small : chip.kept.two < 128 = rw (is.kept ∙ first.opens.holds.kept) (omega arith) in
         let i = settled other.image programmer.image first.read.bytes.found put.bytes image
         (none_found start.view programmer.image _ _ first.read.bytes.is_found) same.image put.image_put can in
@@ -306,31 +306,31 @@ module _ (programmer : Programmer) (file : Text) (start : FilesState) (first : O
           bytes = λ a. from'.bytes a ∙ byte_of image a i;
           kept = from'.kept ∙ elim s [
             | inl none ↦ rw none.1 (first_kept none.0)
-            | inr has ↦ rw has (kept_told chip small ∙ is.kept)
+            | inr has ↦ rw has (kept_in-status_of chip small ∙ is.kept)
           ];
         }
 
 -- ---- runs
 
 module _ (programmer : Programmer) (file : Text) (start : FilesState) (first : Opened programmer start) (on_chip : ChipJob)
-    (old mid new : FilesState) (unsent : (name : Name) → mid.may_leave name (mid.view.seen name))
-    (unsent' : (name : Name) → new.may_leave name (new.view.seen name)) where
-  leads_mid : (unwritten : Unwritten) (returned : Result Answer Fault)
-      → RestoresFirst file first on_chip unwritten returned old mid new → IsRestorableFrom file first mid
-  leads_mid unwritten returned ran =
-      leads_less programmer file start first on_chip.programmer ran.same old mid ran.follows.journal ran.follows.image
-      ran.follows.status ran.leads
+    (old mid new : FilesState) (may_stay : (name : Name) → mid.may_leave name (mid.view.seen name))
+    (may_stay' : (name : Name) → new.may_leave name (new.view.seen name)) where
+  restorable_mid : (unwritten : Unwritten) (returned : Result Answer Fault)
+      → RestoresFrom file first on_chip unwritten returned old mid new → IsRestorableFrom file first mid
+  restorable_mid unwritten returned ran =
+      restorable_less programmer file start first on_chip.programmer ran.same old mid ran.follows.journal ran.follows.image
+      ran.follows.status ran.restorable
 
-  pub leads_on : (unwritten : Unwritten) (returned : Result Answer Fault)
-      → RestoresFirst file first on_chip unwritten returned old mid new → IsRestorableFrom file first new
-  leads_on unwritten returned ran =
+  pub restorable_after : (unwritten : Unwritten) (returned : Result Answer Fault)
+      → RestoresFrom file first on_chip unwritten returned old mid new → IsRestorableFrom file first new
+  restorable_after unwritten returned ran =
       let (journal, task', named) = restores file on_chip.task ran.restores in
-      leads_restored programmer file start first on_chip.programmer ran.same mid ran.follows.rest unsent
-      (leads_mid unwritten returned ran) new unsent' (rw (task', named) at (ran.answers.1 ran.follows.rest))
+      restorable_at_exit programmer file start first on_chip.programmer ran.same mid ran.follows.rest may_stay
+      (restorable_mid unwritten returned ran) new may_stay' (rw (task', named) at (ran.answers.1 ran.follows.rest))
 
-  pub given_back : (answer : Answer) → RestoresFirst file first on_chip all_written (Ok answer) old mid new
-      → LeavesFirst first new
-  given_back answer ran =
+  pub leaves_original : (answer : Answer) → RestoresFrom file first on_chip all_written (Ok answer) old mid new
+      → LeavesOriginal first new
+  leaves_original answer ran =
       let called = ran.answers.0 in
       let (journal, task', named) = restores file on_chip.task ran.restores in
       let (amid, but, job) = called.does in
@@ -338,10 +338,10 @@ module _ (programmer : Programmer) (file : Text) (start : FilesState) (first : O
       let apart = rw named at (not_that mid.view.nature on_chip.programmer.trace journal
       (rw task' at called.roles.trace_journal)) in
       let reads = reads_before on_chip.programmer.trace file 16793662 _ mid.view amid apart but does.read in
-      let can = can_back programmer file start first on_chip.programmer ran.same mid ran.follows.rest unsent
-      (leads_mid all_written (Ok answer) ran)
+      let can = can_back programmer file start first on_chip.programmer ran.same mid ran.follows.rest may_stay
+      (restorable_mid all_written (Ok answer) ran)
       (record { content = called.content; read = called.read; bus = sim_state called.bus; opens = called.started.opens })
       does.journal does.sound reads in
-      leaves_first programmer file start first on_chip.programmer ran.same called.new.chip new
+      opens_original programmer file start first on_chip.programmer ran.same called.new.chip new
       (lawful_after called.nature ran.follows.rest.lawful) (does.restored.back first.bus.chip can)
       (called.left ran.follows.rest (rw task' refl))

@@ -47,13 +47,13 @@ ready_still one (Some name) there had bytes a b two same others ready =
     }
 
 -- A write to the other file keeps two promises about this file: `MakesDurable` and `LeavesAmid`.
-unsent : (there : Bool) (had bytes : List ℕ) (a b c : FilesState) (one other : Option (Bor Text))
+other_write_keeps : (there : Bool) (had bytes : List ℕ) (a b c : FilesState) (one other : Option (Bor Text))
     → AreTwo a.view.nature one other → b.view.nature ≡ a.view.nature → OthersOf other b c
     → IsReadyIfNamed one there had bytes a
     → (MakesDurable one (Some bytes) b → MakesDurable one (Some bytes) c)
     × (LeavesAmid one there had bytes b → LeavesAmid one there had bytes c)
-unsent there had bytes a b c None other two same others ready = (λ _. tt, λ _. tt)
-unsent there had bytes a b c (Some name) other two same others ready =
+other_write_keeps there had bytes a b c None other two same others ready = (λ _. tt, λ _. tt)
+other_write_keeps there had bytes a b c (Some name) other two same others ready =
     let stays = others (lawful_after same ready.known.lawful) name.now (not_after other name.now same two) in
     (settled_after stays, λ amid left can. amid left (stays.leaves left can))
 
@@ -70,10 +70,10 @@ pub reported : (name failed : Option (Bor Text)) (view : View)
     → IfSome failed (λ is. (name ≡ Some is) × Happens view (Unwritten is.now)) → IsReportedOf name failed view
 reported name failed view is = grind arith
 
-pub told_before : (name failed : Option (Bor Text)) (old mid : View) → mid.nature ≡ old.nature
+pub reported_before : (name failed : Option (Bor Text)) (old mid : View) → mid.nature ≡ old.nature
     → IsReportedOf name failed mid
     → IsReportedOf name failed old
-told_before name failed old mid same is = grind arith
+reported_before name failed old mid same is = grind arith
 
 -- ---- both files
 
@@ -96,7 +96,7 @@ module _ {programmer : Programmer} {image_there status_there : Bool} {had bits :
     bytes = bytes;
     are = are;
     image_put = are_put programmer.image bytes image a c (second.nature ∙ first.nature) first.fails
-        (λ none. (unsent image_there had bytes a b c programmer.image programmer.status two first.nature second.others
+        (λ none. (other_write_keeps image_there had bytes a b c programmer.image programmer.status two first.nature second.others
         (ready.image bytes are)).0 (first.put none had (ready.image bytes are)));
     status_put = are_put programmer.status (status_of chip) status b c second.nature second.fails
         (λ none. second.put none bits ready_status);
@@ -106,7 +106,7 @@ module _ {programmer : Programmer} {image_there status_there : Bool} {had bits :
   both_amid = record {
     put = bytes;
     are = are;
-    image = (unsent image_there had bytes a b c programmer.image programmer.status two first.nature second.others
+    image = (other_write_keeps image_there had bytes a b c programmer.image programmer.status two first.nature second.others
         (ready.image bytes are)).1 (first.amid had (ready.image bytes are));
     status = second.amid bits ready_status;
   }

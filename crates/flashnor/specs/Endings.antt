@@ -28,23 +28,23 @@ lines_printed (Err fault) unwritten = option_append (line_of fault) (Some (lines
 
 -- The end of a run that has an answer or help; `is_printed` says whether that was printed. The status is 0 if it was
 -- printed and every file was written, and otherwise 1. If the lines of files that could not be written were printed
--- (`returned`), they were appended to standard error. If every file was written, standard error is as it was.
+-- (`reported`), they were appended to standard error. If every file was written, standard error is as it was.
 pub record EndsWell (is_printed : Bool) (unwritten : Unwritten) (err err' : Option (List ℕ))
     (ending : Ending) : Type 0 where
   pub few : ending.status ≤ 1
   pub exact : (ending.status ≡ 0) ↔ ((is_printed ≡ true) × (unwritten ≡ all_written))
   pub printed : ending.printed ≡ is_printed
-  pub returned : ending.returned ≡ true → Appends err err' (lines_of_unwritten unwritten)
+  pub reported : ending.reported ≡ true → Appends err err' (lines_of_unwritten unwritten)
   pub silent : unwritten ≡ all_written → err' ≡ err
 
 -- The end of a run with a fault. The status is 1, and no answer or help was printed. If the line of the fault and those
--- of files that could not be written were printed (`returned`), they were appended to standard error. Nothing is
+-- of files that could not be written were printed (`reported`), they were appended to standard error. Nothing is
 -- claimed about these lines if the fault's line isn't known (`line_of`).
 pub record EndsBadly (fault : Fault) (unwritten : Unwritten) (err err' : Option (List ℕ))
     (ending : Ending) : Type 0 where
   pub status : ending.status ≡ 1
   pub printed : ending.printed ≡ false
-  pub returned : ending.returned ≡ true → IfSome (lines_printed (Err fault) unwritten) (Appends err err')
+  pub reported : ending.reported ≡ true → IfSome (lines_printed (Err fault) unwritten) (Appends err err')
 
 -- The output of a run with this result to standard output and standard error, and its exit status.
 pub record HasPrinted (outcome : Result Answer Fault) (unwritten : Unwritten) (out out' err err' : Option (List ℕ))
@@ -56,7 +56,7 @@ pub record HasPrinted (outcome : Result Answer Fault) (unwritten : Unwritten) (o
   -- the fault and of files that could not be written were printed, they were appended to standard error. Nothing is
   -- claimed about these lines if the fault's line isn't known (`line_of`).
   pub printed : ending.printed ≡ true → PrintsAnswer outcome out out'
-  pub returned : ending.returned ≡ true → IfSome (lines_printed outcome unwritten) (Appends err err')
+  pub reported : ending.reported ≡ true → IfSome (lines_printed outcome unwritten) (Appends err err')
   -- A run without an answer or help prints nothing to standard output. A run that has an answer or help and wrote every
   -- file prints nothing to standard error.
   pub no_output : (IsAnswered outcome → ⊥) → out' ≡ out

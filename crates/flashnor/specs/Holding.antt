@@ -36,7 +36,7 @@ pub record AreHeld (programmer : Programmer) (held : Held) (old new : FilesState
 
 -- Holds if FFh stands for each byte of an image that is missing or not named, and clear status bytes stand for a status
 -- file that is missing or not named.
-pub record StandsFor (programmer : Programmer) (held : Held) : Type 0 where
+pub record FillsMissing (programmer : Programmer) (held : Held) : Type 0 where
   pub image : held.image_there ≡ false
       → held.content.bytes.items ≡ replicate (emulated_part programmer.chip).size 255
   pub status : held.status_there ≡ false → held.content.status ≡ 0 ∷ 0 ∷ []

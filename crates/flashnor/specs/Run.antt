@@ -232,7 +232,7 @@ KeepsFiles programmer done old new = StayBut programmer (made_by done) old new
 
 -- Holds after a change ended with this answer, and all files were written. If the files obey their contract, the chip's
 -- files durably hold the target chip (`held`). The journal's file durably holds one journal, which can restore the
--- original chip from each chip that a later run may open (`leads`).
+-- original chip from each chip that a later run may open (`restorable`).
 pub record HoldsTarget (programmer : Programmer) (named : Option ChipName) (change : Change) (file : Text)
     (found : Answer) (old new : FilesState) : Type 0 where
   pub first : Opened programmer old
@@ -245,8 +245,8 @@ pub record HoldsTarget (programmer : Programmer) (named : Option ChipName) (chan
   pub target : ReportsChange (request_for change named ranges) image first.bus last found
   -- the files hold the target chip and the journal
   pub held : ArePutBack programmer last.chip None None new
-  pub leads : IsRestorableFrom file first new
-  pub settled : IsDurable file (Some (text leads.journal)) new
+  pub restorable : IsRestorableFrom file first new
+  pub settled : IsDurable file (Some (text restorable.journal)) new
 
 -- Holds after a restore ended with this answer, and all files were written. If the files obey their contract, the
 -- chip's files durably hold the chip that the journal restores (`held`). The journal's file is as it was.

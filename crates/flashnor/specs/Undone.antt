@@ -51,10 +51,10 @@ Restores file _ = ⊥
 -- Holds if a run restores from a journal that can restore the original chip. An earlier run left that journal, in the
 -- files `old`. The restoring run has the same chip and chip's files as `programmer` (`HaveOneChip`), finds the files
 -- `mid`, has this result, and leaves the files `new`.
-pub record RestoresFirst {programmer : Programmer} {start : FilesState} (file : Text)
+pub record RestoresFrom {programmer : Programmer} {start : FilesState} (file : Text)
     (first : Opened programmer start) (on_chip : ChipJob) (unwritten : Unwritten) (returned : Result Answer Fault)
     (old mid new : FilesState) : Type 0 where
-  pub leads : IsRestorableFrom file first old
+  pub restorable : IsRestorableFrom file first old
   pub follows : Follows file first old mid
   pub same : HaveOneChip programmer on_chip.programmer
   pub restores : Restores file on_chip.task
@@ -62,5 +62,5 @@ pub record RestoresFirst {programmer : Programmer} {start : FilesState} (file : 
 
 -- Holds if each later run that opens the chip's files opens the original chip, even if the host crashes before that
 -- run.
-abbrev pub LeavesFirst : {programmer : Programmer} {start : FilesState} → Opened programmer start → FilesState → Type 0
-LeavesFirst first files = LeavesOnly first (λ opened. IsSame first.bus.chip opened.chip) files
+abbrev pub LeavesOriginal : {programmer : Programmer} {start : FilesState} → Opened programmer start → FilesState → Type 0
+LeavesOriginal first files = LeavesOnly first (λ opened. IsSame first.bus.chip opened.chip) files

@@ -155,7 +155,7 @@ fn restore_named<B: Bus>(bus: &mut B, named: Option<ChipName>, journal: &Journal
 }
 
 // If `named` is given, identifies the chip and checks that it has that name. If not, sends nothing.
-#[tactic(auto, using(crate::proofs::Ready::passes_probe, crate::proofs::Ready::passes_none, crate::proofs::Ready::looked_same, crate::proofs::Ready::looks_none))]
+#[tactic(auto, using(crate::proofs::Ready::passes_probe, crate::proofs::Ready::passes_none, crate::proofs::Ready::same_after_reads, crate::proofs::Ready::only_reads_none))]
 fn find_named<B: Bus>(bus: &mut B, named: Option<ChipName>) -> Result<(), Refusal>
     ensures only_reads { OnlyReads most_probe (B.state bus.old) (B.state bus.new) }
     ensures passes { IsModelled (B.state bus.old) → IsSteadyOrIdle (B.state bus.old)

@@ -8,7 +8,7 @@ ghost use Rattle.flashnor.specs.Chips.{ArePutBack, FailsToHold, IsContentOf};
 ghost use Rattle.nor_lines.specs.Files.{IsLockingFault};
 ghost use Rattle.flashnor.specs.Found.{emulated_part};
 ghost use Rattle.flashnor.specs.Holding.{AreAmid, AreHeld, AreReady, IsHeld, IsReadyIfNamed, IsReadyFile};
-ghost use Rattle.flashnor.specs.Holding.{LeavesAmid, LeavesFileAmid, MakesDurable, StandsFor};
+ghost use Rattle.flashnor.specs.Holding.{LeavesAmid, LeavesFileAmid, MakesDurable, FillsMissing};
 ghost use Rattle.nor_lines.specs.Stored.{AreTwo, Happens, IsFileFound, IsNot, IsRead, IsReportedOf};
 
 use crate::chips::{Content, content_of, read_whole};
@@ -47,7 +47,7 @@ pub fn hold_content<'a, R: Store>(
     ensures nature { (R.state rt.new).view.nature ≡ (R.state rt.old).view.nature }
     ensures len { IfOk result (λ held. vec_len held.content.bytes ≡ (emulated_part programmer.now.chip).size) }
     ensures ok { IfOk result (λ held. IsContentOf (R.state rt.old).view programmer.now held.content) }
-    ensures stands { IfOk result (StandsFor programmer.now) }
+    ensures fills_missing { IfOk result (FillsMissing programmer.now) }
     ensures stay { OnOk result (KnownStay (R.state rt.old) (R.state rt.new)) }
     ensures held { AreAtRest (R.state rt.old)
         → IfOk result (λ held. AreHeld programmer.now held (R.state rt.old) (R.state rt.new)) }

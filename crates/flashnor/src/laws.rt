@@ -5,7 +5,7 @@ ghost use Rattle.nor_words.specs.declared.job.ChipJob.{ChipJob};
 ghost use Rattle.nor_words.specs.declared.programmer.Programmer.{Programmer};
 ghost use Rattle.flashnor.specs.Endings.{all_written};
 ghost use Rattle.flashnor.specs.Left.{IsRestorableFrom, Opened};
-ghost use Rattle.flashnor.specs.Undone.{LeavesFirst, RestoresFirst};
+ghost use Rattle.flashnor.specs.Undone.{LeavesOriginal, RestoresFrom};
 ghost use Rattle.nor_lines.specs.declared.answers.Answer.{Answer};
 ghost use Rattle.flashnor.specs.declared.holding.Unwritten.{Unwritten};
 ghost use Rattle.nor_lines.specs.declared.messages.Fault.{Fault};
@@ -14,9 +14,9 @@ use nor_files::Store;
 
 /// Proves that the original chip of a change can be restored, however often a restore is interrupted.
 ///
-/// `leads`: suppose that the journal can restore the original chip from all contents of the chip's files that a host
-/// crash may leave (`IsRestorableFrom`). Then the journal can still restore that chip after each run that restores from
-/// it, wherever that run was interrupted.
+/// `restorable`: suppose that the journal can restore the original chip from all contents of the chip's files that a
+/// host crash may leave (`IsRestorableFrom`). Then the journal can still restore that chip after each run that restores
+/// from it, wherever that run was interrupted.
 ///
 /// `ends`: the first of these runs that returns an answer and writes all files leaves the original chip, even if the
 /// host then crashes.
@@ -33,13 +33,13 @@ use nor_files::Store;
 /// - files that open to the original chip
 /// - files of the chip of which a host crash can leave only what it could leave before
 pub fn runs_restore_original<R: Store>()
-    ensures leads { (programmer : Programmer) (file : Text) (start old mid new : R)
+    ensures restorable { (programmer : Programmer) (file : Text) (start old mid new : R)
         (first : Opened programmer (R.state start)) (on_chip : ChipJob)
         (unwritten : Unwritten) (returned : Result Answer Fault)
-        → RestoresFirst file first on_chip unwritten returned (R.state old) (R.state mid) (R.state new)
+        → RestoresFrom file first on_chip unwritten returned (R.state old) (R.state mid) (R.state new)
         → IsRestorableFrom file first (R.state new) }
     ensures ends { (programmer : Programmer) (file : Text) (start old mid new : R)
         (first : Opened programmer (R.state start)) (on_chip : ChipJob) (answer : Answer)
-        → RestoresFirst file first on_chip all_written (Ok answer) (R.state old) (R.state mid) (R.state new)
-        → LeavesFirst first (R.state new) }
+        → RestoresFrom file first on_chip all_written (Ok answer) (R.state old) (R.state mid) (R.state new)
+        → LeavesOriginal first (R.state new) }
 {}

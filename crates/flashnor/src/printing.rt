@@ -16,7 +16,7 @@ pub struct Ending {
     /// True if the answer or the help was printed.
     pub printed: bool,
     /// True if the line of the fault, if there is one, and that of each file that could not be written were printed.
-    pub returned: bool,
+    pub reported: bool,
 }
 
 /// Prints the result of a run: its answer or help to `output`; its fault and a line for each file that could not be
@@ -48,7 +48,7 @@ pub fn print_end<O: Write, E: Write>(
 }
 
 // Prints the line of the run's fault, and those of files that could not be written. The status is 1.
-#[tactic(auto, using(crate::proofs::Printed::tells_both))]
+#[tactic(auto, using(crate::proofs::Printed::appends_both))]
 fn end_badly<W: Write>(errors: &mut W, fault: &Fault<'_>, unwritten: Unwritten<'_>) -> Ending
     ensures { EndsBadly fault.now unwritten.entry (W.contents errors.old) (W.contents errors.new) result }
 {
@@ -57,7 +57,7 @@ fn end_badly<W: Write>(errors: &mut W, fault: &Fault<'_>, unwritten: Unwritten<'
     Ending {
         status: 1,
         printed: false,
-        returned: first && others,
+        reported: first && others,
     }
 }
 
@@ -66,7 +66,7 @@ fn end_badly<W: Write>(errors: &mut W, fault: &Fault<'_>, unwritten: Unwritten<'
 fn end_well<W: Write>(errors: &mut W, printed: bool, unwritten: Unwritten<'_>) -> Ending
     ensures { EndsWell printed unwritten.entry (W.contents errors.old) (W.contents errors.new) result }
 {
-    let returned = print_unwritten(errors, unwritten);
+    let reported = print_unwritten(errors, unwritten);
     let status = if printed && is_all_written(unwritten) {
         0
     } else {
@@ -75,13 +75,13 @@ fn end_well<W: Write>(errors: &mut W, printed: bool, unwritten: Unwritten<'_>) -
     Ending {
         status,
         printed,
-        returned,
+        reported,
     }
 }
 
 // Prints a line for each file that could not be written after a call. Returns whether all were printed.
 fn print_unwritten<W: Write>(errors: &mut W, unwritten: Unwritten<'_>) -> bool
-    ensures returned { IsTrue result
+    ensures reported { IsTrue result
         → Appends (W.contents errors.old) (W.contents errors.new) (lines_of_unwritten unwritten.entry) }
     ensures none { unwritten.entry ≡ all_written → W.contents errors.new ≡ W.contents errors.old }
 {
@@ -94,7 +94,7 @@ fn print_unwritten<W: Write>(errors: &mut W, unwritten: Unwritten<'_>) -> bool
 // Prints the line of a file that could not be written, if `name` is given. Returns false if a line could not be
 // printed.
 fn print_unwritten_file<W: Write>(errors: &mut W, name: Option<&str>) -> bool
-    ensures returned { IsTrue result
+    ensures reported { IsTrue result
         → Appends (W.contents errors.old) (W.contents errors.new) (line_of_unwritten name.entry) }
     ensures none { name.entry ≡ None → W.contents errors.new ≡ W.contents errors.old }
 {

@@ -157,7 +157,7 @@ fn run<'a, R: Store>(rt: &mut R, words: &'a [String]) -> Work<'a>
 
 // Performs the job's task on its chip, and writes the chip back if the task changes it. Returns a fault if one occurred
 // before the call to the engine.
-#[tactic(auto, using(crate::proofs::Ended::holds_looked))]
+#[tactic(auto, using(crate::proofs::Ended::holds_readonly))]
 fn work_on_chip<'a, R: Store>(rt: &mut R, job: &ChipJob<'a>) -> Result<Work<'a>, Fault<'a>>
     ensures ok { IfOk result (λ work.
         EndsChipJob (R.state rt.old) (R.state rt.new) job.now work.unwritten work.answer) }

@@ -31,8 +31,8 @@ use Rattle.flashnor_serprog.specs.Sends.{KeepsSent, SendsChange, SendsJournalled
 reads_on : (old mid new : BusState) → KeepsSent old mid → KeepsSent mid new → KeepsSent old new
 reads_on old mid new one other = other ∙ one
 
-unsent : (old new : BusState) → new ≡ old → KeepsSent old new
-unsent old new same = ap (λ (bus : BusState). bus.sent) same
+same_keeps_sent : (old new : BusState) → new ≡ old → KeepsSent old new
+same_keeps_sent old new same = ap (λ (bus : BusState). bus.sent) same
 
 -- The limits of `SendsSaved` also hold for a call from an earlier state on, if nothing that may modify a chip was sent
 -- between that state and the call.
@@ -69,7 +69,7 @@ module _ (request : Request) (image : List ℕ) (file : Text) (before : View) (a
 buffer_reads : (named : Option ChipName) (target : Wanted) (bytes : List ℕ) (old new : BusState) (image : List ℕ)
     → IsBufferOf named target bytes old new image → KeepsSent old new
 buffer_reads named wanted.Erase bytes old new image is = is.1.always.only_reads.sent
-buffer_reads named _ bytes old new image is = unsent old new is.0
+buffer_reads named _ bytes old new image is = same_keeps_sent old new is.0
 
 change_sends : (named : Option ChipName) (change : Change) (ranges : Option (List Span)) (bytes : List ℕ)
     (kept : JournalUse) (before : View) (after : FilesState) (old new : BusState) (outcome : Result Answer Refusal)
@@ -81,7 +81,7 @@ change_sends named change ranges bytes (uses.Journal file) before after old new 
 change_sends named change ranges bytes (uses.Rehearse stops) before after old new outcome does = absurd does
 
 named_reads : (named : Option ChipName) (old new : BusState) → IsNamedFirst named old new → KeepsSent old new
-named_reads None old new same = unsent old new same
+named_reads None old new same = same_keeps_sent old new same
 named_reads (Some name) old new found = found.1.always.only_reads.sent
 
 task_sends : (named : Option ChipName) (job : Task) (ranges : Option (List Span)) (bytes : List ℕ) (before : View)
@@ -104,10 +104,10 @@ task_sends named (task.Restore journal) ranges bytes before after old new outcom
 -- a change that fails before its session sends no modifying command
 fails_change : (named : Option ChipName) (target : Wanted) (kept : JournalUse) (view : View) (old new : BusState)
     (fault : Fault) → FailsToChange named target kept view old new fault → KeepsSent old new
-fails_change named target (uses.Rehearse stops) view old new fault fails = unsent old new fails.0
+fails_change named target (uses.Rehearse stops) view old new fault fails = same_keeps_sent old new fails.0
 fails_change named wanted.Erase (uses.Journal file) view old new fault (inl found) = found.1.always.only_reads.sent
 fails_change named wanted.Erase (uses.Journal file) view old new fault (inr made) = made.1.always.only_reads.sent
-fails_change named _ (uses.Journal file) view old new fault fails = unsent old new fails.0
+fails_change named _ (uses.Journal file) view old new fault fails = same_keeps_sent old new fails.0
 
 sends_none : (what : What) (kept : JournalUse) (old new : BusState) (after : FilesState) → KeepsSent old new
     → SendsChange what kept old new after
@@ -123,7 +123,7 @@ fails_sends named (task.Change change) bytes view after old new fault fails =
     sends_none _ change.journal_use old new after
     (fails_change named change.wanted change.journal_use view old new fault fails)
 fails_sends named (task.Restore journal) bytes view after old new fault (inl found) = inl found.1.always.only_reads.sent
-fails_sends named (task.Restore journal) bytes view after old new fault (inr none) = inl (unsent old new none.0)
+fails_sends named (task.Restore journal) bytes view after old new fault (inr none) = inl (same_keeps_sent old new none.0)
 fails_sends named _ bytes view after old new fault fails = absurd fails
 
 -- ---- the end of a job

@@ -30,7 +30,7 @@ use Rattle.nor_words.specs.declared.words.UsageFault.TheVariants as usage
 use Rattle.nor_lines.specs.Files.{IsMaking}
 use Rattle.nor_lines.specs.Readings.{AnswersCall, HasReadOut, HasReported, HasVerified, ListsRanges, ReportsProtection}
 use Rattle.nor_lines.specs.Requests.{request_for}
-use Rattle.nor_lines.specs.Sessions.{HasRunInFile, TellsReport}
+use Rattle.nor_lines.specs.Sessions.{HasRunInFile, ReportsDone}
 use Rattle.nor_lines.specs.declared.answers.Answer.{Answer}
 use Rattle.nor_lines.specs.declared.answers.Answer.TheVariants as answer
 use Rattle.nor_lines.specs.declared.messages.Fault.{Fault}
@@ -145,7 +145,7 @@ pub record HasRunRestore (journal : Journal) (old new : BusState) (outcome : Res
   pub always : RestoreAlways journal old new result
   pub honest : old.honest ≡ true → RestoreHonest journal old new result
   pub modelled : IsModelled old → RestoreModelled journal old new result
-  pub returned : AnswersCall TellsReport result outcome
+  pub returned : AnswersCall ReportsDone result outcome
 
 -- if a name is given, the chip was identified and has this name; otherwise nothing was sent
 abbrev pub IsNamedFirst : Option ChipName → (old new : BusState) → Type 0

@@ -26,8 +26,8 @@ use Rattle.nor_apply.specs.Applying.{touched_in, raised_in, writes_code, status_
 use Rattle.nor_apply.proofs.InTurn.{ran_none, spends_ended}
 use Rattle.nor_apply.proofs.Targeting.{aim_here, aim_wider}
 use Rattle.nor_apply.proofs.Changing.{change_as, same_change}
-use Rattle.nor_apply.proofs.ApplyingSteps.{code_read, code_once, stands_first, stands_changed, can_erase_all, can_program_all, applied}
-use Rattle.nor_apply.proofs.ApplyingInTurn.{raised_few, code_limits, Numbers, sending_these, SoFar, Leaves, Halted, now_honest, halted, goes_on, code_leaves, code_written, names_writing, names_sectors}
+use Rattle.nor_apply.proofs.ApplyingSteps.{code_read, code_once, intermediate_first, intermediate_changed, can_erase_all, can_program_all, applied}
+use Rattle.nor_apply.proofs.ApplyingInTurn.{raised_few, code_limits, Numbers, sending_these, SoFar, Leaves, EndsInError, now_honest, ends_in_error, goes_on, code_leaves, code_written, names_writing, names_sectors}
 
 -- ---- the four parts
 
@@ -45,8 +45,8 @@ abbrev pub Lifted : Changes → (ℕ → ℕ) → (old now : BusState) → Tally
 Lifted changes wanted old now tally =
     SoFar changes wanted old.chip.bytes old.worn (code_once changes) (lifting changes) 0 most_operation old now tally
 
-pub names_lifting : (changes : Changes) (halt : OperationError) → FailsWriting changes.unlock halt → NamesChange changes halt
-names_lifting changes halt = names_writing changes changes.unlock halt (λ lifts. rw lifts (omega arith))
+pub names_lifting : (changes : Changes) (error : OperationError) → FailsWriting changes.unlock error → NamesChange changes error
+names_lifting changes error = names_writing changes changes.unlock error (λ lifts. rw lifts (omega arith))
 
 pub lifted : (changes : Changes) {old new : BusState} {sent : ℕ} (wanted : ℕ → ℕ)
     → LeavesCode changes.status 0 changes.unlock old new → DoesCode changes.status 0 changes.unlock old new sent
@@ -58,7 +58,7 @@ lifted changes {old} wanted leaves does =
       ran = ran_none old (refl, refl, refl);
       few = omega arith;
       may = λ honest can. same_change (search) can.idle (λ s. refl);
-      stands = λ honest can. stands_first can;
+      intermediate = λ honest can. intermediate_first can;
     } in
     code_written nothing (λ lifts can. can.writable (rw lifts refl)) leaves does (record {
       sectors = λ s targeted. targeted;
@@ -90,7 +90,7 @@ module _ {changes : Changes} {wanted : ℕ → ℕ} {old mid new : BusState} {do
     sends = leaves.sends;
     may = λ honest can.
         change_as inside (λ s raised. raised) (λ a plain raised. absurd (true≢false (sym raised ∙ plain)))
-        (leaves.reached (now_honest so honest) (can_erase_all can (so.stands honest can)));
+        (leaves.reached (now_honest so honest) (can_erase_all can (so.intermediate honest can)));
   }
 
   aims_raised : (s : ℕ) → may_target (raised_in changes) changes.size s ≡ true
@@ -121,11 +121,11 @@ module _ {changes : Changes} {wanted : ℕ → ℕ} {old mid new : BusState} {do
     status_writes = omega arith;
   }
 
-  pub erases_halted : {halt : OperationError} → OperationFails (most_operation * sector_count (raised_in changes)) mid new halt
-      → NamesTimeoutIn (raised_in changes) halt → Halted changes wanted old new halt
-  erases_halted {halt} fails names =
-      halted so erase_leaves erase_parts (omega (arith, raised_few changes inside)) fails
-      (names_sectors changes (raised_in changes) halt inside names)
+  pub erases_failed : {error : OperationError} → OperationFails (most_operation * sector_count (raised_in changes)) mid new error
+      → NamesTimeoutIn (raised_in changes) error → EndsInError changes wanted old new error
+  erases_failed {error} fails names =
+      ends_in_error so erase_leaves erase_parts (omega (arith, raised_few changes inside)) fails
+      (names_sectors changes (raised_in changes) error inside names)
 
   pub erased : {more : Tally} → DoesErases (raised_in changes) changes.kinds changes.size mid new more
       → Erased changes wanted more.count old new
@@ -140,7 +140,7 @@ module _ {changes : Changes} {wanted : ℕ → ℕ} {old mid new : BusState} {do
       goes_on so leaves does.tallies (erase_sum more.count) does.exactly (omega arith) refl refl
       (omega (arith, so.few, does.fewer, does.tallies.few, raised_few changes inside))
       (λ honest can.
-      let is = so.stands honest can in stands_changed is (does.done (now_honest so honest) (can_erase_all can is)))
+      let is = so.intermediate honest can in intermediate_changed is (does.done (now_honest so honest) (can_erase_all can is)))
 
 -- States `SoFar` for the first three parts: the protection bits were cleared, if that was requested, the raised sectors
 -- were erased, and the touched sectors programmed.
@@ -162,7 +162,7 @@ module _ {changes : Changes} {wanted : ℕ → ℕ} (erases : ℕ) {old mid new 
     sends = leaves.sends;
     may = λ honest can.
         change_as (λ s touched. touched) (λ s no. absurd (true≢false (sym no))) (λ a plain touched. refl)
-        (leaves.reached (now_honest so honest) (can_program_all can (so.stands honest can)));
+        (leaves.reached (now_honest so honest) (can_program_all can (so.intermediate honest can)));
   }
 
   program_parts : erases ≤ sector_count (raised_in changes)
@@ -190,12 +190,12 @@ module _ {changes : Changes} {wanted : ℕ → ℕ} (erases : ℕ) {old mid new 
     status_writes = omega arith;
   }
 
-  pub programs_halted : {halt : OperationError} → erases ≤ sector_count (raised_in changes)
-      → OperationFails (most_sector * sector_count (touched_in changes)) mid new halt
-      → NamesTimeoutIn (touched_in changes) halt → Halted changes wanted old new halt
-  programs_halted {halt} fits fails names =
-      halted so program_leaves (program_parts fits) (omega arith) fails
-      (names_sectors changes (touched_in changes) halt (λ s is. is) names)
+  pub programs_failed : {error : OperationError} → erases ≤ sector_count (raised_in changes)
+      → OperationFails (most_sector * sector_count (touched_in changes)) mid new error
+      → NamesTimeoutIn (touched_in changes) error → EndsInError changes wanted old new error
+  programs_failed {error} fits fails names =
+      ends_in_error so program_leaves (program_parts fits) (omega arith) fails
+      (names_sectors changes (touched_in changes) error (λ s is. is) names)
 
   pub programmed : {more : Tally} → DoesPrograms (touched_in changes) (raised_in changes) wanted mid new more
       → Programmed changes wanted erases more.count old new
@@ -210,7 +210,7 @@ module _ {changes : Changes} {wanted : ℕ → ℕ} (erases : ℕ) {old mid new 
       goes_on so leaves does.tallies (program_sum more.count) does.exactly (omega arith) refl refl
       (omega (arith, so.few, does.fewer, does.tallies.few))
       (λ honest can.
-      let is = so.stands honest can in stands_changed is (does.done (now_honest so honest) (can_program_all can is)))
+      let is = so.intermediate honest can in intermediate_changed is (does.done (now_honest so honest) (can_program_all can is)))
 
 -- ---- the end
 
@@ -265,11 +265,11 @@ module _ {changes : Changes} {wanted : ℕ → ℕ} {old free mid made : BusStat
       status_writes = rw is (omega arith);
     }
 
-    pub last_halted : {halt : OperationError} → OperationFails most_operation made new halt → FailsWriting needed halt
-        → Halted changes wanted old new halt
-    last_halted {halt} fails names =
-        halted third (code_leaves third last_writable leaves) last_parts (omega arith) fails
-        (names_writing changes needed halt (λ writes. rw (sym is ∙ writes) (omega arith)) names)
+    pub last_failed : {error : OperationError} → OperationFails most_operation made new error → FailsWriting needed error
+        → EndsInError changes wanted old new error
+    last_failed {error} fails names =
+        ends_in_error third (code_leaves third last_writable leaves) last_parts (omega arith) fails
+        (names_writing changes needed error (λ writes. rw (sym is ∙ writes) (omega arith)) names)
 
     pub does_applied : {last : ℕ} {work : Work} → DoesCode changes.status changes.code needed made new last
         → work.erases ≡ erases.count → work.programs ≡ programs.count
@@ -321,9 +321,9 @@ module _ {changes : Changes} {wanted : ℕ → ℕ} {old free mid made : BusStat
                 ∙ parts.program.unsent (omega (arith, nothing))
                 ∙ parts.erase.unsent (omega (arith, nothing, few, parts.erase.fewer))
                 ∙ ap (λ (state : BusState). state.sent) (parts.lift_leaves.unsent shut);
-            done = λ honest can. applied can (sym is) (fourth.stands honest can);
+            done = λ honest can. applied can (sym is) (fourth.intermediate honest can);
             programs = λ honest can.
-                let is = second.stands honest can in
+                let is = second.intermediate honest can in
                 let bytes : mid.chip.bytes ≡ once_erased (raised_in changes) old.chip.bytes = λ i a. is.byte a i in
                 program_count ∙ parts.program.counted (now_honest second honest) (can_program_all can is)
                 ∙ ap (λ (x : ℕ → ℕ). count_below 65536 (is_programmed (touched_in changes) x wanted)) bytes;

@@ -18,9 +18,9 @@ use Rattle.nor_apply.specs.Change.{MayChange}
 use Rattle.nor_apply.specs.Spending.{Spends, Tallies, NamesTimeoutIn}
 use Rattle.nor_apply.specs.Protecting.{LeavesCode, DoesCode, FailsWriting}
 use Rattle.nor_apply.specs.Applying.{touched_in, raised_in, status_writes, sending, most_sent, most_applied, CanApply, LeavesApply, NamesChange}
-use Rattle.nor_apply.proofs.InTurn.{Ran, ran_after, sends_after, spends_after, halts_after}
+use Rattle.nor_apply.proofs.InTurn.{Ran, ran_after, sends_after, spends_after, fails_after}
 use Rattle.nor_apply.proofs.Changing.{change_then}
-use Rattle.nor_apply.proofs.ApplyingSteps.{Stands, code_change, stands_code}
+use Rattle.nor_apply.proofs.ApplyingSteps.{IsIntermediate, code_change, intermediate_code}
 
 -- ---- counts
 
@@ -67,7 +67,7 @@ pub record SoFar (changes : Changes) (wanted bytes : ℕ → ℕ) (worn : ℕ �
   pub few : tally.transactions ≤ spent
   pub may : old.honest ≡ true → CanApply changes wanted old.chip
       → MayChange (touched_in changes) (raised_in changes) wanted old now
-  pub stands : old.honest ≡ true → CanApply changes wanted old.chip → Stands bytes worn code old now
+  pub intermediate : old.honest ≡ true → CanApply changes wanted old.chip → IsIntermediate bytes worn code old now
 
 -- Holds at every exit of one part of the changes, which led from `mid` to `new`, if all changes began at `old`. The
 -- part sends only what `limits` allow. On a well-behaved bus at most `most` of its transactions are carried out. If
@@ -81,10 +81,10 @@ pub record Leaves (changes : Changes) (wanted : ℕ → ℕ) (most : ℕ) (limit
 
 -- Holds if the clauses of `apply` for an exit with this error are true: `LeavesApply`, `OperationFails` and
 -- `NamesChange`.
-abbrev pub Halted : (changes : Changes) (wanted : ℕ → ℕ) (old new : BusState) → OperationError → Type 0
-Halted changes wanted old new halt =
-    LeavesApply changes wanted old new × OperationFails (most_applied (sector_count (touched_in changes))) old new halt
-    × NamesChange changes halt
+abbrev pub EndsInError : (changes : Changes) (wanted : ℕ → ℕ) (old new : BusState) → OperationError → Type 0
+EndsInError changes wanted old new error =
+    LeavesApply changes wanted old new × OperationFails (most_applied (sector_count (touched_in changes))) old new error
+    × NamesChange changes error
 
 module _ {changes : Changes} {wanted bytes : ℕ → ℕ} {worn : ℕ → Bool} {code : ℕ} {numbers : Numbers}
     {readings spent : ℕ} {old mid : BusState} {done : Tally}
@@ -97,16 +97,16 @@ module _ {changes : Changes} {wanted bytes : ℕ → ℕ} {worn : ℕ → Bool} 
         → MayChange (touched_in changes) (raised_in changes) wanted old new
     may_on honest can = change_then so.ran.nature.steady (so.may honest can) (leaves.may honest can)
 
-    pub halted : {halt : OperationError} → AreParts (sending_these changes numbers) limits (most_sent changes)
-        → spent + most ≤ most_applied (sector_count (touched_in changes)) → OperationFails most mid new halt
-        → NamesChange changes halt → Halted changes wanted old new halt
-    halted parts fits fails names = (
+    pub ends_in_error : {error : OperationError} → AreParts (sending_these changes numbers) limits (most_sent changes)
+        → spent + most ≤ most_applied (sector_count (touched_in changes)) → OperationFails most mid new error
+        → NamesChange changes error → EndsInError changes wanted old new error
+    ends_in_error parts fits fails names = (
       record {
         spends = spends_after so.ran leaves.spends (omega (arith, so.few));
         sends = sends_after so.ran parts leaves.sends;
         reached = may_on;
       },
-      halts_after so.ran fails (omega (arith, so.few)),
+      fails_after so.ran fails (omega (arith, so.few)),
       names,
     )
 
@@ -115,16 +115,16 @@ module _ {changes : Changes} {wanted bytes : ℕ → ℕ} {worn : ℕ → Bool} 
         → IsSum (sending_these changes numbers) limits (sending_these changes numbers')
         → SendsExactly limits.erases limits.programs limits.status_writes mid new → readings + k ≤ r → all.count ≡ done.count + more.count
         → all.transactions ≡ done.transactions + more.transactions → all.transactions ≤ most'
-        → (old.honest ≡ true → CanApply changes wanted old.chip → Stands bytes' worn' code' old new)
+        → (old.honest ≡ true → CanApply changes wanted old.chip → IsIntermediate bytes' worn' code' old new)
         → SoFar changes wanted bytes' worn' code' numbers' r most' old new all
-    goes_on {k = k} {more = more} tallies sum exactly reads count transactions few stands =
+    goes_on {k = k} {more = more} tallies sum exactly reads count transactions few intermediate =
         let part : Ran limits k mid new more =
         record { nature = leaves.spends.nature; sends = leaves.sends; exactly = exactly; tallies = tallies } in
         record {
           ran = ran_after so.ran sum part reads count transactions;
           few = few;
           may = may_on;
-          stands = stands;
+          intermediate = intermediate;
         }
 
   -- For a part that is a status write.
@@ -139,7 +139,7 @@ module _ {changes : Changes} {wanted bytes : ℕ → ℕ} {worn : ℕ → Bool} 
       };
       sends = leaves.sends;
       may = λ honest can.
-          code_change can (λ writes. writable writes can) (so.stands honest can) (now_honest honest) leaves;
+          code_change can (λ writes. writable writes can) (so.intermediate honest can) (now_honest honest) leaves;
     }
 
     pub code_written : {sent most : ℕ} {numbers' : Numbers} {all : Tally}
@@ -158,15 +158,15 @@ module _ {changes : Changes} {wanted bytes : ℕ → ℕ} {worn : ℕ → Bool} 
         goes_on code_leaves tallies sum does.exactly (omega arith) count transactions
         (omega (arith, so.few, does.few, write_most needed))
         (λ honest can.
-        stands_code can (λ writes. writable writes can) (so.stands honest can) (now_honest honest) leaves does)
+        intermediate_code can (λ writes. writable writes can) (so.intermediate honest can) (now_honest honest) leaves does)
 
 -- For a status write, `NamesChange` follows from `FailsWriting`, if the changes need a status write whenever this part
 -- sends one.
-pub names_writing : (changes : Changes) (needed : Bool) (halt : OperationError) → (needed ≡ true → 1 ≤ status_writes changes)
-    → FailsWriting needed halt → NamesChange changes halt
-names_writing changes needed halt counts returned = grind arith
+pub names_writing : (changes : Changes) (needed : Bool) (error : OperationError) → (needed ≡ true → 1 ≤ status_writes changes)
+    → FailsWriting needed error → NamesChange changes error
+names_writing changes needed error counts returned = grind arith
 
-pub names_sectors : (changes : Changes) (sectors : ℕ → Bool) (halt : OperationError)
-    → ((s : ℕ) → sectors s ≡ true → touched_in changes s ≡ true) → NamesTimeoutIn sectors halt
-    → NamesChange changes halt
-names_sectors changes sectors halt inside returned = grind (arith, inside)
+pub names_sectors : (changes : Changes) (sectors : ℕ → Bool) (error : OperationError)
+    → ((s : ℕ) → sectors s ≡ true → touched_in changes s ≡ true) → NamesTimeoutIn sectors error
+    → NamesChange changes error
+names_sectors changes sectors error inside returned = grind (arith, inside)

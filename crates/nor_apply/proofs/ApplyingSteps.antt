@@ -9,7 +9,7 @@ use Rattle.nor_model.specs.Status.{bytes_of}
 use Rattle.nor_model.specs.Chip.{Chip, kept_in}
 use Rattle.nor_model.specs.Guard.{is_protected, code_of}
 use Rattle.nor_model.specs.Bus.{BusState}
-use Rattle.nor_model.proofs.Guarded.{is_protected-zero, is_protected-same}
+use Rattle.nor_model.proofs.ProtectedBlocks.{is_protected-zero, is_protected-same}
 use Rattle.nor_driver.specs.StatusWrites.{fixed_of, with_code, CanWriteStatus}
 use Rattle.nor_apply.specs.declared.changes.Changes.{Changes}
 use Rattle.nor_plan.specs.Content.{once_erased}
@@ -20,7 +20,7 @@ use Rattle.nor_apply.specs.Protecting.{LeavesCode, DoesCode}
 use Rattle.nor_apply.specs.Erasing.{CanEraseAll}
 use Rattle.nor_apply.specs.Programming.{CanProgramAll}
 use Rattle.nor_apply.specs.Applying.{touched_in, raised_in, writes_code, CanApply, HasApplied}
-use Rattle.nor_apply.proofs.Kept.{code_cleared, coded_again, fixed_coded, locked_same, told_coded, writable_same}
+use Rattle.nor_apply.proofs.Kept.{code_cleared, coded_again, fixed_coded, locked_same, coded_from_status, writable_same}
 use Rattle.nor_apply.proofs.Changing.{can_after, same_change, status_change}
 
 -- the protection bits that were read (`code_read`), and those during the erases and programs (`code_once`), which are 0
@@ -33,7 +33,7 @@ code_once changes = if changes.unlock then 0 else code_read changes
 
 -- Holds for an intermediate state with these bytes, erased sectors and protection bits. All else is as it was, the chip
 -- is idle, and its write enable latch is set only if it was set before.
-pub record Stands (bytes : ℕ → ℕ) (worn : ℕ → Bool) (code : ℕ) (old new : BusState) : Type 0 where
+pub record IsIntermediate (bytes : ℕ → ℕ) (worn : ℕ → Bool) (code : ℕ) (old new : BusState) : Type 0 where
   pub config : new.chip.config ≡ old.chip.config
   pub byte : (a : ℕ) → new.chip.bytes a ≡ bytes a
   pub kept : new.chip.kept ≡ with_code code old.chip.kept
@@ -43,10 +43,10 @@ pub record Stands (bytes : ℕ → ℕ) (worn : ℕ → Bool) (code : ℕ) (old 
 
 -- After erases or programs the state has the target bytes of that part in its sectors, and its erased sectors in
 -- addition.
-pub stands_changed : {t e worn : ℕ → Bool} {w bytes : ℕ → ℕ} {code : ℕ} {old mid new : BusState}
-    → Stands bytes worn code old mid → HasChanged t w e mid new
-    → Stands (λ a. if t (a / 4096) then w a else bytes a) (λ s. worn s || e s) code old new
-stands_changed is has = grind (arith, is.byte, has.bytes, is.wear, has.worn)
+pub intermediate_changed : {t e worn : ℕ → Bool} {w bytes : ℕ → ℕ} {code : ℕ} {old mid new : BusState}
+    → IsIntermediate bytes worn code old mid → HasChanged t w e mid new
+    → IsIntermediate (λ a. if t (a / 4096) then w a else bytes a) (λ s. worn s || e s) code old new
+intermediate_changed is has = grind (arith, is.byte, has.bytes, is.wear, has.worn)
 
 and_byte : (w : ℕ) → w < 256 → bit_and w 255 ≡ w
 and_byte w small = omega (arith, and_mask w 8)
@@ -59,16 +59,16 @@ code_at_end changes writes is = grind (arith, nat_tests)
 kept_read : {changes : Changes} {wanted : ℕ → ℕ} {chip : Chip} → CanApply changes wanted chip
     → with_code (code_read changes) chip.kept ≡ chip.kept
 kept_read {changes = changes} {chip = chip} can =
-    told_coded (bytes_of changes.status) chip.kept (ap fixed_of can.kept) ∙ sym can.kept
+    coded_from_status (bytes_of changes.status) chip.kept (ap fixed_of can.kept) ∙ sym can.kept
 
 module _ {changes : Changes} {wanted : ℕ → ℕ} {old : BusState} (can : CanApply changes wanted old.chip) where
-  pub stands_first : Stands old.chip.bytes old.worn (code_read changes) old old
-  stands_first = let kept = kept_read can in search (refl, sym kept)
+  pub intermediate_first : IsIntermediate old.chip.bytes old.worn (code_read changes) old old
+  intermediate_first = let kept = kept_read can in search (refl, sym kept)
 
   -- ---- a status write, at the start or at the end
 
   module _ {code new_code : ℕ} {needed : Bool} {bytes : ℕ → ℕ} {worn : ℕ → Bool} {mid new : BusState}
-      (writable : needed ≡ true → is_writable old.chip ≡ true) (is : Stands bytes worn code old mid)
+      (writable : needed ≡ true → is_writable old.chip ≡ true) (is : IsIntermediate bytes worn code old mid)
       (honest : mid.honest ≡ true) (leaves : LeavesCode changes.status new_code needed mid new) where
     fixed : fixed_of mid.chip.kept ≡ fixed_of old.chip.kept
     fixed = ap fixed_of is.kept ∙ fixed_coded code old.chip.kept
@@ -89,9 +89,9 @@ module _ {changes : Changes} {wanted : ℕ → ℕ} {old : BusState} (can : CanA
           rw (leaves.unsent spared) (same_change (search) is.idle (λ s. refl))
     ]
 
-    pub stands_code : {sent : ℕ} → DoesCode changes.status new_code needed mid new sent
-        → Stands bytes worn (if needed then new_code else code) old new
-    stands_code does = elim (cases_Bool needed) [
+    pub intermediate_code : {sent : ℕ} → DoesCode changes.status new_code needed mid new sent
+        → IsIntermediate bytes worn (if needed then new_code else code) old new
+    intermediate_code does = elim (cases_Bool needed) [
       | inr spared ↦ rw (leaves.unsent spared, spared) is
       | inl writes ↦
           let has = does.done writes honest (can_write writes) in
@@ -103,7 +103,7 @@ module _ {changes : Changes} {wanted : ℕ → ℕ} {old : BusState} (can : CanA
 
   -- ---- what erases and programs need
 
-  module _ {bytes : ℕ → ℕ} {worn : ℕ → Bool} {mid : BusState} (is : Stands bytes worn (code_once changes) old mid) where
+  module _ {bytes : ℕ → ℕ} {worn : ℕ → Bool} {mid : BusState} (is : IsIntermediate bytes worn (code_once changes) old mid) where
     -- After the unlock, if one was requested, and before the last status write, no address in a touched sector is
     -- protected: without an unlock by `CanApply`, and after an unlock because all protection bits are clear.
     free : (a : ℕ) → touched_in changes (a / 4096) ≡ true → is_protected mid.chip a ≡ false
@@ -121,14 +121,14 @@ module _ {changes : Changes} {wanted : ℕ → ℕ} {old : BusState} (can : CanA
     }
 
   pub can_program_all : {worn : ℕ → Bool} {mid : BusState}
-      → Stands (once_erased (raised_in changes) old.chip.bytes) worn (code_once changes) old mid
+      → IsIntermediate (once_erased (raised_in changes) old.chip.bytes) worn (code_once changes) old mid
       → CanProgramAll (touched_in changes) (raised_in changes) wanted mid.chip
   can_program_all is = let touched = can_touched is in grind (arith, is.byte, and_byte, can.bytes, can.falls)
 
   -- ---- the end
 
   pub applied : {writes : Bool} {new : BusState} → writes_code changes ≡ writes
-      → Stands
+      → IsIntermediate
       (λ a. if touched_in changes (a / 4096) then wanted a else once_erased (raised_in changes) old.chip.bytes a)
       (λ s. (old.worn s || raised_in changes s) || none s) (if writes then changes.code else code_once changes) old new
       → HasApplied changes wanted old new

@@ -5,7 +5,7 @@ use Rattle.std.proofs.lemmas.Bool.{false_from_ne_true}
 use Rattle.std.proofs.Math.Bool.{or-false, or_assoc}
 use Rattle.nor_model.specs.Chip.{Chip, IsSame}
 use Rattle.nor_model.specs.Bus.{BusState}
-use Rattle.nor_model.proofs.Guarded.{is_protected-same}
+use Rattle.nor_model.proofs.ProtectedBlocks.{is_protected-same}
 use Rattle.nor_driver.specs.StatusWrites.{MayWriteStatus, fixed_of}
 use Rattle.nor_apply.specs.Within.{is_writable, IsWithin, addresses_of}
 use Rattle.nor_apply.specs.Change.{CanChange, MayChange, HasChanged}
@@ -104,9 +104,9 @@ status_change {code = code} {old = old} writable wrote =
 
 -- Holds if these addresses have the target bytes, and the sectors of `erased` were erased. All else is as it was, the
 -- chip is idle, and its write enable latch is set only if it was set before.
-pub record HasMade (places : ℕ → Bool) (wanted : ℕ → ℕ) (erased : ℕ → Bool) (old new : BusState) : Type 0 where
+pub record HasMade (addresses : ℕ → Bool) (wanted : ℕ → ℕ) (erased : ℕ → Bool) (old new : BusState) : Type 0 where
   pub config : new.chip.config ≡ old.chip.config
-  pub bytes : (a : ℕ) → new.chip.bytes a ≡ (if places a then wanted a else old.chip.bytes a)
+  pub bytes : (a : ℕ) → new.chip.bytes a ≡ (if addresses a then wanted a else old.chip.bytes a)
   pub kept : new.chip.kept ≡ old.chip.kept
   pub worn : (s : ℕ) → new.worn s ≡ (old.worn s || erased s)
   pub idle : new.chip.busy ≡ 0

@@ -27,7 +27,7 @@ use Rattle.nor_apply.specs.Within.{addresses_of}
 use Rattle.nor_apply.specs.Change.{MayChange, blank}
 use Rattle.nor_apply.specs.Spending.{may_target, NamesTimeoutIn}
 use Rattle.nor_apply.specs.Erasing.{CanEraseAll, LeavesErases, DoesErases}
-use Rattle.nor_apply.proofs.InTurn.{Listed, listed_none, listed_halted, listed_more, come_all, come_before, come_next, come_fewer, spends_ended}
+use Rattle.nor_apply.proofs.InTurn.{Listed, listed_none, listed_failed, listed_more, come_all, come_before, come_next, come_fewer, spends_ended}
 use Rattle.nor_apply.proofs.Changing.{can_after, change_then, HasMade, changed_of, made_may, made_none, made_same, made_then}
 use Rattle.nor_apply.proofs.Targeting.{unit_aims}
 
@@ -188,8 +188,8 @@ module _ {kinds : Kinds} {size : ℕ} {set : ℕ → Bool} {units left : List Er
         (λ k low high. of_plan.inside k (in_unit (size / 4096) k unit low high))
 
     -- a timeout names the block's first address, which is in the set
-    names_unit : (halt : OperationError) → NamesTimeout (4096 * unit.sector) halt → NamesTimeoutIn set halt
-    names_unit halt returned =
+    names_unit : (error : OperationError) → NamesTimeout (4096 * unit.sector) error → NamesTimeoutIn set error
+    names_unit error returned =
         let inside = of_plan.inside unit.sector in
         let some = of_plan.some in
         grind (arith, nat_tests)
@@ -222,11 +222,11 @@ module _ {kinds : Kinds} {size : ℕ} {set : ℕ → Bool} {units left : List Er
         }
 
     module _ {new : BusState} (leaves : LeavesErase unit mid new) where
-      pub erases_halted : {halt : OperationError} → OperationFails most_operation mid new halt → NamesTimeout (4096 * unit.sector) halt
-          → LeavesErases set kinds size old new × OperationFails (most_operation * sector_count set) old new halt
-          × NamesTimeoutIn set halt
-      erases_halted {halt} fails names =
-          let exit = listed_halted so.listed next leaves.stirs (most_operation * sector_count set) in_all
+      pub erases_failed : {error : OperationError} → OperationFails most_operation mid new error → NamesTimeout (4096 * unit.sector) error
+          → LeavesErases set kinds size old new × OperationFails (most_operation * sector_count set) old new error
+          × NamesTimeoutIn set error
+      erases_failed {error} fails names =
+          let exit = listed_failed so.listed next leaves.stirs (most_operation * sector_count set) in_all
           leaves.falls fails (omega (arith, so.few)) in (
             record {
               spends = exit.0;
@@ -239,7 +239,7 @@ module _ {kinds : Kinds} {size : ℕ} {set : ℕ → Bool} {units left : List Er
                   (leaves.reached (so.listed.ran.nature.honest ∙ honest) (can_erase of_plan can has)));
             },
             exit.2,
-            names_unit halt names,
+            names_unit error names,
           )
 
       pub erases_more : {more : Tally} {sent : ℕ} → Erases unit mid new sent → more.count ≡ tally.count + 1

@@ -81,10 +81,10 @@ module _ {limits : Limits} {r : ℕ} {old mid : BusState} {done : Tally} (ran : 
       let nature = nature_then old mid new spends.nature ran.nature in
       grind (arith, nature, ran.nature.honest, ran.tallies.sent, spends.falls)
 
-  pub halts_after : {most all : ℕ} {new : BusState} {halt : OperationError} → OperationFails most mid new halt
+  pub fails_after : {most all : ℕ} {new : BusState} {error : OperationError} → OperationFails most mid new error
       → done.transactions + most ≤ all
-      → OperationFails all old new halt
-  halts_after fails fits = grind (arith, ran.nature.honest, ran.tallies.sent, fails.stopped, fails.ran_out)
+      → OperationFails all old new error
+  fails_after fails fits = grind (arith, ran.nature.honest, ran.tallies.sent, fails.stopped, fails.ran_out)
 
 -- ---- an operation for each of a list
 
@@ -120,14 +120,14 @@ module _ {A : Type 0} {all done left : List A} {limits : ℕ → Limits} {old mi
 
     module _ {one : Limits} {new : BusState} (stirs : Stirs one mid new) where
       -- The bounds at an exit at which the next operation returned an error.
-      pub listed_halted : {halt : OperationError} (most : ℕ) → AreParts (limits tally.count) one (limits (length all))
+      pub listed_failed : {error : OperationError} (most : ℕ) → AreParts (limits tally.count) one (limits (length all))
           → (mid.honest ≡ true → Falls most_operation mid new)
-          → OperationFails most_operation mid new halt → most_operation * length all ≤ most
-          → Spends most old new × SendsWithin (limits (length all)) old new × OperationFails most old new halt
-      listed_halted most parts falls fails fits = (
+          → OperationFails most_operation mid new error → most_operation * length all ≤ most
+          → Spends most old new × SendsWithin (limits (length all)) old new × OperationFails most old new error
+      listed_failed most parts falls fails fits = (
         spends_after listed.ran (record { nature = stirs.nature; falls = falls }) (omega (arith, come_fewer)),
         sends_after listed.ran parts stirs.sends,
-        halts_after listed.ran fails (omega (arith, come_fewer)),
+        fails_after listed.ran fails (omega (arith, come_fewer)),
       )
 
       -- `Listed` for one more element, if the next operation succeeded.

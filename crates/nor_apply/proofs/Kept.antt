@@ -26,9 +26,9 @@ code_cleared kept = omega arith
 
 -- if the never-changed bits agree with two status bytes, writing the protection bits of these bytes gives all their
 -- non-volatile bits
-pub told_coded : (status : List ℕ) (kept : KeptBits) → fixed_of kept ≡ fixed_of (kept_in status)
+pub coded_from_status : (status : List ℕ) (kept : KeptBits) → fixed_of kept ≡ fixed_of (kept_in status)
     → with_code (code_of (kept_in status)) kept ≡ kept_in status
-told_coded status kept fixed =
+coded_from_status status kept fixed =
     let one = ap (λ (f : ℕ × ℕ). f.0) fixed in let two = ap (λ (f : ℕ × ℕ). f.1) fixed in
     let low : 32 * (kept.one / 32) + code_of (kept_in status) % 32 ≡ slice_index status 0 / 4 = omega arith in
     let high : 64 * (code_of (kept_in status) / 32) + kept.two % 64 ≡ slice_index status 1 % 128 = omega arith in

@@ -32,7 +32,7 @@ use Rattle.nor_plan.specs.Content.{is_other, is_page_other}
 use Rattle.nor_plan.specs.Span.{page_differs, pages_changed, page_count, spans_of}
 use Rattle.nor_apply.specs.declared.tally.Tally.{Tally}
 use Rattle.nor_apply.specs.Spending.{NamesTimeoutIn}
-use Rattle.nor_apply.proofs.InTurn.{Listed, listed_none, listed_halted, listed_more, come_all, come_next, come_fewer, spends_ended}
+use Rattle.nor_apply.proofs.InTurn.{Listed, listed_none, listed_failed, listed_more, come_all, come_next, come_fewer, spends_ended}
 use Rattle.nor_apply.proofs.Targeting.{named_in}
 
 -- true at the addresses of these spans of the sector
@@ -84,9 +84,9 @@ module _ {sector : ℕ} {old wanted : List ℕ} {span : PageSpan} (spanned : Spa
   length-part = omega (arith, length-take {A = ℕ}, length-drop {A = ℕ}, below_end)
 
   -- the addresses to which the bytes are sent are those of the span
-  sent_places : (a : ℕ) → (nat_le (4096 * sector + span.first) a
+  sent_addresses : (a : ℕ) → (nat_le (4096 * sector + span.first) a
       && nat_lt a (4096 * sector + span.first + length (part wanted span))) ≡ in_spans sector (span ∷ []) a
-  sent_places a =
+  sent_addresses a =
       let order = spanned.is.order in
       let last = below_end in
       rw length-part (grind (arith, nat_tests))
@@ -108,7 +108,7 @@ module _ {sector : ℕ} {old wanted : List ℕ} {span : PageSpan} (spanned : Spa
         → bit_and (now.chip.bytes a) (slice_index (part wanted span) (a - (4096 * sector + span.first)))
         ≡ byte_of sector wanted a
     span_falls a in_span =
-        let parts = and_parts _ _ (sent_places a ∙ in_span) in
+        let parts = and_parts _ _ (sent_addresses a ∙ in_span) in
         let low : 4096 * sector + span.first ≤ a = leb-true _ _ parts.0 in
         let high : a < 4096 * sector + span.first + length (part wanted span) = ltb-true _ _ parts.1 in
         let last = below_end in
@@ -126,7 +126,7 @@ module _ {sector : ℕ} {old wanted : List ℕ} {span : PageSpan} (spanned : Spa
     -- The program gives the span's addresses the target bytes, and leaves all other bytes as they were.
     span_bytes : (a : ℕ) → programmed (4096 * sector + span.first) (part wanted span) now.chip.bytes a
         ≡ (if in_spans sector (span ∷ []) a then byte_of sector wanted a else now.chip.bytes a)
-    span_bytes a = rw (sent_places a) (elim (cases_Bool (in_spans sector (span ∷ []) a)) [
+    span_bytes a = rw (sent_addresses a) (elim (cases_Bool (in_spans sector (span ∷ []) a)) [
       | inl is ↦ rw is (span_falls a is)
       | inr out ↦ rw out refl
     ])
@@ -334,20 +334,20 @@ module _ {sector : ℕ} {old wanted : List ℕ} {spans left : List PageSpan} {fi
         }
 
     -- a timeout names an address in the sector
-    names_place : (halt : OperationError) → NamesTimeout (4096 * sector + span.first) halt → NamesTimeoutIn (only sector) halt
-    names_place halt returned =
+    names_address : (error : OperationError) → NamesTimeout (4096 * sector + span.first) error → NamesTimeoutIn (only sector) error
+    names_address error returned =
         let last = below_end spanned in
         let order = spanned.is.order in
         grind (arith, nat_tests)
 
     module _ {new : BusState} (leaves : LeavesProgram (4096 * sector + span.first) (part wanted span) now new) where
-      pub spans_halted : {halt : OperationError} → OperationFails most_operation now new halt
-          → NamesTimeout (4096 * sector + span.first) halt
-          → LeavesSpans sector old wanted first new × OperationFails most_pages first new halt
-          × NamesTimeoutIn (only sector) halt
-      spans_halted {halt} fails names =
+      pub spans_failed : {error : OperationError} → OperationFails most_operation now new error
+          → NamesTimeout (4096 * sector + span.first) error
+          → LeavesSpans sector old wanted first new × OperationFails most_pages first new error
+          × NamesTimeoutIn (only sector) error
+      spans_failed {error} fails names =
           let few = pages_most old wanted so.whole in
-          let exit = listed_halted so.listed next leaves.stirs most_pages in_all leaves.falls fails
+          let exit = listed_failed so.listed next leaves.stirs most_pages in_all leaves.falls fails
           (omega (arith, so.are.count, few)) in (
             record {
               spends = exit.0;
@@ -358,7 +358,7 @@ module _ {sector : ℕ} {old wanted : List ℕ} {spans left : List PageSpan} {fi
                   (leaves.reached (so.listed.ran.nature.honest ∙ honest) (can_span spanned spans can filled));
             },
             exit.2,
-            names_place halt names,
+            names_address error names,
           )
 
       pub spans_more : {more : Tally} {sent : ℕ}
@@ -373,7 +373,7 @@ module _ {sector : ℕ} {old wanted : List ℕ} {spans left : List PageSpan} {fi
             transactions;
         done = λ honest can.
             let filled = so.done honest can in
-            let unsent = so.listed.ran.nature.honest ∙ honest in
-            span_filled spanned spans can filled (programs.done unsent (can_span spanned spans can filled))
-            (programs.ends.idle unsent);
+            let honest_now = so.listed.ran.nature.honest ∙ honest in
+            span_filled spanned spans can filled (programs.done honest_now (can_span spanned spans can filled))
+            (programs.ends.idle honest_now);
       }

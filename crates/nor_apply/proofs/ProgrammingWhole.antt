@@ -22,7 +22,7 @@ use Rattle.nor_apply.specs.Within.{addresses_of}
 use Rattle.nor_apply.specs.Change.{only, byte_of}
 use Rattle.nor_apply.specs.Spending.{NamesTimeoutIn}
 use Rattle.nor_apply.specs.Programming.{CanProgramSpans, LeavesSpans, DoesSpans, CanProgramSector, Loads, LeavesSector, DoesSector, CanProgramAll, LeavesPrograms, DoesPrograms, most_sector}
-use Rattle.nor_apply.proofs.InTurn.{Ran, sends_after, ran_after, spends_after, ran_none, spends_ended, halts_after}
+use Rattle.nor_apply.proofs.InTurn.{Ran, sends_after, ran_after, spends_after, ran_none, spends_ended, fails_after}
 use Rattle.nor_apply.proofs.Alone.{only-here, count_below-next, only-is, shown_byte}
 use Rattle.nor_apply.proofs.Changing.{can_after, change_then, change_as, HasMade, made_of, changed_of, made_may, changed_may, made_none, made_same, made_then}
 
@@ -219,8 +219,8 @@ module _ {touched raised : ℕ → Bool} {wanted : ℕ → ℕ} {n : ℕ} {first
     wanted_byte : (a : ℕ) → only n (a / 4096) ≡ true → byte_of n bytes a ≡ wanted a
     wanted_byte a here = shown_byte n a bytes wanted (only-is here) is.shows
 
-    names_member : (halt : OperationError) → NamesTimeoutIn (only n) halt → NamesTimeoutIn touched halt
-    names_member halt returned = grind (arith, only_touched)
+    names_member : (error : OperationError) → NamesTimeoutIn (only n) error → NamesTimeoutIn touched error
+    names_member error returned = grind (arith, only_touched)
 
     module _ {erased : Bool} {new : BusState} (erased_is : erased ≡ raised n)
         (leaves : LeavesSector n bytes erased now new) where
@@ -265,10 +265,10 @@ module _ {touched raised : ℕ → Bool} {wanted : ℕ → ℕ} {n : ℕ} {first
             status_writes = omega arith;
           }
 
-      pub sectors_halted : {halt : OperationError} → OperationFails most_sector now new halt → NamesTimeoutIn (only n) halt
+      pub sectors_failed : {error : OperationError} → OperationFails most_sector now new error → NamesTimeoutIn (only n) error
           → LeavesPrograms touched raised wanted first new
-          × OperationFails (most_sector * sector_count touched) first new halt × NamesTimeoutIn touched halt
-      sectors_halted {halt} fails names =
+          × OperationFails (most_sector * sector_count touched) first new error × NamesTimeoutIn touched error
+      sectors_failed {error} fails names =
           let fits : tally.transactions + most_sector ≤ most_sector * sector_count touched =
           omega (arith, so.fewer, room touched n is.below is.is) in (
             record {
@@ -280,8 +280,8 @@ module _ {touched raised : ℕ → Bool} {wanted : ℕ → ℕ} {n : ℕ} {first
                   (made_may (λ a here. (and_parts _ _ here).0) (λ s no. no) (so.done honest can))
                   (change_as only_touched (λ s no. no) (λ a plain here. wanted_byte a here) may);
             },
-            halts_after so.ran fails fits,
-            names_member halt names,
+            fails_after so.ran fails fits,
+            names_member error names,
           )
 
       pub sectors_more : {more all : Tally} → DoesSector n bytes erased now new more

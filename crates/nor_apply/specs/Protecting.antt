@@ -33,6 +33,6 @@ pub record DoesCode (status : Status) (code : ℕ) (needed : Bool) (old new : Bu
   pub done : needed ≡ true → old.honest ≡ true → CanWriteStatus status old.chip → HasWrittenStatus code old new
 
 -- Holds if the status write is needed, and the error is a stop or a timeout with address 0.
-pub record FailsWriting (needed : Bool) (halt : OperationError) : Type 0 where
+pub record FailsWriting (needed : Bool) (error : OperationError) : Type 0 where
   pub is : needed ≡ true
-  pub names : NamesTimeout 0 halt
+  pub names : NamesTimeout 0 error

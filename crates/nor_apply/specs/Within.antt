@@ -14,21 +14,21 @@ is_writable chip = chip.config.scheme && not (is_locked chip.kept)
 -- Holds for an operation that may be in progress on a chip that is to be restored. Its command is known, and it changes
 -- only these addresses. It is a status write only if the original chip's status can be written. A status write in
 -- progress holds the status bits from before it; those that are never changed are the original chip's.
-pub record WorksIn (places : ℕ → Bool) (first : Chip) (running : Running) : Type 0 where
+pub record WorksIn (addresses : ℕ → Bool) (first : Chip) (running : Running) : Type 0 where
   pub known : is_known_running running ≡ true
-  pub inside : (a : ℕ) → is_in_work running a ≡ true → places a ≡ true
+  pub inside : (a : ℕ) → is_in_work running a ≡ true → addresses a ≡ true
   pub status : (one two : ℕ) → running ≡ StatusWrite one two
       → (is_writable first ≡ true) × (fixed_of (record { one = one; two = two }) ≡ fixed_of first.kept)
 
 -- Holds if the bus's chip is the original one, `first`, except in bytes at these addresses, in protection bits that can
 -- be written, and in BUSY and WEL: these may have any value. If the bus isn't steady, an operation in progress changes
 -- only these addresses, too (`WorksIn`).
-pub record IsWithin (places : ℕ → Bool) (first : Chip) (state : BusState) : Type 0 where
+pub record IsWithin (addresses : ℕ → Bool) (first : Chip) (state : BusState) : Type 0 where
   pub config : state.chip.config ≡ first.config
-  pub bytes : (a : ℕ) → places a ≡ false → state.chip.bytes a ≡ first.bytes a
+  pub bytes : (a : ℕ) → addresses a ≡ false → state.chip.bytes a ≡ first.bytes a
   pub fixed : fixed_of state.chip.kept ≡ fixed_of first.kept
   pub kept : is_writable first ≡ false → state.chip.kept ≡ first.kept
-  pub runs : state.steady ≡ false → state.chip.busy ≢ 0 → WorksIn places first state.chip.running
+  pub runs : state.steady ≡ false → state.chip.busy ≢ 0 → WorksIn addresses first state.chip.running
 
 -- true if the address lies in one of these sectors
 abbrev pub addresses_of : (sectors : ℕ → Bool) → (a : ℕ) → Bool

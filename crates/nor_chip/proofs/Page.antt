@@ -60,12 +60,12 @@ module _ (at : ℕ) (sent : List ℕ) (skipped : ℕ) (front back old mid new : 
     ])
   ]
 
--- after a program each byte of the list is at most its old value (`IsProgrammed-le`)
+-- after a program each byte of the list is at most its old value (`HasPageProgrammed-le`)
 lowered-le : (here : Bool) (old : ℕ) (sent : Option ℕ) → (if here then lowered old sent else old) ≤ old
 lowered-le true old (Some byte) = and_le_l old byte
 lowered-le _ old _ = omega arith
 
-pub IsProgrammed-le : (at : ℕ) (sent old new : List ℕ) → HasPageProgrammed at sent old new → (a : ℕ)
+pub HasPageProgrammed-le : (at : ℕ) (sent old new : List ℕ) → HasPageProgrammed at sent old new → (a : ℕ)
     → slice_index new a ≤ slice_index old a
-IsProgrammed-le at sent old new programmed a =
+HasPageProgrammed-le at sent old new programmed a =
     rw (programmed a) (lowered-le (a / 256 == at / 256) (slice_index old a) (last_for at sent a))

@@ -101,9 +101,9 @@ may-after command sent old begun new is steady has stays =
     grind (arith, stays.steady_or_idle, has.bytes, stays.bytes, outside, stays.worn, has.worn, or-false, kept)
 
 -- on a bus that is not steady, `MayOperate` says nothing about the bytes that the command works on
-pub may-shaky : (command : Command) (sent part : List ℕ) (old new : BusState) → old.steady ≡ false
+pub may-unsteady : (command : Command) (sent part : List ℕ) (old new : BusState) → old.steady ≡ false
     → MayOperate command part old new → MayOperate command sent old new
-may-shaky command sent part old new shaky may = grind (arith, may.bytes, may.worn)
+may-unsteady command sent part old new unsteady may = grind (arith, may.bytes, may.worn)
 
 pub operated : (command : Command) (sent : List ℕ) (old begun new : BusState) (waited : _)
     → HasBegun command sent old begun → HasWaited begun new waited → HasOperated command sent old new

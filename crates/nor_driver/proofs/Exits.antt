@@ -16,9 +16,9 @@ use Rattle.nor_driver.specs.Limits.{limits_of, Stirs}
 use Rattle.nor_driver.specs.Operations.{operation_of, AsksForOperation, most_operation, MayOperate, LeavesOperation, Operates}
 use Rattle.nor_driver.proofs.Limits.{enable_sends, command_sends, command_exactly, still_stirred, sends_same, exactly_same}
 use Rattle.nor_driver.proofs.Cuts.{stays_after, unchanged_then}
-use Rattle.nor_driver.proofs.Torn.{Wore, StandsStill, still_or_torn, still_stays, reached, reached_stays, none_begun, enable_stays}
+use Rattle.nor_driver.proofs.Torn.{Wore, IsAsBefore, still_or_torn, still_stays, reached, reached_stays, none_begun, enable_stays}
 use Rattle.nor_driver.proofs.Readings.{carried_ignored}
-use Rattle.nor_driver.proofs.Begun.{IsEnabled, enabled, then_done, part_done, operation-ignored, idle-takes, HasBegun, operation-begins, may-before, may-after, may-shaky, operated, latch-kept}
+use Rattle.nor_driver.proofs.Begun.{IsEnabled, enabled, then_done, part_done, operation-ignored, idle-takes, HasBegun, operation-begins, may-before, may-after, may-unsteady, operated, latch-kept}
 
 module _ (out : List ℕ) (asks : AsksForOperation out) (old : BusState) where
   -- at an exit at which the command was not carried out, `LeavesOperation` follows from `Stirs`, `Falls` and
@@ -54,8 +54,8 @@ module _ (out : List ℕ) (asks : AsksForOperation out) (old : BusState) where
     enabling : old.honest ≡ true → IsEnabled old ready
     enabling honest = enabled old ready first none (carries (enable_fits old honest))
 
-    honest-unsent : old.honest ≡ true → ready.honest ≡ true
-    honest-unsent honest = sends.nature.honest ∙ honest
+    honest-ready : old.honest ≡ true → ready.honest ≡ true
+    honest-ready honest = sends.nature.honest ∙ honest
 
     -- if the bus was asked to send the command after a write enable that succeeded, `Stirs` holds with the command's
     -- limits
@@ -74,7 +74,7 @@ module _ (out : List ℕ) (asks : AsksForOperation out) (old : BusState) where
       stays-before : KeepsChip ready new → KeepsChip old new
       stays-before stays = stays_after old ready new sends.nature.steady (enabling honest).unchanged stays
 
-      module _ (shaky : ready.steady ≡ false) (cut : AtStop out ready new) where
+      module _ (unsteady : ready.steady ≡ false) (cut : AtStop out ready new) where
         begins-part : is_operation (operation_of old.chip out) ≡ true
             → done_of ready.chip (take cut.count out) (length cut.read) ≡ operation_of old.chip out
             → HasBegun (operation_of old.chip out) (drop 4 (take cut.count out)) old (reached out ready new cut)
@@ -89,39 +89,39 @@ module _ (out : List ℕ) (asks : AsksForOperation out) (old : BusState) where
         may-cut is = elim (part_done out old ready cut.count (length cut.read) asks (enabling honest)) [
           | inl none ↦
               may-before _ _ old new (idle-takes old.chip out asks is)
-              (stays-before (none_begun out ready new shaky cut (ap is_operation none)))
+              (stays-before (none_begun out ready new unsteady cut (ap is_operation none)))
           | inr same ↦
-              may-shaky _ (drop 4 out) _ old new (sym sends.nature.steady ∙ shaky)
+              may-unsteady _ (drop 4 out) _ old new (sym sends.nature.steady ∙ unsteady)
               (may-after _ _ old (reached out ready new cut) new is sends.nature.steady (begins-part is same)
-              (reached_stays out ready new shaky cut))
+              (reached_stays out ready new unsteady cut))
         ]
 
         stays-cut : is_operation (operation_of old.chip out) ≡ false → KeepsChip old new
-        stays-cut none = stays-before (none_begun out ready new shaky cut
+        stays-cut none = stays-before (none_begun out ready new unsteady cut
             (elim (part_done out old ready cut.count (length cut.read) asks (enabling honest)) [
               | inl nothing ↦ ap is_operation nothing
               | inr same ↦ ap is_operation same ∙ none
             ]))
 
       may-at_stop : is_operation (operation_of old.chip out) ≡ true
-          → StandsStill ready new ⊎ ((ready.steady ≡ false) × AtStop out ready new)
+          → IsAsBefore ready new ⊎ ((ready.steady ≡ false) × AtStop out ready new)
           → MayOperate (operation_of old.chip out) (drop 4 out) old new
-      may-at_stop is (inl unsent) =
-          may-before _ _ old new (idle-takes old.chip out asks is) (stays-before (still_stays ready new unsent))
+      may-at_stop is (inl still) =
+          may-before _ _ old new (idle-takes old.chip out asks is) (stays-before (still_stays ready new still))
       may-at_stop is (inr cut) = may-cut cut.0 cut.1 is
 
       stays-at_stop : is_operation (operation_of old.chip out) ≡ false
-          → StandsStill ready new ⊎ ((ready.steady ≡ false) × AtStop out ready new) → KeepsChip old new
-      stays-at_stop none (inl unsent) = stays-before (still_stays ready new unsent)
+          → IsAsBefore ready new ⊎ ((ready.steady ≡ false) × AtStop out ready new) → KeepsChip old new
+      stays-at_stop none (inl still) = stays-before (still_stays ready new still)
       stays-at_stop none (inr cut) = stays-cut cut.0 cut.1 none
 
     pub leaves-at_command : (new : BusState) → Sends out ready new → (IsHonestFor out 0 ready → Stops out ready new)
         → LeavesOperation out old new
     leaves-at_command new sends' stops = record {
       stirs = stirs-by new sends';
-      falls = λ honest. omega (arith, (enabling honest).count, (stops (command_fits ready (honest-unsent honest))).left);
-      reached = λ honest is. may-at_stop honest new is (still_or_torn out ready new (stops (command_fits ready (honest-unsent honest))).at_stop);
-      ignored = λ honest none. stays-at_stop honest new none (still_or_torn out ready new (stops (command_fits ready (honest-unsent honest))).at_stop);
+      falls = λ honest. omega (arith, (enabling honest).count, (stops (command_fits ready (honest-ready honest))).left);
+      reached = λ honest is. may-at_stop honest new is (still_or_torn out ready new (stops (command_fits ready (honest-ready honest))).at_stop);
+      ignored = λ honest none. stays-at_stop honest new none (still_or_torn out ready new (stops (command_fits ready (honest-ready honest))).at_stop);
     }
 
     module _ (begun : BusState) (second : List ℕ) (none' : length second ≡ 0) (sends' : Sends out ready begun)
@@ -131,7 +131,7 @@ module _ (out : List ℕ) (asks : AsksForOperation out) (old : BusState) where
           ap (λ (n : ℕ). done_of ready.chip out n) none' ∙ then_done out old ready asks (enabling honest)
 
       carried : old.honest ≡ true → Carries out second ready begun
-      carried honest = carries' (command_fits ready (honest-unsent honest))
+      carried honest = carries' (command_fits ready (honest-ready honest))
 
       stirs : Stirs (limits_of out) old begun
       stirs = stirs-by begun sends'

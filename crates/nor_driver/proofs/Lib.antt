@@ -6,7 +6,7 @@ pub mod Sends
 pub mod Readings
 pub mod RestsInTurn
 pub mod Waiting
-pub mod Told
+pub mod ReplyBytes
 pub mod Torn
 pub mod Begun
 pub mod Exits

@@ -16,7 +16,7 @@ use Rattle.nor_driver.specs.Reads.{changes_nothing, IsReading, HasRead, Replies}
 use Rattle.nor_driver.proofs.Sends.{Sends, stopped_by}
 use Rattle.nor_driver.proofs.Cuts.{stays_then, unchanged_none, unchanged_then, unchanged_stays}
 pub use Rattle.nor_driver.proofs.Torn.{Wore, no_operation}
-use Rattle.nor_driver.proofs.Torn.{looked_at_stop}
+use Rattle.nor_driver.proofs.Torn.{honest_reads_at_stop}
 
 -- a command that changes nothing is no operation, and leaves `busy` and the write enable latch as they were
 nothing_done : (command : Command) (sent answer : List ℕ) (old new : Chip) → changes_nothing command ≡ true
@@ -43,18 +43,18 @@ carried_ignored out answer old new ignored carries = carried_by out answer old n
 
 -- if `most` transactions were carried out, the relation for reads that succeeded (`Rested`) implies the one for every
 -- exit (`OnlyReadsHonest`)
-pub looked_by : (old new : BusState) (most : ℕ) → Rested old new → old.left ≡ new.left + most → OnlyReadsHonest most old new
-looked_by old new most rested count = search (arith, unchanged_stays old new rested.unchanged)
+pub honest_reads_by : (old new : BusState) (most : ℕ) → Rested old new → old.left ≡ new.left + most → OnlyReadsHonest most old new
+honest_reads_by old new most rested count = search (arith, unchanged_stays old new rested.unchanged)
 
 -- two successive calls that only read satisfy `OnlyReadsHonest` together, with the sum of their bounds, if the first
 -- one did not change whether the bus is steady
-pub looked_then : (m n : ℕ) (old mid new : BusState) → mid.steady ≡ old.steady → OnlyReadsHonest m old mid
+pub honest_reads_then : (m n : ℕ) (old mid new : BusState) → mid.steady ≡ old.steady → OnlyReadsHonest m old mid
     → OnlyReadsHonest n mid new → OnlyReadsHonest (m + n) old new
-looked_then m n old mid new steady first second =
+honest_reads_then m n old mid new steady first second =
     grind (arith, stays_then old mid new steady first.stays second.stays)
 
-pub looked_more : (old new : BusState) (m n : ℕ) → m ≤ n → OnlyReadsHonest m old new → OnlyReadsHonest n old new
-looked_more old new m n fits honest_reads = search arith
+pub honest_reads_more : (old new : BusState) (m n : ℕ) → m ≤ n → OnlyReadsHonest m old new → OnlyReadsHonest n old new
+honest_reads_more old new m n fits honest_reads = search arith
 
 pub rested_then : (old mid new : BusState) → Rested old mid → Rested mid new → Rested old new
 rested_then old mid new first second = grind (arith, unchanged_then old mid new first.unchanged second.unchanged)
@@ -62,12 +62,12 @@ rested_then old mid new first second = grind (arith, unchanged_then old mid new 
 pub rested_none : (bus : BusState) → Rested bus bus
 rested_none bus = search (unchanged_none bus)
 
-looked_at : {T E : Type 0} (outcome : Result T E) (out answer : List ℕ) (old new : BusState) → IsReading out
+honest_reads_once : {T E : Type 0} (outcome : Result T E) (out answer : List ℕ) (old new : BusState) → IsReading out
     → OnErr outcome (Stops out old new) → OnOk outcome (Carries out answer old new) → OnlyReadsHonest 1 old new
-looked_at (Ok done) out answer old new is stops carries =
+honest_reads_once (Ok done) out answer old new is stops carries =
     let read = carried_reading out answer old new is carries in
-    looked_by old new 1 read.rested read.count
-looked_at (Err stopped) out answer old new is stops carries = looked_at_stop out old new 1 is.quiet stops
+    honest_reads_by old new 1 read.rested read.count
+honest_reads_once (Err stopped) out answer old new is stops carries = honest_reads_at_stop out old new 1 is.quiet stops
 
 -- every honest bus takes a poll with one reply byte
 pub poll_fits : (bus : BusState) → bus.honest ≡ true → IsHonestFor (5 ∷ []) 1 bus
@@ -85,7 +85,7 @@ pub read_leaves : {T E : Type 0} (outcome : Result T E) (out answer : List ℕ) 
 read_leaves outcome out answer old new is sends stops carries = record {
   nature = sends.nature;
   sent = sends.sent.quiet is.quiet;
-  honest_reads = λ honest. looked_at outcome out answer old new is (stops honest) (carries honest);
+  honest_reads = λ honest. honest_reads_once outcome out answer old new is (stops honest) (carries honest);
 }
 
 pub read_does : {T E : Type 0} (outcome : Result T E) (out answer : List ℕ) (old new : BusState) → IsReading out
@@ -116,7 +116,7 @@ no_poll config (opcode ∷ []) is = elim (eqb_tells opcode 5) [
 no_poll config _ is = refl
 
 -- a transaction that reads leaves `polled_ready` as it was
-pub read_heard : (outcome : Result Unit Stopped) (out answer : List ℕ) (old new : BusState) → IsReading out
+pub read_keeps_polled_ready : (outcome : Result Unit Stopped) (out answer : List ℕ) (old new : BusState) → IsReading out
     → Records out answer outcome old new → new.polled_ready ≡ old.polled_ready
-read_heard outcome out answer old new is records =
+read_keeps_polled_ready outcome out answer old new is records =
     grind (arith, no_poll old.chip.config out is, records.returned, records.stopped)

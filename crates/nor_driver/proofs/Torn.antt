@@ -25,27 +25,27 @@ no_operation command sent answer old new is does wore = grind (arith, wore, or-f
 
 -- ---- a stop that changed nothing, or made the chip lose its power
 
-pub record StandsStill (old new : BusState) : Type 0 where
+pub record IsAsBefore (old new : BusState) : Type 0 where
   pub chip : new.chip ≡ old.chip
   pub worn : (s : ℕ) → new.worn s ≡ old.worn s
 
 -- a stop changed nothing, or the bus isn't steady
 pub still_or_torn : (out : List ℕ) (old new : BusState) → AtStop out old new
-    → StandsStill old new ⊎ ((old.steady ≡ false) × AtStop out old new)
+    → IsAsBefore old new ⊎ ((old.steady ≡ false) × AtStop out old new)
 still_or_torn out old new stop = elim (cases_Bool old.steady) [
   | inl steady ↦ inl record {
     chip = stop.unsent steady;
     worn = λ s. (rw (stop.none steady) at stop.worn s) ∙ or-false (old.worn s);
   }
-  | inr shaky ↦ inr (shaky, stop)
+  | inr unsteady ↦ inr (unsteady, stop)
 ]
 
-pub still_stays : (old new : BusState) → StandsStill old new → KeepsChip old new
-still_stays old new unsent = grind (arith, unsent.worn, kept_cut-stay old.chip.running old.chip.kept new.chip.kept)
+pub still_stays : (old new : BusState) → IsAsBefore old new → KeepsChip old new
+still_stays old new still = grind (arith, still.worn, kept_cut-stay old.chip.running old.chip.kept new.chip.kept)
 
 lost_stays : (old new : BusState) → old.steady ≡ false → PowerLost old.chip new.chip
     → ((s : ℕ) → new.worn s ≡ old.worn s) → KeepsChip old new
-lost_stays old new shaky lost worn = grind (arith, lost.bytes, worn)
+lost_stays old new unsteady lost worn = grind (arith, lost.bytes, worn)
 
 -- ---- a transaction that was cut
 
@@ -55,18 +55,18 @@ reached out old new cut = record old { chip = cut.reached; worn = new.worn }
 
 pub reached_stays : (out : List ℕ) (old new : BusState) → old.steady ≡ false → (cut : AtStop out old new)
     → KeepsChip (reached out old new cut) new
-reached_stays out old new shaky cut = elim cut.chip [
+reached_stays out old new unsteady cut = elim cut.chip [
   | inl same ↦ still_stays (reached out old new cut) new record { chip = same; worn = λ s. refl }
-  | inr lost ↦ lost_stays (reached out old new cut) new shaky lost (λ s. refl)
+  | inr lost ↦ lost_stays (reached out old new cut) new unsteady lost (λ s. refl)
 ]
 
 -- on a bus that is not steady, if the bytes that were sent ask for no operation, the stop satisfies `KeepsChip`
 pub none_begun : (out : List ℕ) (old new : BusState) → old.steady ≡ false → (cut : AtStop out old new)
     → is_operation (done_of old.chip (take cut.count out) (length cut.read)) ≡ false → KeepsChip old new
-none_begun out old new shaky cut none =
+none_begun out old new unsteady cut none =
     stays_after old (reached out old new cut) new refl
     (no_operation _ _ cut.read old (reached out old new cut) none cut.step cut.worn)
-    (reached_stays out old new shaky cut)
+    (reached_stays out old new unsteady cut)
 
 -- ---- a write enable
 
@@ -76,7 +76,7 @@ enable_part chip (suc n) replies = rw (take-nil {A = ℕ} n) (grind arith)
 
 pub enable_stays : (old new : BusState) → Stops (6 ∷ []) old new → KeepsChip old new
 enable_stays old new stops = elim (still_or_torn _ old new stops.at_stop) [
-  | inl unsent ↦ still_stays old new unsent
+  | inl still ↦ still_stays old new still
   | inr cut ↦ none_begun (6 ∷ []) old new cut.0 cut.1 (enable_part old.chip cut.1.count (length cut.1.read))
 ]
 
@@ -123,10 +123,10 @@ latch_then : (mid new : Chip) → (new ≡ mid) ⊎ PowerLost mid new → new.la
 latch_then mid new (inl same) latch = ap (λ (c : Chip). c.latch) (sym same) ∙ latch
 latch_then mid new (inr lost) latch = absurd (true≢false (sym latch ∙ lost.latch))
 
-pub looked_at_stop : (out : List ℕ) (old new : BusState) (most : ℕ) → begins_quiet out ≡ true
+pub honest_reads_at_stop : (out : List ℕ) (old new : BusState) (most : ℕ) → begins_quiet out ≡ true
     → Stops out old new → OnlyReadsHonest most old new
-looked_at_stop out old new most quiet stops = elim (still_or_torn _ old new stops.at_stop) [
-  | inl unsent ↦ grind (arith, still_stays old new unsent)
+honest_reads_at_stop out old new most quiet stops = elim (still_or_torn _ old new stops.at_stop) [
+  | inl still ↦ grind (arith, still_stays old new still)
   | inr cut ↦
       let is = quiet_done old.chip cut.1.count out (length cut.1.read) quiet in
       record {

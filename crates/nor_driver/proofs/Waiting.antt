@@ -7,8 +7,8 @@ use Rattle.nor_model.specs.Bus.{BusState, KeepsNature}
 use Rattle.nor_model.specs.Exchange.{Exchange}
 use Rattle.nor_driver.specs.OnlyReads.{Rested, OnlyReads}
 use Rattle.nor_driver.specs.Waits.{Polls}
-use Rattle.nor_driver.proofs.Readings.{looked_by}
-use Rattle.nor_driver.proofs.ReadsInTurn.{looks_then, looks_more}
+use Rattle.nor_driver.proofs.Readings.{honest_reads_by}
+use Rattle.nor_driver.proofs.ReadsInTurn.{only_reads_then, only_reads_more}
 
 -- a list of one byte is the list of its item 0
 pub one_byte : (bytes : List ℕ) → length bytes ≡ 1 → bytes ≡ slice_index bytes 0 ∷ []
@@ -36,9 +36,9 @@ pub polled_leaves : (polls most : ℕ) (old mid new : BusState) → polls < most
     → mid.sent ≡ old.sent → (old.honest ≡ true → Rested old mid) → (old.honest ≡ true → old.left ≡ mid.left + polls)
     → OnlyReads 1 mid new → OnlyReads most old new
 polled_leaves polls most old mid new few nature sent rested count one =
-    looks_more (polls + 1) most old new (omega (arith, few))
-    (looks_then polls 1 old mid new record {
+    only_reads_more (polls + 1) most old new (omega (arith, few))
+    (only_reads_then polls 1 old mid new record {
       nature = nature;
       sent = sent;
-      honest_reads = λ honest. looked_by old mid polls (rested honest) (count honest);
+      honest_reads = λ honest. honest_reads_by old mid polls (rested honest) (count honest);
     } one)

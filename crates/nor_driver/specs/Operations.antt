@@ -43,11 +43,11 @@ pub record AsksForOperation (out : List ℕ) : Type 0 where
       ⊎ (command_of config (take count out) replies ≡ command_of config out 0)
   pub short : length out ≤ 260
 
--- Each byte is as it was, except at addresses in `places`. At such an address the byte may have changed: on a steady
+-- Each byte is as it was, except at addresses in `addresses`. At such an address the byte may have changed: on a steady
 -- bus to the byte of `wanted`, on any other bus to any value.
 abbrev pub ChangesOnly : Bool → (ℕ → Bool) → (wanted old new : ℕ → ℕ) → Type 0
-ChangesOnly steady places wanted old new =
-    (a : ℕ) → (new a ≡ old a) ⊎ ((places a ≡ true) × (steady ≡ true → new a ≡ wanted a))
+ChangesOnly steady addresses wanted old new =
+    (a : ℕ) → (new a ≡ old a) ⊎ ((addresses a ≡ true) × (steady ≡ true → new a ≡ wanted a))
 
 -- The effect, on an honest bus, of an operation that the chip ignored and whose wait succeeded. Configuration, bytes,
 -- non-volatile bits and erased sectors are as they were. The write enable latch is set if the chip was idle before the

@@ -41,10 +41,10 @@ pub record HasWaited (old new : BusState) (waited : Waited) : Type 0 where
 
 -- A wait succeeded. On every bus its last poll received this status, which shows that the chip is ready, and the number
 -- of polls is from 1 to 65,536. For each test that is false for every poll, the last reply to a transaction that passes
--- the test is as before (`only_polls`); that leaves open whether transactions other than polls were sent. On an honest
--- bus the effect of the wait is `HasWaited`.
+-- the test is as before (`keeps_other_replies`); that leaves open whether transactions other than polls were sent. On
+-- an honest bus the effect of the wait is `HasWaited`.
 pub record Waits (old new : BusState) (waited : Waited) : Type 0 where
-  pub only_polls : KeepsReplies is_poll old.history new.history
+  pub keeps_other_replies : KeepsReplies is_poll old.history new.history
   pub status : last_reply is_poll new.history ≡ waited.status1 ∷ []
   pub some : 1 ≤ waited.polls
   pub few : waited.polls ≤ 65536
@@ -66,14 +66,14 @@ EndsAt (Timeout address) history = EndsBusy history
 -- A call that waits returned an error. On every bus nothing was sent after the transaction that caused the error
 -- (`EndsAt`). On an honest bus the error is a stop: fewer than `needed` transactions were left, and all of these were
 -- carried out.
-pub record OperationFails (needed : ℕ) (old new : BusState) (halt : OperationError) : Type 0 where
-  pub last : EndsAt halt new.history
-  pub stopped : old.honest ≡ true → halt ≡ Stopped
+pub record OperationFails (needed : ℕ) (old new : BusState) (error : OperationError) : Type 0 where
+  pub last : EndsAt error new.history
+  pub stopped : old.honest ≡ true → error ≡ Stopped
   pub ran_out : old.honest ≡ true → RanOut needed old new
 
 -- A wait returned an error. On every bus a timeout contains the address `at`. On an honest bus the error is a stop, and
 -- fewer transactions were left than the wait needed, which is never more than 65,536.
-pub record WaitFails (at : ℕ) (old new : BusState) (halt : OperationError) : Type 0 where
-  pub returned : NamesTimeout at halt
-  pub fails : OperationFails 65536 old new halt
+pub record WaitFails (at : ℕ) (old new : BusState) (error : OperationError) : Type 0 where
+  pub names : NamesTimeout at error
+  pub fails : OperationFails 65536 old new error
   pub needed : old.honest ≡ true → old.left < old.chip.busy + 1

@@ -60,15 +60,15 @@ Holds vault bytes = vault.telling ≡ true → vault.bytes ≡ bytes
 
 took_more : (old new : VaultState) (before piece : List ℕ) → Holds old before → Took old piece new
     → Holds new (before ++ piece)
-took_more old new before piece returned took errors =
-    let before_tells = sym took.telling ∙ errors in rw (took.bytes before_tells, returned before_tells) refl
+took_more old new before piece held took faithful =
+    let before_faithful = sym took.telling ∙ faithful in rw (took.bytes before_faithful, held before_faithful) refl
 
 -- after a refused piece, a faithful vault holds a prefix of the earlier bytes and that piece
 pub after_refused : (old new : VaultState) (before piece : List ℕ) (kept : ℕ) → Holds old before
     → PutRefused old piece kept new → HoldsPrefix new (before ++ piece)
-after_refused old new before piece kept returned refused errors =
-    let before_tells = sym refused.refused.telling ∙ errors in
-    rw (refused.bytes before_tells, returned before_tells)
+after_refused old new before piece kept held refused faithful =
+    let before_faithful = sym refused.refused.telling ∙ faithful in
+    rw (refused.bytes before_faithful, held before_faithful)
     (rw (length-append before (take kept piece), take-append-add, length-take kept piece, take_min) refl)
 
 -- a fact that always holds also holds after an error
@@ -81,27 +81,27 @@ err_any (Err error) holds = holds
 -- if the end mark was refused after the header and records, a faithful vault holds a prefix of the journal
 pub begins_mark : (old new : VaultState) (c : Content) (kept : ℕ) → Holds old (front c)
     → PutRefused old end_mark kept new → HoldsPrefix new (text c)
-begins_mark old new c kept returned refused = rw (← text_is c) (λ errors.
-    begins_longer (front c ++ end_mark) _ new.bytes (after_refused old new (front c) end_mark kept returned refused errors))
+begins_mark old new c kept held refused = rw (← text_is c) (λ faithful.
+    begins_longer (front c ++ end_mark) _ new.bytes (after_refused old new (front c) end_mark kept held refused faithful))
 
 -- the end mark was accepted, and the digest is written next
-module _ (s0 s1 new : VaultState) (c : Content) (digest : List ℕ) (returned : Holds s0 (front c))
+module _ (s0 s1 new : VaultState) (c : Content) (digest : List ℕ) (held : Holds s0 (front c))
     (marked : Took s0 end_mark s1) (is : digest ≡ sha256 (front c ++ end_mark)) where
   whole : (front c ++ end_mark) ++ digest ≡ text c
   whole = rw is (text_is c)
 
   -- if the digest is accepted too, a faithful vault holds the encoding
   pub took_end : Took s1 digest new → Holds new (text c)
-  took_end digested = rw (← whole) (took_more s1 new _ digest (took_more s0 s1 (front c) end_mark returned marked) digested)
+  took_end digested = rw (← whole) (took_more s1 new _ digest (took_more s0 s1 (front c) end_mark held marked) digested)
 
   pub begins_digest : (kept : ℕ) → PutRefused s1 digest kept new → HoldsPrefix new (text c)
   begins_digest kept refused =
-      rw (← whole) (after_refused s1 new _ digest kept (took_more s0 s1 (front c) end_mark returned marked) refused)
+      rw (← whole) (after_refused s1 new _ digest kept (took_more s0 s1 (front c) end_mark held marked) refused)
 
 -- a seal keeps the encoding in a faithful vault; after a refused seal, such a vault holds a prefix of the encoding
 pub seals : {T : Type 0} (old new : VaultState) (r : Result T VaultFault) (c : Content) → Holds old (text c)
     → Seals old r new → OnOk r (Holds new (text c)) × OnErr r (HoldsPrefix new (text c))
-seals old new (Ok x) c returned sealed =
-    (λ errors. let before_tells = sym sealed.telling ∙ errors in sealed.bytes before_tells ∙ returned before_tells, tt)
-seals old new (Err fault) c returned refused =
-    (tt, rw (append-nil (text c)) at (after_refused old new (text c) [] fault.kept returned refused))
+seals old new (Ok x) c held sealed =
+    (λ faithful. let before_faithful = sym sealed.telling ∙ faithful in sealed.bytes before_faithful ∙ held before_faithful, tt)
+seals old new (Err fault) c held refused =
+    (tt, rw (append-nil (text c)) at (after_refused old new (text c) [] fault.kept held refused))

@@ -81,7 +81,7 @@ length-put n k bytes part long many within =
     same_len_mid n k bytes part (omega (arith, length-take k (drop n bytes), length-drop n bytes)) ∙ long
 
 -- writing a part after the bytes `before` replaces the next `k` bytes
-pub put_behind : (n k : ℕ) (before rest part : List ℕ) → length before ≡ n
+pub put_after : (n k : ℕ) (before rest part : List ℕ) → length before ≡ n
     → put_mid n k (before ++ rest) part ≡ (before ++ part) ++ drop k rest
-put_behind n k before rest part len =
+put_after n k before rest part len =
     rw (take_at before rest n len, drop_at before rest n len) (sym (append_assoc before part (drop k rest)))

@@ -1,6 +1,6 @@
 pub mod Heads
 pub mod SectorRecords
-pub mod Places
+pub mod Positions
 pub mod Beginnings
 pub mod Saved
 pub mod Saves

@@ -189,9 +189,9 @@ none_in_head c x f is found =
     grind (arith, begins, long, len, number, is.size, same_format, least_head)
 
 -- the bytes after the header and records of a valid content have at most one fault
-one_behind : (c : Content) (rest : List ℕ) (f g : JournalFault) → IsContent c → NextFault c rest f → NextFault c rest g
+one_in_rest : (c : Content) (rest : List ℕ) (f g : JournalFault) → IsContent c → NextFault c rest f → NextFault c rest g
     → f ≡ g
-one_behind c rest f g is p q =
+one_in_rest c rest f g is p q =
     grind (arith, number_at-marked rest, few_sectors c.size is.size, length-take 4 rest, length-end_mark)
 
 -- after the header and records of a valid content, the end mark and the correct digest have no fault
@@ -231,7 +231,7 @@ one_fault bytes f g (inr p) (inl q) = absurd (not_in_head bytes g p.content p.re
 one_fault bytes f g (inr p) (inr q) =
     let same = same_fronts p.content q.content p.rest q.rest p.is_content q.is_content
     (faulty _ _ f p.is_content p.next) (faulty _ _ g q.is_content q.next) (sym p.split ∙ q.split) in
-    one_behind p.content p.rest f g p.is_content p.next (rw (same.0, same.1) q.next)
+    one_in_rest p.content p.rest f g p.is_content p.next (rw (same.0, same.1) q.next)
 
 -- a journal has no fault
 pub faultless : (c : Content) (bytes : List ℕ) (fault : JournalFault) → IsContent c → bytes ≡ text c → HasFault bytes fault → ⊥

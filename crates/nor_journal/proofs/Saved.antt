@@ -155,7 +155,7 @@ pub record IsSought (saved : List SavedSector) (number low high : ℕ) : Type 0 
   pub order : low ≤ high
   pub within : high ≤ length saved
   pub before : (i : ℕ) (s : SavedSector) → slice_get saved i ≡ Some s → i < low → s.number < number
-  pub behind : (i : ℕ) (s : SavedSector) → slice_get saved i ≡ Some s → high ≤ i → number < s.number
+  pub after : (i : ℕ) (s : SavedSector) → slice_get saved i ≡ Some s → high ≤ i → number < s.number
 
 -- in an ascending list, a later record has no smaller number
 risen : (sectors least : ℕ) (ss : List SavedSector) (i j : ℕ) (s t : SavedSector) → AreRising sectors least ss
@@ -174,7 +174,7 @@ sought_above sectors ss n low high middle t rising sought at below less = record
   order = omega arith;
   within = sought.within;
   before = λ i s is lower. let upto = risen sectors 0 ss i middle s t rising is at (omega arith) in omega arith;
-  behind = sought.behind;
+  after = sought.after;
 }
 
 pub sought_below : (sectors : ℕ) (ss : List SavedSector) (n low high middle : ℕ) (t : SavedSector)
@@ -184,7 +184,7 @@ sought_below sectors ss n low high middle t rising sought at from below more = r
   order = from;
   within = let within = sought.within in omega arith;
   before = sought.before;
-  behind = λ i s is upper. let upto = risen sectors 0 ss middle i t s rising at is upper in omega arith;
+  after = λ i s is upper. let upto = risen sectors 0 ss middle i t s rising at is upper in omega arith;
 }
 
 -- the sector isn't saved if no record is left between `low` and `high`

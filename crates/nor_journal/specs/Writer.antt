@@ -21,7 +21,7 @@ vault_seen state writer = state (vault_of writer).now
 -- Holds if exactly these bytes were hashed, and a faithful (`telling`) vault holds exactly these bytes.
 pub record HasPut {V : Type 0} (state : V → VaultState) (writer : Writer V) (bytes : List ℕ) : Type 0 where
   pub hashed : Holds256 writer.hasher bytes
-  pub returned : (vault_seen state writer).telling ≡ true → (vault_seen state writer).bytes ≡ bytes
+  pub held : (vault_seen state writer).telling ≡ true → (vault_seen state writer).bytes ≡ bytes
 
 -- Holds if the content is valid, and exactly its header and its records were written (`HasPut`).
 pub record HasWritten {V : Type 0} (state : V → VaultState) (writer : Writer V) (content : Content) : Type 0 where

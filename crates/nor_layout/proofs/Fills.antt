@@ -1,11 +1,11 @@
 -- Ranges of positions in ascending order.
 use Rattle.std.proofs.Common.{◌≡◌, ℕ, ◌<◌, false, List, [], ◌∷◌, refl, arith}
 use Rattle.std.proofs.lemmas.Bool.Decides.{nat_tests}
-use Rattle.nor_layout.specs.declared.places.Places.{Places}
-use Rattle.nor_layout.specs.Places.{is_covered, AreRisingFrom}
+use Rattle.nor_layout.specs.declared.positions.Positions.{Positions}
+use Rattle.nor_layout.specs.Positions.{is_covered, AreRisingFrom}
 
 -- if all ranges begin at `first` or above, in ascending order, no range covers a position below `first`
-pub is_covered-below : (first : ℕ) (all : List Places) (at : ℕ) → AreRisingFrom first all → at < first → is_covered all at ≡ false
+pub is_covered-below : (first : ℕ) (all : List Positions) (at : ℕ) → AreRisingFrom first all → at < first → is_covered all at ≡ false
 is_covered-below first [] at rising lt = refl
-is_covered-below first (places ∷ more) at rising lt =
-    grind (arith, nat_tests, is_covered-below places.end more at rising.3)
+is_covered-below first (positions ∷ more) at rising lt =
+    grind (arith, nat_tests, is_covered-below positions.end more at rising.3)

@@ -4,9 +4,9 @@ use Rattle.std.specs.List.{cons_option}
 use Rattle.std.proofs.lemmas.Bool.{cond_both}
 use Rattle.std.proofs.lemmas.Bool.Decides.{nat_tests}
 use Rattle.nor_layout.specs.declared.ranges.Span.{Span}
-use Rattle.nor_layout.specs.declared.places.Places.{Places}
+use Rattle.nor_layout.specs.declared.positions.Positions.{Positions}
 use Rattle.nor_layout.specs.Ranges.{is_in_span, contains, IsApartFrom, AreDisjoint}
-use Rattle.nor_layout.specs.Places.{is_covered, part_in_sector, parts_in_sector, AreRisingFrom, AreIncludedIn}
+use Rattle.nor_layout.specs.Positions.{is_covered, part_in_sector, parts_in_sector, AreRisingFrom, AreIncludedIn}
 
 -- true if the span has no address in the sector
 abbrev is_outside : ℕ → Span → Bool
@@ -14,7 +14,7 @@ is_outside sector span = ltb sector (span.first / 4096) || ltb (span.last / 4096
 
 -- ---- a position is covered if and only if its address is in a span
 
-is_covered-cons : (sector : ℕ) (span : Span) (rest : List Places) (at : ℕ) → at < 4096
+is_covered-cons : (sector : ℕ) (span : Span) (rest : List Positions) (at : ℕ) → at < 4096
     → is_covered (cons_option (part_in_sector sector span) rest) at
     ≡ (is_in_span span (4096 * sector + at) || is_covered rest at)
 is_covered-cons sector span rest at lt = cond_both (is_outside sector span) _ _
@@ -29,11 +29,11 @@ is_covered-parts sector (span ∷ spans) at lt =
 
 -- ---- the positions are in ascending order
 
-weaker : (low high : ℕ) (parts : List Places) → low ≤ high → AreRisingFrom high parts → AreRisingFrom low parts
+weaker : (low high : ℕ) (parts : List Positions) → low ≤ high → AreRisingFrom high parts → AreRisingFrom low parts
 weaker low high [] le rising = tt
 weaker low high (part ∷ parts) le rising = (omega (arith, le, rising.0), rising.1, rising.2, rising.3)
 
-rising-cons : (sector first : ℕ) (span : Span) (rest : List Places) → first ≤ span.first - 4096 * sector
+rising-cons : (sector first : ℕ) (span : Span) (rest : List Positions) → first ≤ span.first - 4096 * sector
     → span.first ≤ span.last → AreRisingFrom (span.last + 1 - 4096 * sector) rest
     → AreRisingFrom first (cons_option (part_in_sector sector span) rest)
 rising-cons sector first span rest le forward rising = cond_both (is_outside sector span) _ _

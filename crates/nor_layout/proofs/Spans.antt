@@ -32,14 +32,14 @@ further : (low span : Span) (spans : List Span) → low.first ≤ low.last → l
 further low span spans forward lt apart = grind arith
 
 -- adding a span that is apart above `low` to disjoint spans after `low` leaves the spans disjoint, and apart from `low`
-apart_behind : (low new : Span) (spans : List Span) → low.last + 1 < new.first → new.first ≤ new.last
+apart_after : (low new : Span) (spans : List Span) → low.last + 1 < new.first → new.first ≤ new.last
     → AreDisjoint (low ∷ spans) → AreDisjoint (low ∷ merged new spans)
 unfolding merged
-apart_behind low new [] lt forward apart = (apart.0, lt, (forward, tt, tt))
-apart_behind low new (span ∷ spans) lt forward apart =
-    let below = apart_behind span new spans in
-    let above = apart_behind new span spans in
-    let joined = apart_behind low (join new span) spans in
+apart_after low new [] lt forward apart = (apart.0, lt, (forward, tt, tt))
+apart_after low new (span ∷ spans) lt forward apart =
+    let below = apart_after span new spans in
+    let above = apart_after new span spans in
+    let joined = apart_after low (join new span) spans in
     let new_behind = further new span spans in
     let low_behind = further low span spans in
     grind (arith, nat_tests)
@@ -48,8 +48,8 @@ AreDisjoint-merged : (new : Span) (spans : List Span) → new.first ≤ new.last
 unfolding merged
 AreDisjoint-merged new [] forward apart = (forward, tt, tt)
 AreDisjoint-merged new (span ∷ spans) forward apart =
-    let below = apart_behind span new spans in
-    let above = apart_behind new span spans in
+    let below = apart_after span new spans in
+    let above = apart_after new span spans in
     let joined = AreDisjoint-merged (join new span) spans in
     let behind = further new span spans in
     grind (arith, nat_tests)

@@ -65,12 +65,12 @@ abbrev is_full : List ℕ → Bool
 is_full line = not (eqb (length line) 0)
 
 -- `all` are the earlier regions followed by the regions of the remaining lines, and `all` fulfils `AreRegions`
-abbrev GivesRest : (lines : List (List ℕ)) (regions all : List Region) → Type 0
-GivesRest lines regions all =
+abbrev RestDefines : (lines : List (List ℕ)) (regions all : List Region) → Type 0
+RestDefines lines regions all =
     AreRegions all × ((rest : List Region) × (all ≡ regions ++ rest) × AllZip IsLine (filter is_full lines) rest)
 
 lines_say-found : (lines : List (List ℕ)) (regions all : List Region) (n : ℕ) → AreRegions regions
-    → lines_say regions n lines ≡ Ok all → GivesRest lines regions all
+    → lines_say regions n lines ≡ Ok all → RestDefines lines regions all
 unfolding lines_say with_line
 lines_say-found [] regions all n kept e =
     let same : regions ≡ all = cc in
@@ -99,8 +99,8 @@ with_line-keeps regions more n line kept e =
 pub layout_says-found : (text : List ℕ) (regions : List Region) → layout_says text ≡ Ok regions → IsLayout text regions
 unfolding layout_says
 layout_says-found text regions e =
-    let gives = lines_say-found (lines_of text) [] regions 1 no_regions e in
-    record { lines = rw gives.1.1 gives.1.2; few = gives.0.few; named_apart = gives.0.named_apart }
+    let define = lines_say-found (lines_of text) [] regions 1 no_regions e in
+    record { lines = rw define.1.1 define.1.2; few = define.0.few; named_apart = define.0.named_apart }
 
 -- ---- what is in the grammar is read
 
@@ -135,26 +135,26 @@ length-lines_of text = omega (arith, length-slice_split (λ b. eqb b 10) text, c
 
 -- the first n lines, `lines`, have no fault and define `regions`, and reading continues with line n + 1, for all lines
 -- that may follow
-abbrev pub Gives : List (List ℕ) → ℕ → List Region → Type 0
-Gives lines n regions = (after : List (List ℕ)) → lines_say [] 1 (lines ++ after) ≡ lines_say regions (n + 1) after
+abbrev pub LinesDefine : List (List ℕ) → ℕ → List Region → Type 0
+LinesDefine lines n regions = (after : List (List ℕ)) → lines_say [] 1 (lines ++ after) ≡ lines_say regions (n + 1) after
 
-pub gives_all : (text : List ℕ) (lines : List (List ℕ)) (n : ℕ) (regions : List Region) → lines ≡ lines_of text
-    → Gives lines n regions → layout_says text ≡ Ok regions
+pub define_all : (text : List ℕ) (lines : List (List ℕ)) (n : ℕ) (regions : List Region) → lines ≡ lines_of text
+    → LinesDefine lines n regions → layout_says text ≡ Ok regions
 unfolding layout_says lines_say
-gives_all text lines n regions is gives = ap (lines_say [] 1) (sym (append-nil lines ∙ is)) ∙ gives []
+define_all text lines n regions is define = ap (lines_say [] 1) (sym (append-nil lines ∙ is)) ∙ define []
 
-module _ (before : List (List ℕ)) (n : ℕ) (line : List ℕ) (regions : List Region) (gives : Gives before n regions) where
+module _ (before : List (List ℕ)) (n : ℕ) (line : List ℕ) (regions : List Region) (define : LinesDefine before n regions) where
   -- reading continues with the result (`said`) of line n + 1, and then with the lines after it
   onward : (said : Result (List Region) LayoutFault) → with_line regions (n + 1) line ≡ said → (after : List (List ℕ))
       → lines_say [] 1 (before ++ line ∷ after) ≡ said >>= λ more. lines_say more (n + 1 + 1) after
   unfolding lines_say
   onward said e after =
-      gives (line ∷ after) ∙ ap (λ (r : Result (List Region) LayoutFault). r >>= λ (more : List Region). lines_say
+      define (line ∷ after) ∙ ap (λ (r : Result (List Region) LayoutFault). r >>= λ (more : List Region). lines_say
       more (n + 1 + 1) after) e
 
-  pub gives_more : (more : List Region) → with_line regions (n + 1) line ≡ Ok more
-      → Gives (before ++ line ∷ []) (n + 1) more
-  gives_more more e after = ap (lines_say [] 1) (append_assoc before (line ∷ []) after) ∙ onward (Ok more) e after
+  pub define_more : (more : List Region) → with_line regions (n + 1) line ≡ Ok more
+      → LinesDefine (before ++ line ∷ []) (n + 1) more
+  define_more more e after = ap (lines_say [] 1) (append_assoc before (line ∷ []) after) ∙ onward (Ok more) e after
 
   module _ (text : List ℕ) (after : List (List ℕ)) (lines_are : lines_of text ≡ before ++ line ∷ after)
       (counted : length before ≡ n) where
@@ -172,15 +172,15 @@ module _ (before : List (List ℕ)) (n : ℕ) (line : List ℕ) (regions : List 
       after = after;
       lines_are = lines_are;
       regions = regions;
-      whole = ap (lines_say [] 1) (sym (append-nil before)) ∙ gives [];
+      whole = ap (lines_say [] 1) (sym (append-nil before)) ∙ define [];
       region = region;
       more = rw counted e;
     }
 
     -- if a line adds a region after lines without a fault, the text defines at least one region, or a fault
-    gives_one : (region : Region) → AreRegions regions → with_line regions (n + 1) line ≡ Ok (regions ++ region ∷ [])
+    define_one : (region : Region) → AreRegions regions → with_line regions (n + 1) line ≡ Ok (regions ++ region ∷ [])
         → layout_says text ≢ Ok []
-    gives_one region kept e none =
+    define_one region kept e none =
         let more = regions ++ region ∷ [] in
         let kept_more = with_line-keeps regions more (n + 1) line kept e in
         let behind = lines_say-found after more [] (n + 1 + 1) kept_more (sym (returned (Ok more) e) ∙ none) in
@@ -189,5 +189,5 @@ module _ (before : List (List ℕ)) (n : ℕ) (line : List ℕ) (regions : List 
     pub reads_fault : (new : List Region) (fault : LayoutFault) → AreRegions regions
         → AddsRegion regions new (Err fault) (with_line regions (n + 1) line)
         → ReadsLayout (Err fault) (layout_says text) × (fault ≡ Memory → AsksMemory text)
-    reads_fault new Memory kept e = (gives_one e.0 kept e.1, λ asks. asks_memory e.0 e.1)
+    reads_fault new Memory kept e = (define_one e.0 kept e.1, λ asks. asks_memory e.0 e.1)
     reads_fault new fault kept e = (returned (Err fault) e, λ asks. absurd (cc))

@@ -7,7 +7,7 @@ pub mod Grammar
 pub mod Included
 pub mod Ranges
 pub mod Sectors
-pub mod Places
+pub mod Positions
 -- The numbers of faults, and the results of private functions.
 pub mod Faults
 pub mod Steps

@@ -24,7 +24,7 @@
 //! - `region.rt`: `Region`, the name and addresses of a region
 //! - `fault.rt`: the faults of layout texts and of names, with their numbers and messages
 //! - `ranges.rt`: `Ranges`, a set of addresses as at most 64 spans
-//! - `places.rt`: the positions of one sector that are in a set
+//! - `positions.rt`: the positions of one sector that are in a set
 //! - `merge.rt`: joins the included bytes of one copy of a sector with the other bytes of a second copy
 //! - `included.rt`: tests and fills for the included addresses of a request, with ranges or for the whole chip
 //!
@@ -38,7 +38,7 @@ mod included;
 mod layout;
 mod line;
 mod merge;
-mod places;
+mod positions;
 mod ranges;
 mod region;
 

@@ -2,9 +2,9 @@
 //! second.
 
 ghost use Rattle.std.specs.Prelude.{◌≡◌, ◌<◌, ◌≤◌, ℕ, length, slice_index, if◌then◌else◌};
-ghost use Rattle.nor_layout.specs.Places.{is_covered, AreRisingFrom, places_left};
+ghost use Rattle.nor_layout.specs.Positions.{is_covered, AreRisingFrom, positions_left};
 
-use crate::places::PlacesIn;
+use crate::positions::PositionsIn;
 
 /// Copies the bytes of `from` at the indexes from `start` to `end`, excluding `end`, to the same indexes of `to`.
 fn copy_part(to: &mut [u8], from: &[u8], start: usize, end: usize)
@@ -18,20 +18,20 @@ fn copy_part(to: &mut [u8], from: &[u8], start: usize, end: usize)
     to[start..end].copy_from_slice(&from[start..end]);
 }
 
-/// Copies the bytes of a sector from `other` to `bytes`, except those at the positions in `places`.
+/// Copies the bytes of a sector from `other` to `bytes`, except those at the positions in `positions`.
 ///
 /// Both slices must have 4,096 bytes. Each range of positions must be nonempty and lie in the sector, and the ranges
 /// must ascend without overlap.
-pub(crate) fn fill_around(places: PlacesIn<'_>, bytes: &mut [u8], other: &[u8])
+pub(crate) fn fill_around(positions: PositionsIn<'_>, bytes: &mut [u8], other: &[u8])
     requires long { length bytes.old ≡ 4096 }
     requires other_long { length other.now ≡ 4096 }
-    requires rising { AreRisingFrom 0 (places_left places) }
+    requires rising { AreRisingFrom 0 (positions_left positions) }
     ensures { (at : ℕ) → at < 4096 → slice_index bytes.new at
-        ≡ (if is_covered (places_left places.entry) at
+        ≡ (if is_covered (positions_left positions.entry) at
         then slice_index bytes.old at else slice_index other.now at) }
 {
     let mut done = 0;
-    for part in places {
+    for part in positions {
         copy_part(bytes, other, done, part.start);
         done = part.end;
     }

@@ -3,11 +3,11 @@
 ghost use Rattle.std.specs.Prelude.{◌≡◌, ◌≤◌, ◌<◌, ◌+◌, ◌||◌, ◌*◌, ℕ, false, MatchBool, MatchOption, length, nat_lt, [], slice_index, if◌then◌else◌};
 ghost use Rattle.nor_layout.specs.Ranges.{is_in_span, contains, has_backwards, AreDisjoint, AreRanges, IsSetOf, MakeNoSet};
 ghost use Rattle.nor_layout.specs.Sectors.{SomeInSector, NoneInSector, has_in_sector, ReachesPast};
-ghost use Rattle.nor_layout.specs.Places.{AreIncludedIn, places_left};
+ghost use Rattle.nor_layout.specs.Positions.{AreIncludedIn, positions_left};
 ghost use Rattle.nor_layout.specs.Steps.{join, sooner, IsNextOrNone};
 
 use crate::merge::fill_around;
-use crate::places::PlacesIn;
+use crate::positions::PositionsIn;
 use crate::region::REGIONS;
 use arrayvec::ArrayVec;
 use nor_geometry::SECTOR_LEN;
@@ -205,10 +205,10 @@ impl Ranges {
 
     /// Returns the positions in sector number `sector`, counted from 0, whose addresses are in the set, in ascending
     /// order.
-    pub(crate) fn places_in(&self, sector: u32) -> PlacesIn<'_>
-        ensures { AreIncludedIn self.now sector (places_left result) }
+    pub(crate) fn positions_in(&self, sector: u32) -> PositionsIn<'_>
+        ensures { AreIncludedIn self.now sector (positions_left result) }
     {
-        PlacesIn::new(self.spans(), sector)
+        PositionsIn::new(self.spans(), sector)
     }
 
     /// Copies from `other` to `bytes` those bytes of sector number `sector` whose addresses aren't in the set.
@@ -221,6 +221,6 @@ impl Ranges {
             ≡ (if contains self.now (4096 * sector + at)
             then slice_index bytes.old at else slice_index other.now at) }
     {
-        fill_around(self.places_in(sector), bytes, other)
+        fill_around(self.positions_in(sector), bytes, other)
     }
 }

@@ -16,9 +16,9 @@ use Rattle.nor_lines.specs.declared.answers.Answer.{Answer}
 use Rattle.nor_lines.specs.declared.answers.Answer.TheVariants as answer
 
 -- Holds if the answer is this report, as that of a change or a restore that ended.
-abbrev pub TellsReport : Report → Answer → Type 0
-TellsReport report (answer.Done returned) = returned ≡ report
-TellsReport report _ = ⊥
+abbrev pub ReportsDone : Report → Answer → Type 0
+ReportsDone report (answer.Done returned) = returned ≡ report
+ReportsDone report _ = ⊥
 
 -- The job called `session` with a vault for the journal. The call kept all its promises, and the job returned its
 -- report or its error.
@@ -29,7 +29,7 @@ pub record HasRunSession (request : Request) (image : List ℕ) (old new : BusSt
   pub always : SessionAlways request old new vault vault' result
   pub honest : old.honest ≡ true → SessionHonest request image old new result
   pub modelled : IsModelled old → SessionModelled request image old new vault vault' result
-  pub returned : AnswersCall TellsReport result outcome
+  pub returned : AnswersCall ReportsDone result outcome
 
 -- A session was run with its journal in a new file. If the files obey their contract, the file has exactly the bytes of
 -- the session's vault; if the vault is sealed, a host crash does not lose them. If also no vault or log in the file was

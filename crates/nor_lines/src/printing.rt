@@ -207,13 +207,13 @@ fn print_ranges<W: Write>(output: &mut W, ranges: Offered) -> io::Result<()>
     ensures { OnOk result (Prints (AreRangeLines ranges) (W.contents output.old) (W.contents output.new)) }
 {
     for range in ranges {
-        print_places(output, range)?;
+        print_protected(output, range)?;
     }
     Ok(())
 }
 
 #[tactic(auto, using(nor_request::proofs::Printed::padded_hex), unfolding(crate::specs::Lines::line))]
-fn print_places<W: Write>(output: &mut W, places: (u32, u32)) -> io::Result<()>
+fn print_protected<W: Write>(output: &mut W, places: (u32, u32)) -> io::Result<()>
     ensures { OnOk result (Appends (W.contents output.old) (W.contents output.new) (range_line places)) }
 {
     let (start, len) = places;

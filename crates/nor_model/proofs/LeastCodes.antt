@@ -16,7 +16,7 @@ pub record AreAlike (start len start' len' : ℕ) : Type 0 where
 pub protects-alike : (size code start len start' len' : ℕ) → ProtectsExactly size code start len
     → AreAlike start len start' len' → ProtectsExactly size code start' len'
 protects-alike size code start len start' len' protects alike a =
-    (λ guarded. let here = (protects a).0 guarded in omega arith, λ within. (protects a).1 (omega arith))
+    (λ protected. let here = (protects a).0 protected in omega arith, λ within. (protects a).1 (omega arith))
 
 pub alike-protects : (size code start len start' len' : ℕ) → ProtectsExactly size code start len
     → ProtectsExactly size code start' len' → AreAlike start len start' len'
@@ -44,7 +44,7 @@ least_found size code start len start' len' (Some other) least none there is_lea
     ]
 
 -- If the protected range isn't empty, its first address as `start_of` (`src/guard.rt`) returns it is the one that
--- `ArePlaces` states.
+-- `IsSelectedRange` states.
 pub starts : (size len : ℕ) (complement bottom : Bool) → 0 < len
     → (if not (beq bottom complement) || len == 0 then 0 else size - len)
     ≡ (if complement then (if bottom then size - len else 0) else (if bottom then 0 else size - len))

@@ -1,10 +1,10 @@
-pub mod Guarded
+pub mod ProtectedBlocks
 pub mod ProtectedAddresses
 pub mod Kept
 pub mod LeastCodes
 pub mod Histories
 pub mod Nature
-pub mod Noted
+pub mod RecordedSent
 pub mod Round
 pub mod Sizes
 pub mod StatusBits

@@ -34,8 +34,8 @@ part-rest size n blocks part = grind arith
 
 -- the test that `protected_by` makes of an address, given the length `named` of the selected range and the parts of the
 -- code
-place_test : ℕ → ℕ → Bool → Bool → Bool → ℕ → Bool
-place_test size named undefined complement bottom a =
+address_test : ℕ → ℕ → Bool → Bool → Bool → ℕ → Bool
+address_test size named undefined complement bottom a =
     let is_named = if bottom then nat_lt a named else nat_le (size - named) a in
     nat_lt a size && (undefined || (if complement then not is_named else is_named))
 
@@ -50,27 +50,27 @@ pub ends_at : {size : ℕ} {test : ℕ → Bool} (border : ℕ) → IsPart size 
 ends_at border part side =
     record { border = border; within = part.within; whole = part.whole; sectors = part.sectors; side = side }
 
-place_test-end : (size named : ℕ) (undefined complement bottom : Bool) → size % 65536 ≡ 0 → IsPart size named
-    → LieAtAnEnd size (place_test size named undefined complement bottom)
-unfolding place_test
-place_test-end size named true complement bottom blocks part =
+address_test-end : (size named : ℕ) (undefined complement bottom : Bool) → size % 65536 ≡ 0 → IsPart size named
+    → LieAtAnEnd size (address_test size named undefined complement bottom)
+unfolding address_test
+address_test-end size named true complement bottom blocks part =
     ends_at size (omega arith) (inl (λ a below. grind (arith, nat_tests)))
-place_test-end size named false true true blocks part =
+address_test-end size named false true true blocks part =
     ends_at named part (inr (λ a below. rw (lt-ltb a size below) (not_lt a named)))
-place_test-end size named false true false blocks part =
+address_test-end size named false true false blocks part =
     ends_at (size - named) (part-rest size named blocks part)
     (inl (λ a below. rw (lt-ltb a size below) (not_le a (size - named))))
-place_test-end size named false false true blocks part =
+address_test-end size named false false true blocks part =
     ends_at named part (inl (λ a below. rw (lt-ltb a size below) refl))
-place_test-end size named false false false blocks part =
+address_test-end size named false false false blocks part =
     ends_at (size - named) (part-rest size named blocks part) (inr (λ a below. rw (lt-ltb a size below) refl))
 
 -- On a chip of an allowed size (`IsInBlocks`), the addresses that a code protects are the first or the last ones of the
 -- chip, and the border is at a whole KiB.
 pub protected_by-end : (size code : ℕ) → IsInBlocks size → LieAtAnEnd size (protected_by size code)
-unfolding protected_by place_test
+unfolding protected_by address_test
 protected_by-end size code are =
-    place_test-end size (named_length size code) (is_undefined code) (is_complement code) (is_bottom code) are.blocks
+    address_test-end size (named_length size code) (is_undefined code) (is_complement code) (is_bottom code) are.blocks
     (named_length-part size code are)
 
 -- no address past the chip's end is protected
@@ -102,7 +102,7 @@ at_borders size test start len a ends fits from before holds = elim ends.side [
 pub protected_by-page_of : (size code at : ℕ) → IsInBlocks size → at < size
     → (protected_by size code at ≡ true) ↔ HoldsSomewhere (protected_by size code) (at / 256 * 256) 256
 protected_by-page_of size code at are below = (
-  (λ guarded. record { place = at; from = omega arith; before = omega arith; holds = guarded }),
+  (λ protected. record { place = at; from = omega arith; before = omega arith; holds = protected }),
   (λ there. let blocks = are.blocks in
       alike size (protected_by size code) at there.place (protected_by-end size code are) below
       (omega arith) (omega arith) ∙ there.holds),
@@ -110,23 +110,24 @@ protected_by-page_of size code at are below = (
 
 -- The start and the length of the range that a defined code protects; the start of an empty range is not stated.
 -- `named` is the length of the selected range.
-pub record ArePlaces (size named : ℕ) (complement bottom : Bool) (start len : ℕ) : Type 0 where
+pub record IsSelectedRange (size named : ℕ) (complement bottom : Bool) (start len : ℕ) : Type 0 where
   pub len_is : len ≡ (if complement then size - named else named)
   pub start_is : 0 < len
       → start ≡ (if complement then (if bottom then size - len else 0) else (if bottom then 0 else size - len))
 
-place_test-exactly : (size named : ℕ) (complement bottom : Bool) (start len : ℕ) → named ≤ size
-    → ArePlaces size named complement bottom start len → (a : ℕ)
-    → (place_test size named false complement bottom a ≡ true) ↔ ((start ≤ a) × (a < start + len))
-unfolding place_test
-place_test-exactly size named complement bottom start len within are a =
+address_test-exactly : (size named : ℕ) (complement bottom : Bool) (start len : ℕ) → named ≤ size
+    → IsSelectedRange size named complement bottom start len → (a : ℕ)
+    → (address_test size named false complement bottom a ≡ true) ↔ ((start ≤ a) × (a < start + len))
+unfolding address_test
+address_test-exactly size named complement bottom start len within are a =
     let long = are.len_is in let begin = are.start_is in grind (arith, nat_tests)
 
--- On a chip of an allowed size (`IsInBlocks`), a defined code protects exactly the range that `ArePlaces` describes.
-pub guards_places : (size code start len : ℕ) → IsInBlocks size → is_undefined code ≡ false
-    → ArePlaces size (named_length size code) (is_complement code) (is_bottom code) start len
+-- On a chip of an allowed size (`IsInBlocks`), a defined code protects exactly the range that `IsSelectedRange`
+-- describes.
+pub protects_selected : (size code start len : ℕ) → IsInBlocks size → is_undefined code ≡ false
+    → IsSelectedRange size (named_length size code) (is_complement code) (is_bottom code) start len
     → ProtectsExactly size code start len
-unfolding protected_by place_test
-guards_places size code start len in_blocks defined places a =
-    rw defined (place_test-exactly size (named_length size code) (is_complement code) (is_bottom code) start len
-    (named_length-part size code in_blocks).within places a)
+unfolding protected_by address_test
+protects_selected size code start len in_blocks defined selected a =
+    rw defined (address_test-exactly size (named_length size code) (is_complement code) (is_bottom code) start len
+    (named_length-part size code in_blocks).within selected a)

@@ -137,7 +137,7 @@ status_writes_of sent = times_sent begins_status_write sent
 
 -- The effect of one transaction that sends `out` on each property of the list `Sent`, which is `old` before the
 -- transaction and `new` after it. A transaction that is empty or begins with a quiet opcode leaves the list as it was.
-pub record Notes (out : List ℕ) (old new : Sent) : Type 0 where
+pub record RecordsSent (out : List ℕ) (old new : Sent) : Type 0 where
   pub quiet : begins_quiet out ≡ true → new ≡ old
   pub stirred : is_stirred new ≡ (is_stirred old || begins_change out)
   pub unknown : has_unknown new ≡ (has_unknown old || is_unknown_to_model out)

@@ -19,7 +19,7 @@ const CODES: u8 = 64;
 
 // A range of addresses: the first one, and the length in bytes.
 #[derive(Clone, Copy)]
-struct Places {
+struct AddressRange {
     start: u32,
     len: u32,
 }
@@ -149,7 +149,7 @@ fn start_of(size: u32, len: u32, is_first: bool) -> u32
 }
 
 // Returns the range that a defined code protects, which starts at 0 if it is empty.
-fn addresses_of(size: u32, code: u8) -> Places
+fn addresses_of(size: u32, code: u8) -> AddressRange
     requires sized { IsTrue (is_chip_size size) }
     requires defined { is_undefined code ≡ false }
     ensures protects { ProtectsExactly size code result.start result.len }
@@ -157,7 +157,7 @@ fn addresses_of(size: u32, code: u8) -> Places
 {
     let len = protected_length(size, code);
     let start = start_of(size, len, is_bottom(code) != is_complement(code));
-    Places { start, len }
+    AddressRange { start, len }
 }
 
 /// Returns the range that this status protects on a chip of this size that has block protection: its first address and
@@ -166,14 +166,14 @@ fn addresses_of(size: u32, code: u8) -> Places
 pub fn protected_range(status: Status, size: u32) -> Option<(u32, u32)>
     requires { IsTrue (is_chip_size size) }
     ensures { MatchOption result (is_undefined (code_of (kept_in (bytes_of status))) ≡ true)
-        (λ places. IsRangeOf size (code_of (kept_in (bytes_of status))) places.0 places.1) }
+        (λ range. IsRangeOf size (code_of (kept_in (bytes_of status))) range.0 range.1) }
 {
     let code = status.code();
     if is_undefined(code) {
         return None;
     }
-    let places = addresses_of(size, code);
-    Some((places.start, places.len))
+    let range = addresses_of(size, code);
+    Some((range.start, range.len))
 }
 
 // True if a defined code protects exactly this range.
@@ -182,8 +182,8 @@ fn protects_exactly(size: u32, code: u8, start: u32, len: u32) -> bool
     requires defined { is_undefined code ≡ false }
     ensures { (result ≡ true) ↔ ProtectsExactly size code start len }
 {
-    let places = addresses_of(size, code);
-    places.len == len && (len == 0 || places.start == start)
+    let range = addresses_of(size, code);
+    range.len == len && (len == 0 || range.start == start)
 }
 
 /// Returns the least defined protection code that protects exactly the range of `len` bytes from `start`, on a chip of
@@ -205,19 +205,19 @@ pub fn code_for(start: u32, len: u32, size: u32) -> Option<u8>
 
 // Returns the range that a code, which must be below 64, protects. Returns `None` if the code is undefined or a lesser
 // defined code protects the same range. An empty range starts at 0.
-fn least_at(size: u32, code: u8) -> Option<Places>
+fn least_at(size: u32, code: u8) -> Option<AddressRange>
     requires sized { IsTrue (is_chip_size size) }
     requires six_bits { code < 64 }
-    ensures least { IfSome result (λ places. IsLeastCode size places.start places.len code) }
-    ensures plain { IfSome result (λ places. places.len ≡ 0 → places.start ≡ 0) }
+    ensures least { IfSome result (λ range. IsLeastCode size range.start range.len code) }
+    ensures plain { IfSome result (λ range. range.len ≡ 0 → range.start ≡ 0) }
     ensures none { IfNone result ((start len : ℕ) → ¬ IsLeastCode size start len code) }
 {
     if is_undefined(code) {
         return None;
     }
-    let places = addresses_of(size, code);
-    if code_for(places.start, places.len, size) == Some(code) {
-        Some(places)
+    let range = addresses_of(size, code);
+    if code_for(range.start, range.len, size) == Some(code) {
+        Some(range)
     } else {
         None
     }

@@ -33,14 +33,14 @@ module _ (old target : List ℕ) where
   SpanFrom page s = IsSpan old target s × (page ≤ s.first / 256)
 
   -- the properties of the spans of `count` pages from `page` on
-  record Tell (page count : ℕ) (spans : List PageSpan) : Type 0 where
+  record ArePageSpans (page count : ℕ) (spans : List PageSpan) : Type 0 where
     each : All (SpanFrom page) spans
     complete : (k : ℕ) → page ≤ k / 256 → k / 256 < page + count → DifferAt old target k → spanned_by spans k ≡ true
     rising : AllPairs (λ s t. s.last / 256 < t.first / 256) spans
 
-  tell_more : (page count : ℕ) (o : Option PageSpan) (spans : List PageSpan) → AreEnds (DiffersOn old target page) o
-      → Tell (page + 1) count spans → Tell page (suc count) (cons_option o spans)
-  tell_more page count None spans none rest = record {
+  page_spans-more : (page count : ℕ) (o : Option PageSpan) (spans : List PageSpan) → AreEnds (DiffersOn old target page) o
+      → ArePageSpans (page + 1) count spans → ArePageSpans page (suc count) (cons_option o spans)
+  page_spans-more page count None spans none rest = record {
     each = All-weaker (SpanFrom (page + 1)) (SpanFrom page) (λ s is. (is.0, omega arith)) spans rest.each;
     complete = λ k low high differ. elim (cases_eq (k / 256) page) [
       | inl here ↦ absurd (none k (here, differ))
@@ -48,7 +48,7 @@ module _ (old target : List ℕ) where
     ];
     rising = rest.rising;
   }
-  tell_more page count (Some span) spans are rest =
+  page_spans-more page count (Some span) spans are rest =
       let first : span.first / 256 ≡ page = are.0.0 in
       let last : span.last / 256 ≡ page = are.1.0 in
       let is : IsSpan old target span = record {
@@ -72,15 +72,15 @@ module _ (old target : List ℕ) where
             spans rest.each) rest.rising;
       }
 
-  tell : (page count : ℕ) → Tell page count (spans_in old target page count)
-  tell page zero = record {
+  page_spans-are : (page count : ℕ) → ArePageSpans page count (spans_in old target page count)
+  page_spans-are page zero = record {
     each = All-nil (SpanFrom page);
     complete = λ k low high differ. absurd (omega arith);
     rising = λ i j d less within. absurd (omega arith);
   }
-  tell page (suc count) =
-      tell_more page count (page_span old target page) (spans_in old target (page + 1) count)
-      (page_ends old target page) (tell (page + 1) count)
+  page_spans-are page (suc count) =
+      page_spans-more page count (page_span old target page) (spans_in old target (page + 1) count)
+      (page_ends old target page) (page_spans-are (page + 1) count)
 
   length-spans_in : (page count : ℕ)
       → length (spans_in old target page count) ≡ count_by (page_differs old target) (range_with_len page count)
@@ -95,17 +95,17 @@ module _ (old target : List ℕ) where
   pub spans_of-AreSpans : AreSpans old target (spans_of old target)
   spans_of-AreSpans =
       let spans = spans_of old target in
-      let returned = tell 0 (page_count old - 0) in
+      let properties = page_spans-are 0 (page_count old - 0) in
       let all : page_count old - 0 ≡ page_count old = omega arith in
       let spanned : (k : ℕ) → DifferAt old target k → spanned_by (spans_of old target) k ≡ true =
-      λ k differ. returned.complete k (omega arith) (omega (arith, differ.0)) differ in
+      λ k differ. properties.complete k (omega arith) (omega (arith, differ.0)) differ in
       record {
-        each = All-weaker (SpanFrom 0) (IsSpan old target) (λ s is. is.0) spans returned.each;
+        each = All-weaker (SpanFrom 0) (IsSpan old target) (λ s is. is.0) spans properties.each;
         complete = λ k differ.
             let found = Any-from_list_any _ spans (spanned k differ) in
             let inside = and_parts _ _ found.4 in
             (found.0, found.1, found.2, found.3, (leb-true _ _ inside.0, leb-true _ _ inside.1));
-        rising = returned.rising;
+        rising = properties.rising;
         others = λ k within outside. elim (cases_eq (get_or old k 0) (get_or target k 0)) [
           | inl same ↦ same
           | inr differ ↦ absurd (both_ways _ outside (spanned k (within, differ)))

@@ -101,16 +101,16 @@ module _ (a b : List ℕ) where
   -- if a vector shows the differences of some bytes, and the OR of its lanes is 0, none of these bytes differs
   pub ShowsDifferences-none : (at count : ℕ) (xs : List ℕ) → ShowsDifferences a b at count xs → fold_l bit_or 0 xs ≡ 0
       → AgreeWithin a b at (at + count)
-  ShowsDifferences-none at count xs errors none = errors.none (λ i lane. omega (arith, none, lane_le 0 xs i))
+  ShowsDifferences-none at count xs shows none = shows.none (λ i lane. omega (arith, none, lane_le 0 xs i))
 
   -- The vector shows the differences of at least the first `end` bytes. If the OR of its lanes isn't 0, some byte of
   -- the slices differs; if the OR is 0, none of the first `end` bytes differs.
   pub ShowsDifferences-tested : (count end : ℕ) (xs : List ℕ) → ShowsDifferences a b 0 count xs → end ≤ count
       → MatchBool (not (nat_eq (fold_l bit_or 0 xs) 0)) (SomeDiffer a b) (AgreeWithin a b 0 end)
-  ShowsDifferences-tested count end xs errors within =
+  ShowsDifferences-tested count end xs shows within =
       elim (cases_eq (fold_l bit_or 0 xs) 0) [
-        | inl nothing ↦ rw nothing (λ k low high. ShowsDifferences-none 0 count xs errors nothing k low (omega arith))
+        | inl nothing ↦ rw nothing (λ k low high. ShowsDifferences-none 0 count xs shows nothing k low (omega arith))
         | inr something ↦ rw (ne_eqb (fold_l bit_or 0 xs) 0 something)
             (some_lane (SomeDiffer a b) 0 xs (λ some. absurd (some (omega arith)))
-            (λ i lane other. errors.some i (omega (arith, errors.long)) other) something)
+            (λ i lane other. shows.some i (omega (arith, shows.long)) other) something)
       ]

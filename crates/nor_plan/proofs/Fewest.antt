@@ -24,8 +24,8 @@ use Rattle.nor_plan.proofs.Units.{holds_run-from, first_of, first_of-once, is_fi
 use Rattle.nor_plan.proofs.Coverage.{IsPlannable, planned_Covers, begins_in}
 
 -- the positions of a range that pass a test are distinct
-IsDistinct-places : (test : ℕ → Bool) (from count : ℕ) → IsDistinct nat_eq (filter test (range_with_len from count))
-IsDistinct-places test from count =
+IsDistinct-filtered : (test : ℕ → Bool) (from count : ℕ) → IsDistinct nat_eq (filter test (range_with_len from count))
+IsDistinct-filtered test from count =
     let place = get_or-range_with_len from count in
     let rising = IsStrictlyIncreasing-filter test (range_with_len from count) (λ k within.
     let there : k + 1 < count = omega (arith, length-range_with_len from count) in
@@ -84,7 +84,7 @@ module _ (whole : Bool) (kinds : Kinds) (total : ℕ) (set : ℕ → Bool) (can 
       let begins : ℕ → Bool = begins_block whole kinds set in
       let few : length (filter begins sectors) ≤ length (map sector others) =
       length-le_from_is_member nat_eq_equiv (filter begins sectors) (map sector others)
-      (IsDistinct-places begins from (4096 - from)) (λ q member.
+      (IsDistinct-filtered begins from (4096 - from)) (λ q member.
       let kept = is_member-filter nat_eq_equiv begins q (λ s same. ap begins (eqb-true q s same)) sectors in
       some_begins others covers q (and_parts (list_any (nat_eq q) sectors) (begins q) (sym kept ∙ member)).1) in
       omega (arith, length-map others sector, length-map (filter begins sectors) (erase_at whole kinds set))

@@ -18,7 +18,7 @@ compared t xs ys = mask_l (map (top 7) (zip2 (λ a b. cond (t a b) (2 ^ 8 - 1) 0
 -- returns `test i`
 pub compared-IsMask : (t : ℕ → ℕ → Bool) (xs ys : List ℕ) → length xs ≡ 32 → length ys ≡ 32 → (test : ℕ → Bool)
     → ((i : ℕ) → i < 32 → t (get_or xs i 0) (get_or ys i 0) ≡ test i) → IsMask (compared t xs ys) test
-compared-IsMask t xs ys long same test errors =
+compared-IsMask t xs ys long same test compares =
     let whole : length (zip2 t xs ys) ≡ 32 = length-zip2 t xs ys (long ∙ sym same) ∙ long in
     let is : compared t xs ys ≡ mask_l (zip2 t xs ys) =
     ap (λ ms. mask_l ms % 2 ^ 64) (tops_compared w8 t xs ys) ∙ mask_l-mod (zip2 t xs ys) 64 (omega arith) in
@@ -26,7 +26,7 @@ compared-IsMask t xs ys long same test errors =
       lanes = omega (arith, is, mask_l-lt (zip2 t xs ys), ap (λ (n : ℕ). 2 ^ n) whole);
       bits = λ i lane.
           ap (λ m. bit_at m i) is ∙ bit_mask_l (zip2 t xs ys) i
-          ∙ ap (λ b. cond b 1 0) (get_or-zip2 t xs ys i 0 0 false (omega arith) (omega arith) ∙ errors i lane);
+          ∙ ap (λ b. cond b 1 0) (get_or-zip2 t xs ys i 0 0 false (omega arith) (omega arith) ∙ compares i lane);
     }
 
 -- if the test for unequal numbers is true, the numbers differ

@@ -17,8 +17,8 @@ use Rattle.nor_read.specs.declared.verifying.Compared.{Compared}
 use Rattle.nor_read.specs.Finding.{IsModelled, HasFound, ReadingErrors, most_read}
 use Rattle.nor_read.specs.Verifying.{VerifyAlways, VerifyHonest, VerifyModelled, VerifyErrors, IsVerifyRefusal}
 use Rattle.nor_read.specs.Verifying.{FindsFirst, ComparesAll, VerifyEnds}
-use Rattle.nor_read.proofs.Onward.{has_looked, same_bytes, read_after}
-use Rattle.nor_read.proofs.Whole.{Sends, find_tells, sends_probe, sends_on, fails, report_of, reported}
+use Rattle.nor_read.proofs.Onward.{has_only_read, same_bytes, read_after}
+use Rattle.nor_read.proofs.Whole.{Sends, find_errors, sends_probe, sends_on, fails, report_of, reported}
 use Rattle.nor_read.proofs.Whole.{rested_on, size_of, open_after, has_name, is_taken, is_passed}
 
 -- Holds if the promises of `verify` are kept at an exit with this result.
@@ -37,20 +37,20 @@ module _ (named : Option ChipName) (included : Option (List Span)) (image : List
   refused refusal sends is last errors own = search sends.own
 
   -- An error of the probe is one that `verify` may return. On a modelled bus it means what `verify` promises.
-  unfound_tells : (old new : BusState) (refusal : Refusal) → IdentificationErrors most_probe named old new refusal
+  unfound_errors : (old new : BusState) (refusal : Refusal) → IdentificationErrors most_probe named old new refusal
       → IsVerifyRefusal refusal × VerifyEnds old.history new.history refusal
       × (IsModelled old → VerifyErrors named included image old new refusal)
-  unfound_tells old new Stopped errors =
+  unfound_errors old new Stopped errors =
       (tt, errors.last, λ known. let ran = errors.ran_out known.honest in omega arith)
-  unfound_tells old new (Timeout address) errors = (errors.0, errors.1, λ known. tt)
-  unfound_tells old new _ errors = search
+  unfound_errors old new (Timeout address) errors = (errors.0, errors.1, λ known. tt)
+  unfound_errors old new _ errors = search
 
   pub unfound : {old new : BusState} (refusal : Refusal) → OnlyReads most_probe old new
       → IdentificationErrors most_probe named old new refusal → Verified named included image old new (Err refusal)
   unfound {old} {new} refusal only_reads errors =
-      let own = unfound_tells old new refusal errors in
+      let own = unfound_errors old new refusal errors in
       refused refusal (sends_probe only_reads) own.0 own.1
-      (find_tells (most_read 16777216) named old new refusal (omega arith) errors) own.2
+      (find_errors (most_read 16777216) named old new refusal (omega arith) errors) own.2
 
   -- the exits after a chip was found
   module _ {old mid : BusState} {probed : Probed} (found : HasFound named old mid probed)
@@ -97,6 +97,6 @@ module _ (named : Option ChipName) (included : Option (List Span)) (image : List
             → Verified named included image old new (Ok (report_of probed compared.reads))
         equal none =
             let sends = sends_on found only_reads after in
-            let reports = reported found only_reads (has_looked after all.rested all.fell all.polled_ready) all.counted in
+            let reports = reported found only_reads (has_only_read after all.rested all.fell all.polled_ready) all.counted in
             let first = first_before None none in
             search (sends.own, reports.reads, reports.config)

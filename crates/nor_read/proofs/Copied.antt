@@ -11,11 +11,11 @@ use Rattle.nor_layout.specs.declared.ranges.Span.{Span}
 use Rattle.nor_geometry.specs.Below.{count_below}
 use Rattle.nor_layout.specs.Sectors.{includes, has_in_sector, sectors_included}
 use Rattle.nor_geometry.proofs.Below.{count_below-zero}
-use Rattle.nor_driver.proofs.RestsInTurn.{HasLooked, has_looked-none}
+use Rattle.nor_driver.proofs.RestsInTurn.{HasOnlyRead, has_only_read-none}
 use Rattle.nor_request.specs.declared.refusal.Refusal.{Refusal}
 use Rattle.nor_request.specs.declared.refusal.Refusal.TheVariants.{Output}
 use Rattle.nor_read.specs.Reading.{copied, Grows, Copies, ReadsPiece, ReadsAll, CopyErrors, PutErrors}
-use Rattle.nor_read.proofs.Onward.{has_looked, looked_on, open_on, same_bytes}
+use Rattle.nor_read.proofs.Onward.{has_only_read, has_only_read-then, open_on, same_bytes}
 
 -- Holds if the vault has `count` bytes more. If `known` holds, these are the first ones of the copy.
 pub record CopiesIf (known : Type 0) (included : Option (List Span)) (content : ℕ → ℕ) (count : ℕ)
@@ -33,7 +33,7 @@ pub record HasCopied (included : Option (List Span)) (size n : ℕ) (old new : B
     (reads : ℕ) : Type 0 where
   pub few : reads ≤ 16 * n
   pub counted : reads ≡ count_below (16 * n) (has_in_sector (includes included))
-  pub honest_reads : HasLooked reads old new
+  pub honest_reads : HasOnlyRead reads old new
   pub accepted : Accepted vault vault'
   pub copy : vault.telling ≡ true → CopiesIf (IsOpen size old) included old.chip.bytes (65536 * n) vault vault'
 
@@ -42,7 +42,7 @@ pub copied_none : (included : Option (List Span)) (size : ℕ) (state : BusState
 copied_none included size state vault = record {
   few = omega arith;
   counted = sym (count_below-zero (has_in_sector (includes included)));
-  honest_reads = has_looked-none state;
+  honest_reads = has_only_read-none state;
   accepted = assumption;
   copy = λ telling. record {
     grows = record { bytes = []; long = refl; grown = sym (append-nil vault.bytes) };
@@ -80,8 +80,8 @@ module _ {included : Option (List Span)} {size n reads more : ℕ} {bytes : List
     {vault now : VaultState} (below : n < size / 65536) (long : length bytes ≡ 65536)
     (has : HasCopied included size n old mid vault now reads) (only_reads : OnlyReads 16 mid new)
     (piece : ReadsPiece included n bytes mid new more) where
-  looked_all : HasLooked (reads + more) old new
-  looked_all = looked_on has.honest_reads (has_looked only_reads piece.rested piece.fell piece.polled_ready)
+  has_only_read-all : HasOnlyRead (reads + more) old new
+  has_only_read-all = has_only_read-then has.honest_reads (has_only_read only_reads piece.rested piece.fell piece.polled_ready)
 
   -- On a well-behaved bus with an idle chip of this size, the piece has the bytes of the copy.
   piece_right : IsOpen size old → (i : ℕ) → i < 65536
@@ -97,7 +97,7 @@ module _ {included : Option (List Span)} {size n reads more : ℕ} {bytes : List
   copied_more took = record {
     few = grind arith;
     counted = grind arith;
-    honest_reads = looked_all;
+    honest_reads = has_only_read-all;
     accepted = grind arith;
     copy = λ telling. copies_more 65536 (65536 * (n + 1)) bytes (omega arith) (has.copy telling) long
         (took.bytes (has.accepted.telling ∙ telling)) piece_right;
@@ -116,7 +116,7 @@ module _ {included : Option (List Span)} {size n reads more : ℕ} {bytes : List
       (length-take-le kept bytes within) (put.bytes (has.accepted.telling ∙ telling))
       (λ is_open i small. get_or-take kept bytes i 0 small ∙ piece_right is_open i (omega arith)) in
       record {
-        rested = looked_all.rested;
+        rested = has_only_read-all.rested;
         within = omega arith;
         took = record {
           refused = let was = has.accepted in grind arith;

@@ -15,11 +15,11 @@ use Rattle.nor_geometry.specs.Below.{count_below}
 use Rattle.nor_layout.specs.Sectors.{includes, has_in_sector, AreOfSector, SomeInSector, NoneInSector}
 use Rattle.nor_geometry.proofs.Below.{count_below-zero, count_below-more}
 use Rattle.nor_plan.specs.Bytes.{AllAgree, IsFirstDifference}
-use Rattle.nor_driver.proofs.RestsInTurn.{HasLooked, has_looked-none, rested_none}
+use Rattle.nor_driver.proofs.RestsInTurn.{HasOnlyRead, has_only_read-none, rested_none}
 use Rattle.nor_read.specs.declared.verifying.Compared.{Compared}
 use Rattle.nor_read.specs.Verifying.{AgreeIn, IsFirstOther, FindsFirst, IsSectorRead, AddsSectorReads}
 use Rattle.nor_read.specs.Verifying.{ReadsDifference, ComparesPart}
-use Rattle.nor_read.proofs.Onward.{has_looked, looked_on, open_on, same_bytes, read_after, read_then}
+use Rattle.nor_read.proofs.Onward.{has_only_read, has_only_read-then, open_on, same_bytes, read_after, read_then}
 
 -- ---- one sector
 
@@ -145,13 +145,13 @@ module _ (included : Option (List Span)) (image : List ℕ) (content : ℕ → �
   agree_more to low high a above below inside = grind (arith, low, high)
 
   -- The first difference in two adjacent ranges is that of the first range or, if it has none, that of the second.
-  tells_more : (to : ℕ) (first second : Option ℕ) → from ≤ mid → mid ≤ to
+  finds_first_more : (to : ℕ) (first second : Option ℕ) → from ≤ mid → mid ≤ to
       → FindsFirst included image content from mid first → FindsFirst included image content mid to second
       → FindsFirst included image content from to (option_or first second)
-  tells_more to None None low high agree more = agree_more to agree more
-  tells_more to None (Some address) low high agree other =
+  finds_first_more to None None low high agree more = agree_more to agree more
+  finds_first_more to None (Some address) low high agree other =
       let before = agree_more address agree other.before in search arith
-  tells_more to (Some address) second low high other more = search arith
+  finds_first_more to (Some address) second low high other more = search arith
 
 -- The first difference of two successive steps lies in a sector that was read, and only reads of sectors follow that
 -- read.
@@ -167,13 +167,13 @@ pub record HasCompared (included : Option (List Span)) (image : List ℕ) (size 
     (first : Option ℕ) (reads : ℕ) : Type 0 where
   pub few : reads ≤ n
   pub counted : reads ≡ count_below n (has_in_sector (includes included))
-  pub honest_reads : HasLooked reads old new
+  pub honest_reads : HasOnlyRead reads old new
   pub replied : ReadsDifference old.history new.history first
   pub errors : IsOpen size old → FindsFirst included image old.chip.bytes 0 (4096 * n) first
 
 pub compared_none : (included : Option (List Span)) (image : List ℕ) (size : ℕ) (state : BusState)
     → HasCompared included image size 0 state state None 0
-compared_none included image size state = grind (arith, count_below-zero, has_looked-none state)
+compared_none included image size state = grind (arith, count_below-zero, has_only_read-none state)
 
 module _ {included : Option (List Span)} {image : List ℕ} {size n reads : ℕ} {old mid new : BusState}
     {first : Option ℕ} {part : Compared} where
@@ -183,13 +183,13 @@ module _ {included : Option (List Span)} {image : List ℕ} {size n reads : ℕ}
   compared_more below has only_reads compares = record {
     few = grind arith;
     counted = let next = count_below-more n (has_in_sector (includes included)) in grind arith;
-    honest_reads = looked_on has.honest_reads (has_looked only_reads compares.rested compares.fell compares.polled_ready);
+    honest_reads = has_only_read-then has.honest_reads (has_only_read only_reads compares.rested compares.fell compares.polled_ready);
     replied = others_more first part.first has.honest_reads.nature.history compares.only_sectors has.replied
         compares.replied;
     errors = λ is_open.
         let now = open_on is_open has.honest_reads in
         let same = now.same in
-        tells_more included image old.chip.bytes 0 (4096 * n) (4096 * (n + 1)) first part.first (omega arith)
+        finds_first_more included image old.chip.bytes 0 (4096 * n) (4096 * (n + 1)) first part.first (omega arith)
         (omega arith) (has.errors is_open) (rw (same_bytes (has.honest_reads.rested is_open.honest))
         at (compares.errors now.honest now.idle (omega arith)));
   }

@@ -3,6 +3,6 @@ pub mod Pieces
 pub mod Copied
 pub mod Differing
 pub mod Whole
-pub mod Guards
+pub mod ProtectionReports
 pub mod Compared
 pub mod ReadOut

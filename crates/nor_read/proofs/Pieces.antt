@@ -10,9 +10,9 @@ use Rattle.nor_geometry.specs.Below.{count_below}
 use Rattle.nor_layout.specs.Sectors.{includes, has_in_sector}
 use Rattle.nor_geometry.proofs.Below.{count_below-more}
 use Rattle.nor_plan.proofs.Parts.{put_back}
-use Rattle.nor_driver.proofs.RestsInTurn.{HasLooked, has_looked-none}
+use Rattle.nor_driver.proofs.RestsInTurn.{HasOnlyRead, has_only_read-none}
 use Rattle.nor_read.specs.Reading.{copied, ReadsPart, ReadsPiece}
-use Rattle.nor_read.proofs.Onward.{has_looked, looked_on, open_on, same_bytes}
+use Rattle.nor_read.proofs.Onward.{has_only_read, has_only_read-then, open_on, same_bytes}
 
 -- Holds if the first `k` sectors of a piece were copied. Their bytes are known to be right on a well-behaved bus whose
 -- chip was idle at the start and has all sectors of the piece.
@@ -21,13 +21,13 @@ pub record HasPieced (included : Option (List Span)) (piece k : ℕ) (bytes : Li
   pub few : reads ≤ k
   pub counted : count_below (16 * piece + k) (has_in_sector (includes included))
       ≡ count_below (16 * piece) (has_in_sector (includes included)) + reads
-  pub honest_reads : HasLooked reads old new
+  pub honest_reads : HasOnlyRead reads old new
   pub right : old.honest ≡ true → old.chip.busy ≡ 0 → 65536 * (piece + 1) ≤ old.chip.config.size
       → (i : ℕ) → i < 4096 * k → slice_index bytes i ≡ copied included old.chip.bytes (65536 * piece + i)
 
 pub pieced_none : (included : Option (List Span)) (piece : ℕ) (bytes : List ℕ) (state : BusState)
     → HasPieced included piece 0 bytes state state 0
-pieced_none included piece bytes state = grind (arith, has_looked-none state)
+pieced_none included piece bytes state = grind (arith, has_only_read-none state)
 
 -- `HasPieced` holds for `k + 1`, after sector `k` of the piece, below 16, was copied.
 module _ {included : Option (List Span)} {piece k reads more : ℕ} {bytes part : List ℕ} {old mid new : BusState} where
@@ -40,7 +40,7 @@ module _ {included : Option (List Span)} {piece k reads more : ℕ} {bytes part 
       record {
         few = grind arith;
         counted = let next = count_below-more (16 * piece + k) test in grind arith;
-        honest_reads = looked_on has.honest_reads (has_looked only_reads reading.rested reading.fell reading.polled_ready);
+        honest_reads = has_only_read-then has.honest_reads (has_only_read only_reads reading.rested reading.fell reading.polled_ready);
         right = λ honest idle fits i small.
             let put = put_back k width bytes part exact long (omega arith) in
             elim (cases_lt i (4096 * k)) [

@@ -16,8 +16,8 @@ use Rattle.nor_request.specs.Errors.{IdentificationErrors, EndsAtError}
 use Rattle.nor_read.specs.Finding.{IsModelled, HasFound, ReadingErrors, most_read}
 use Rattle.nor_read.specs.Reading.{ReadOutAlways, ReadOutHonest, ReadOutModelled, IsReadRefusal, ReadOutErrors}
 use Rattle.nor_read.specs.Reading.{Copies, ReadsAll, CopyErrors}
-use Rattle.nor_read.proofs.Onward.{has_looked, same_bytes}
-use Rattle.nor_read.proofs.Whole.{Sends, find_tells, find_ends, sends_probe, sends_on, fails, report_of, reported}
+use Rattle.nor_read.proofs.Onward.{has_only_read, same_bytes}
+use Rattle.nor_read.proofs.Whole.{Sends, find_errors, find_ends, sends_probe, sends_on, fails, report_of, reported}
 use Rattle.nor_read.proofs.Whole.{rested_on, size_of, open_after, is_taken, is_passed}
 
 -- Holds if the promises of `read_out` are kept at an exit with this result.
@@ -36,18 +36,18 @@ module _ (named : Option ChipName) (included : Option (List Span)) (vault : Vaul
   refused refusal sends is last errors own = search sends.own
 
   -- An error of the probe is one that `read_out` may return. On a modelled bus it means what `read_out` promises.
-  unfound_tells : (old new : BusState) (refusal : Refusal) → IdentificationErrors most_probe named old new refusal
+  unfound_errors : (old new : BusState) (refusal : Refusal) → IdentificationErrors most_probe named old new refusal
       → IsReadRefusal vault vault refusal × (IsModelled old → ReadOutErrors named included old new vault vault refusal)
-  unfound_tells old new Stopped errors =
+  unfound_errors old new Stopped errors =
       ((tt, assumption), λ known. let ran = errors.ran_out known.honest in omega arith)
-  unfound_tells old new _ errors = search
+  unfound_errors old new _ errors = search
 
   pub unfound : {old new : BusState} (refusal : Refusal) → OnlyReads most_probe old new
       → IdentificationErrors most_probe named old new refusal → HasReadOut named included old new vault vault (Err refusal)
   unfound {old} {new} refusal only_reads errors =
-      let own = unfound_tells old new refusal errors in
+      let own = unfound_errors old new refusal errors in
       refused refusal (sends_probe only_reads) own.0 (find_ends most_probe named old new refusal errors)
-      (find_tells (most_read 16777216) named old new refusal (omega arith) errors) own.1
+      (find_errors (most_read 16777216) named old new refusal (omega arith) errors) own.1
 
   -- the exits after a chip was found
   module _ {old mid : BusState} {probed : Probed} (found : HasFound named old mid probed)
@@ -81,7 +81,7 @@ module _ (named : Option ChipName) (included : Option (List Span)) (vault : Vaul
           → HasReadOut named included old new vault vault' (Ok (report_of probed reads))
       copied_whole all =
           let sends = sends_on found only_reads after in
-          let reports = reported found only_reads (has_looked after all.rested all.fell all.polled_ready) all.counted in
+          let reports = reported found only_reads (has_only_read after all.rested all.fell all.polled_ready) all.counted in
           let took = all.took in
           let copy : IsModelled old → vault.telling ≡ true
           → Copies included old.chip.bytes old.chip.config.size vault vault'

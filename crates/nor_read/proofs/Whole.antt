@@ -11,8 +11,8 @@ use Rattle.nor_layout.proofs.Sectors.{sectors_included-most}
 use Rattle.nor_probe.specs.declared.table.ChipName.{ChipName}
 use Rattle.nor_probe.specs.declared.probes.Probed.{Probed}
 use Rattle.nor_probe.specs.Found.{IsConfigOf, most_probe}
-use Rattle.nor_driver.proofs.ReadsInTurn.{looks_more, looks_on}
-use Rattle.nor_driver.proofs.RestsInTurn.{HasLooked, rested_then}
+use Rattle.nor_driver.proofs.ReadsInTurn.{only_reads_more, only_reads_within}
+use Rattle.nor_driver.proofs.RestsInTurn.{HasOnlyRead, rested_then}
 use Rattle.nor_request.specs.declared.refusal.Refusal.{Refusal}
 use Rattle.nor_request.specs.declared.refusal.Refusal.TheVariants.{Stopped, Timeout}
 use Rattle.nor_request.specs.declared.report.Report.{Report}
@@ -41,11 +41,11 @@ pub record OperationFails (old new : BusState) : Type 0 where
 
 -- ---- no chip is found
 
-pub find_tells : (most : ℕ) (named : Option ChipName) (old new : BusState) (refusal : Refusal) → most_probe ≤ most
+pub find_errors : (most : ℕ) (named : Option ChipName) (old new : BusState) (refusal : Refusal) → most_probe ≤ most
     → IdentificationErrors most_probe named old new refusal → old.honest ≡ true → ReadingErrors most named old new refusal
-find_tells most named old new Stopped fits errors honest = let ran = errors.ran_out honest in omega arith
-find_tells most named old new (Timeout address) fits errors honest = absurd (errors.2 honest)
-find_tells most named old new _ fits errors honest = search
+find_errors most named old new Stopped fits errors honest = let ran = errors.ran_out honest in omega arith
+find_errors most named old new (Timeout address) fits errors honest = absurd (errors.2 honest)
+find_errors most named old new _ fits errors honest = search
 
 -- After error 12 or 13 of the probe the last transaction is as `EndsAtError` says; for the probe's other errors
 -- `EndsAtError` says nothing.
@@ -56,7 +56,7 @@ find_ends most named old new (Timeout address) errors = errors.1
 find_ends most named old new _ errors = search
 
 pub sends_probe : {old new : BusState} → OnlyReads most_probe old new → Sends old new
-sends_probe only_reads = search (arith, looks_more)
+sends_probe only_reads = search (arith, only_reads_more)
 
 -- ---- a chip is found
 
@@ -96,9 +96,9 @@ module _ {named : Option ChipName} {old mid : BusState} {probed : Probed}
   sends_on after =
       let most = found.is.part.at_most in
       record {
-        largest = looks_on (most_read 16777216) (omega arith) only_reads after;
+        largest = only_reads_within (most_read 16777216) (omega arith) only_reads after;
         own = λ known. let size = size_of known in
-            looks_on (most_read old.chip.config.size) (omega arith) only_reads after;
+            only_reads_within (most_read old.chip.config.size) (omega arith) only_reads after;
       }
 
   -- If an honest bus stops after the probe, fewer transactions were left at the start than the whole call may need.
@@ -133,7 +133,7 @@ module _ {named : Option ChipName} {old mid : BusState} {probed : Probed}
   is_passed past known = search (has_name, rw (size_of known) at past)
 
   -- The promises about a report hold for the report of a call that succeeded.
-  pub reported : {included : Option (List Span)} {new : BusState} {reads : ℕ} → HasLooked reads mid new
+  pub reported : {included : Option (List Span)} {new : BusState} {reads : ℕ} → HasOnlyRead reads mid new
       → reads ≡ sectors_included included probed.found.size → Reports named included old new (report_of probed reads)
   reported {included} {new} {reads} honest_reads counted =
       let few = sectors_included-most included probed.found.size in

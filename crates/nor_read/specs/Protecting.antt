@@ -24,7 +24,7 @@ pub record IsProtectedRange (chip : Chip) (start len : ℕ) : Type 0 where
 -- protection bits are undefined), whether the status is locked, and the chip's size.
 pub record IsProtection (chip : Chip) (protection : Protection) : Type 0 where
   pub scheme : chip.config.scheme ≡ true
-  pub guarded : MatchOption protection.range (is_undefined (code_of chip.kept) ≡ true)
+  pub protected : MatchOption protection.range (is_undefined (code_of chip.kept) ≡ true)
       (λ places. IsProtectedRange chip places.0 places.1)
   pub lock : protection.locked ≡ is_locked chip.kept
   pub chip_size : protection.size ≡ chip.config.size

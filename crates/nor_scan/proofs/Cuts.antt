@@ -41,7 +41,7 @@ use Rattle.nor_request.specs.Request.{wanted}
 -- The bytes of a `telling` vault are a prefix of those that the writer was given.
 put_begins : {V : Type 0} {state : V → VaultState} {writer : Writer V} {c : Content} → HasWritten state writer c
     → (vault_seen state writer).telling ≡ true → StartsWith (front c) (vault_seen state writer).bytes
-put_begins {c = c} written errors = rw (written.put.returned errors) (take_all (length (front c)) (front c) (omega arith))
+put_begins {c = c} written faithful = rw (written.put.held faithful) (take_all (length (front c)) (front c) (omega arith))
 
 -- If the marks are right, and the records so far are those of the marked sectors, the records are those of the touched
 -- sectors below `n`, the next sector.
@@ -65,10 +65,10 @@ module _ {V : Type 0} {state : V → VaultState} {writer : Writer V} {head : Con
 pub cut_between : {V : Type 0} {state : V → VaultState} {writer : Writer V} {head : Content} {chip : ℕ → ℕ}
     {touched : ℕ → Bool} (size : ℕ) → head.size ≡ size → HasKeptBelow state writer head chip touched (size / 4096)
     → HoldsCut (vault_seen state writer) head chip touched (size / 4096)
-cut_between {head = head} {chip = chip} {touched = touched} size sized below = λ errors.
+cut_between {head = head} {chip = chip} {touched = touched} size sized below = λ faithful.
     let kept = below.kept in let inside = below.inside in
     rw (← sized) (begins_whole head chip touched kept.content below.bound _ kept.same kept.saves kept.next
-    (rw sized inside) (put_begins kept.written errors))
+    (rw sized inside) (put_begins kept.written faithful))
 
 -- For a refusal within the record of `n`, a touched sector of the chip. A `telling` vault then holds a prefix of the
 -- header, the earlier records and this record. These are a prefix of the whole journal, so the vault's bytes are one,
@@ -79,13 +79,13 @@ pub cut_in_record : {V : Type 0} {state : V → VaultState} {writer : Writer V} 
     → n < size / 4096 → touched n ≡ true → IsWholeSector chip n bytes
     → HoldsPrefix vault (front (with_sector kept.content n bytes)) → HoldsCut vault head chip touched (size / 4096)
 cut_in_record {state = state} {writer = writer} {head = head} {chip = chip} {n = n} {bytes = bytes} vault touched size
-    kept sized within is sector holds = λ errors.
+    kept sized within is sector holds = λ faithful.
     let inside : n < head.size / 4096 = rw sized within in
     rw (← sized) (begins_whole head chip touched (with_sector kept.content n bytes) (n + 1) vault.bytes
     kept.same
     (Saves-more chip _ (λ s. nat_lt s (n + 1) && touched s) kept.content n bytes kept.saves
     (may_follow state writer head chip _ n n kept (omega arith) inside) sector (one_more_below touched n is))
-    (omega (arith, next_number-with_sector kept.content n bytes)) (omega arith) (holds errors))
+    (omega (arith, next_number-with_sector kept.content n bytes)) (omega arith) (holds faithful))
 
 -- ---- a chip, from the identification and the scan
 
@@ -170,19 +170,19 @@ pub from_head : {V : Type 0} {state : V → VaultState} {writer : Writer V} {ide
     {promise : Content → Type 0} → PutsHead state writer identity old
     → FromHead state writer identity.found.size old promise → (chip : Chip) → IsIdentityOf chip identity → HasIdleChip chip old
     → promise (header_of chip)
-from_head puts returned chip is shows = returned (is_open is shows) (header_of chip) (sym is.config.size) (puts chip is shows)
+from_head puts promised chip is shows = promised (is_open is shows) (header_of chip) (sym is.config.size) (puts chip is shows)
 
 -- An error of the check after the scan is the verdict for the chip on the bus, under the premises of `JudgesChip`.
-pub judged_tells : {request : Request} {identity : Identity} {image image' : List ℕ} {old new : BusState}
+pub judged_errors : {request : Request} {identity : Identity} {image image' : List ℕ} {old new : BusState}
     {scanned : Scanned} (code : ℕ) (refusal : Refusal) → Scans request identity.found.size image image' old new scanned
     → IsScanRefusal refusal
     → OfTouched request identity code (has scanned.touched) (λ image chip. IsVerdict request image chip refusal)
     → SaveErrors request identity code image old new refusal
-judged_tells {image = image} code StatusLocked scans is judges =
+judged_errors {image = image} code StatusLocked scans is judges =
     λ chip opened shows accepts. judges chip image opened accepts (touched_right opened shows scans)
-judged_tells {image = image} code (Protected address) scans is judges =
+judged_errors {image = image} code (Protected address) scans is judges =
     λ chip opened shows accepts. judges chip image opened accepts (touched_right opened shows scans)
-judged_tells code _ scans is judges = absurd is
+judged_errors code _ scans is judges = absurd is
 
 -- ---- a truncated journal
 
@@ -192,14 +192,14 @@ pub cut_in_head : (request : Request) (image : List ℕ) (seen vault : VaultStat
     → IsContent (head_read identity status) → HoldsPrefix seen (front (head_read identity status)) → seen ≡ vault
     → SaveCuts request identity image old vault
 cut_in_head request image seen vault reaches read content holds same =
-    rw (← same) (λ errors chip is shows.
+    rw (← same) (λ faithful chip is shows.
     let head = header_of chip in
     let e = head_same is shows (reaches shows.honest).kept2 read in
     begins_touched request image seen.bytes chip
     (begins_whole head chip.bytes (touched_of request image chip) head 0 seen.bytes refl
     (Saves-none chip.bytes _ head (rw e at content) refl (λ s. grind (arith, nat_tests)))
     (omega (arith, next_number-empty_content head.id head.unique head.status head.size)) (omega arith)
-    (rw e at (holds errors))))
+    (rw e at (holds faithful))))
 
 module _ {V : Type 0} {state : V → VaultState} {first : Writer V} {identity : Identity} {old : BusState}
     (request : Request) (image : List ℕ) (vault : VaultState) (puts : PutsHead state first identity old) where
@@ -207,9 +207,9 @@ module _ {V : Type 0} {state : V → VaultState} {first : Writer V} {identity : 
   pub cut_in_scan : (seen : VaultState) → FromHead state first identity.found.size old (λ head.
       HoldsCut seen head old.chip.bytes (is_touched old.chip.bytes (wanted_at request image identity.found.size
       old.chip.bytes)) (identity.found.size / 4096)) → seen ≡ vault → SaveCuts request identity image old vault
-  cut_in_scan seen returned same = rw (← same) (λ errors chip is shows.
+  cut_in_scan seen promised same = rw (← same) (λ faithful chip is shows.
       begins_touched request image seen.bytes chip
-      (rw (same_bytes is shows, is.config.size) at (from_head puts returned chip is shows errors)))
+      (rw (same_bytes is shows, is.config.size) at (from_head puts promised chip is shows faithful)))
 
   -- For an error of the scan other than 11: `SaveBegins` follows from `HasKeptBelow`, which the scan ensures for each
   -- header.
@@ -217,8 +217,8 @@ module _ {V : Type 0} {state : V → VaultState} {first : Writer V} {identity : 
       refusal ≢ Vault → HasKeptBelow state last head old.chip.bytes (is_touched old.chip.bytes (wanted_at request image
       identity.found.size old.chip.bytes)) (identity.found.size / 4096)) → vault_seen state last ≡ vault
       → SaveBegins request identity image old vault refusal
-  begins_scan returned same = rw (← same) (λ other errors chip is shows.
-      let below = rw (same_bytes is shows, is.config.size) at (from_head puts returned chip is shows other) in
+  begins_scan promised same = rw (← same) (λ other faithful chip is shows.
+      let below = rw (same_bytes is shows, is.config.size) at (from_head puts promised chip is shows other) in
       let kept = below.kept in let inside = below.inside in
       record {
         content = kept.content;
@@ -226,7 +226,7 @@ module _ {V : Type 0} {state : V → VaultState} {first : Writer V} {identity : 
         same = kept.same;
         saves = Saves-same chip.bytes _ (λ s. nat_lt s below.bound && is_touched chip.bytes (wanted request image chip) s) kept.content
             (λ s. grind (arith, nat_tests)) kept.saves;
-        is = kept.written.put.returned errors;
+        is = kept.written.put.held faithful;
       })
 
 -- the writer after a scan that succeeded, before the vault is sealed
@@ -243,19 +243,19 @@ module _ {V : Type 0} {state : V → VaultState} {first last : Writer V} {reques
       (from_head puts keeps chip is shows)
 
   pub cut_at_end : (vault : VaultState) → vault_seen state last ≡ vault → SaveCuts request identity image old vault
-  cut_at_end vault same = rw (← same) (λ errors chip is shows.
+  cut_at_end vault same = rw (← same) (λ faithful chip is shows.
       let kept = all_put chip is shows in
       record {
         content = kept.content;
         same = kept.same;
         saves = kept.saves;
         begins = front_begins kept.content (front kept.content) [] (vault_seen state last).bytes
-            (sym (append-nil (front kept.content))) (put_begins kept.written errors);
+            (sym (append-nil (front kept.content))) (put_begins kept.written faithful);
       })
 
   pub begins_all : (vault : VaultState) {refusal : Refusal} → vault_seen state last ≡ vault
       → SaveBegins request identity image old vault refusal
-  begins_all vault same = rw (← same) (λ other errors chip is shows.
+  begins_all vault same = rw (← same) (λ other faithful chip is shows.
       let kept = all_put chip is shows in
       record {
         content = kept.content;
@@ -263,5 +263,5 @@ module _ {V : Type 0} {state : V → VaultState} {first last : Writer V} {reques
         same = kept.same;
         saves = Saves-same chip.bytes (is_touched chip.bytes (wanted request image chip)) _ kept.content
             (λ s. ap (λ (set : ℕ → Bool). set s) (only_touched request image chip)) kept.saves;
-        is = kept.written.put.returned errors;
+        is = kept.written.put.held faithful;
       })

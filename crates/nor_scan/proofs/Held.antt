@@ -5,7 +5,7 @@ use Rattle.std.proofs.Common.{◌≡◌, ◌≤◌, ◌∷◌, [], ℕ, ◌+◌,
 use Rattle.std.proofs.lemmas.Bool.Decides.{nat_tests}
 use Rattle.nor_model.specs.Chip.{Chip, KeptBits, is_locked, kept_in}
 use Rattle.nor_model.specs.Guard.{code_of, is_block_protected}
-use Rattle.nor_model.proofs.Guarded.{is_protected-past}
+use Rattle.nor_model.proofs.ProtectedBlocks.{is_protected-past}
 use Rattle.nor_model.proofs.Sizes.{sized_bounds}
 use Rattle.nor_scan.specs.declared.identity.Identity.{Identity}
 use Rattle.nor_scan.specs.Identity.{status_read}

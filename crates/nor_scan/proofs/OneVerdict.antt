@@ -179,11 +179,11 @@ module _ {request : Request} {image : List ℕ} {chip : Chip} where
 -- ---- the errors of the check after the scan
 
 -- Some touched sector is protected if and only if the first such sector was found.
-pub held_told : (touched : ℕ → Bool) (chip : Chip) (found : Option ℕ)
+pub some_protected-found : (touched : ℕ → Bool) (chip : Chip) (found : Option ℕ)
     → MatchOption found (NoneProtected touched chip) (IsLeastProtected touched chip)
     → MatchBool (is_some found) (SomeProtected touched chip) (NoneProtected touched chip)
-held_told touched chip None none = none
-held_told touched chip (Some s) least = record { sector = s; held = least.is }
+some_protected-found touched chip None none = none
+some_protected-found touched chip (Some s) least = record { sector = s; held = least.is }
 
 module _ (request : Request) (image : List ℕ) (chip : Chip) where
   -- true for the sectors that the request touches

@@ -24,7 +24,7 @@ use Rattle.nor_geometry.proofs.Counting.{count_below-none, count_below-same}
 use Rattle.nor_geometry.proofs.Verdicts.{count_below-insert}
 use Rattle.nor_scan.proofs.Planned.{may_change-included, wanted-kept, untouched, unraised}
 use mathlib.Core.Path.{fun_ext}
-use Rattle.nor_driver.proofs.RestsInTurn.{HasLooked, has_looked-none, has_looked-more}
+use Rattle.nor_driver.proofs.RestsInTurn.{HasOnlyRead, has_only_read-none, has_only_read-more}
 use Rattle.nor_plan.proofs.Parts.{cut_out, put_back}
 use Rattle.nor_model.specs.Size.{is_chip_size}
 use Rattle.nor_model.proofs.Sizes.{is_chip_size-in_blocks}
@@ -38,7 +38,7 @@ pub record HasScanned (request : Request) (size n : ℕ) (image image' : List �
     (scanned : Scanned) : Type 0 where
   pub marks : AreMarks n scanned
   pub reads : scanned.reads ≡ count_below n (has_in_sector (includes request.included))
-  pub honest_reads : HasLooked scanned.reads old new
+  pub honest_reads : HasOnlyRead scanned.reads old new
   pub right : IsOpen size old → AreRight (wanted_at request image size old.chip.bytes) old.chip.bytes n scanned
   pub merged : IsOpen size old → (a : ℕ) → has scanned.touched (a / 4096) ≡ true
       → slice_index image' a ≡ wanted_at request image size old.chip.bytes a
@@ -124,7 +124,7 @@ nothing_scanned request size image state scanned blank = record {
     count = blank.count ∙ sym (count_below-none 4096 (has scanned.touched) (λ s below. blank.touched s));
   };
   reads = blank.reads ∙ sym (count_below-zero (has_in_sector (includes request.included)));
-  honest_reads = rw blank.reads (has_looked-none state);
+  honest_reads = rw blank.reads (has_only_read-none state);
   right = λ is_open. record {
     touched = λ s. rw (blank.touched s) (grind (arith, nat_tests));
     raised = λ s. rw (blank.raised s) (grind (arith, nat_tests));
@@ -133,7 +133,7 @@ nothing_scanned request size image state scanned blank = record {
   rest = λ a above. refl;
 }
 
-pub opened_later : (size reads : ℕ) (old mid : BusState) → IsOpen size old → HasLooked reads old mid → IsOpen size mid
+pub opened_later : (size reads : ℕ) (old mid : BusState) → IsOpen size old → HasOnlyRead reads old mid → IsOpen size mid
 opened_later size reads old mid is_open honest_reads =
     let was = (honest_reads.rested is_open.honest).unchanged in let busy = was.busy in let idle = is_open.idle in
     record {
@@ -216,7 +216,7 @@ module _ {request : Request} {size n : ℕ} {image image' : List ℕ} {old mid :
           reads =
               let next = count_below-with n (has_in_sector (includes request.included)) at.included in
               omega (arith, was.reads, marked.reads);
-          honest_reads = rw marked.reads (has_looked-more scanned.reads old mid new was.honest_reads only_reads scans.read scans.polled_ready);
+          honest_reads = rw marked.reads (has_only_read-more scanned.reads old mid new was.honest_reads only_reads scans.read scans.polled_ready);
           right = λ is_open.
               let plans = planned_before is_open in
               record {

@@ -22,10 +22,10 @@ pub record Still (old new : Chip) : Type 0 where
 abbrev pub read_of : (idle : Bool) → Config → (x y z : ℕ) → Command
 read_of idle config x y z = if idle then ReadData (address_of config x y z) else Ignored
 
-pub unsent : (idle : Bool) (x y z : ℕ) (old mid : Chip) (first : List ℕ)
+pub still_after_read : (idle : Bool) (x y z : ℕ) (old mid : Chip) (first : List ℕ)
     → Does (read_of idle old.config x y z) [] old first mid → Still old mid
-unsent true x y z old mid first one = record { config = one.config; bytes = one.bytes; busy = one.busy }
-unsent false x y z old mid first one = record { config = one.config; bytes = one.bytes; busy = one.busy }
+still_after_read true x y z old mid first one = record { config = one.config; bytes = one.bytes; busy = one.busy }
+still_after_read false x y z old mid first one = record { config = one.config; bytes = one.bytes; busy = one.busy }
 
 pub reply_alike : (idle : Bool) (x y z : ℕ) (old mid : Chip) → Still old mid → (i : ℕ)
     → reply_byte mid (read_of idle mid.config x y z) i ≡ reply_byte old (read_of idle old.config x y z) i
@@ -47,7 +47,7 @@ pub read_alike : (x y z : ℕ) (old mid new : Chip) (first again : List ℕ)
     → Step old (3 ∷ x ∷ y ∷ z ∷ []) first mid → Step mid (3 ∷ x ∷ y ∷ z ∷ []) again new
     → length again ≡ length first → again ≡ first
 read_alike x y z old mid new first again one two len =
-    let s = unsent (old.busy == 0) x y z old mid first one in
+    let s = still_after_read (old.busy == 0) x y z old mid first one in
     let same : (i : ℕ) → reply_byte mid (read_of (mid.busy == 0) mid.config x y z) i
     ≡ reply_byte old (read_of (old.busy == 0) old.config x y z) i =
     λ i.

@@ -33,8 +33,8 @@ use Rattle.nor_session.specs.PrepareRestore.{NeedsStatusWith, FitsJournal, FitsI
 use Rattle.nor_session.specs.Restore.{IsOfTypeFound, HasFixedRead}
 use Rattle.nor_scan.proofs.Held.{code_same}
 use Rattle.nor_session.proofs.Changed.{writes_other}
-use Rattle.nor_session.proofs.JudgedStatus.{held_scheme, free_place, writable_for}
-use Rattle.nor_session.proofs.ReadyChip.{told_idle, opening_of}
+use Rattle.nor_session.proofs.JudgedStatus.{held_scheme, free_address, writable_for}
+use Rattle.nor_session.proofs.ReadyChip.{status1_if_idle, opening_of}
 use Rattle.nor_session.proofs.Rescanned.{restored_saved}
 use Rattle.nor_session.proofs.RestoredBytes.{unraised_byte}
 
@@ -68,16 +68,16 @@ module _ {journal : Content} {identity : Identity} {scanned : Scanned} {old mid 
       let bytes : mid.chip.bytes ≡ old.chip.bytes = fun_ext same.bytes in
       (fun_ext (rw bytes at (read.scans.touched is_open)), fun_ext (rw bytes at (read.scans.raised is_open)))
 
-  pub shut_tells : (most : ℕ)
+  pub shut_errors : (most : ℕ)
       → ((chip : Chip) → IsIdentityOf chip identity → IsShut journal (has scanned.touched) chip)
       → PrepareErrors journal most old new StatusLocked
-  shut_tells most shut = record {
+  shut_errors most shut = record {
     judged = refl;
     same = λ honest. (rested_all honest).unchanged.same;
     verdict = λ modelled.
         let is = opening_of modelled read.opens in
-        let errors = rw (marks_old modelled).0 at (shut old.chip is) in
-        (read.fits old.chip (read.small modelled.honest) is, errors.locked, errors.needs);
+        let is_shut = rw (marks_old modelled).0 at (shut old.chip is) in
+        (read.fits old.chip (read.small modelled.honest) is, is_shut.locked, is_shut.needs);
   }
 
 -- ---- the changes can be made
@@ -123,7 +123,7 @@ module _ {journal : Content} {identity : Identity} {scanned : Scanned} {changes 
         | inr off ↦ inl (λ same. writes_other changes off writes (status ∙ same ∙ sym are.code))
       ] in
       let shown = read.opens.shown modelled.honest in
-      let returned = told_idle None identity old mid modelled.honest read.opens in
+      let returned = status1_if_idle None identity old mid modelled.honest read.opens in
       let can : CanApply changes (saved_byte journal) new.chip = record {
         idle =
             let idle = read.opens.idle modelled.honest in
@@ -140,7 +140,7 @@ module _ {journal : Content} {identity : Identity} {scanned : Scanned} {changes 
           | inl lifted ↦ absurd (both_ways changes.unlock plain lifted)
           | inr none ↦
               let b = below (a / 4096) hit in
-              free_place same _ a none (sym (touched (a / 4096)) ∙ hit) (omega arith)
+              free_address same _ a none (sym (touched (a / 4096)) ∙ hit) (omega arith)
         ];
         writable = λ writes.
             writable_for same (scheme_for journal _ old.chip fits (needed writes))

@@ -67,7 +67,7 @@ pub checked : (changes : Changes) (wanted : ℕ → ℕ) (verify : Bool) (old mi
     → DoesChange changes wanted verify old new work
 checked changes wanted verify old mid new written work inside leaves does checking =
     let raised = raised_few changes inside in
-    let unsent = leaves.spends.nature.honest in
+    let same_honest = leaves.spends.nature.honest in
     let applied = rest_applied changes wanted old mid new in
     let read : verify ≡ true → old.honest ≡ true → CanCheck (touched_in changes) old.chip
     → HasBytes (touched_in changes) wanted new.chip = λ verifies honest can a hit.
@@ -75,5 +75,5 @@ checked changes wanted verify old mid new written work inside leaves does checki
       idle = does.idle honest can.idle;
       inside = λ s is. rw (leaves.spends.nature.config honest) (can.inside s is);
     } in
-    (checking.rested (unsent ∙ honest)).unchanged.same.bytes a ∙ checking.same verifies (unsent ∙ honest) still_can a hit in
+    (checking.rested (same_honest ∙ honest)).unchanged.same.bytes a ∙ checking.same verifies (same_honest ∙ honest) still_can a hit in
     grind (arith, applied, read)

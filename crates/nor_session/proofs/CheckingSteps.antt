@@ -10,7 +10,7 @@ use Rattle.nor_model.proofs.Nature.{nature_then}
 use Rattle.nor_driver.specs.OnlyReads.{OnlyReads, HasStopped}
 use Rattle.nor_driver.specs.Ready.{StaysReady}
 use Rattle.nor_driver.specs.Reads.{IsSectorOf, ReadsSector}
-use Rattle.nor_driver.proofs.RestsInTurn.{HasLooked, has_looked-none, looks_after, runs_out, rested_then}
+use Rattle.nor_driver.proofs.RestsInTurn.{HasOnlyRead, has_only_read-none, only_reads_after, runs_out, rested_then}
 use Rattle.nor_plan.specs.Bytes.{AllAgree, IsFirstDifference}
 use Rattle.nor_apply.specs.Change.{only, byte_of}
 use Rattle.nor_session.specs.Checking.{CanCheck, DoesChecks, CheckErrors, NamesDifference}
@@ -65,7 +65,7 @@ module _ {sector : ℕ} {bytes : List ℕ} {old new : BusState} (long : length b
 -- Holds after each sector of the set that is below `n` was read once. On a well-behaved bus, if `CanCheck` held at the
 -- start, the bytes of these sectors are the target ones.
 pub record HasChecked (sectors : ℕ → Bool) (wanted : ℕ → ℕ) (n : ℕ) (old new : BusState) (sent : ℕ) : Type 0 where
-  pub honest_reads : HasLooked sent old new
+  pub honest_reads : HasOnlyRead sent old new
   pub few : sent ≤ n
   pub counted : sent ≡ count_below n sectors
   pub same : old.honest ≡ true → CanCheck sectors old.chip
@@ -73,7 +73,7 @@ pub record HasChecked (sectors : ℕ → Bool) (wanted : ℕ → ℕ) (n : ℕ) 
 
 pub checked_none : {t : ℕ → Bool} {w : ℕ → ℕ} (state : BusState) → HasChecked t w 0 state state 0
 checked_none {t} state = record {
-  honest_reads = has_looked-none state;
+  honest_reads = has_only_read-none state;
   few = omega arith;
   counted = sym (count_below-zero t);
   same = λ honest can a below is. absurd (omega arith);
@@ -106,12 +106,12 @@ module _ {t : ℕ → Bool} {w : ℕ → ℕ} {n sent : ℕ} {old mid : BusState
       fewer : sent + 1 ≤ sector_count t
       fewer = omega (arith, count_below-next 4096 n t below is, has.counted)
 
-      failed_tells : (new : BusState) (fault : CheckFault) → CheckErrors (only n) (byte_of n bytes) mid new fault
+      failed_errors : (new : BusState) (fault : CheckFault) → CheckErrors (only n) (byte_of n bytes) mid new fault
           → CheckErrors t w old new fault
-      failed_tells new Stopped errors =
+      failed_errors new Stopped errors =
           runs_out sent (sector_count t) old mid new (omega (arith, fewer)) has.honest_reads
           (rw (sector_count-only n below) at errors)
-      failed_tells new (Mismatch address) errors = (
+      failed_errors new (Mismatch address) errors = (
         errors.0,
         λ honest can.
             let same = (has.honest_reads.rested honest).unchanged.same in
@@ -126,7 +126,7 @@ module _ {t : ℕ → Bool} {w : ℕ → ℕ} {n sent : ℕ} {old mid : BusState
           → CheckErrors (only n) (byte_of n bytes) mid new fault → NamesDifference (only n) fault
           → OnlyReads (sector_count t) old new × CheckErrors t w old new fault × NamesDifference t fault
       failed {new} fault only_reads errors names = (
-        looks_after sent 1 (sector_count t) old mid new fewer has.honest_reads only_reads,
-        failed_tells new fault errors,
+        only_reads_after sent 1 (sector_count t) old mid new fewer has.honest_reads only_reads,
+        failed_errors new fault errors,
         failed_names fault names,
       )

@@ -16,7 +16,7 @@ use Rattle.nor_scan.proofs.Planned.{untouched, unraised}
 use Rattle.nor_session.specs.Headline.{SavesChip, open_addresses, CanRestore}
 use Rattle.nor_session.specs.Restore.{restored, NeedsStatusFrom, IsRestored}
 use Rattle.nor_session.specs.InTurn.{LeavesJournal, LosesPower, MayLosePower, IsTakenUp, ChangesNothing}
-use Rattle.nor_session.proofs.RestoredOriginal.{given_back, lost_within}
+use Rattle.nor_session.proofs.RestoredOriginal.{same_as_original, lost_within}
 use Rattle.nor_session.proofs.WrittenBack.{read_back, session_over}
 
 -- ---- a chip that is already equal to the saved one
@@ -59,19 +59,20 @@ changes_nothing journal first old new report saves same done =
 -- ---- one session after the other
 
 -- Holds if a restore of this chip from the journal leaves the original chip, provided that the restore succeeds
--- (`led_back`). The journal saves the original chip, and the two chips have the same configuration and agree at all
--- addresses that a restore can't write. An operation may be in progress.
-record LeadsTo (journal : Content) (first chip : Chip) : Type 0 where
+-- (`restored_same`). The journal saves the original chip, and the two chips have the same configuration and agree at
+-- all addresses that a restore can't write. An operation may be in progress.
+record CanRestoreChip (journal : Content) (first chip : Chip) : Type 0 where
   saves : SavesChip journal first
   config : chip.config ≡ first.config
   bytes : (a : ℕ) → open_addresses journal first a ≡ false → chip.bytes a ≡ first.bytes a
 
-leads_to : (journal : Content) (first : Chip) (state : BusState) → CanRestore journal first state → LeadsTo journal first state.chip
-leads_to journal first state can = record { saves = can.saves; config = can.within.config; bytes = can.within.bytes }
+can_restore_chip : (journal : Content) (first : Chip) (state : BusState) → CanRestore journal first state → CanRestoreChip journal first state.chip
+can_restore_chip journal first state can = record { saves = can.saves; config = can.within.config; bytes = can.within.bytes }
 
--- `LeadsTo` depends only on the configuration and the bytes of the chip, so it holds for the same chip on another bus
-leads_same : (journal : Content) (first new taken : Chip) → LeadsTo journal first new → IsSame new taken → LeadsTo journal first taken
-leads_same journal first new taken leads same = search arith
+-- `CanRestoreChip` depends only on the configuration and the bytes of the chip, so it holds for the same chip on
+-- another bus
+can_restore_same : (journal : Content) (first new taken : Chip) → CanRestoreChip journal first new → IsSame new taken → CanRestoreChip journal first taken
+can_restore_same journal first new taken can same = search arith
 
 -- the proof of the law `power_lost_restores_original`
 pub lost_back : (journal : Content) (first : Chip) (old new : BusState) → CanRestore journal first old → LosesPower old new → CanRestore journal first new
@@ -81,33 +82,33 @@ lost_back journal first old new can loses = record {
   within = lost_within (open_addresses journal first) first old new loses.known loses.lost can.within;
 }
 
--- if a journal can restore the original chip (`CanRestore`), `LeadsTo` holds for the chip after it kept its bytes and
--- status bits, or lost its power
-leads_kept : (journal : Content) (first : Chip) (new taken : BusState) → CanRestore journal first new → MayLosePower new taken → LeadsTo journal first taken.chip
-leads_kept journal first new taken can (inl same) = leads_same journal first new.chip taken.chip (leads_to journal first new can) same
-leads_kept journal first new taken can (inr loses) = leads_to journal first taken (lost_back journal first new taken can loses)
+-- if a journal can restore the original chip (`CanRestore`), `CanRestoreChip` holds for the chip after it kept its
+-- bytes and status bits, or lost its power
+can_restore_kept : (journal : Content) (first : Chip) (new taken : BusState) → CanRestore journal first new → MayLosePower new taken → CanRestoreChip journal first taken.chip
+can_restore_kept journal first new taken can (inl same) = can_restore_same journal first new.chip taken.chip (can_restore_chip journal first new can) same
+can_restore_kept journal first new taken can (inr loses) = can_restore_chip journal first taken (lost_back journal first new taken can loses)
 
 -- the journal of a session can restore the original chip from the chip that the session left (`left_back`), and
--- `LeadsTo` holds for the chip with which the next run starts (`left_taken`)
+-- `CanRestoreChip` holds for the chip with which the next run starts (`left_taken`)
 left_back : (request : Request) (image : List ℕ) (old new : BusState) (journal : Content) → LeavesJournal request image old new journal → CanRestore journal old.chip new
 left_back request image old new journal left = search (arith, read_back)
 
 left_taken : (request : Request) (image : List ℕ) (old new taken : BusState) (journal : Content) → LeavesJournal request image old new journal → IsTakenUp old new taken
-    → LeadsTo journal old.chip taken.chip
+    → CanRestoreChip journal old.chip taken.chip
 left_taken request image old new taken journal left (inl kept) =
-    leads_kept journal old.chip new taken (left_back request image old new journal left) kept
-left_taken request image old new taken journal left (inr over) = search (arith, leads_to, session_over)
+    can_restore_kept journal old.chip new taken (left_back request image old new journal left) kept
+left_taken request image old new taken journal left (inr over) = search (arith, can_restore_chip, session_over)
 
--- for the journal of a session, `LeadsTo` holds for a chip that was taken up after the session (`IsTakenUp`), and for
--- one from which that journal can still restore the original chip (`CanRestore`)
+-- for the journal of a session, `CanRestoreChip` holds for a chip that was taken up after the session (`IsTakenUp`),
+-- and for one from which that journal can still restore the original chip (`CanRestore`)
 left_reached : (request : Request) (image : List ℕ) (old new taken : BusState) (journal : Content) → LeavesJournal request image old new journal
-    → IsTakenUp old new taken ⊎ CanRestore journal old.chip taken → LeadsTo journal old.chip taken.chip
+    → IsTakenUp old new taken ⊎ CanRestore journal old.chip taken → CanRestoreChip journal old.chip taken.chip
 left_reached request image old new taken journal left (inl up) = left_taken request image old new taken journal left up
-left_reached request image old new taken journal left (inr can) = leads_to journal old.chip taken can
+left_reached request image old new taken journal left (inr can) = can_restore_chip journal old.chip taken can
 
--- if `LeadsTo` holds for the chip, a restore from the journal that succeeds leaves the original chip
-led_back : (journal : Content) (first : Chip) (old new : BusState) (report : Report) → LeadsTo journal first old.chip → IsRestored journal old new report → IsSame first new.chip
-led_back journal first old new report leads done = search (arith, given_back)
+-- if `CanRestoreChip` holds for the chip, a restore from the journal that succeeds leaves the original chip
+restored_same : (journal : Content) (first : Chip) (old new : BusState) (report : Report) → CanRestoreChip journal first old.chip → IsRestored journal old new report → IsSame first new.chip
+restored_same journal first old new report can done = search (arith, same_as_original)
 
 -- ---- two sessions
 
@@ -133,7 +134,7 @@ pub later_undone : (request later : Request) (image later_image : List ℕ) (old
     → IsRestored other new' back report → CanRestore journal old.chip back
 later_undone request later image later_image old mid mid' new new' back journal other report first passed second gone undone =
     let can = left_back request image old mid journal first in
-    let same = led_back other mid'.chip new' back report (left_reached later later_image mid' new new' other second gone) undone in
+    let same = restored_same other mid'.chip new' back report (left_reached later later_image mid' new new' other second gone) undone in
     record {
       known = can.known;
       saves = can.saves;
@@ -145,9 +146,9 @@ pub both_undone : (request later : Request) (image later_image : List ℕ) (old 
     → IsRestored other new' back report → MayLosePower back back' ⊎ CanRestore journal old.chip back' → IsRestored journal back' end last → IsSame old.chip end.chip
 both_undone request later image later_image old mid mid' new new' back back' end journal other report last first passed second gone undone kept again =
     let can = later_undone request later image later_image old mid mid' new new' back journal other report first passed second gone undone in
-    led_back journal old.chip back' end last
+    restored_same journal old.chip back' end last
     (elim kept [
-      | inl may ↦ leads_kept journal old.chip back back' can may
-      | inr unsent ↦ leads_to journal old.chip back' unsent
+      | inl may ↦ can_restore_kept journal old.chip back back' can may
+      | inr still_can ↦ can_restore_chip journal old.chip back' still_can
     ])
     again

@@ -3,7 +3,7 @@ use Rattle.std.proofs.Common.{◌≡◌, ◌<◌, ◌+◌, ◌-◌, ◌*◌, ◌
 use Rattle.std.specs.Prelude.{not, Option, Some, None, MatchOption}
 use Rattle.std.specs.Option.{is_some}
 use Rattle.std.proofs.lemmas.Bool.{true_from_ne_false, false_from_ne_true, and_parts, and_from, not_from_false, or_from, both_ways}
-use Rattle.nor_model.proofs.Guarded.{is_protected-same, is_protected-sector, is_protected-no_scheme}
+use Rattle.nor_model.proofs.ProtectedBlocks.{is_protected-same, is_protected-sector, is_protected-no_scheme}
 use Rattle.nor_model.specs.Chip.{Chip, IsSame, is_locked, kept_in}
 use Rattle.nor_model.specs.Guard.{code_of, is_protected, is_block_protected}
 use Rattle.nor_journal.specs.Text.{Content}
@@ -40,9 +40,9 @@ held_scheme touched chip some = true_from_ne_false chip.config.scheme (λ none.
 module _ {old new : Chip} (same : IsSame old new) where
   -- if no touched sector of `old` is protected, no address below the size in a touched sector is protected in `new`,
   -- which is the same chip (`IsSame`)
-  pub free_place : (touched : ℕ → Bool) (a : ℕ) → NoneProtected touched old → touched (a / 4096) ≡ true
+  pub free_address : (touched : ℕ → Bool) (a : ℕ) → NoneProtected touched old → touched (a / 4096) ≡ true
       → a < old.config.size → is_protected new a ≡ false
-  free_place touched a none hit below =
+  free_address touched a none hit below =
       let free = none (a / 4096) in
       is_protected-same old new same.config same.kept a ∙ is_protected-sector old a below (rw hit at free)
 

@@ -31,7 +31,7 @@ use Rattle.nor_scan.specs.Identity.{status_read, ReadsIdentity, most_identity}
 use Rattle.nor_scan.specs.Judging.{Lifts}
 use Rattle.nor_scan.specs.Scanning.{AreMarks}
 use Rattle.nor_scan.specs.SavedScan.{HasSaved}
-use Rattle.nor_driver.proofs.RestsInTurn.{HasLooked, rested_then}
+use Rattle.nor_driver.proofs.RestsInTurn.{HasOnlyRead, rested_then}
 use Rattle.nor_session.specs.Bounds.{most_of}
 use Rattle.nor_session.specs.Changing.{read_back, most_changed, DoesChange}
 use Rattle.nor_session.specs.Session.{most_status_writes, IsWithinBound}
@@ -52,7 +52,7 @@ changes_of identity kept status code =
 
 pub record Ready (request : Request) (identity : Identity) (status : Status) (code : ℕ) (kept : SavedScan) (old mid : BusState) : Type 0 where
   pub part : IsPart identity.found
-  pub honest_reads : HasLooked (identity.transactions + kept.scanned.reads) old mid
+  pub honest_reads : HasOnlyRead (identity.transactions + kept.scanned.reads) old mid
   pub least : 4 ≤ identity.transactions
   pub few : identity.transactions ≤ most_identity
   pub reads : kept.scanned.reads ≡ scanned_sectors request identity.found.size
@@ -65,7 +65,7 @@ pub record Ready (request : Request) (identity : Identity) (status : Status) (co
 -- ---- the identification, and the scan after it
 
 pub has_opened : {named : _} {identity : Identity} {old mid : BusState} → OnlyReads most_identity old mid
-    → ReadsIdentity named old mid identity → HasLooked identity.transactions old mid
+    → ReadsIdentity named old mid identity → HasOnlyRead identity.transactions old mid
 has_opened only_reads opens = search rules
 
 pub ready : {request : Request} {identity : Identity} {status : Status} {code most : ℕ} {image image' : List ℕ}
@@ -75,7 +75,7 @@ pub ready : {request : Request} {identity : Identity} {status : Status} {code mo
     → bytes_of status ≡ status_read identity → (is_data request.what ≡ true → code ≡ code_of (kept_in (status_read identity)))
     → Ready request identity status code kept old new
 ready {identity = identity} {kept = kept} {old = old} {mid = mid} {new = new} only_reads opens more keeps is_status same_code =
-    let honest_reads : HasLooked (identity.transactions + kept.scanned.reads) old new
+    let honest_reads : HasOnlyRead (identity.transactions + kept.scanned.reads) old new
     = grind (arith, nature_then old mid new more.nature only_reads.nature, rested_then old mid new) in
     search rules
 
@@ -95,8 +95,8 @@ pub spends_more : {m n : ℕ} {old new : BusState} → m ≤ n → Spends m old 
 spends_more fits spends =
     record { nature = spends.nature; falls = λ honest. let falls = spends.falls honest in omega arith }
 
-pub spends_looks : {m n : ℕ} {old new : BusState} → m ≤ n → OnlyReads m old new → Spends n old new
-spends_looks fits only_reads =
+pub spends_only_reads : {m n : ℕ} {old new : BusState} → m ≤ n → OnlyReads m old new → Spends n old new
+spends_only_reads fits only_reads =
     spends_more fits (record { nature = only_reads.nature; falls = λ honest. (only_reads.honest_reads honest).falls })
 
 -- ---- the number of status writes

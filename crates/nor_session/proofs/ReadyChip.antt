@@ -48,8 +48,8 @@ is_opening request identity old mid = opening_of
 
 -- on a well-behaved bus, if the chip was idle before the identification, the status 1 that was read is the chip's,
 -- including BUSY and WEL
-pub told_idle : (named : Option ChipName) (identity : Identity) (old mid : BusState) → old.honest ≡ true → ReadsIdentity named old mid identity → old.chip.busy ≡ 0 → identity.found.status1 ≡ status1_of old.chip
-told_idle named identity old mid honest opens idle =
+pub status1_if_idle : (named : Option ChipName) (identity : Identity) (old mid : BusState) → old.honest ≡ true → ReadsIdentity named old mid identity → old.chip.busy ≡ 0 → identity.found.status1 ≡ status1_of old.chip
+status1_if_idle named identity old mid honest opens idle =
     let rested = opens.rested honest in let latch = rested.idle_latch idle in
     opens.status1 honest ∙ (let now = opens.idle honest in let same = ap (λ (bits : KeptBits). bits.one) rested.unchanged.same.kept in cc)
 
@@ -75,16 +75,16 @@ most_sized request {found = found} is =
 
 -- ---- the errors of the scan
 
-pub save_gives_up : (request : Request) (image : List ℕ) (identity : Identity) (code few : ℕ) (old mid new : BusState)
+pub save_fails : (request : Request) (image : List ℕ) (identity : Identity) (code few : ℕ) (old mid new : BusState)
     (refusal : Refusal) → old.honest ≡ true → OnlyReads most_identity old mid → ReadsIdentity request.named old mid identity
     → OnlyReads few mid new → SaveErrors request identity code image mid new refusal
     → HonestErrors (most_of 4096) (λ refusal. refusal_number refusal ≤ 11) old new refusal
-save_gives_up request image identity code few old mid new Stopped honest only_reads opens more errors =
+save_fails request image identity code few old mid new Stopped honest only_reads opens more errors =
     let ran = errors.ran_out (only_reads.nature.honest ∙ honest) in let count = opens.count honest in
     let sectors = scanned_few request identity.found.size opens.part.at_most in
     omega arith
-save_gives_up request image identity code few old mid new (Timeout address) honest only_reads opens more errors = errors
-save_gives_up request image identity code few old mid new _ honest only_reads opens more errors = λ early.
+save_fails request image identity code few old mid new (Timeout address) honest only_reads opens more errors = errors
+save_fails request image identity code few old mid new _ honest only_reads opens more errors = λ early.
     same_then old.chip mid.chip new.chip (opens.rested honest).unchanged.same
     ((more.honest_reads (only_reads.nature.honest ∙ honest)).stays.steady_or_idle (inr (opens.idle honest)))
 
@@ -93,19 +93,19 @@ pub refused_puts : (refusal : Refusal) (old new : VaultState) → SavePuts (Err 
 refused_puts Vault old new puts = (puts.telling, puts.sealed)
 refused_puts _ old new puts = (puts.telling, puts.sealed)
 
-pub save_tells : (request : Request) (image : List ℕ) (identity : Identity) (code : ℕ) (old mid new : BusState) (vault vault' : VaultState) (refusal : Refusal)
+pub save_errors : (request : Request) (image : List ℕ) (identity : Identity) (code : ℕ) (old mid new : BusState) (vault vault' : VaultState) (refusal : Refusal)
     → IsModelled old → OnlyReads most_identity old mid → ReadsIdentity request.named old mid identity → IdentityAccepts request image old.chip code
     → (refusal ≡ Vault → CountsRefusal vault vault') → SaveErrors request identity code image mid new refusal → SessionErrors request image old new vault vault' refusal
-save_tells request image identity code old mid new vault vault' Vault is only_reads opens accepts rose errors = rose refl
-save_tells request image identity code old mid new vault vault' Stopped is only_reads opens accepts rose errors =
+save_errors request image identity code old mid new vault vault' Vault is only_reads opens accepts rose errors = rose refl
+save_errors request image identity code old mid new vault vault' Stopped is only_reads opens accepts rose errors =
     let ran = errors.ran_out (only_reads.nature.honest ∙ is.honest) in let count = opens.count is.honest in
     let most = scanned_most request identity.found.size in let size = (opens.genuine is).size in
     omega arith
-save_tells request image identity code old mid new vault vault' StatusLocked is only_reads opens accepts rose errors =
+save_errors request image identity code old mid new vault vault' StatusLocked is only_reads opens accepts rose errors =
     errors old.chip (opening_of is opens) (shows request identity old mid is only_reads opens) accepts
-save_tells request image identity code old mid new vault vault' (Protected address) is only_reads opens accepts rose errors =
+save_errors request image identity code old mid new vault vault' (Protected address) is only_reads opens accepts rose errors =
     errors old.chip (opening_of is opens) (shows request identity old mid is only_reads opens) accepts
-save_tells request image identity code old mid new vault vault' _ is only_reads opens accepts rose errors = absurd errors
+save_errors request image identity code old mid new vault vault' _ is only_reads opens accepts rose errors = absurd errors
 
 -- nothing was sent after a stop
 pub save_last : (request : Request) (identity : Identity) (code : ℕ) (image : List ℕ) (old new : BusState)
@@ -125,21 +125,21 @@ open_last most named old new (Timeout address) errors = errors.1
 open_last most named old new (Mismatch address) errors = absurd errors
 open_last most named old new _ errors = tt
 
-pub open_tells : (request : Request) (image : List ℕ) (old new : BusState) (vault vault' : VaultState) (refusal : Refusal) → IsModelled old
+pub open_errors : (request : Request) (image : List ℕ) (old new : BusState) (vault vault' : VaultState) (refusal : Refusal) → IsModelled old
     → IdentificationErrors most_identity request.named old new refusal → SessionErrors request image old new vault vault' refusal
-open_tells request image old new vault vault' NoChip is errors =
+open_errors request image old new vault vault' NoChip is errors =
     first_of NoChip (search (rules, arith)) (errors is.honest).0
-open_tells request image old new vault vault' (UnknownChip fault) is errors =
+open_errors request image old new vault vault' (UnknownChip fault) is errors =
     let shown = (errors is.honest).0 in first_of (UnknownChip fault) (search (rules, arith)) shown
-open_tells request image old new vault vault' OtherName is errors =
+open_errors request image old new vault vault' OtherName is errors =
     let other = (errors is.honest).0 in first_of OtherName (search (rules, arith)) other
-open_tells request image old new vault vault' Stopped is errors = let ran = errors.ran_out is.honest in omega arith
-open_tells request image old new vault vault' (Timeout address) is errors = absurd (errors.2 is.honest)
-open_tells request image old new vault vault' _ is errors = absurd errors
+open_errors request image old new vault vault' Stopped is errors = let ran = errors.ran_out is.honest in omega arith
+open_errors request image old new vault vault' (Timeout address) is errors = absurd (errors.2 is.honest)
+open_errors request image old new vault vault' _ is errors = absurd errors
 
-pub judge_tells : (request : Request) (image : List ℕ) (old new : BusState) (vault vault' : VaultState)
+pub judge_errors : (request : Request) (image : List ℕ) (old new : BusState) (vault vault' : VaultState)
     (refusal : Refusal) → IsVerdict request image old.chip refusal
     → SessionErrors request image old new vault vault' refusal
-judge_tells request image old new vault vault' Vault verdict = absurd verdict.holds
-judge_tells request image old new vault vault' Stopped verdict = absurd verdict.holds
-judge_tells request image old new vault vault' refusal verdict = verdict
+judge_errors request image old new vault vault' Vault verdict = absurd verdict.holds
+judge_errors request image old new vault vault' Stopped verdict = absurd verdict.holds
+judge_errors request image old new vault vault' refusal verdict = verdict

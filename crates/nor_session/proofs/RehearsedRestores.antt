@@ -27,7 +27,7 @@ use Rattle.nor_session.specs.Rehearsing.{CanUndo, RunsSession, LeavesRestores, R
 use Rattle.nor_session.proofs.Rescanned.{unraised_other}
 use Rattle.nor_session.specs.Session.{IsSavedCode}
 use Rattle.nor_session.proofs.Targeting.{none_sent, sends_then, sends_most, none_written}
-use Rattle.nor_session.proofs.RestoresOriginal.{can_give_back}
+use Rattle.nor_session.proofs.RestoresOriginal.{can_restore_read}
 use Rattle.nor_session.proofs.Naming.{saved_names}
 use Rattle.nor_session.proofs.SavedBytes.{saved_room, saved_count}
 
@@ -108,11 +108,11 @@ restores_then journal m n most old mid new fits before after =
     search (arith, same_nature_then)
 
 -- on a well-behaved bus, an error other than a stop isn't a timeout either
-pub no_halt : (most : ℕ) (IsEarly : Refusal → Type 0) (old new : BusState) (refusal : Refusal) → (refusal ≡ Stopped → ⊥)
+pub not_bus_error : (most : ℕ) (IsEarly : Refusal → Type 0) (old new : BusState) (refusal : Refusal) → (refusal ≡ Stopped → ⊥)
     → HonestErrors most IsEarly old new refusal → IsNoBusError refusal
-no_halt most IsEarly old new Stopped never errors = absurd (never refl)
-no_halt most IsEarly old new (Timeout address) never errors = absurd errors
-no_halt most IsEarly old new _ never errors = refl
+not_bus_error most IsEarly old new Stopped never errors = absurd (never refl)
+not_bus_error most IsEarly old new (Timeout address) never errors = absurd errors
+not_bus_error most IsEarly old new _ never errors = refl
 
 -- one restore that is allowed `n` transactions
 module _ {n : ℕ} {journal : Content} {old mid new : BusState} (allows : Allows n old mid) where
@@ -137,7 +137,7 @@ module _ {n : ℕ} {journal : Content} {old mid new : BusState} (allows : Allows
       → (mid.honest ≡ true → RestoreHonest journal mid new (Err refusal)) → (refusal ≡ Stopped → ⊥)
       → StopsRestores journal old new refusal
   under_refuses refusal gives always returned never =
-      let leaves = allow_leaves journal old mid allows in search (arith, no_halt)
+      let leaves = allow_leaves journal old mid allows in search (arith, not_bus_error)
 
 -- ---- restores in turn
 
@@ -225,11 +225,11 @@ module _ {bytes : List ℕ} {journal : Content} (is : IsContent journal) (same :
     (old : BusState) where
   -- if the bytes can restore a chip (`CanUndo`), the journal can (`CanRestore`)
   can_back : (saved : ℕ → Bool) (first : Chip) → CanUndo saved first bytes old → CanRestore journal first old
-  can_back saved first leads =
-      can_give_back saved first bytes old journal leads (reads (header_of first) first.bytes saved leads.journal)
+  can_back saved first can_undo =
+      can_restore_read saved first bytes old journal can_undo (reads (header_of first) first.bytes saved can_undo.journal)
 
   saves_all : (saved : ℕ → Bool) (first : Chip) → CanUndo saved first bytes old → Saves first.bytes saved journal
-  saves_all saved first leads = (reads (header_of first) first.bytes saved leads.journal).1
+  saves_all saved first can_undo = (reads (header_of first) first.bytes saved can_undo.journal).1
 
   pub undoes : {stops : List ℕ} {new : BusState} (restores : ℕ) → RunsRestores journal stops old new restores
       → Undoes bytes stops old new restores
@@ -238,17 +238,17 @@ module _ {bytes : List ℕ} {journal : Content} (is : IsContent journal) (same :
     most = shows.most;
     allowed = shows.allowed;
     latch = shows.latch;
-    same = λ modelled saved first leads. shows.back modelled first (can_back saved first leads);
-    are = λ modelled saved first leads.
-        rw (saved_count first.bytes saved journal (saves_all saved first leads)) at (shows.are modelled);
-    last = λ modelled saved first leads.
-        rw (saved_count first.bytes saved journal (saves_all saved first leads)) at (shows.last modelled);
+    same = λ modelled saved first can_undo. shows.back modelled first (can_back saved first can_undo);
+    are = λ modelled saved first can_undo.
+        rw (saved_count first.bytes saved journal (saves_all saved first can_undo)) at (shows.are modelled);
+    last = λ modelled saved first can_undo.
+        rw (saved_count first.bytes saved journal (saves_all saved first can_undo)) at (shows.last modelled);
   }
 
   module _ {n : ℕ} (new : BusState) (leaves : LeavesRestores journal n old new) where
     pub undo_wears : WearsSaved bytes old new
-    undo_wears modelled saved first leads s other = leaves.worn modelled s
-        (sym (Saves-set first.bytes saved journal s (saves_all saved first leads)) ∙ other)
+    undo_wears modelled saved first can_undo s other = leaves.worn modelled s
+        (sym (Saves-set first.bytes saved journal s (saves_all saved first can_undo)) ∙ other)
 
     -- The modifying commands that the restores sent fit each journal that the bytes encode: that can only be the
     -- journal that was read.
@@ -263,7 +263,7 @@ module _ {bytes : List ℕ} {journal : Content} (is : IsContent journal) (same :
     last_transaction = refuses.last_transaction;
     names = saved_names journal bytes refusal is same refuses.names;
     fails = refuses.fails (saved_room journal is);
-    never = λ modelled saved first leads. refuses.never modelled first (can_back saved first leads);
+    never = λ modelled saved first can_undo. refuses.never modelled first (can_back saved first can_undo);
   }
 
 -- on a modelled bus, if the session and the only restore ended, the latch is set only if it was set before
@@ -271,8 +271,8 @@ pub latch_alone : {request : Request} {image bytes stops : List ℕ} {allowance 
     {vault : VaultState} {ended : Bool} (restores : ℕ) → RunsSession request image allowance old mid vault ended
     → Undoes bytes stops mid new restores → IsModelled old → IsModelled mid → restores ≤ (if ended then 1 else 0)
     → new.chip.latch ≡ true → old.chip.latch ≡ true
-latch_alone {ended = ended} restores shows undoes modelled unsent few set =
-    let (done, one) = unstopped restores ended undoes.some few in shows.latch modelled done (undoes.latch unsent one set)
+latch_alone {ended = ended} restores shows undoes modelled then_modelled few set =
+    let (done, one) = unstopped restores ended undoes.some few in shows.latch modelled done (undoes.latch then_modelled one set)
 
 -- bytes that aren't a journal can't restore a chip, so the error of reading them is one that `RefusesUndo` allows
 pub unread : (bytes : List ℕ) (old new : BusState) (fault : JournalFault) → ((content : Content) → IsContent content → bytes ≡ text content → ⊥)

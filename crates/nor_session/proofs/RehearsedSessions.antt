@@ -25,7 +25,7 @@ use Rattle.nor_session.specs.Rehearsing.{HasWantedBits, CanUndo, LeavesSession, 
 use Rattle.nor_session.proofs.RestoredBytes.{untouched_unraised}
 use Rattle.nor_session.proofs.RestoresOriginal.{restorable}
 use Rattle.nor_session.proofs.Targeting.{none_sent, sends_then, sends_most, sends_wider}
-use Rattle.nor_session.proofs.RehearsedRestores.{modelled_at, no_halt, allowed_first, allowed_after, same_nature, same_nature_then}
+use Rattle.nor_session.proofs.RehearsedRestores.{modelled_at, not_bus_error, allowed_first, allowed_after, same_nature, same_nature_then}
 
 -- ---- the session
 
@@ -128,7 +128,7 @@ module _ {n : ℕ} {old mid : BusState} (allows : Allows n old mid) where
         → (mid.honest ≡ true → SessionHonest request image mid new (Err refusal))
         → (IsModelled mid → SessionModelled request image mid new before after (Err refusal))
         → (refusal ≡ Stopped → n ≡ most_of 4096) → RefusesSession request image old new before after refusal
-    session_refuses refusal always reply_digits promise all = search (arith, early, no_halt, returned)
+    session_refuses refusal always honest_promise promise all = search (arith, early, not_bus_error, returned)
 
 -- without stops the session is allowed `most_of 4096` transactions, a bound that no session exceeds on a well-behaved
 -- bus
@@ -139,9 +139,9 @@ unlimited (first ∷ later) none = absurd (omega arith)
 -- ---- both
 
 -- the number of stops after the first, plus one, is the number of stops, or 1 without stops
-behind_first : (stops : List ℕ) → length (drop 1 stops) + 1 ≡ max 1 (length stops)
-behind_first [] = refl
-behind_first (first ∷ later) = omega arith
+count_after_first : (stops : List ℕ) → length (drop 1 stops) + 1 ≡ max 1 (length stops)
+count_after_first [] = refl
+count_after_first (first ∷ later) = omega arith
 
 -- after a session that sealed its vault, and before any restore, the modifying commands that were sent are within the
 -- limits of a rehearsal
@@ -166,18 +166,18 @@ module _ {request : Request} {image text later : List ℕ} {old mid new : BusSta
     {result : Result ℕ Refusal} (session : LeavesSession request image old mid vault) (sealed : vault.sealed ≡ true)
     (is : text ≡ vault.bytes) (undone : LeavesUndo text later mid new result) where
   -- a modelled bus is still modelled after the session, and the vault's bytes can restore the original chip
-  pub led : IsModelled old → IsModelled mid × CanUndo (is_touched old.chip.bytes (wanted request image old.chip)) old.chip text mid
-  led modelled = search (arith, modelled_at)
+  pub undo_premises : IsModelled old → IsModelled mid × CanUndo (is_touched old.chip.bytes (wanted request image old.chip)) old.chip text mid
+  undo_premises modelled = search (arith, modelled_at)
 
   -- on a modelled bus, the session and the restores erase only sectors that the session touches
   pub both_wear : IsModelled old → (s : ℕ) → is_touched old.chip.bytes (wanted request image old.chip) s ≡ false → new.worn s ≡ old.worn s
   both_wear modelled s other =
-      let (unsent, leads) = led modelled in undone.wears unsent _ _ leads s other ∙ session.wears modelled s other
+      let (then_modelled, can_undo) = undo_premises modelled in undone.wears then_modelled _ _ can_undo s other ∙ session.wears modelled s other
 
   -- the modifying commands that the session and the restores sent fit the journal in the vault
   pub both_send : (stops : List ℕ) → later ≡ drop 1 stops → (journal : IsJournal vault.bytes)
       × SendsSaved (IsRehearsedCode request.what journal.content) (1 + max 1 (length stops)) journal.content old new
-  both_send stops behind =
+  both_send stops later_is =
       let (journal, sent) = session.sends sealed in
       let c = journal.content in
       let first = sends_wider (IsWrittenCode request.what c) (IsRehearsedCode request.what c) 1 c old mid
@@ -186,7 +186,7 @@ module _ {request : Request} {image text later : List ℕ} {old mid new : BusSta
       let then = sends_wider (IsSavedCode c) (IsRehearsedCode request.what c) (length later + 1) c mid new
       (λ code is. inr is) restores in
       let count : length later + 1 ≡ max 1 (length stops)
-      = ap (λ (l : List ℕ). length l + 1) behind ∙ behind_first stops in (
+      = ap (λ (l : List ℕ). length l + 1) later_is ∙ count_after_first stops in (
         journal,
         sends_then (IsRehearsedCode request.what c) 1 (max 1 (length stops)) c old mid new first
             (rw count at then),
@@ -195,21 +195,21 @@ module _ {request : Request} {image text later : List ℕ} {old mid new : BusSta
   -- the session and the restores send at most as many status writes as a rehearsal may
   pub both_write : (stops : List ℕ) → later ≡ drop 1 stops
       → WritesStatusAtMost (most_status_writes request.what request.unlock + 2 * max 1 (length stops)) old new
-  both_write stops behind =
-      let count = ap (λ (l : List ℕ). length l) behind in let one = behind_first stops in
+  both_write stops later_is =
+      let count = ap (λ (l : List ℕ). length l) later_is in let one = count_after_first stops in
       let before = session.writes in let after = undone.writes in
       omega (arith, count, one, before, after)
 
   -- the session and the restores set the allowances of a rehearsal
-  module _ (stops : List ℕ) (behind : later ≡ drop 1 stops)
+  module _ (stops : List ℕ) (later_is : later ≡ drop 1 stops)
       (first : mid.allowances ≡ first_allowance stops ∷ old.allowances) where
     pub both_allowed : (n : ℕ) → new.allowances ≡ allowances_of later n ++ mid.allowances
         → new.allowances ≡ allowances_of stops (1 + n) ++ old.allowances
-    both_allowed n is = allowed_after stops n first (rw behind at is)
+    both_allowed n is = allowed_after stops n first (rw later_is at is)
 
     pub both_tried : AllowsStops later 0 (length later + 1) mid new → AllowsStops stops 1 (1 + max 1 (length stops)) old new
     both_tried tried =
-        let count = ap (λ (l : List ℕ). length l) behind in let one = behind_first stops in let few = tried.few in
+        let count = ap (λ (l : List ℕ). length l) later_is in let one = count_after_first stops in let few = tried.few in
         record {
           calls = 1 + tried.calls;
           some = omega arith;

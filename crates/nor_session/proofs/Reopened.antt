@@ -48,22 +48,22 @@ same_unit journal config unique is same other = (rw is at other) same
 -- ---- errors
 
 -- the clause `errors` of the preparation, for an error of the probe
-pub probe_tells : (journal : Content) (old new : BusState) (fault : ProbeFault) → BlamesName None fault → ProbeEndsAt new.history fault
+pub probe_prepare_errors : (journal : Content) (old new : BusState) (fault : ProbeFault) → BlamesName None fault → ProbeEndsAt new.history fault
     → (old.honest ≡ true → ProbeErrors None old new fault) → PrepareErrors journal most_identity old new (of_probe fault)
-probe_tells journal old new Probes.OtherName blames last errors = absurd blames
-probe_tells journal old new Probes.Stopped blames last errors = record {
+probe_prepare_errors journal old new Probes.OtherName blames last errors = absurd blames
+probe_prepare_errors journal old new Probes.Stopped blames last errors = record {
   last = last;
   ran_out = λ honest. let out = errors honest in record { none_left = out.0.none_left; below = omega (arith, out.1) };
 }
-probe_tells journal old new Probes.Timeout blames last errors = (refl, last, errors)
-probe_tells journal old new _ blames last errors = search arith
+probe_prepare_errors journal old new Probes.Timeout blames last errors = (refl, last, errors)
+probe_prepare_errors journal old new _ blames last errors = search arith
 
 -- the clause `errors` of the preparation, for errors 20 (another device) and 17 (other status bits)
-pub unit_tells : (journal : Content) (most : ℕ) (old new : BusState) (refusal : Refusal) → IsDeviceRefusal refusal → (old.honest ≡ true → IsSame old.chip new.chip)
+pub device_errors : (journal : Content) (most : ℕ) (old new : BusState) (refusal : Refusal) → IsDeviceRefusal refusal → (old.honest ≡ true → IsSame old.chip new.chip)
     → (IsModelled old → RestoreJudges journal old.chip refusal) → PrepareErrors journal most old new refusal
-unit_tells journal most old new OtherUnit is same verdict = record { judged = refl; same = same; verdict = verdict }
-unit_tells journal most old new StatusDiffers is same verdict = record { judged = refl; same = same; verdict = verdict }
-unit_tells journal most old new _ is same verdict = absurd is
+device_errors journal most old new OtherUnit is same verdict = record { judged = refl; same = same; verdict = verdict }
+device_errors journal most old new StatusDiffers is same verdict = record { judged = refl; same = same; verdict = verdict }
+device_errors journal most old new _ is same verdict = absurd is
 
 -- ---- ID and size
 

@@ -17,7 +17,7 @@ use Rattle.nor_geometry.proofs.Counting.{at_most_one, count_below-none}
 use Rattle.nor_scan.specs.declared.scanning.Scanned.{Scanned}
 use Rattle.nor_scan.specs.Scanning.{AreMarks, IsBlank, HasMarked}
 use Rattle.nor_scan.proofs.Planned.{planned, untouched, unraised}
-use Rattle.nor_driver.proofs.RestsInTurn.{HasLooked, has_looked-none, has_looked-more}
+use Rattle.nor_driver.proofs.RestsInTurn.{HasOnlyRead, has_only_read-none, has_only_read-more}
 use Rattle.nor_scan.proofs.Scans.{marks_more, opened_later}
 use Rattle.nor_session.specs.Restore.{restored}
 use Rattle.nor_session.specs.PrepareRestore.{PlansSaved, ScansSaved}
@@ -33,7 +33,7 @@ pub record HasRescanned (journal : Content) (i : ℕ) (old new : BusState) (scan
   pub marks : AreMarks (least_after 0 (take i journal.saved)) scanned
   pub reads : scanned.reads ≡ i
   pub few : scanned.count ≤ i
-  pub honest_reads : HasLooked i old new
+  pub honest_reads : HasOnlyRead i old new
   pub saved : (s : ℕ) → has scanned.touched s ≡ true → saved_before journal i s ≡ true
   pub bytes : (s : ℕ) (bytes : List ℕ) → saved_in (take i journal.saved) s ≡ Some bytes → (k : ℕ) → slice_index bytes k < 256
   pub touched : IsOpen journal.size old → (s : ℕ) → has scanned.touched s ≡ (saved_before journal i s && is_touched old.chip.bytes (restored journal old.chip.bytes) s)
@@ -44,7 +44,7 @@ pub record HasRescanned (journal : Content) (i : ℕ) (old new : BusState) (scan
 pub nothing_rescanned : {journal : Content} {state : BusState} {scanned : Scanned} → IsBlank scanned
     → HasRescanned journal 0 state state scanned
 nothing_rescanned {journal = journal} {state = state} {scanned = scanned} blank =
-    search (arith, and_left, both_ways, count_below-none, has_looked-none, saved_in-nil)
+    search (arith, and_left, both_ways, count_below-none, has_only_read-none, saved_in-nil)
 
 -- ---- one more sector
 
@@ -79,7 +79,7 @@ restored_at journal content s saved i is below = search (arith, byte_at, is_save
 -- on a well-behaved bus with an idle chip of the journal's size, the plan of a sector says whether the sector is
 -- touched, and whether it is raised
 planned_from : (journal : Content) (s : ℕ) (saved bytes : List ℕ) (old mid new : BusState) (plan : SectorPlan) (i : ℕ) → saved_in journal.saved s ≡ Some saved → s < journal.size / 4096
-    → length saved ≡ 4096 → IsOpen journal.size old → HasLooked i old mid → PlansSaved s saved bytes mid new plan
+    → length saved ≡ 4096 → IsOpen journal.size old → HasOnlyRead i old mid → PlansSaved s saved bytes mid new plan
     → (plan.touched ≡ is_touched old.chip.bytes (restored journal old.chip.bytes) s) × (plan.raised ≡ is_raised old.chip.bytes (restored journal old.chip.bytes) s)
 planned_from journal s saved bytes old mid new plan i is place whole is_open honest_reads plans =
     let long = plans.whole in
@@ -113,7 +113,7 @@ rescanned_more {journal = journal} {i = i} {s = s} {saved = saved} {bytes = byte
           (marks_more s plan scanned next (omega arith) plans.needed (later_marks next_least.0 was.marks) marked);
       reads = marked.reads ∙ ap (λ (n : ℕ). n + 1) was.reads;
       few = let count = at_most_one plan.touched in omega arith;
-      honest_reads = has_looked-more i old mid new was.honest_reads only_reads plans.read.read plans.polled_ready;
+      honest_reads = has_only_read-more i old mid new was.honest_reads only_reads plans.read.read plans.polled_ready;
       saved = λ t hit.
           let now = more t in let mark = marked.touched t in let before = was.saved t in
           grind (arith, nat_tests);

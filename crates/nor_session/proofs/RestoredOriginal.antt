@@ -13,7 +13,7 @@ use Rattle.nor_model.specs.Units.{LieAtAnEnd}
 use Rattle.nor_model.specs.Power.{KeptCut, PowerLost}
 use Rattle.nor_model.specs.Bus.{BusState}
 use Rattle.nor_model.proofs.Sizes.{sized_bounds}
-use Rattle.nor_model.proofs.Guarded.{is_protected-end, is_protected-past, is_protected-no_scheme, is_protected-same}
+use Rattle.nor_model.proofs.ProtectedBlocks.{is_protected-end, is_protected-past, is_protected-no_scheme, is_protected-same}
 use Rattle.nor_driver.specs.OnlyReads.{IsSteadyOrIdle, OnlyReadsHonest}
 use Rattle.nor_driver.specs.Reads.{id_of}
 use Rattle.nor_driver.specs.StatusWrites.{fixed_of}
@@ -40,8 +40,8 @@ use Rattle.nor_session.proofs.RestoredBytes.{touched_byte, touched_saved}
 
 -- ---- calls that only read keep a chip within the journal (`IsWithin`)
 
-calm_or_not : (state : BusState) → IsSteadyOrIdle state ⊎ ((state.steady ≡ false) × (state.chip.busy ≢ 0))
-calm_or_not state = grind arith
+steady_or_idle_or_not : (state : BusState) → IsSteadyOrIdle state ⊎ ((state.steady ≡ false) × (state.chip.busy ≢ 0))
+steady_or_idle_or_not state = grind arith
 
 -- An operation that changes only these addresses (`WorksIn`) was interrupted. The bits that are never changed were the
 -- original ones, and still are. If the original chip's status can't be written and all non-volatile bits were the
@@ -57,19 +57,19 @@ cut_kept p first old new (StatusWrite one two) (inr back) works fixed =
 cut_kept p first old new Unknown kept works fixed = absurd (true≢false (sym works.known))
 cut_kept p first old new _ stay works fixed = (ap fixed_of stay ∙ fixed, λ shut before. stay ∙ before)
 
-pub looked_within : (p : ℕ → Bool) (first : Chip) (most : ℕ) (old new : BusState) → new.steady ≡ old.steady → OnlyReadsHonest most old new → IsWithin p first old → IsWithin p first new
-looked_within p first most old new steady honest_reads within =
+pub within_after_reads : (p : ℕ → Bool) (first : Chip) (most : ℕ) (old new : BusState) → new.steady ≡ old.steady → OnlyReadsHonest most old new → IsWithin p first old → IsWithin p first new
+within_after_reads p first most old new steady honest_reads within =
     let stays = honest_reads.stays in
     let less = stays.busy in
     let runs : new.steady ≡ false → new.chip.busy ≢ 0 → WorksIn p first new.chip.running = λ loses works.
     rw (stays.running works) (within.runs (sym steady ∙ loses) (λ idle. works (omega arith))) in
-    elim (calm_or_not old) [
+    elim (steady_or_idle_or_not old) [
       | inl steady_or_idle ↦
           let same = stays.steady_or_idle steady_or_idle in let fixed = ap fixed_of same.kept ∙ within.fixed in
           let kept = λ (shut : is_writable first ≡ false). same.kept ∙ within.kept shut in
           search arith
-      | inr shaky ↦
-          let works = within.runs shaky.0 shaky.1 in
+      | inr unsteady ↦
+          let works = within.runs unsteady.0 unsteady.1 in
           let cut = cut_kept p first old.chip.kept new.chip.kept old.chip.running stays.kept works within.fixed in
           search (arith, narrower)
     ]
@@ -89,8 +89,8 @@ lost_within p first old new known lost within =
           let same = lost.idle idle in let fixed = ap fixed_of same.kept ∙ within.fixed in
           let kept = λ (shut : is_writable first ≡ false). same.kept ∙ within.kept shut in
           search arith
-      | inr shaky ↦
-          let works = within.runs shaky.0 shaky.1 in
+      | inr unsteady ↦
+          let works = within.runs unsteady.0 unsteady.1 in
           let cut = cut_kept p first old.chip.kept new.chip.kept old.chip.running lost.kept works within.fixed in
           search (arith, narrower)
     ]
@@ -102,8 +102,8 @@ scheme_size_at : (config : Config) (row : Option Part) → part_with_id (id_of c
 scheme_size_at config (Some part) is genuine scheme = search (arith, eqb-true, row_has)
 scheme_size_at config None is genuine scheme = absurd (both_ways config.scheme (genuine.unlisted is) scheme)
 
-guarded_within : (chip : Chip) (a b : ℕ) → IsGenuine chip.config → chip.config.scheme ≡ true → a / 4096 ≡ b / 4096 → a < chip.config.size → b < chip.config.size → is_protected chip a ≡ is_protected chip b
-guarded_within chip a b genuine scheme sector below_a below_b =
+protected_within : (chip : Chip) (a b : ℕ) → IsGenuine chip.config → chip.config.scheme ≡ true → a / 4096 ≡ b / 4096 → a < chip.config.size → b < chip.config.size → is_protected chip a ≡ is_protected chip b
+protected_within chip a b genuine scheme sector below_a below_b =
     let ends : LieAtAnEnd chip.config.size (is_protected chip) = is_protected-end chip in
     let whole = ends.sectors (scheme_size_at chip.config _ refl genuine scheme) in
     elim ends.side [
@@ -111,16 +111,16 @@ guarded_within chip a b genuine scheme sector below_a below_b =
       | inr back ↦ let one = back a below_a in let other = back b below_b in grind (arith, nat_tests)
     ]
 
-guarded_same : (chip : Chip) (a b : ℕ) → IsGenuine chip.config → a / 4096 ≡ b / 4096 → is_protected chip a ≡ is_protected chip b
-guarded_same chip a b genuine sector =
-    search (arith, cases_Bool, cases_lt, guarded_within, is_protected-no_scheme, is_protected-past, sized_bounds)
+protected_same : (chip : Chip) (a b : ℕ) → IsGenuine chip.config → a / 4096 ≡ b / 4096 → is_protected chip a ≡ is_protected chip b
+protected_same chip a b genuine sector =
+    search (arith, cases_Bool, cases_lt, protected_within, is_protected-no_scheme, is_protected-past, sized_bounds)
 
 -- ---- each address in a touched sector is open (`open_addresses`)
 
 pub touched_open : (journal : Content) (first chip : Chip) (a : ℕ) → IsKnown first.config → SavesChip journal first → ((b : ℕ) → open_addresses journal first b ≡ false → chip.bytes b ≡ first.bytes b)
     → is_touched chip.bytes (restored journal chip.bytes) (a / 4096) ≡ true → open_addresses journal first a ≡ true
 touched_open journal first chip a known saves same touched =
-    search (arith, guarded_same, saved_byte-is, touched_byte, touched_saved)
+    search (arith, protected_same, saved_byte-is, touched_byte, touched_saved)
 
 -- if the journal could restore the original chip before a restore, the restore's changes leave a chip that is still
 -- within the journal (`IsWithin`)
@@ -133,10 +133,10 @@ change_within journal first touched raised wanted old mid new can within right c
 
 -- ---- a restore that ends leaves the original chip
 
-pub given_back : (journal : Content) (first old new : Chip) → SavesChip journal first → old.config ≡ first.config
+pub same_as_original : (journal : Content) (first old new : Chip) → SavesChip journal first → old.config ≡ first.config
     → ((a : ℕ) → open_addresses journal first a ≡ false → old.bytes a ≡ first.bytes a) → new.config ≡ old.config
     → ((a : ℕ) → new.bytes a ≡ restored journal old.bytes a) → new.kept ≡ kept_in journal.status → IsSame first new
-given_back journal first old new saves config within config_now bytes kept =
+same_as_original journal first old new saves config within config_now bytes kept =
     let same = kept ∙ sym saves.bits in
     search (arith, and_left, cases_Bool, restored_other, restored_saved, saved_byte-is)
 
@@ -144,9 +144,9 @@ given_back journal first old new saves config within config_now bytes kept =
 
 -- if the journal has the original chip's status bits, and those of a chip differ from them at most in protection bits
 -- that can be written, that chip's status fits the journal (`FitsStatus`)
-fixed_told : (journal : Content) (first chip : Chip) → first.kept ≡ kept_in journal.status → chip.config ≡ first.config
+fixed_fits : (journal : Content) (first chip : Chip) → first.kept ≡ kept_in journal.status → chip.config ≡ first.config
     → fixed_of chip.kept ≡ fixed_of first.kept → (is_writable first ≡ false → chip.kept ≡ first.kept) → FitsStatus journal chip
-fixed_told journal first chip bits config fixed kept =
+fixed_fits journal first chip bits config fixed kept =
     let returned = fixed ∙ ap fixed_of bits in let all = λ (shut : is_writable first ≡ false). kept shut ∙ bits in search arith
 
 code_locked : (journal : Content) (first chip : Chip) → first.kept ≡ kept_in journal.status → chip.kept ≡ first.kept
@@ -160,9 +160,9 @@ free_held : (journal : Content) (first chip : Chip) → IsKnown first.config →
 free_held journal first chip known saves config stay locked same some =
     let s = some.sector in
     let (touched, held) = and_parts (is_touched chip.bytes (restored journal chip.bytes) s) (is_block_protected chip (4096 * s) 4096) some.held in
-    let shut : (a : ℕ) → a / 4096 ≡ s → is_protected chip a ≡ true → ⊥ = λ a sector guarded.
+    let shut : (a : ℕ) → a / 4096 ≡ s → is_protected chip a ≡ true → ⊥ = λ a sector protected.
     let is_open = touched_open journal first chip a known saves same (rw sector touched) in
-    let there = sym (is_protected-same first chip config stay a) ∙ guarded in
+    let there = sym (is_protected-same first chip config stay a) ∙ protected in
     let (saved, free) = and_parts (is_saved journal (a / 4096)) (not (is_locked first.kept && is_protected first a)) is_open in
     true≢false (sym (rw (locked, there) at free)) in
     elim (or_cases (is_protected chip (4096 * s)) (is_protected chip (4096 * s + 4096 - 1)) held) [
@@ -180,7 +180,7 @@ only_stopped journal first old new NoChip can errors = cc
 only_stopped journal first old new (UnknownChip fault) can errors = cc
 only_stopped journal first old new OtherChip can errors = search arith
 only_stopped journal first old new OtherUnit can errors = search (arith, unit_not)
-only_stopped journal first old new StatusDiffers can errors = search (arith, fixed_told)
+only_stopped journal first old new StatusDiffers can errors = search (arith, fixed_fits)
 only_stopped journal first old new StatusLocked can errors =
     let locked : is_locked first.kept ≡ true = sym (locked_same first.kept old.chip.kept can.within.fixed) ∙ errors.holds.0 in
     let stay = can.within.kept (rw locked (and-false first.config.scheme)) in

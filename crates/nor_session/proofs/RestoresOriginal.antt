@@ -8,7 +8,7 @@ use Rattle.nor_model.specs.Guard.{is_protected}
 use Rattle.nor_model.specs.Bus.{BusState}
 use Rattle.nor_scan.proofs.Planned.{touched_inside}
 use Rattle.nor_model.proofs.Sizes.{sized_bounds}
-use Rattle.nor_model.proofs.Guarded.{is_protected-sector}
+use Rattle.nor_model.proofs.ProtectedBlocks.{is_protected-sector}
 use Rattle.nor_driver.specs.OnlyReads.{OnlyReads}
 use Rattle.nor_request.specs.Request.{wanted}
 use Rattle.nor_plan.specs.Content.{is_touched}
@@ -39,22 +39,22 @@ saves_chip first saved journal small same saves =
 -- if bytes can restore the original chip (`CanUndo`) and its status is locked, no address in a saved sector is
 -- protected
 saved_free : (saved : ℕ → Bool) (first : Chip) (text : List ℕ) (state : BusState) (a : ℕ) → CanUndo saved first text state → saved (a / 4096) ≡ true → (is_locked first.kept && is_protected first a) ≡ false
-saved_free saved first text state a leads is = false_from_ne_true _ (λ both.
-    let (locked, guarded) = and_parts _ _ both in
-    let inside = leads.inside (a / 4096) is in let blocks = (sized_bounds first.config).blocks in
-    both_ways _ (is_protected-sector first a (omega arith) (rw is at (leads.free locked (a / 4096)))) guarded)
+saved_free saved first text state a can_undo is = false_from_ne_true _ (λ both.
+    let (locked, protected) = and_parts _ _ both in
+    let inside = can_undo.inside (a / 4096) is in let blocks = (sized_bounds first.config).blocks in
+    both_ways _ (is_protected-sector first a (omega arith) (rw is at (can_undo.free locked (a / 4096)))) protected)
 
 -- If bytes can restore the original chip (`CanUndo`), the journal that is read from them can restore it (`CanRestore`).
-pub can_give_back : (saved : ℕ → Bool) (first : Chip) (text : List ℕ) (state : BusState) (journal : Content) → CanUndo saved first text state
+pub can_restore_read : (saved : ℕ → Bool) (first : Chip) (text : List ℕ) (state : BusState) (journal : Content) → CanUndo saved first text state
     → SameHeader (header_of first) journal × Saves first.bytes saved journal → CanRestore journal first state
-can_give_back saved first text state journal leads read = record {
-  known = leads.known;
-  saves = saves_chip first saved journal leads.is.kept2 read.0 read.1;
+can_restore_read saved first text state journal can_undo read = record {
+  known = can_undo.known;
+  saves = saves_chip first saved journal can_undo.is.kept2 read.0 read.1;
   within = within_wider (addresses_of saved) (open_addresses journal first) first state
       (λ a is. and_from (is_saved journal (a / 4096)) (not (is_locked first.kept && is_protected first a))
       (sym (Saves-set first.bytes saved journal (a / 4096) read.1) ∙ is)
-      (ap not (saved_free saved first text state a leads is)))
-      leads.within;
+      (ap not (saved_free saved first text state a can_undo is)))
+      can_undo.within;
 }
 
 -- If `CanBeUndone` holds after a session with a faithful vault, and the original chip is genuine, the vault's bytes can
@@ -76,18 +76,18 @@ restorable request image old new vault is genuine telling undone = record {
 
 -- `KeepsOriginal`, the main promise of a session, follows from `OnlyReads` before the seal and from `CanBeUndone` after
 -- it.
-pub keeps_first : (request : Request) (image : List ℕ) (most : ℕ) (old new : BusState) (vault : VaultState)
+pub original_kept : (request : Request) (image : List ℕ) (most : ℕ) (old new : BusState) (vault : VaultState)
     → (old.honest ≡ true → IsChip old.chip) → (vault.sealed ≡ false → OnlyReads most old new)
     → (IsModelled old → vault.sealed ≡ true → CanBeUndone request image old new vault) → KeepsOriginal old new vault
-keeps_first request image most old new vault reaches only_reads undo = record {
+original_kept request image most old new vault reaches only_reads undo = record {
   unsent = λ unsealed. (only_reads unsealed).sent;
   same = λ unsealed honest. ((only_reads unsealed).honest_reads honest).stays.steady_or_idle;
   restorable = λ sealed telling modelled.
-      let leads = restorable request image old new vault (reaches modelled.honest) modelled.genuine telling
+      let can_undo = restorable request image old new vault (reaches modelled.honest) modelled.genuine telling
       (undo modelled sealed) in
-      let kept = leads.journal in
+      let kept = can_undo.journal in
       record {
         journal = record { content = kept.content; is = kept.saves.is; same = kept.is };
-        back = can_give_back _ old.chip vault.bytes new kept.content leads (kept.same, kept.saves);
+        back = can_restore_read _ old.chip vault.bytes new kept.content can_undo (kept.same, kept.saves);
       };
 }

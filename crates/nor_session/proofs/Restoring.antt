@@ -6,7 +6,7 @@ use Rattle.nor_model.specs.Bus.{BusState, KeepsNature}
 use Rattle.nor_model.proofs.Nature.{nature_then}
 use Rattle.nor_model.proofs.Histories.{continues_then}
 use Rattle.nor_driver.specs.OnlyReads.{OnlyReadsHonest, OnlyReads, IsSteadyOrIdle}
-pub use Rattle.nor_driver.proofs.ReadsInTurn.{looks_more as looks_most}
+pub use Rattle.nor_driver.proofs.ReadsInTurn.{only_reads_more as only_reads_most}
 use Rattle.nor_journal.specs.Text.{Content}
 use Rattle.nor_journal.specs.Saved.{saved_byte}
 use Rattle.nor_apply.specs.declared.changes.Changes.{Changes}
@@ -18,7 +18,7 @@ use Rattle.nor_session.specs.Checking.{CanCheck}
 use Rattle.nor_apply.specs.Applying.{touched_in, raised_in, status_writes}
 use Rattle.nor_driver.specs.StatusWrites.{fixed_of}
 use Rattle.nor_request.specs.Request.{wanted}
-use Rattle.nor_apply.proofs.Kept.{fixed_coded, told_coded}
+use Rattle.nor_apply.proofs.Kept.{fixed_coded, coded_from_status}
 use Rattle.nor_apply.proofs.Changing.{narrower}
 use Rattle.nor_request.specs.declared.report.Report.{Report}
 use Rattle.nor_request.specs.Errors.{EndsAtError}
@@ -37,12 +37,12 @@ use Rattle.nor_session.proofs.OneRestoreVerdict.{judged_verdict, accepted_restor
 use Rattle.nor_session.proofs.Changed.{two_writes, no_write, fewest_at}
 use Rattle.nor_session.proofs.Rescanned.{restored_saved}
 use Rattle.nor_session.proofs.RestoredBytes.{touched_saved, written_restored, pages_same}
-use Rattle.nor_session.proofs.RestoredOriginal.{looked_within, change_within, given_back}
+use Rattle.nor_session.proofs.RestoredOriginal.{within_after_reads, change_within, same_as_original}
 
 -- ---- the errors before any change
 
-pub looks_spend : (few most : ℕ) (old new : BusState) → few ≤ most → OnlyReads few old new → Spends most old new
-looks_spend few most old new fits only_reads = search (arith, looks_most)
+pub only_reads_spend : (few most : ℕ) (old new : BusState) → few ≤ most → OnlyReads few old new → Spends most old new
+only_reads_spend few most old new fits only_reads = search (arith, only_reads_most)
 
 module _ (journal : Content) (most : ℕ) (old new : BusState) where
   pub prepare_answers : (refusal : Refusal) → PrepareErrors journal most old new refusal → IsRestoreRefusal refusal
@@ -51,18 +51,18 @@ module _ (journal : Content) (most : ℕ) (old new : BusState) where
   prepare_answers (Mismatch address) errors = refl
   prepare_answers _ errors = errors.judged
 
-  pub prepare_gives_up : (refusal : Refusal) → most ≤ most_of (length journal.saved) → old.honest ≡ true
+  pub prepare_fails : (refusal : Refusal) → most ≤ most_of (length journal.saved) → old.honest ≡ true
       → PrepareErrors journal most old new refusal
       → HonestErrors (most_of (length journal.saved)) IsCheckedFirst old new refusal
-  prepare_gives_up Stopped fits honest errors = let out = errors.ran_out honest in omega arith
-  prepare_gives_up (Timeout address) fits honest errors = errors.2 honest
-  prepare_gives_up _ fits honest errors = λ first. errors.same honest
+  prepare_fails Stopped fits honest errors = let out = errors.ran_out honest in omega arith
+  prepare_fails (Timeout address) fits honest errors = errors.2 honest
+  prepare_fails _ fits honest errors = λ first. errors.same honest
 
-  pub prepare_tells : (refusal : Refusal) → most ≤ most_of (length journal.saved) → IsModelled old
+  pub prepare_errors : (refusal : Refusal) → most ≤ most_of (length journal.saved) → IsModelled old
       → PrepareErrors journal most old new refusal → RestoreErrors journal old new refusal
-  prepare_tells Stopped fits modelled errors = let out = errors.ran_out modelled.honest in omega arith
-  prepare_tells (Timeout address) fits modelled errors = absurd (errors.2 modelled.honest)
-  prepare_tells refusal fits modelled errors = judged_verdict journal old.chip refusal (errors.verdict modelled)
+  prepare_errors Stopped fits modelled errors = let out = errors.ran_out modelled.honest in omega arith
+  prepare_errors (Timeout address) fits modelled errors = absurd (errors.2 modelled.honest)
+  prepare_errors refusal fits modelled errors = judged_verdict journal old.chip refusal (errors.verdict modelled)
 
   -- nothing was sent after a stop or a timeout
   pub prepare_last : (refusal : Refusal) → PrepareErrors journal most old new refusal
@@ -72,14 +72,14 @@ module _ (journal : Content) (most : ℕ) (old new : BusState) where
   prepare_last (Mismatch address) errors = absurd (true≢false (sym errors.judged))
   prepare_last _ errors = tt
 
-  pub looks_leave : OnlyReadsHonest most old new → LeavesRestore journal old new
-  looks_leave honest_reads =
+  pub leaves_after_reads : OnlyReadsHonest most old new → LeavesRestore journal old new
+  leaves_after_reads honest_reads =
       let fixed = λ (steady_or_idle : IsSteadyOrIdle old). ap fixed_of (honest_reads.stays.steady_or_idle steady_or_idle).kept in search arith
 
 -- on a well-behaved bus, a journal that can restore a chip before a call that only reads can restore it after the call
-pub looks_back : (journal : Content) (first : Chip) (most : ℕ) (old new : BusState) → old.honest ≡ true → OnlyReads most old new → CanRestore journal first old → CanRestore journal first new
-looks_back journal first most old new honest only_reads can =
-    assumption (looked_within _ first most old new only_reads.nature.steady (only_reads.honest_reads honest) can.within)
+pub can_restore_after_reads : (journal : Content) (first : Chip) (most : ℕ) (old new : BusState) → old.honest ≡ true → OnlyReads most old new → CanRestore journal first old → CanRestore journal first new
+can_restore_after_reads journal first most old new honest only_reads can =
+    assumption (within_after_reads _ first most old new only_reads.nature.steady (only_reads.honest_reads honest) can.within)
 
 -- ---- the changes after the preparation
 
@@ -109,7 +109,7 @@ pub changed_back : (journal : Content) (first : Chip) (prepared : PreparedRestor
 changed_back journal first prepared old mid new are modelled can =
     let for = are.is.modelled modelled in
     let may = are.leaves.reached (are.only_reads.nature.honest ∙ modelled.honest) for.can in
-    let before = looks_back journal first (most_identity + length journal.saved) old mid modelled.honest are.only_reads can in
+    let before = can_restore_after_reads journal first (most_identity + length journal.saved) old mid modelled.honest are.only_reads can in
     assumption (change_within journal first _ _ (saved_byte journal) old mid new can before.within for.touched may)
 
 module _ (journal : Content) (prepared : PreparedRestore) (old mid new : BusState) where
@@ -125,22 +125,22 @@ module _ (journal : Content) (prepared : PreparedRestore) (old mid new : BusStat
 
   -- ---- the changes weren't finished
 
-  pub change_gives_up : (refusal : Refusal) → AreChanged journal prepared old mid new → old.honest ≡ true
+  pub change_fails : (refusal : Refusal) → AreChanged journal prepared old mid new → old.honest ≡ true
       → ChangeErrors prepared.changes (saved_byte journal) mid new refusal
       → HonestErrors (most_of (length journal.saved)) IsCheckedFirst old new refusal
-  change_gives_up Stopped are honest errors =
+  change_fails Stopped are honest errors =
       let ran = errors.ran_out (are.only_reads.nature.honest ∙ honest) in search arith
-  change_gives_up (Timeout address) are honest errors = errors.1 (are.only_reads.nature.honest ∙ honest)
-  change_gives_up (Mismatch address) are honest errors = λ first. absurd (true≢false (sym first))
-  change_gives_up _ are honest errors = absurd errors
+  change_fails (Timeout address) are honest errors = errors.1 (are.only_reads.nature.honest ∙ honest)
+  change_fails (Mismatch address) are honest errors = λ first. absurd (true≢false (sym first))
+  change_fails _ are honest errors = absurd errors
 
-  pub change_tells : (refusal : Refusal) → AreChanged journal prepared old mid new → IsModelled old
+  pub change_errors : (refusal : Refusal) → AreChanged journal prepared old mid new → IsModelled old
       → ChangeErrors prepared.changes (saved_byte journal) mid new refusal → RestoreErrors journal old new refusal
-  change_tells Stopped are modelled errors = change_gives_up Stopped are modelled.honest errors
-  change_tells (Timeout address) are modelled errors = absurd (errors.1 (are.only_reads.nature.honest ∙ modelled.honest))
-  change_tells (Mismatch address) are modelled errors =
+  change_errors Stopped are modelled errors = change_fails Stopped are modelled.honest errors
+  change_errors (Timeout address) are modelled errors = absurd (errors.1 (are.only_reads.nature.honest ∙ modelled.honest))
+  change_errors (Mismatch address) are modelled errors =
       absurd (errors.1 (are.only_reads.nature.honest ∙ modelled.honest) (are.is.modelled modelled).can)
-  change_tells _ are modelled errors = absurd errors
+  change_errors _ are modelled errors = absurd errors
 
 pub change_answers : (changes : Changes) (wanted : ℕ → ℕ) (old new : BusState) (refusal : Refusal) → ChangeErrors changes wanted old new refusal → IsRestoreRefusal refusal
 change_answers changes wanted old new Stopped errors = refl
@@ -254,7 +254,7 @@ module _ (journal : Content) (prepared : PreparedRestore) (old mid new : BusStat
                 cc);
           };
           kept = applied.kept
-              ∙ rw (for.code, same.kept) (told_coded journal.status old.chip.kept for.accepted.fits.fixed.fixed);
+              ∙ rw (for.code, same.kept) (coded_from_status journal.status old.chip.kept for.accepted.fits.fixed.fixed);
           unsent = λ none never.
               let writes = no_write changes (λ needed. never (for.needed needed)) in let count = are.is.count in
               does.unsent (omega arith) ∙ are.only_reads.sent;
@@ -262,4 +262,4 @@ module _ (journal : Content) (prepared : PreparedRestore) (old mid new : BusStat
 
 -- if the journal can restore the original chip, a restore that succeeds on a modelled bus leaves that chip
 pub restored_back : (journal : Content) (first : Chip) (old new : BusState) (report : Report) → CanRestore journal first old → IsRestored journal old new report → IsSame first new.chip
-restored_back journal first old new report can done = search (arith, given_back)
+restored_back journal first old new report can done = search (arith, same_as_original)

@@ -35,7 +35,7 @@ use Rattle.nor_session.specs.Session.{HonestErrors, SessionErrors}
 use Rattle.nor_scan.specs.Verdict.{NeedsStatusWrite, IdentityAccepts, ScanAccepts}
 use Rattle.nor_session.proofs.Changed.{no_write, writes_other}
 use Rattle.nor_scan.proofs.Held.{code_same}
-use Rattle.nor_session.proofs.JudgedStatus.{held_scheme, free_place, writable_for}
+use Rattle.nor_session.proofs.JudgedStatus.{held_scheme, free_address, writable_for}
 use Rattle.nor_session.proofs.RestoredBytes.{unraised_byte}
 use Rattle.nor_session.proofs.Ready.{Ready, changes_of, lifts_none, ran_out_ready, scanned_few}
 use Rattle.nor_session.proofs.ReadyChip.{most_sized}
@@ -118,7 +118,7 @@ module _ (request : Request) (image image' : List ℕ) (identity : Identity) (st
         inside = λ s touched. let below = is.marks.below s touched in omega arith;
         free = λ off a touched.
             let below = is.marks.below (a / 4096) touched in
-            free_place same _ a (of.scan.free off) (sym (of.touched (a / 4096)) ∙ touched) (omega arith);
+            free_address same _ a (of.scan.free off) (sym (of.touched (a / 4096)) ∙ touched) (omega arith);
         writable = writable;
         raised = is.marks.inside;
         bytes = λ a touched. of.bytes a;
@@ -130,25 +130,25 @@ module _ (request : Request) (image image' : List ℕ) (identity : Identity) (st
 
 -- ---- the errors of the changes
 
-pub change_gives_up : (request : Request) (identity : Identity) (status : Status) (code : ℕ) (kept : SavedScan) (target_bytes : ℕ → ℕ) (old mid new : BusState) (refusal : Refusal) → old.honest ≡ true
+pub change_fails : (request : Request) (identity : Identity) (status : Status) (code : ℕ) (kept : SavedScan) (target_bytes : ℕ → ℕ) (old mid new : BusState) (refusal : Refusal) → old.honest ≡ true
     → Ready request identity status code kept old mid → ChangeErrors (changes_of identity kept status code) target_bytes mid new refusal → HonestErrors (most_of 4096) (λ refusal. refusal_number refusal ≤ 11) old new refusal
-change_gives_up request identity status code kept target_bytes old mid new Stopped honest is errors =
+change_fails request identity status code kept target_bytes old mid new Stopped honest is errors =
     let ran = ran_out_ready is honest (errors.ran_out (is.honest_reads.nature.honest ∙ honest)) in
     let few = scanned_few request identity.found.size is.part.at_most in
     omega arith
-change_gives_up request identity status code kept target_bytes old mid new (Timeout address) honest is errors = errors.1 (is.honest_reads.nature.honest ∙ honest)
-change_gives_up request identity status code kept target_bytes old mid new (Mismatch address) honest is errors =
+change_fails request identity status code kept target_bytes old mid new (Timeout address) honest is errors = errors.1 (is.honest_reads.nature.honest ∙ honest)
+change_fails request identity status code kept target_bytes old mid new (Mismatch address) honest is errors =
     λ judged. absurd (omega arith)
-change_gives_up request identity status code kept target_bytes old mid new _ honest is errors = absurd errors
+change_fails request identity status code kept target_bytes old mid new _ honest is errors = absurd errors
 
-pub change_tells : (request : Request) (image image' : List ℕ) (identity : Identity) (status : Status) (code : ℕ) (kept : SavedScan) (old mid new : BusState) (vault vault' : VaultState) (refusal : Refusal)
+pub change_errors : (request : Request) (image image' : List ℕ) (identity : Identity) (status : Status) (code : ℕ) (kept : SavedScan) (old mid new : BusState) (vault vault' : VaultState) (refusal : Refusal)
     → Ready request identity status code kept old mid → ReadyChip request image image' identity code kept old mid
     → ChangeErrors (changes_of identity kept status code) (λ a. slice_index image' a) mid new refusal → SessionErrors request image old new vault vault' refusal
-change_tells request image image' identity status code kept old mid new vault vault' Stopped is of errors =
+change_errors request image image' identity status code kept old mid new vault vault' Stopped is of errors =
     let ran = ran_out_ready is of.honest (errors.ran_out (is.honest_reads.nature.honest ∙ of.honest)) in
     let sized = most_sized request of.is.config in
     omega arith
-change_tells request image image' identity status code kept old mid new vault vault' (Timeout address) is of errors = absurd (errors.1 (is.honest_reads.nature.honest ∙ of.honest))
-change_tells request image image' identity status code kept old mid new vault vault' (Mismatch address) is of errors =
+change_errors request image image' identity status code kept old mid new vault vault' (Timeout address) is of errors = absurd (errors.1 (is.honest_reads.nature.honest ∙ of.honest))
+change_errors request image image' identity status code kept old mid new vault vault' (Mismatch address) is of errors =
     absurd (errors.1 (is.honest_reads.nature.honest ∙ of.honest) (can_apply request image image' identity status code kept old mid is of))
-change_tells request image image' identity status code kept old mid new vault vault' _ is of errors = absurd errors
+change_errors request image image' identity status code kept old mid new vault vault' _ is of errors = absurd errors

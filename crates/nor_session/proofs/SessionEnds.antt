@@ -32,7 +32,7 @@ use Rattle.nor_session.specs.Made.{IsTargetChip}
 use Rattle.nor_scan.specs.Verdict.{NeedsStatusWrite, IdentityAccepts}
 use Rattle.nor_session.proofs.Changed.{no_write, fewest_at}
 use Rattle.nor_session.proofs.Ready.{Ready, changes_of, bounded_by}
-use Rattle.nor_session.proofs.ReadyChip.{is_opening, told_idle, shows, named}
+use Rattle.nor_session.proofs.ReadyChip.{is_opening, status1_if_idle, shows, named}
 use Rattle.nor_session.proofs.SessionChanges.{ReadyChip, can_apply, needs}
 use Rattle.nor_session.proofs.RestoredBytes.{untouched_byte, pages_same}
 
@@ -44,7 +44,7 @@ module _ (request : Request) (image image' : List ℕ) (identity : Identity) (st
       → HasSaved request identity code image image' mid new vault kept → ((a : ℕ) → slice_index image' a < 256)
       → old.chip.kept.two < 128 → ReadyChip request image image' identity code kept old new
   ready_chip new vault modelled only_reads opens is accepts keeps bytes small =
-      search (arith, is_opening, named, shows, told_idle)
+      search (arith, is_opening, named, shows, status1_if_idle)
 
   -- ---- once the vault is sealed
 

@@ -171,7 +171,7 @@ module _ {changes : Changes} {wanted : ℕ → ℕ} (old : BusState) {mid new : 
           | inl here ↦ inr (inl (are.saved s here))
           | inr behind ↦ inr (inr record {
             whole = λ k below. are.saved k (behind.1 k (omega (arith, below, are.sized)));
-            behind = let past = behind.0 in omega (arith, past, are.sized);
+            past_end = let past = behind.0 in omega (arith, past, are.sized);
           })
         ]
       ];

@@ -19,7 +19,7 @@ use Rattle.nor_probe.specs.Known.{IsModelled}
 use Rattle.nor_session.specs.Headline.{CanRestore, open_addresses}
 use Rattle.nor_session.specs.Session.{CanBeUndone}
 use Rattle.nor_session.specs.WrittenOver.{IsWrittenOver}
-use Rattle.nor_session.proofs.RestoresOriginal.{can_give_back, restorable}
+use Rattle.nor_session.proofs.RestoresOriginal.{can_restore_read, restorable}
 
 -- ---- one chip written over with another
 
@@ -49,9 +49,9 @@ fixed_over {old} {new} {opened} first over before after =
     rw (one, two) refl
 
 -- if `IsWithin` holds for the chips before and after the overwriting, it holds for the chip that was opened
-pub within_both : (places : ℕ → Bool) (first : Chip) (old new opened : BusState) → IsWrittenOver old.chip new.chip opened.chip
-    → IsWithin places first old → IsWithin places first new → IsWithin places first opened
-within_both places first old new opened over before after =
+pub within_both : (addresses : ℕ → Bool) (first : Chip) (old new opened : BusState) → IsWrittenOver old.chip new.chip opened.chip
+    → IsWithin addresses first old → IsWithin addresses first new → IsWithin addresses first opened
+within_both addresses first old new opened over before after =
     let fixed = fixed_over first.kept over before.fixed after.fixed in
     let kept = λ (shut : is_writable first ≡ false). kept_over first.kept over (before.kept shut) (after.kept shut) in
     search (arith, either)
@@ -80,7 +80,7 @@ pub read_back : (request : Request) (image : List ℕ) (old new : BusState) (vau
     → IsModelled old → IsChip old.chip → vault.telling ≡ true → CanBeUndone request image old new vault
     → IsContent journal → vault.bytes ≡ text journal → CanRestore journal old.chip new
 read_back request image old new vault journal modelled is telling undone sound read =
-    can_give_back (is_touched old.chip.bytes (wanted request image old.chip)) old.chip vault.bytes new journal
+    can_restore_read (is_touched old.chip.bytes (wanted request image old.chip)) old.chip vault.bytes new journal
     (restorable request image old new vault is modelled.genuine telling undone)
     (read_kept (header_of old.chip) old.chip.bytes _ journal vault.bytes (undone.journal telling) sound read)
 

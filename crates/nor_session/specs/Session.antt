@@ -74,7 +74,7 @@ most_status_writes _ unlock = if unlock then 2 else 0
 -- address, so it counts as targeting such a sector too.
 pub record IsPastChipEnd (journal : Content) (sector : ℕ) : Type 0 where
   pub whole : (s : ℕ) → s < journal.size / 4096 → is_saved journal s ≡ true
-  pub behind : journal.size / 4096 ≤ sector
+  pub past_end : journal.size / 4096 ≤ sector
 
 -- Holds for the protection bits that the journal saves, and for 0 (all clear).
 abbrev pub IsSavedCode : Content → (code : ℕ) → Type 0

@@ -55,7 +55,7 @@ impl<'a, B: Bus, V: Vault> Judged<'a, B, V> {
             bus,
             source: &Image { bytes: image },
             changes: &changes,
-            way_back: Restorer::in_vault(vault),
+            undone_by: Restorer::in_vault(vault),
         };
         let work = kept_chip.finish(request.verify)?;
         Ok(Report {

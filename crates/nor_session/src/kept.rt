@@ -37,7 +37,7 @@ pub(crate) struct Kept<'a, B: Bus, S: Source> {
     pub(crate) bus: &'a mut B,
     pub(crate) source: &'a S,
     pub(crate) changes: &'a Changes,
-    pub(crate) way_back: Restorer,
+    pub(crate) undone_by: Restorer,
 }
 
 impl<'a, B: Bus, S: Source> Kept<'a, B, S> {
@@ -58,7 +58,7 @@ impl<'a, B: Bus, S: Source> Kept<'a, B, S> {
             bus,
             source,
             changes,
-            way_back: Restorer(()),
+            undone_by: Restorer(()),
         } = self;
         let work = apply(bus, source, changes)?;
         let done = Done {

@@ -74,7 +74,7 @@ pub fn rehearse<B: Meter>(
 
 // The most transactions of an identification: at most 65,540 for the probe, and the reads of status 2 and the unique
 // ID.
-const OPENING: u64 = 65_542;
+const IDENTIFICATION: u64 = 65_542;
 
 // The most transactions of an operation: write enable, its command and 65,536 polls.
 const OPERATION: u64 = 65_538;
@@ -85,7 +85,7 @@ fn most_needed() -> u64
     ensures { result ≡ most_of 4096 }
 {
     let sectors = u64::from(MOST_SECTORS);
-    OPENING + 3 * sectors + OPERATION * (17 * sectors + 2)
+    IDENTIFICATION + 3 * sectors + OPERATION * (17 * sectors + 2)
 }
 
 // Returns the number of transactions that the session may send: the first stop or, without stops, `most_needed`.

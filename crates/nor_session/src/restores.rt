@@ -40,7 +40,7 @@ pub fn restore<B: Bus>(bus: &mut B, journal: &Journal<'_>) -> Result<Report, Ref
         bus,
         source: &Saved { journal },
         changes: &prepared.changes,
-        way_back: Restorer::in_journal(journal),
+        undone_by: Restorer::in_journal(journal),
     };
     let work = kept.finish(true)?;
     Ok(Report {

@@ -37,9 +37,9 @@ impl Iterator for Offered {
 
     fn next(&mut self) -> Option<(u32, u32)> {
         for code in self.next..CODES {
-            if let Some(places) = least_at(self.size, code) {
+            if let Some(range) = least_at(self.size, code) {
                 self.next = code + 1;
-                return Some((places.start, places.len));
+                return Some((range.start, range.len));
             }
         }
         self.next = CODES;

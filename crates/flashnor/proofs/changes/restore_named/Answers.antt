@@ -1,9 +1,9 @@
 use Rattle.std.proofs.Common.{◌∙◌, inl, inr}
 use Rattle.std.proofs.lemmas.Result.{err_from_is_err_and}
 use Rattle.nor_probe.specs.Found.{most_probe}
-use Rattle.nor_session.proofs.Restoring.{looks_back}
+use Rattle.nor_session.proofs.Restoring.{can_restore_after_reads}
 use Rattle.nor_session.proofs.WrittenBack.{restore_over}
-use Rattle.flashnor.proofs.Ready.{looked_same}
+use Rattle.flashnor.proofs.Ready.{same_after_reads}
 use Rattle.flashnor.proofs.changes.restore_named.Goals as goal
 
 pub returns-in_err-find_named : goal.returns-in_err-find_named
@@ -20,7 +20,7 @@ returns-in_err-find_named g c = λ modelled steady_or_idle.
       returned = inr (c.in_err-find_named.ensures.refuses modelled);
       over = λ first opened can.
           restore_over c.args.journal.now first _ _ opened can
-          (looks_back c.args.journal.now first most_probe _ _ modelled.honest only_reads can);
+          (can_restore_after_reads c.args.journal.now first most_probe _ _ modelled.honest only_reads can);
       back = tt;
     })
 
@@ -30,7 +30,7 @@ returns-in_err-report g c = λ modelled steady_or_idle.
     let only_reads = c.in_ok-find_named.ensures.only_reads in
     let passes = c.in_ok-find_named.ensures.passes modelled steady_or_idle in
     let failed = c.in_err-report.ensures.modelled passes.modelled in
-    let leads = c.in_err-report.ensures.restores_original passes.modelled in
+    let original = c.in_err-report.ensures.restores_original passes.modelled in
     rw (p.1, p.2) (record {
       found = g.B.Bus.state c.find_named.new.bus;
       only_reads = only_reads;
@@ -40,11 +40,11 @@ returns-in_err-report g c = λ modelled steady_or_idle.
       returned = inl (record {
         refuses = failed.errors;
         same = λ judged.
-            looked_same 69638 _ _ (c.in_err-report.ensures.always.only_reads judged) passes.modelled.honest passes.steady_or_idle;
+            same_after_reads 69638 _ _ (c.in_err-report.ensures.always.only_reads judged) passes.modelled.honest passes.steady_or_idle;
       });
       over = λ first opened can.
           restore_over c.args.journal.now first _ _ opened can
-          (leads.within first (looks_back c.args.journal.now first most_probe _ _ modelled.honest only_reads can));
+          (original.within first (can_restore_after_reads c.args.journal.now first most_probe _ _ modelled.honest only_reads can));
       back = tt;
     })
 
@@ -53,7 +53,7 @@ returns g c = λ modelled steady_or_idle.
     let only_reads = c.in_ok-find_named.ensures.only_reads in
     let passes = c.in_ok-find_named.ensures.passes modelled steady_or_idle in
     let done = c.in_ok-report.ensures.modelled passes.modelled in
-    let leads = c.in_ok-report.ensures.restores_original passes.modelled in
+    let original = c.in_ok-report.ensures.restores_original passes.modelled in
     record {
       found = g.B.Bus.state c.find_named.new.bus;
       only_reads = only_reads;
@@ -63,7 +63,7 @@ returns g c = λ modelled steady_or_idle.
       returned = done.done;
       over = λ first opened can.
           restore_over c.args.journal.now first _ _ opened can
-          (leads.within first (looks_back c.args.journal.now first most_probe _ _ modelled.honest only_reads can));
+          (original.within first (can_restore_after_reads c.args.journal.now first most_probe _ _ modelled.honest only_reads can));
       back = λ first can.
-          leads.back first (looks_back c.args.journal.now first most_probe _ _ modelled.honest only_reads can);
+          original.back first (can_restore_after_reads c.args.journal.now first most_probe _ _ modelled.honest only_reads can);
     }

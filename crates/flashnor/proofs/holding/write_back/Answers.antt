@@ -1,4 +1,4 @@
-use Rattle.flashnor.proofs.WrittenBack.{both_amid, both_put, told_before, reported}
+use Rattle.flashnor.proofs.WrittenBack.{both_amid, both_put, reported_before, reported}
 use Rattle.flashnor.proofs.holding.write_back.Goals as goal
 
 pub returns-clause-put : goal.returns-clause-put
@@ -12,6 +12,6 @@ returns-clause-amid g c = λ two bytes bits ready.
 pub returns-clause-fails : goal.returns-clause-fails
 returns-clause-fails g c = (
   reported _ _ _ c.put_back-image.ensures.fails,
-  told_before _ _ (g.R.Store.state c.args.rt.now).view (g.R.Store.state c.put_back-image.new.rt).view
+  reported_before _ _ (g.R.Store.state c.args.rt.now).view (g.R.Store.state c.put_back-image.new.rt).view
       c.put_back-image.ensures.nature (reported _ _ _ c.put_back-status.ensures.fails),
 )

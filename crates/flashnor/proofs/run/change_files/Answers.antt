@@ -2,12 +2,12 @@ use Rattle.std.proofs.Common.{◌∙◌, inr}
 use Rattle.std.proofs.lemmas.Result.{err_from_is_err_and}
 use Rattle.nor_chip.specs.Sim.{sim_state}
 use Rattle.nor_files.specs.Files.{AreAtRest}
-use Rattle.flashnor.proofs.Ended.{ends_called, holds_told}
+use Rattle.flashnor.proofs.Ended.{ends_called, holds_reported}
 use Rattle.flashnor.proofs.AfterCall.{does_after, setup_done}
 use Rattle.flashnor.proofs.Kept.{holds_task, keeps_files, ready_both}
 use Rattle.nor_lines.proofs.Lent.{lawful_after}
 use Rattle.flashnor.proofs.Traced.{fails_before, view_before}
-use Rattle.flashnor.proofs.WrittenBack.{told_before}
+use Rattle.flashnor.proofs.WrittenBack.{reported_before}
 use Rattle.flashnor.proofs.Before.{keeps_before, roles_after, two_kept}
 use Rattle.flashnor.proofs.run.change_files.Goals as goal
 
@@ -66,21 +66,21 @@ returns g c =
               roles2.status_journal d.2,
         );
         reported = rw puts (
-          told_before _ _ s0.view s2.view (called.nature ∙ held.nature) back.fails.0,
-          told_before _ _ s0.view s2.view (called.nature ∙ held.nature) back.fails.1,
+          reported_before _ _ s0.view s2.view (called.nature ∙ held.nature) back.fails.0,
+          reported_before _ _ s0.view s2.view (called.nature ∙ held.nature) back.fails.1,
         );
         left = λ rest puts. back.put (roles2.status puts) _ _ (ready rest);
         traced = called.lost;
       }) c.or_fault-answer.ensures;
       err = tt;
       keeps = λ rest. keeps_files job c.in_ok-held.held s0 s1 s2 bus bus' roles held.ok opens rest (held.held rest)
-          held.nature called.nature called.others setup s3 d.0 held.stands c.in_ok-called.called.bus.flash.kept2_in but
+          held.nature called.nature called.others setup s3 d.0 held.fills_missing c.in_ok-called.called.bus.flash.kept2_in but
           back.others (back.amid (roles2.status puts) _ _ (ready rest)) job.task job.named _ puts
           (called.others (lawful_after held.nature rest.lawful)) roles.image_journal roles.status_journal
           roles.trace_journal d.2;
-      holds = λ rest. holds_told job _ _ _ s0 s3 c.or_fault-answer.ensures (λ found is all. holds_task job
+      holds = λ rest. holds_reported job _ _ _ s0 s3 c.or_fault-answer.ensures (λ found is all. holds_task job
           c.in_ok-held.held s0 s1 s2 bus bus' roles held.ok opens rest (held.held rest) held.nature called.nature
-          called.others setup s3 d.0 held.stands c.in_ok-called.called.bus.flash.kept2_in but back.others
+          called.others setup s3 d.0 held.fills_missing c.in_ok-called.called.bus.flash.kept2_in but back.others
           (back.amid (roles2.status puts) _ _ (ready rest)) _ all (back.put (roles2.status puts) _ _ (ready rest)) job.task
           job.named found puts (called.others (lawful_after held.nature rest.lawful)) roles.trace_layout
           roles.trace_wanted roles.image_journal roles.status_journal roles.trace_journal (rw is at d.2));

@@ -1,5 +1,5 @@
 use Rattle.std.proofs.Common.{arith, rules}
-use Rattle.flashnor.proofs.Ready.{calm_ready, modelled_ready}
+use Rattle.flashnor.proofs.Ready.{steady_or_idle-ready, modelled_ready}
 use Rattle.nor_lines.proofs.Lent.{stays_same}
 use Rattle.flashnor.proofs.run.do_task.Goals as goal
 
@@ -32,8 +32,8 @@ returns-in-Verify g c = rw c.in-Verify.is (search (rules, stays_same))
 pub returns-in-Change : goal.returns-in-Change
 returns-in-Change g c =
     let change = c.change_chip.ensures in
-    rw c.in-Change.is (search (rules, modelled_ready, calm_ready, change.ok, change.others))
+    rw c.in-Change.is (search (rules, modelled_ready, steady_or_idle-ready, change.ok, change.others))
 
 pub returns-in-Restore : goal.returns-in-Restore
 returns-in-Restore g c =
-    rw c.in-Restore.is (search (rules, stays_same, modelled_ready, calm_ready, c.restore_chip.ensures.ok))
+    rw c.in-Restore.is (search (rules, stays_same, modelled_ready, steady_or_idle-ready, c.restore_chip.ensures.ok))

@@ -1,6 +1,6 @@
 use Rattle.std.proofs.Common.{refl, arith}
 use Rattle.std.proofs.lemmas.Grind.{common_steps}
-use Rattle.nor_apply.proofs.ApplyingExits.{Parts, names_lifting, lifted, erased, erases_halted, programs_halted, last_halted, does_applied, few_sent}
+use Rattle.nor_apply.proofs.ApplyingExits.{Parts, names_lifting, lifted, erased, erases_failed, programs_failed, last_failed, does_applied, few_sent}
 use Rattle.nor_apply.proofs.ApplyingInTurn.{write_most}
 use Rattle.nor_apply.proofs.changes.apply.Goals.{In_ok-programmed}
 use Rattle.nor_apply.proofs.changes.apply.Goals as goal
@@ -14,19 +14,19 @@ pub returns-in_err-erased : goal.returns-in_err-erased
 returns-in_err-erased g c =
     let so = lifted c.args.changes.now (g.S.Source.wanted c.args.source.now) c.write_code.ensures.leaves
     c.in_ok-lifted.ensures.does in
-    let halted = erases_halted so c.requires.consistent.raised c.erase_all.ensures.leaves c.in_err-erased.ensures.fails
+    let ends_in_error = erases_failed so c.requires.consistent.raised c.erase_all.ensures.leaves c.in_err-erased.ensures.fails
     c.in_err-erased.ensures.names in
-    grind (arith, common_steps, halted)
+    grind (arith, common_steps, ends_in_error)
 
 pub returns-in_err-programmed : goal.returns-in_err-programmed
 returns-in_err-programmed g c =
     let so = lifted c.args.changes.now (g.S.Source.wanted c.args.source.now) c.write_code.ensures.leaves
     c.in_ok-lifted.ensures.does in
     let then = erased so c.requires.consistent.raised c.erase_all.ensures.leaves c.in_ok-erased.ensures.does in
-    let halted = programs_halted c.in_ok-erased.erased.count then c.program_all.ensures.leaves (omega (arith, c.in_ok-erased.ensures.does.fewer))
+    let ends_in_error = programs_failed c.in_ok-erased.erased.count then c.program_all.ensures.leaves (omega (arith, c.in_ok-erased.ensures.does.fewer))
     c.in_err-programmed.ensures.fails
     c.in_err-programmed.ensures.names in
-    grind (arith, common_steps, halted)
+    grind (arith, common_steps, ends_in_error)
 
 -- the effect and result of the parts before the last status write
 all_done : (g : _) (c : In_ok-programmed g) → Parts c.args.changes.now (g.S.Source.wanted c.args.source.now)
@@ -45,9 +45,9 @@ all_done g c = record {
 pub returns-in_err-written : goal.returns-in_err-written
 returns-in_err-written g c =
     let parts = all_done g (goal.at.returns-in_err-written g c).In_ok-programmed in
-    let halted = last_halted parts c.writes_code.ensures c.write_code-2.ensures.leaves c.in_err-written.ensures.fails
+    let ends_in_error = last_failed parts c.writes_code.ensures c.write_code-2.ensures.leaves c.in_err-written.ensures.fails
     c.in_err-written.ensures.names in
-    grind (arith, common_steps, halted)
+    grind (arith, common_steps, ends_in_error)
 
 pub overflow_add-result-2 : goal.overflow_add-result-2
 overflow_add-result-2 g c =

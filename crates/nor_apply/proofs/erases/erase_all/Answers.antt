@@ -4,7 +4,7 @@ use Rattle.nor_geometry.specs.Below.{count_below}
 use Rattle.nor_geometry.proofs.Counting.{count_below-zero, count_below-more}
 use Rattle.nor_plan.specs.Erases.{erases_left}
 use Rattle.nor_plan.specs.SectorSet.{has}
-use Rattle.nor_apply.proofs.ErasingExits.{none_so_far, erases_more, few_units, erases_halted, leaves_ended, does_ended}
+use Rattle.nor_apply.proofs.ErasingExits.{none_so_far, erases_more, few_units, erases_failed, leaves_ended, does_ended}
 use Rattle.nor_apply.proofs.erases.erase_all.Goals as goal
 
 pub loop-unit-init : goal.loop-unit-init
@@ -31,9 +31,9 @@ overflow_add-tally g c = omega (arith, few_units c.loop-unit.invariant.so_far c.
 
 pub returns-in_err-sent : goal.returns-in_err-sent
 returns-in_err-sent g c =
-    let halted = erases_halted c.loop-unit.invariant.so_far c.in-Some.ensures.steps c.erase.ensures.leaves
+    let ends_in_error = erases_failed c.loop-unit.invariant.so_far c.in-Some.ensures.steps c.erase.ensures.leaves
     c.in_err-sent.ensures.fails c.in_err-sent.ensures.names in
-    grind (arith, common_steps, halted)
+    grind (arith, common_steps, ends_in_error)
 
 pub returns-clause-leaves : goal.returns-clause-leaves
 returns-clause-leaves g c = leaves_ended c.loop-unit.invariant.so_far c.in-None.ensures.steps.0

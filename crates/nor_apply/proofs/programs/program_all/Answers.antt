@@ -1,7 +1,7 @@
 use Rattle.std.proofs.Common.{◌∙◌, sym, refl, arith}
 use Rattle.std.proofs.lemmas.Grind.{common_steps}
 use Rattle.nor_plan.specs.SectorSet.{has}
-use Rattle.nor_apply.proofs.ProgrammingWhole.{IsTouched, sectors_none, sectors_skip, sectors_more, few_sectors, sectors_halted, does_ended, leaves_ended}
+use Rattle.nor_apply.proofs.ProgrammingWhole.{IsTouched, sectors_none, sectors_skip, sectors_more, few_sectors, sectors_failed, does_ended, leaves_ended}
 use Rattle.nor_apply.proofs.programs.program_all.Goals.{After-sector}
 use Rattle.nor_apply.proofs.programs.program_all.Goals as goal
 
@@ -42,9 +42,9 @@ overflow_add-tally-in-loop-sector g c =
 pub returns-in_err-more : goal.returns-in_err-more
 returns-in_err-more g c =
     let here = touched_here g (goal.at.returns-in_err-more g c).After-sector in
-    let halted = sectors_halted c.loop-sector.invariant.so_far here c.contains-in-loop-sector.ensures
+    let ends_in_error = sectors_failed c.loop-sector.invariant.so_far here c.contains-in-loop-sector.ensures
     c.program_sector.ensures.leaves c.in_err-more.ensures.fails c.in_err-more.ensures.names in
-    grind (arith, common_steps, halted)
+    grind (arith, common_steps, ends_in_error)
 
 pub returns-clause-leaves : goal.returns-clause-leaves
 returns-clause-leaves g c = leaves_ended (omega arith) c.loop-sector.invariant.so_far

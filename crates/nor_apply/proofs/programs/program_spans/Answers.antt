@@ -1,7 +1,7 @@
 use Rattle.std.proofs.Common.{ℕ, ◌+◌, refl, ap, arith, rules}
 use Rattle.std.proofs.lemmas.Grind.{common_steps}
 use Rattle.nor_plan.specs.Spans.{spans_left}
-use Rattle.nor_apply.proofs.ProgrammingSpans.{spans_none, spans_more, few_spans, spans_halted, does_ended, leaves_ended}
+use Rattle.nor_apply.proofs.ProgrammingSpans.{spans_none, spans_more, few_spans, spans_failed, does_ended, leaves_ended}
 use Rattle.nor_apply.proofs.programs.program_spans.Goals as goal
 
 pub loop-span-init : goal.loop-span-init
@@ -28,9 +28,9 @@ overflow_add-tally-in-loop-span g c =
 
 pub returns-in_err-sent : goal.returns-in_err-sent
 returns-in_err-sent g c =
-    let halted = spans_halted c.loop-span.invariant.so_far c.in-Some.ensures.steps c.program_page.ensures.leaves
+    let ends_in_error = spans_failed c.loop-span.invariant.so_far c.in-Some.ensures.steps c.program_page.ensures.leaves
     c.in_err-sent.ensures.fails c.in_err-sent.ensures.names in
-    grind (arith, common_steps, halted)
+    grind (arith, common_steps, ends_in_error)
 
 pub returns-clause-leaves : goal.returns-clause-leaves
 returns-clause-leaves g c = leaves_ended c.loop-span.invariant.so_far c.in-None.ensures.steps.0

@@ -1,4 +1,4 @@
-use Rattle.nor_driver.proofs.Readings.{read_fits, read_leaves, read_does, read_fails, read_heard}
+use Rattle.nor_driver.proofs.Readings.{read_fits, read_leaves, read_does, read_fails, read_keeps_polled_ready}
 use Rattle.nor_driver.proofs.Sends.{sends_by, answered_by}
 use Rattle.nor_driver.proofs.reads.read.Goals as goal
 
@@ -17,7 +17,7 @@ returns-clause-does g c =
 
 pub returns-clause-polled_ready : goal.returns-clause-polled_ready
 returns-clause-polled_ready g c =
-    read_heard c.transfer.result _ c.transfer.new.reply _ _ c.requires.reading c.transfer.ensures.records
+    read_keeps_polled_ready c.transfer.result _ c.transfer.new.reply _ _ c.requires.reading c.transfer.ensures.records
 
 pub returns-clause-unread : goal.returns-clause-unread
 returns-clause-unread g c honest =

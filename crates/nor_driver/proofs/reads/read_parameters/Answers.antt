@@ -1,5 +1,5 @@
 use Rattle.std.proofs.lemmas.Result.{on_ok_weaker}
-use Rattle.nor_driver.proofs.Told.{reads_sfdp}
+use Rattle.nor_driver.proofs.ReplyBytes.{reads_sfdp}
 use Rattle.nor_driver.proofs.reads.read_parameters.Goals as goal
 
 pub returns-clause-does : goal.returns-clause-does

@@ -1,6 +1,6 @@
 use Rattle.std.proofs.Common.{◌∙◌}
 use Rattle.std.proofs.lemmas.Result.{on_ok_weaker}
-use Rattle.nor_driver.proofs.Told.{reads_sector}
+use Rattle.nor_driver.proofs.ReplyBytes.{reads_sector}
 use Rattle.nor_driver.proofs.reads.read_sector.Goals as goal
 
 pub returns-clause-does : goal.returns-clause-does

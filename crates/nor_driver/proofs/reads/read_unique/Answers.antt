@@ -1,4 +1,4 @@
-use Rattle.nor_driver.proofs.Told.{reads_unique}
+use Rattle.nor_driver.proofs.ReplyBytes.{reads_unique}
 use Rattle.nor_driver.proofs.reads.read_unique.Goals as goal
 
 pub returns-clause-does : goal.returns-clause-does

@@ -1,7 +1,7 @@
 use Rattle.std.proofs.Common.{refl, rules}
 use Rattle.nor_driver.proofs.Readings.{poll_fits}
 use Rattle.nor_driver.proofs.Sends.{sends_by}
-use Rattle.nor_driver.proofs.Torn.{looked_at_stop}
+use Rattle.nor_driver.proofs.Torn.{honest_reads_at_stop}
 use Rattle.nor_driver.proofs.Waiting.{replied_byte}
 use Rattle.nor_driver.proofs.waits.poll.Goals as goal
 
@@ -10,7 +10,7 @@ returns-in_err-transfer-clause-leaves g c =
     let sends = sends_by c.transfer.ensures.nature c.transfer.ensures.records in record {
       nature = sends.nature;
       sent = sends.sent.quiet refl;
-      honest_reads = λ honest. looked_at_stop _ _ _ 1 refl (c.in_err-transfer.ensures.stops (poll_fits _ honest));
+      honest_reads = λ honest. honest_reads_at_stop _ _ _ 1 refl (c.in_err-transfer.ensures.stops (poll_fits _ honest));
     }
 
 pub returns-clause-leaves : goal.returns-clause-leaves

@@ -20,7 +20,7 @@ returns-then-not-contains-clause-leaves g c =
 pub returns-then-not-contains-clause-does : goal.returns-then-not-contains-clause-does
 returns-then-not-contains-clause-does g c =
     let polled = poll_answered c.in_ok-status1.ensures.does in record {
-      only_polls = keeps_replies_then c.loop-polls.invariant.only_polls (answered_keeps polled);
+      keeps_other_replies = keeps_replies_then c.loop-polls.invariant.keeps_other_replies (answered_keeps polled);
       status = answered_last polled;
       some = grind (arith, common_steps);
       few = grind (arith, common_steps);
@@ -35,7 +35,7 @@ loop-polls-preserved g c =
     let polled = poll_answered c.in_ok-status1.ensures.does in record {
       nature = nature_then _ _ _ c.poll.ensures.leaves.nature was.nature;
       sent = grind (arith, common_steps);
-      only_polls = keeps_replies_then was.only_polls (answered_keeps polled);
+      keeps_other_replies = keeps_replies_then was.keeps_other_replies (answered_keeps polled);
       shown_busy = λ some. ends_busy c.in_ok-status1.ensures.does (grind (arith, common_steps));
       rested = grind (arith, common_steps);
       busy = grind (arith, common_steps);

@@ -12,7 +12,7 @@ invariant-loop-polls g l =
     record {
       nature : KeepsNature old now;
       sent : now.sent ≡ old.sent;
-      only_polls : KeepsReplies is_poll old.history now.history;
+      keeps_other_replies : KeepsReplies is_poll old.history now.history;
       shown_busy : 0 < l.polls → EndsBusy now.history;
       rested : old.honest ≡ true → Rested old now;
       busy : old.honest ≡ true → now.chip.busy + l.polls ≡ old.chip.busy;

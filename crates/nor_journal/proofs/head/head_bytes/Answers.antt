@@ -2,7 +2,7 @@ use Rattle.std.proofs.Common.{◌∙◌, ◌≡◌, ◌++◌, ap, drop, length, 
 use Rattle.std.proofs.lemmas.List.{length-append, append-nil}
 use borrow.Rule.Slice.PartMut.{put_mid}
 use Rattle.nor_journal.specs.Text.{head}
-use Rattle.nor_journal.proofs.Heads.{length-put, put_behind}
+use Rattle.nor_journal.proofs.Heads.{length-put, put_after}
 use Rattle.nor_journal.proofs.head.head_bytes.Goals as goal
 
 -- the header's parts, written one after another into a buffer that begins with the magic, stand in this order
@@ -13,8 +13,8 @@ written : (magic left id unique status size : List ℕ) → length magic ≡ 8 �
 written magic left id unique status size eight three more two =
     let one = length-append magic id in let other = length-append (magic ++ id) unique in
     let last = length-append ((magic ++ id) ++ unique) status in
-    rw (put_behind 8 3 magic left id eight, put_behind 11 8 (magic ++ id) _ unique (omega arith))
-    (rw (put_behind 19 2 ((magic ++ id) ++ unique) _ status (omega arith)) (put_behind 21 4 _ _ size (omega arith)))
+    rw (put_after 8 3 magic left id eight, put_after 11 8 (magic ++ id) _ unique (omega arith))
+    (rw (put_after 19 2 ((magic ++ id) ++ unique) _ status (omega arith)) (put_after 21 4 _ _ size (omega arith)))
 
 two_long : (magic left id unique : List ℕ) → length magic ≡ 8 → length left ≡ 17 → length id ≡ 3 → length unique ≡ 8
     → length (put_mid 11 8 (put_mid 8 3 (magic ++ left) id) unique) ≡ 25

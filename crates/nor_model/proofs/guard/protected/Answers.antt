@@ -10,5 +10,5 @@ returns-clause-ends c = protected_by-end _ _ (is_chip_size-in_blocks c.args.size
 
 pub returns-clause-page : goal.returns-clause-page
 returns-clause-page c =
-    let errors : c.is_protected.result ≡ protected_by c.args.size (code_of (kept_in c.args.status)) c.args.at = search rules in
-    rw errors (protected_by-page_of _ _ _ (is_chip_size-in_blocks c.args.size c.requires))
+    let result_is : c.is_protected.result ≡ protected_by c.args.size (code_of (kept_in c.args.status)) c.args.at = search rules in
+    rw result_is (protected_by-page_of _ _ _ (is_chip_size-in_blocks c.args.size c.requires))

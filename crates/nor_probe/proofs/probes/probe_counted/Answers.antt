@@ -1,6 +1,6 @@
 use Rattle.std.proofs.Common.{◌∙◌, sym, ap, arith, rules}
 use Rattle.std.proofs.lemmas.Grind.{common_steps}
-use Rattle.nor_driver.proofs.ReadsInTurn.{looks_on}
+use Rattle.nor_driver.proofs.ReadsInTurn.{only_reads_within}
 use Rattle.nor_driver.proofs.Readings.{rested_then}
 use Rattle.nor_probe.specs.Known.{id_of}
 use Rattle.nor_probe.proofs.Errors.{blames_other, probe_errors}
@@ -9,20 +9,20 @@ use Rattle.nor_probe.proofs.probes.probe_counted.Goals as goal
 
 pub returns-in_err-id-clause-always : goal.returns-in_err-id-clause-always
 returns-in_err-id-clause-always g c =
-    let only_reads = looks_on 65540 (omega arith) c.wait.ensures.leaves c.read_id.ensures.leaves in
+    let only_reads = only_reads_within 65540 (omega arith) c.wait.ensures.leaves c.read_id.ensures.leaves in
     grind (arith, common_steps)
 
 pub returns-in_err-part-clause-always : goal.returns-in_err-part-clause-always
 returns-in_err-part-clause-always g c =
-    let polled = looks_on 65537 (omega arith) c.wait.ensures.leaves c.read_id.ensures.leaves in
-    let only_reads = looks_on 65540 (omega arith) polled c.identify.ensures.leaves in
+    let polled = only_reads_within 65537 (omega arith) c.wait.ensures.leaves c.read_id.ensures.leaves in
+    let only_reads = only_reads_within 65540 (omega arith) polled c.identify.ensures.leaves in
     grind (arith, common_steps)
 
 pub returns-then-not-is_wanted-clause-always : goal.returns-then-not-is_wanted-clause-always
 returns-then-not-is_wanted-clause-always g c =
-    let polled = looks_on 65537 (omega arith) c.wait.ensures.leaves c.read_id.ensures.leaves in
+    let polled = only_reads_within 65537 (omega arith) c.wait.ensures.leaves c.read_id.ensures.leaves in
     record {
-      only_reads = looks_on 65540 (omega arith) polled c.identify.ensures.leaves;
+      only_reads = only_reads_within 65540 (omega arith) polled c.identify.ensures.leaves;
       part = tt;
       wanted = tt;
       blames = blames_other c.args.named c.in_ok-part.part.name c.is_wanted.result c.is_wanted.ensures
@@ -34,8 +34,8 @@ returns-then-not-is_wanted-clause-always g c =
 
 pub returns-clause-always : goal.returns-clause-always
 returns-clause-always g c =
-    let polled = looks_on 65537 (omega arith) c.wait.ensures.leaves c.read_id.ensures.leaves in record {
-      only_reads = looks_on 65540 (omega arith) polled c.identify.ensures.leaves;
+    let polled = only_reads_within 65537 (omega arith) c.wait.ensures.leaves c.read_id.ensures.leaves in record {
+      only_reads = only_reads_within 65540 (omega arith) polled c.identify.ensures.leaves;
       part = grind (arith, common_steps);
       wanted = grind (arith, common_steps);
       blames = tt;

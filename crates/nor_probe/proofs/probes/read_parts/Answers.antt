@@ -1,21 +1,21 @@
 use Rattle.std.proofs.Common.{arith}
 use Rattle.nor_model.proofs.Histories.{keeps_replies_then}
-use Rattle.nor_driver.proofs.ReadsInTurn.{looks_on}
+use Rattle.nor_driver.proofs.ReadsInTurn.{only_reads_within}
 use Rattle.nor_probe.proofs.Replied.{sfdp_keeps}
 use Rattle.nor_probe.proofs.probes.read_parts.Goals as goal
 
 pub returns-in_err-read_parameters-2-clause-leaves : goal.returns-in_err-read_parameters-2-clause-leaves
 returns-in_err-read_parameters-2-clause-leaves g c =
-    looks_on 3 (omega arith) c.read_parameters.ensures.leaves c.read_parameters-2.ensures.leaves
+    only_reads_within 3 (omega arith) c.read_parameters.ensures.leaves c.read_parameters-2.ensures.leaves
 
 pub returns-in_err-read_parameters-3-clause-leaves : goal.returns-in_err-read_parameters-3-clause-leaves
 returns-in_err-read_parameters-3-clause-leaves g c =
-    looks_on 3 (omega arith) (looks_on 2 (omega arith) c.read_parameters.ensures.leaves c.read_parameters-2.ensures.leaves)
+    only_reads_within 3 (omega arith) (only_reads_within 2 (omega arith) c.read_parameters.ensures.leaves c.read_parameters-2.ensures.leaves)
     c.read_parameters-3.ensures.leaves
 
 pub returns-clause-leaves : goal.returns-clause-leaves
 returns-clause-leaves g c =
-    looks_on 3 (omega arith) (looks_on 2 (omega arith) c.read_parameters.ensures.leaves c.read_parameters-2.ensures.leaves)
+    only_reads_within 3 (omega arith) (only_reads_within 2 (omega arith) c.read_parameters.ensures.leaves c.read_parameters-2.ensures.leaves)
     c.read_parameters-3.ensures.leaves
 
 pub returns-clause-replies : goal.returns-clause-replies

@@ -1,6 +1,6 @@
 use Rattle.std.proofs.Common.{rules}
 use Rattle.nor_read.proofs.Whole.{is_err}
-use Rattle.nor_read.proofs.Guards.{unfound, stopped, plain, returned}
+use Rattle.nor_read.proofs.ProtectionReports.{unfound, stopped, plain, returned}
 use Rattle.nor_read.proofs.protection.wp_status.Goals as goal
 
 pub returns-in_err-found : goal.returns-in_err-found

@@ -1,5 +1,5 @@
 use Rattle.std.proofs.Common.{◌/◌, arith, rules}
-use Rattle.nor_driver.proofs.RestsInTurn.{looks_after}
+use Rattle.nor_driver.proofs.RestsInTurn.{only_reads_after}
 use Rattle.nor_model.proofs.Sizes.{is_chip_size-in_blocks}
 use Rattle.nor_read.proofs.Copied.{copied_none, copied_more, copy_fails, copied_all}
 use Rattle.nor_read.proofs.reading.copy_all.Goals as goal
@@ -12,11 +12,11 @@ loop-piece-preserved g c = copied_more (omega arith) (omega arith) c.loop-piece.
     c.in_ok-reads.ensures.reads c.in_ok-put_piece.ensures.takes
 
 pub returns-in_err-reads-clause-leaves : goal.returns-in_err-reads-clause-leaves
-returns-in_err-reads-clause-leaves g c = looks_after c.loop-piece.reads 16 (c.args.size / 4096) _ _ _ (omega arith)
+returns-in_err-reads-clause-leaves g c = only_reads_after c.loop-piece.reads 16 (c.args.size / 4096) _ _ _ (omega arith)
     c.loop-piece.invariant.honest_reads c.read_piece.ensures.leaves
 
 pub returns-in_err-put_piece-clause-leaves : goal.returns-in_err-put_piece-clause-leaves
-returns-in_err-put_piece-clause-leaves g c = looks_after c.loop-piece.reads 16 (c.args.size / 4096) _ _ _ (omega arith)
+returns-in_err-put_piece-clause-leaves g c = only_reads_after c.loop-piece.reads 16 (c.args.size / 4096) _ _ _ (omega arith)
     c.loop-piece.invariant.honest_reads c.read_piece.ensures.leaves
 
 pub returns-in_err-put_piece-clause-errors : goal.returns-in_err-put_piece-clause-errors

@@ -1,5 +1,5 @@
 use Rattle.std.proofs.Common.{◌≡◌, ◌+◌, ◌-◌, ◌*◌, ◌∙◌, arith, rules}
-use Rattle.nor_driver.proofs.RestsInTurn.{looks_after}
+use Rattle.nor_driver.proofs.RestsInTurn.{only_reads_after}
 use Rattle.nor_plan.proofs.Parts.{part_long}
 use Rattle.nor_read.proofs.Pieces.{pieced_none, pieced_more, pieced_all}
 use Rattle.nor_read.proofs.reading.read_piece.Goals as goal
@@ -18,7 +18,7 @@ loop-k-preserved g c =
 
 pub returns-in_err-reads-clause-leaves : goal.returns-in_err-reads-clause-leaves
 returns-in_err-reads-clause-leaves g c =
-    looks_after c.loop-k.reads 1 16 _ _ _ (omega arith) c.loop-k.invariant.honest_reads c.read_part.ensures.leaves
+    only_reads_after c.loop-k.reads 1 16 _ _ _ (omega arith) c.loop-k.invariant.honest_reads c.read_part.ensures.leaves
 
 pub returns-clause-reads : goal.returns-clause-reads
 returns-clause-reads g c = search (rules, pieced_all)

@@ -1,5 +1,5 @@
 use Rattle.std.proofs.Common.{◌/◌, arith, rules}
-use Rattle.nor_driver.proofs.RestsInTurn.{looks_after}
+use Rattle.nor_driver.proofs.RestsInTurn.{only_reads_after}
 use Rattle.nor_read.proofs.Differing.{compared_none, compared_more}
 use Rattle.nor_read.proofs.verifying.compare_all.Goals as goal
 
@@ -11,5 +11,5 @@ loop-sector-preserved g c = rw c.or-first.ensures (compared_more (omega arith) c
     c.compare_part.ensures.leaves c.in_ok-part.ensures.compares)
 
 pub returns-in_err-part-clause-leaves : goal.returns-in_err-part-clause-leaves
-returns-in_err-part-clause-leaves g c = looks_after c.loop-sector.reads 1 (c.args.size / 4096) _ _ _ (omega arith)
+returns-in_err-part-clause-leaves g c = only_reads_after c.loop-sector.reads 1 (c.args.size / 4096) _ _ _ (omega arith)
     c.loop-sector.invariant.honest_reads c.compare_part.ensures.leaves

@@ -1,16 +1,16 @@
 use Rattle.std.proofs.Common.{arith}
 use Rattle.std.proofs.lemmas.Grind.{common_steps}
-use Rattle.nor_driver.proofs.ReadsInTurn.{looks_on}
+use Rattle.nor_driver.proofs.ReadsInTurn.{only_reads_within}
 use Rattle.nor_scan.proofs.Replied.{identified_by}
 use Rattle.nor_scan.proofs.identifying.identify.Goals as goal
 
 pub returns-in_err-identity-clause-leaves : goal.returns-in_err-identity-clause-leaves
 returns-in_err-identity-clause-leaves g c =
-    looks_on 65542 (omega arith) c.probe_counted.ensures.always.only_reads c.read_on.ensures.leaves
+    only_reads_within 65542 (omega arith) c.probe_counted.ensures.always.only_reads c.read_on.ensures.leaves
 
 pub returns-clause-leaves : goal.returns-clause-leaves
 returns-clause-leaves g c =
-    looks_on 65542 (omega arith) c.probe_counted.ensures.always.only_reads c.read_on.ensures.leaves
+    only_reads_within 65542 (omega arith) c.probe_counted.ensures.always.only_reads c.read_on.ensures.leaves
 
 pub returns-clause-identifies : goal.returns-clause-identifies
 returns-clause-identifies g c =

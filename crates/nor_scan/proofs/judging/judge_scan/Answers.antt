@@ -3,14 +3,14 @@ use Rattle.nor_model.specs.Chip.{is_locked, kept_in}
 use Rattle.nor_plan.specs.SectorSet.{has}
 use Rattle.nor_request.specs.declared.refusal.Refusal.TheVariants.{StatusLocked}
 use Rattle.nor_scan.proofs.Held.{lock_same}
-use Rattle.nor_scan.proofs.OneVerdict.{held_told, scan_accepted, scan_judged}
+use Rattle.nor_scan.proofs.OneVerdict.{some_protected-found, scan_accepted, scan_judged}
 use Rattle.nor_scan.proofs.judging.judge_scan.Goals as goal
 use Rattle.nor_scan.proofs.judging.judge_scan.Goals.{else-writes-via-then-writes+else-is_locked, else-writes-via-else-writes}
 
 pub returns-then-is_locked-clause-errors : goal.returns-then-is_locked-clause-errors
 returns-then-is_locked-clause-errors c = λ chip image is accepts same.
     let touched = has c.args.touched.now in
-    let held = held_told touched chip c.first_protected-held.result (c.first_protected-held.ensures.held chip is) in
+    let held = some_protected-found touched chip c.first_protected-held.result (c.first_protected-held.ensures.held chip is) in
     let read = ap (λ (bytes : List ℕ). is_locked (kept_in bytes)) c.status.ensures in
     let locked : is_locked chip.kept ≡ true =
     sym (lock_same is) ∙ sym read ∙ sym c.is_locked.ensures ∙ c.if-is_locked.true in
@@ -21,7 +21,7 @@ pub returns-in-None-clause-accepts : goal.returns-in-None-clause-accepts
 returns-in-None-clause-accepts c = λ chip image is accepts same.
     let touched = has c.args.touched.now in
     let none = c.first_protected-held.ensures.held chip is in
-    let held = held_told touched chip c.first_protected-held.result none in
+    let held = some_protected-found touched chip c.first_protected-held.result none in
     scan_accepted accepts same (record {
       lifts = λ on. absurd cc;
       free = λ off. rw c.in-None.is at none;

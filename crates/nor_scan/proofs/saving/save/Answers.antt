@@ -2,7 +2,7 @@ use Rattle.std.proofs.Common.{◌≡◌, refl, rules, arith}
 use Rattle.std.proofs.lemmas.Grind.{common_steps}
 use Rattle.nor_journal.specs.Writer.{vault_seen}
 use Rattle.nor_scan.specs.Saving.{header_of, kept_read}
-use Rattle.nor_scan.proofs.Cuts.{same_bytes, is_open, touched_right, raised_right, head_put, judged_tells}
+use Rattle.nor_scan.proofs.Cuts.{same_bytes, is_open, touched_right, raised_right, head_put, judged_errors}
 use Rattle.nor_scan.proofs.Cuts.{cut_in_head, cut_in_scan, begins_scan, all_put, cut_at_end, begins_all}
 use Rattle.nor_scan.proofs.Begun.{with_none, is_err}
 use Rattle.nor_scan.proofs.saving.save.Goals as goal
@@ -10,7 +10,7 @@ use Rattle.nor_scan.proofs.saving.save.Goals as goal
 pub returns-in_err-unlock-clause-errors : goal.returns-in_err-unlock-clause-errors
 returns-in_err-unlock-clause-errors g c =
     rw (is_err _ _ c.from_residual-in_err-unlock.ensures.1)
-    (judged_tells c.args.code _ c.in_ok-scanned.ensures.scans c.in_err-unlock.ensures.faults
+    (judged_errors c.args.code _ c.in_ok-scanned.ensures.scans c.in_err-unlock.ensures.faults
     c.in_err-unlock.ensures.errors)
 
 pub returns-clause-keeps : goal.returns-clause-keeps

@@ -1,7 +1,7 @@
 use Rattle.std.proofs.Common.{◌≡◌, ◌+◌, ◌-◌, ◌*◌, ◌∙◌, length, refl, sym, arith, rules}
 use Rattle.nor_journal.specs.Writer.{vault_seen}
 use Rattle.nor_geometry.proofs.Counting.{at_most_one}
-use Rattle.nor_driver.proofs.RestsInTurn.{looks_after, runs_out}
+use Rattle.nor_driver.proofs.RestsInTurn.{only_reads_after, runs_out}
 use Rattle.nor_plan.proofs.Parts.{part_long}
 use Rattle.nor_request.specs.declared.refusal.Refusal.TheVariants.{Vault, Stopped}
 use Rattle.nor_scan.proofs.Scans.{is_at, nothing_scanned, skipped, scanned_more, planned_before, read_before, room}
@@ -87,7 +87,7 @@ returns-in_err-plan g c =
     c.if-includes_in_sector.true in
     let more = room here.scanned at in
     rw (is_err c.from_residual.result Stopped c.from_residual.ensures.1) (record {
-      leaves = looks_after _ 1 _ _ _ _ (omega arith) here.scanned.honest_reads c.scan_sector.ensures.leaves;
+      leaves = only_reads_after _ 1 _ _ _ _ (omega arith) here.scanned.honest_reads c.scan_sector.ensures.leaves;
       scans = tt;
       same_vault = here.journal.same_vault;
       puts = here.journal.accepted;
@@ -113,7 +113,7 @@ returns-in_err-add g c =
     let scans = c.in_ok-plan.ensures.scans in
     let refused = c.in_err-add.ensures.vault in let so_far = here.journal.accepted in
     rw (is_err c.from_residual-in_err-add.result Vault c.from_residual-in_err-add.ensures.1) (record {
-      leaves = looks_after _ 1 _ _ _ _ (omega arith) here.scanned.honest_reads c.scan_sector.ensures.leaves;
+      leaves = only_reads_after _ 1 _ _ _ _ (omega arith) here.scanned.honest_reads c.scan_sector.ensures.leaves;
       scans = tt;
       same_vault = c.add.ensures.same_vault ∙ here.journal.same_vault;
       puts = search rules;

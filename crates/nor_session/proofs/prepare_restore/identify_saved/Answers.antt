@@ -2,14 +2,14 @@ use Rattle.std.proofs.Common.{arith}
 use Rattle.std.proofs.lemmas.Grind.{common_steps}
 use Rattle.nor_scan.specs.Identity.{most_identity}
 use Rattle.nor_session.proofs.ReadyChip.{opening_of}
-use Rattle.nor_session.proofs.Reopened.{unit_tells, kind_of}
+use Rattle.nor_session.proofs.Reopened.{device_errors, kind_of}
 use Rattle.nor_session.proofs.prepare_restore.identify_saved.Goals as goal
 
 pub returns-in_err-judge_device-clause-errors : goal.returns-in_err-judge_device-clause-errors
 returns-in_err-judge_device-clause-errors g c =
     let old = g.B.Bus.state c.args.bus.now in let new = g.B.Bus.state c.identify_type.new.bus in
     let opens = c.in_ok-identity.ensures.identifies in
-    let returned = unit_tells c.args.journal.now most_identity old new
+    let returned = device_errors c.args.journal.now most_identity old new
     c.in_err-judge_device.field-0.0 c.in_err-judge_device.ensures.faults
     (λ honest. (opens.rested honest).unchanged.same)
     (λ modelled.

@@ -1,8 +1,8 @@
 use Rattle.std.proofs.Common.{◌≡◌, ◌+◌, length, true, rules, arith}
 use Rattle.std.proofs.lemmas.Grind.{common_steps}
 use Rattle.nor_scan.specs.Identity.{most_identity}
-use Rattle.nor_driver.proofs.ReadsInTurn.{looks_then, looks_more}
-use Rattle.nor_session.proofs.Changeable.{AreRead, shut_tells, prepared_all}
+use Rattle.nor_driver.proofs.ReadsInTurn.{only_reads_then, only_reads_more}
+use Rattle.nor_session.proofs.Changeable.{AreRead, shut_errors, prepared_all}
 use Rattle.nor_session.proofs.prepare_restore.prepare_restore.Goals as goal
 
 pub returns-in_err-changes-clause-errors : goal.returns-in_err-changes-clause-errors
@@ -11,7 +11,7 @@ returns-in_err-changes-clause-errors g c =
     (g.met.B.Bus.reaches c.args.bus.now honest).kept2 in
     let read : AreRead c.args.journal.now c.in_ok-identity.identity c.in_ok-scanned.scanned (g.B.Bus.state c.args.bus.now)
     (g.B.Bus.state c.identify_saved.new.bus) (g.B.Bus.state c.scan_saved.new.bus) = search rules in
-    let returned = shut_tells read (most_identity + length c.args.journal.now.saved) c.in_err-changes.ensures.errors in
+    let returned = shut_errors read (most_identity + length c.args.journal.now.saved) c.in_err-changes.ensures.errors in
     let locked = c.in_err-changes.ensures.locked in
     grind (arith, common_steps, returned, locked)
 
@@ -25,16 +25,16 @@ returns-clause-prepares g c =
     (let count = c.count-sectors.ensures.value in search rules)
 
 pub returns-in_err-identity-clause-leaves : goal.returns-in_err-identity-clause-leaves
-returns-in_err-identity-clause-leaves g c = search (rules, arith, looks_more)
+returns-in_err-identity-clause-leaves g c = search (rules, arith, only_reads_more)
 
 pub returns-clause-leaves : goal.returns-clause-leaves
-returns-clause-leaves g c = search (rules, looks_then)
+returns-clause-leaves g c = search (rules, only_reads_then)
 
 pub returns-in_err-changes-clause-leaves : goal.returns-in_err-changes-clause-leaves
-returns-in_err-changes-clause-leaves g c = search (rules, looks_then)
+returns-in_err-changes-clause-leaves g c = search (rules, only_reads_then)
 
 pub returns-in_err-scanned-clause-leaves : goal.returns-in_err-scanned-clause-leaves
-returns-in_err-scanned-clause-leaves g c = search (rules, looks_then)
+returns-in_err-scanned-clause-leaves g c = search (rules, only_reads_then)
 
 pub returns-clause-replies : goal.returns-clause-replies
 returns-clause-replies g c = record {

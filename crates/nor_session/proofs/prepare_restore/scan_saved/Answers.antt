@@ -1,7 +1,7 @@
 use Rattle.std.proofs.Common.{rules, arith}
 use Rattle.nor_model.proofs.Sizes.{is_chip_size-in_blocks}
 use Rattle.nor_journal.proofs.Saved.{saved_few}
-use Rattle.nor_driver.proofs.RestsInTurn.{looks_after}
+use Rattle.nor_driver.proofs.RestsInTurn.{only_reads_after}
 use Rattle.nor_session.proofs.Rescanned.{nothing_rescanned, rescanned_more, all_rescanned}
 use Rattle.nor_session.proofs.prepare_restore.scan_saved.Goals as goal
 
@@ -27,4 +27,4 @@ returns-clause-scans g c =
 
 pub returns-in_err-plan-clause-leaves : goal.returns-in_err-plan-clause-leaves
 returns-in_err-plan-clause-leaves g c =
-    looks_after _ 1 _ _ _ _ (omega arith) c.loop-i.invariant.honest_reads c.plan_saved.ensures.leaves
+    only_reads_after _ 1 _ _ _ _ (omega arith) c.loop-i.invariant.honest_reads c.plan_saved.ensures.leaves

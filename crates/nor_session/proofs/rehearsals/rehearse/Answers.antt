@@ -4,7 +4,7 @@ use Rattle.std.proofs.lemmas.Result.{err_from_is_err_and}
 use Rattle.nor_journal.specs.MemVault.{held_by}
 use Rattle.nor_probe.specs.Known.{IsModelled}
 use Rattle.nor_session.proofs.RehearsedRestores.{same_nature_then, latch_alone}
-use Rattle.nor_session.proofs.RehearsedSessions.{session_sends, session_tried, led, both_wear, both_send, both_write, both_allowed, both_tried, undo_refused}
+use Rattle.nor_session.proofs.RehearsedSessions.{session_sends, session_tried, undo_premises, both_wear, both_send, both_write, both_allowed, both_tried, undo_refused}
 use Rattle.nor_session.proofs.rehearsals.rehearse.Goals as goal
 
 -- the clause `always`, if the session returned an error
@@ -24,7 +24,7 @@ returns-in_err-restores g c =
     let sealed = sym c.is_sealed.ensures ∙ c.if-not-is_sealed.false in
     let refuses = c.in_err-restores.ensures.refuses in
     let never = λ (modelled : IsModelled (g.B.Bus.state c.args.bus.now)).
-    let (unsent, leads) = led session sealed is undone modelled in refuses.never unsent _ _ leads in
+    let (then_modelled, can_undo) = undo_premises session sealed is undone modelled in refuses.never then_modelled _ _ can_undo in
     let returned = undo_refused session sealed is undone (held_by c.args.vault.now) _ refuses in
     let nature = same_nature_then undone.nature session.nature in
     let tried = both_tried session sealed is undone c.args.stops.now c.later.ensures c.stopped_session.ensures.allowed
@@ -46,9 +46,9 @@ returns g c =
     let session = c.stopped_session.ensures.leaves in let undone = c.undo.ensures in let is = c.bytes.ensures in
     let sealed = sym c.is_sealed.ensures ∙ c.if-not-is_sealed.false in
     let undoes = c.in_ok-restores.ensures.undoes in
-    let led = led session sealed is undone in
+    let undo_premises = undo_premises session sealed is undone in
     record {
-      restores_original = λ modelled steady_or_idle. let (unsent, leads) = led modelled in undoes.same unsent _ _ leads;
+      restores_original = λ modelled steady_or_idle. let (then_modelled, can_undo) = undo_premises modelled in undoes.same then_modelled _ _ can_undo;
       always = record {
         nature = same_nature_then undone.nature session.nature;
         allowed = both_allowed session sealed is undone c.args.stops.now c.later.ensures
@@ -59,7 +59,7 @@ returns g c =
           seal = sym sealed;
           ended = λ ended. refl;
           some = λ again. undoes.some;
-          most = (let most = undoes.most in let behind = c.later.ensures in search rules);
+          most = (let most = undoes.most in let later_is = c.later.ensures in search rules);
           none = λ unsealed. absurd (true≢false unsealed);
           whole = search rules;
         };
@@ -72,10 +72,10 @@ returns g c =
       };
       honest = search rules;
       modelled = λ modelled.
-          let (unsent, leads) = led modelled in
+          let (then_modelled, can_undo) = undo_premises modelled in
           let wears = both_wear session sealed is undone modelled in
-          let are = rw c.later.ensures at (undoes.are unsent _ _ leads) in
-          let last = rw c.later.ensures at (undoes.last unsent _ _ leads) in
-          let latch = latch_alone _ c.in_ok-ended.ensures.shows undoes modelled unsent in
+          let are = rw c.later.ensures at (undoes.are then_modelled _ _ can_undo) in
+          let last = rw c.later.ensures at (undoes.last then_modelled _ _ can_undo) in
+          let latch = latch_alone _ c.in_ok-ended.ensures.shows undoes modelled then_modelled in
           search rules;
     }

@@ -4,7 +4,7 @@ use Rattle.nor_scan.specs.Identity.{most_identity}
 use Rattle.nor_driver.specs.OnlyReads.{OnlyReads}
 use Rattle.nor_session.specs.Restore.{IsCheckedFirst, FitsReplies}
 use Rattle.nor_session.specs.Bounds.{most_reads, most_of}
-use Rattle.nor_session.proofs.Restoring.{AreChanged, looks_most, looks_spend, prepare_answers, prepare_gives_up, prepare_tells, prepare_last, change_last, looks_leave, looks_back, changed_spends, changed_fits, changed_leaves, changed_back, change_answers, change_not_judged, change_gives_up, change_tells, sum_fits, restored_bounded, restored_counted, restored_checked, restored_sparing, restored_done, restored_back}
+use Rattle.nor_session.proofs.Restoring.{AreChanged, only_reads_most, only_reads_spend, prepare_answers, prepare_fails, prepare_errors, prepare_last, change_last, leaves_after_reads, can_restore_after_reads, changed_spends, changed_fits, changed_leaves, changed_back, change_answers, change_not_judged, change_fails, change_errors, sum_fits, restored_bounded, restored_counted, restored_checked, restored_sparing, restored_done, restored_back}
 use Rattle.nor_session.proofs.Changed.{two_writes, no_write}
 use Rattle.nor_session.proofs.RestoredOriginal.{only_stopped}
 use Rattle.nor_session.proofs.Naming.{prepare_names, change_names}
@@ -20,21 +20,21 @@ returns-in_err-prepared g c =
     let refusal = c.in_err-prepared.field-0.0 in let errors = c.in_err-prepared.ensures.errors in
     let p = err_from_is_err_and c.from_residual.result c.from_residual.ensures.1 in
     let room = c.prepare_restore.ensures.room in let only_reads = c.prepare_restore.ensures.leaves in
-    let returned = prepare_tells journal most old new refusal (omega arith) in
+    let returned = prepare_errors journal most old new refusal (omega arith) in
     rw (p.1, p.2) (record {
       restores_original = λ modelled.
-          let returned = returned modelled errors in let honest = modelled.honest in search (rules, looks_back, only_stopped);
+          let returned = returned modelled errors in let honest = modelled.honest in search (rules, can_restore_after_reads, only_stopped);
       always =
           let fits : (new.sent ≡ old.sent) ⊎ FitsReplies journal old new = inl only_reads.sent in
-          let spends = looks_spend most (most_of (length journal.saved)) old new (omega arith) only_reads in
-          let only_reads = looks_most most (most_reads 4096) old new (omega arith) only_reads in
+          let spends = only_reads_spend most (most_of (length journal.saved)) old new (omega arith) only_reads in
+          let only_reads = only_reads_most most (most_reads 4096) old new (omega arith) only_reads in
           let last = prepare_last journal most old new refusal errors in
           search (rules, arith, none_sent, none_written, prepare_answers, prepare_names);
       honest = λ honest.
-          let honest_errors = prepare_gives_up journal most old new refusal (omega arith) honest errors in search rules;
+          let honest_errors = prepare_fails journal most old new refusal (omega arith) honest errors in search rules;
       modelled = λ modelled.
           let returned = returned modelled errors in
-          let leaves = looks_leave journal most old new (only_reads.honest_reads modelled.honest) in
+          let leaves = leaves_after_reads journal most old new (only_reads.honest_reads modelled.honest) in
           search (rules, none_written);
     })
 
@@ -48,7 +48,7 @@ returns-in_err-work g c =
     let p = err_from_is_err_and c.from_residual-in_err-work.result c.from_residual-in_err-work.ensures.1 in
     rw (p.1, p.2) (record {
       restores_original = λ modelled.
-          let returned = change_tells journal prepared old mid new refusal are modelled errors in
+          let returned = change_errors journal prepared old mid new refusal are modelled errors in
           search (rules, changed_back, only_stopped);
       always =
           let fits : (new.sent ≡ old.sent) ⊎ FitsReplies journal old new =
@@ -62,9 +62,9 @@ returns-in_err-work g c =
           λ first. absurd (change_not_judged prepared.changes _ mid new refusal errors first) in
           search (rules, changed_spends);
       honest = λ honest.
-          let honest_errors = change_gives_up journal prepared old mid new refusal are honest errors in search rules;
+          let honest_errors = change_fails journal prepared old mid new refusal are honest errors in search rules;
       modelled = λ modelled. record {
-        errors = change_tells journal prepared old mid new refusal are modelled errors;
+        errors = change_errors journal prepared old mid new refusal are modelled errors;
         leaves = changed_leaves journal prepared old mid new are modelled;
         done = search rules;
         unwritten = λ none. change_writes old are.only_reads.sent are.leaves

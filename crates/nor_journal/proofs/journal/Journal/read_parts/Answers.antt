@@ -1,6 +1,6 @@
 use Rattle.std.proofs.Common.{take, ap, ◌∙◌, arith, inl, inr}
 use Rattle.std.proofs.lemmas.Result.{err_from_is_err_and}
-use Rattle.nor_journal.proofs.Places.{next_fault, end_fault, is_text, is_content, from_mark, mark_within}
+use Rattle.nor_journal.proofs.Positions.{next_fault, end_fault, is_text, is_content, from_mark, mark_within}
 use Rattle.nor_journal.proofs.journal.Journal.read_parts.Goals as goal
 
 pub returns-in_err-count-clause-fault : goal.returns-in_err-count-clause-fault

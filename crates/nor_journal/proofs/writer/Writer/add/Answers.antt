@@ -18,4 +18,4 @@ returns-clause-kept g c = λ head chip saved more n kept above place sector one.
 pub returns-clause-cut : goal.returns-clause-cut
 returns-clause-cut g c = λ content written.
     rw (front-with_sector content c.args.number c.args.bytes.now, ← c.record_bytes.ensures) (IfErr-weaker
-    c.piece.result _ _ (λ fault. after_refused _ _ _ _ fault.kept written.put.returned) c.piece.ensures.refused)
+    c.piece.result _ _ (λ fault. after_refused _ _ _ _ fault.kept written.put.held) c.piece.ensures.refused)

@@ -15,4 +15,4 @@ returns-clause-written g c = λ nothing. on_ok_weaker c.piece.result (λ put. re
 
 pub returns-clause-cut : goal.returns-clause-cut
 returns-clause-cut g c = λ nothing. rw (front-empty_content, ← c.head_bytes.ensures) (IfErr-weaker c.piece.result _ _
-    (λ fault. after_refused _ _ [] _ fault.kept nothing.returned) c.piece.ensures.refused)
+    (λ fault. after_refused _ _ [] _ fault.kept nothing.held) c.piece.ensures.refused)

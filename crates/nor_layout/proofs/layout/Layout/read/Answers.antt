@@ -9,7 +9,7 @@ use Rattle.std.specs.Iterator.{Yields}
 use Rattle.std.proofs.lemmas.Iterator.{YieldsList}
 use Rattle.nor_layout.specs.Text.{lines_of}
 use Rattle.nor_layout.proofs.Texts.{with_line-keeps, layout_says-found, reads_taken, length-lines_of, no_regions}
-use Rattle.nor_layout.proofs.Texts.{gives_all, gives_more, reads_fault}
+use Rattle.nor_layout.proofs.Texts.{define_all, define_more, reads_fault}
 use Rattle.nor_layout.proofs.layout.Layout.read.Goals as goal
 use Rattle.nor_layout.proofs.layout.Layout.read.Goals.{In-Some}
 
@@ -51,7 +51,7 @@ loop-line-preserved c =
       counted = rw now.invariant.counted (sym (length_push now.yielded c.in-Some.line));
       kept = with_line-keeps regions more (now.number + 1) line now.invariant.kept added;
       read = rw (map-append (λ line. line.now) now.yielded (c.in-Some.line ∷ []))
-          (gives_more _ now.number line regions now.invariant.read more added);
+          (define_more _ now.number line regions now.invariant.read more added);
     }
 
 pub returns-in_err-add_line : goal.returns-in_err-add_line
@@ -78,5 +78,5 @@ returns c =
     (λ x b q k. search (rules, tests))))
     c.loop-line.yielded _ c.loop-line.yielded_by _ _ c.in-None.is c.next.ensures.steps in
     let regions = c.loop-line.regions.items in
-    let exact = gives_all c.args.text.now _ c.loop-line.number regions end.0 c.loop-line.invariant.read in
+    let exact = define_all c.args.text.now _ c.loop-line.number regions end.0 c.loop-line.invariant.read in
     record { exact = exact; asks = tt; found = layout_says-found c.args.text.now regions exact; taken = reads_taken c.args.text.now (Ok regions) exact }

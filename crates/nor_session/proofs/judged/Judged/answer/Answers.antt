@@ -2,15 +2,15 @@ use Rattle.std.proofs.Common.{refl, rules, arith, ◌≡◌, ◌∙◌, true, fa
 use Rattle.std.proofs.lemmas.Bool.{both_ways, lt-ltb}
 use Rattle.std.proofs.lemmas.Result.{err_from_is_err_and}
 use Rattle.nor_driver.specs.OnlyReads.{OnlyReads}
-use Rattle.nor_driver.proofs.RestsInTurn.{looks_after}
+use Rattle.nor_driver.proofs.RestsInTurn.{only_reads_after}
 use Rattle.nor_request.specs.Request.{scanned_sectors}
 use Rattle.nor_apply.specs.Spending.{Spends}
 use Rattle.nor_session.specs.Bounds.{most_reads, most_of}
 use Rattle.nor_session.specs.Session.{most_status_writes}
 use Rattle.nor_scan.specs.Verdict.{NeedsStatusWrite}
-use Rattle.nor_session.proofs.Ready.{changes_of, has_opened, ready, scanned_few, spends_looks, spends_more, spends_ready, writes_few, bounded_by, touched_data}
-use Rattle.nor_session.proofs.ReadyChip.{small_first, opening_of, shows, named, most_sized, refused_puts, save_gives_up, save_tells, save_last}
-use Rattle.nor_session.proofs.SessionChanges.{never_written, change_gives_up, change_tells}
+use Rattle.nor_session.proofs.Ready.{changes_of, has_opened, ready, scanned_few, spends_only_reads, spends_more, spends_ready, writes_few, bounded_by, touched_data}
+use Rattle.nor_session.proofs.ReadyChip.{small_first, opening_of, shows, named, most_sized, refused_puts, save_fails, save_errors, save_last}
+use Rattle.nor_session.proofs.SessionChanges.{never_written, change_fails, change_errors}
 use Rattle.nor_session.proofs.SessionEnds.{ready_chip, can_be_undone, done, session_checked, spared}
 use Rattle.nor_session.proofs.Restoring.{change_last}
 use Rattle.nor_session.proofs.RepliedJournal.{replied_saved}
@@ -37,23 +37,23 @@ returns-in_err-saved g c = λ first only_reads opens.
     let vault = g.V.Vault.state c.args.self.vault.now in let vault' = g.V.Vault.state c.save.new.vault in
     let refusal = c.in_err-saved.field-0.0 in let returned = c.in_err-saved.ensures in
     let few = scanned_few request size opens.part.at_most in let most = opens.most in
-    let looked_on : OnlyReads (most_reads 4096) first new
-    = looks_after _ _ _ _ _ _ (omega arith) (has_opened only_reads opens) leaves in
-    let spent : Spends (most_of (scanned_sectors request size)) first new = spends_looks (omega arith) looked_on in
+    let reads_all : OnlyReads (most_reads 4096) first new
+    = only_reads_after _ _ _ _ _ _ (omega arith) (has_opened only_reads opens) leaves in
+    let spent : Spends (most_of (scanned_sectors request size)) first new = spends_only_reads (omega arith) reads_all in
     let puts = refused_puts refusal vault vault' returned.puts in
     let unsealed : vault'.sealed ≡ false = puts.1 ∙ c.requires.fresh.unsealed in
     let p = err_from_is_err_and c.from_residual.result c.from_residual.ensures.1 in
     rw (p.1, p.2) (record {
       always =
           let spends : Spends (most_of 4096) first new = spends_more (omega arith) spent in
-          let writes = none_written (most_status_writes request.what request.unlock) first new looked_on.sent in
+          let writes = none_written (most_status_writes request.what request.unlock) first new reads_all.sent in
           let names = save_names _ _ _ _ _ _ refusal returned.errors in
           let number = save_number _ _ _ _ _ _ refusal returned.errors in
           let never = λ (on : vault'.sealed ≡ true). both_ways vault'.sealed unsealed on in
           record {
-            only_reads = λ off. looked_on;
+            only_reads = λ off. reads_all;
             spends = spends;
-            few = few_none first new looked_on.sent;
+            few = few_none first new reads_all.sent;
             writes = writes;
             telling = puts.0;
             sends = λ on telling. absurd (never on);
@@ -71,15 +71,15 @@ returns-in_err-saved g c = λ first only_reads opens.
             last_transaction = save_last _ _ _ _ _ _ refusal returned.errors;
           };
       honest = λ honest.
-          let errors = save_gives_up _ _ _ _ _ _ _ _ refusal honest only_reads opens leaves returned.errors in search rules;
+          let errors = save_fails _ _ _ _ _ _ _ _ refusal honest only_reads opens leaves returned.errors in search rules;
       modelled = λ modelled.
           let opened = opening_of modelled opens in
           let shown = shows request _ _ _ modelled only_reads opens in
           let is_named = named request _ _ _ modelled opens in
-          let errors = save_tells _ _ _ _ _ _ _ vault vault' refusal modelled only_reads opens
+          let errors = save_errors _ _ _ _ _ _ _ vault vault' refusal modelled only_reads opens
           (c.requires.judged.accepts first.chip _ opened is_named refl) (search rules) returned.errors in
           let falls = (spends_more (most_sized request (opens.genuine modelled)) spent).falls modelled.honest in
-          let unwritten = none_written 0 first new looked_on.sent in
+          let unwritten = none_written 0 first new reads_all.sent in
           search (rules, inr, returned.begins, returned.cut);
     })
 
@@ -108,13 +108,13 @@ returns-in_err-work g c = λ first only_reads opens.
           (header_found c.args.self.identity) vault' refusal (search rules) c.in_ok-saved.ensures.saves returned.names in
           search rules;
       honest = λ honest.
-          let errors = change_gives_up _ _ _ _ _ _ _ _ _ refusal honest is returned.errors in search rules;
+          let errors = change_fails _ _ _ _ _ _ _ _ _ refusal honest is returned.errors in search rules;
       modelled = λ modelled.
           let small = (g.met.B.Bus.reaches c.args.self.bus.now (only_reads.nature.honest ∙ modelled.honest)).kept2 in
           let of = ready_chip _ _ _ _ _ _ _ _ _ _ _ modelled only_reads opens is
           (λ is. c.requires.judged.accepts first.chip _ is (named request _ _ _ modelled opens) refl) keeps (λ a. let fits = c.save.type_inv in search rules)
           (small_first modelled.honest opens small) in
-          let errors = change_tells _ _ _ _ _ _ _ _ _ _ vault vault' refusal is of returned.errors in
+          let errors = change_errors _ _ _ _ _ _ _ _ _ _ vault vault' refusal is of returned.errors in
           let falls = (spends_more (most_sized request (opens.genuine modelled)) spent).falls modelled.honest in
           let unwritten = λ (none : ¬ NeedsStatusWrite request image first.chip).
           change_writes first is.honest_reads.same_sent leaves (never_written _ _ _ _ _ _ _ _ _ is of none) in

@@ -32,9 +32,9 @@ reads_sfdp old new x y z at len answer named long replies = record {
 }
 
 -- for byte `i` of a sector that lies on the chip, the chip reads the address `4096 * sector + i`
-place_in : (size at sector i : ℕ) → at ≡ 4096 * sector → 4096 * (sector + 1) ≤ size → i < 4096
+address_in_sector : (size at sector i : ℕ) → at ≡ 4096 * sector → 4096 * (sector + 1) ≤ size → i < 4096
     → (at % size + i) % size ≡ 4096 * sector + i
-place_in size at sector i names inside small =
+address_in_sector size at sector i names inside small =
     let start : at % size ≡ 4096 * sector = rw names (mod-eq_of_lt (omega arith)) in
     rw start (mod-eq_of_lt (omega arith))
 
@@ -45,7 +45,7 @@ reads_sector old new x y z sector answer named long replies = record {
   read = replies.read;
   replied = λ honest idle inside. record {
     byte = λ i small. replies.replied honest i (omega arith) ∙ rw idle
-        (ap old.chip.bytes (place_in old.chip.config.size (65536 * x + 256 * y + z) sector i named inside small));
+        (ap old.chip.bytes (address_in_sector old.chip.config.size (65536 * x + 256 * y + z) sector i named inside small));
   };
 }
 

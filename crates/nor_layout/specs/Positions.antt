@@ -1,34 +1,34 @@
--- The positions in a sector (`Places`) whose addresses are in a set.
+-- The positions in a sector (`Positions`) whose addresses are in a set.
 use Rattle.std.specs.Prelude.{◌≡◌, ℕ, ◌+◌, ◌*◌, ◌/◌, ◌%◌, ◌<◌, ◌≤◌, Bool, ◌&&◌, ◌||◌, nat_le, nat_lt, if◌then◌else◌, List, [], ◌∷◌, Option, Some, None, ⊤}
 use Rattle.std.specs.List.{list_any, filter_map}
 use Rattle.nor_layout.specs.declared.ranges.Span.{Span}
-use Rattle.nor_layout.specs.declared.places.Places.{Places}
-use Rattle.nor_layout.specs.declared.places.PlacesIn.{PlacesIn}
+use Rattle.nor_layout.specs.declared.positions.Positions.{Positions}
+use Rattle.nor_layout.specs.declared.positions.PositionsIn.{PositionsIn}
 use Rattle.nor_layout.specs.Ranges.{contains}
 
 -- true if `at` is one of the consecutive positions from `start` up to, but not including, `end`
-abbrev pub is_in_places : Places → ℕ → Bool
-is_in_places places at = nat_le places.start at && nat_lt at places.end
+abbrev pub is_in_positions : Positions → ℕ → Bool
+is_in_positions positions at = nat_le positions.start at && nat_lt at positions.end
 
 -- true if the position `at` is in one of the ranges
-abbrev pub is_covered : List Places → ℕ → Bool
-is_covered all at = list_any (λ places. is_in_places places at) all
+abbrev pub is_covered : List Positions → ℕ → Bool
+is_covered all at = list_any (λ positions. is_in_positions positions at) all
 
 -- True if the ranges of positions lie within a sector at position `first` or above, in ascending order without overlap,
 -- and none of them is empty.
-abbrev pub AreRisingFrom : ℕ → List Places → Type 0
+abbrev pub AreRisingFrom : ℕ → List Positions → Type 0
 AreRisingFrom first [] = ⊤
-AreRisingFrom first (places ∷ more) =
-    (first ≤ places.start) × (places.start < places.end) × (places.end ≤ 4096)
-    × AreRisingFrom places.end more
+AreRisingFrom first (positions ∷ more) =
+    (first ≤ positions.start) × (positions.start < positions.end) × (positions.end ≤ 4096)
+    × AreRisingFrom positions.end more
 
 -- True if the ranges cover exactly the positions of the sector whose addresses are in the set, in ascending order.
-pub record AreIncludedIn (spans : List Span) (sector : ℕ) (all : List Places) : Type 0 where
+pub record AreIncludedIn (spans : List Span) (sector : ℕ) (all : List Positions) : Type 0 where
   pub exact : (at : ℕ) → at < 4096 → is_covered all at ≡ contains spans (4096 * sector + at)
   pub rising : AreRisingFrom 0 all
 
 -- the positions in a sector that a span covers, or None if it covers none
-abbrev pub part_in_sector : ℕ → Span → Option Places
+abbrev pub part_in_sector : ℕ → Span → Option Positions
 part_in_sector sector span =
     if nat_lt sector (span.first / 4096) || nat_lt (span.last / 4096) sector then None
     else Some (record {
@@ -37,9 +37,9 @@ part_in_sector sector span =
     })
 
 -- the positions in a sector that the spans cover, in the order of the spans
-abbrev pub parts_in_sector : ℕ → List Span → List Places
+abbrev pub parts_in_sector : ℕ → List Span → List Positions
 parts_in_sector sector spans = filter_map (part_in_sector sector) spans
 
 -- the items that the iterator has still to yield
-abbrev pub places_left : PlacesIn → List Places
-places_left it = parts_in_sector it.sector it.spans.now
+abbrev pub positions_left : PositionsIn → List Positions
+positions_left it = parts_in_sector it.sector it.spans.now

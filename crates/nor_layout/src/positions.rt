@@ -2,35 +2,35 @@
 
 ghost use Rattle.std.specs.Prelude.{◌≡◌};
 ghost use Rattle.std.specs.Iterator.{YieldsFirst, item_count};
-ghost use Rattle.nor_layout.specs.Places.{part_in_sector, parts_in_sector, places_left};
+ghost use Rattle.nor_layout.specs.Positions.{part_in_sector, parts_in_sector, positions_left};
 
 use crate::ranges::Span;
 use nor_geometry::SECTOR_LEN;
 
 /// Consecutive positions in a sector, in bytes from its beginning: from `start` to `end`, excluding `end`.
 #[derive(Clone, Copy, Debug, PartialEq, Eq)]
-pub struct Places {
+pub struct Positions {
     pub start: usize,
     pub end: usize,
 }
 
 /// An iterator over the positions in one sector whose addresses are in a set, in ascending order.
 #[derive(Debug, Drop)]
-pub struct PlacesIn<'a> {
+pub struct PositionsIn<'a> {
     spans: &'a [Span],
     sector: u32,
 }
 
-impl<'a> PlacesIn<'a> {
-    pub(crate) fn new(spans: &'a [Span], sector: u32) -> PlacesIn<'a>
-        ensures { places_left result ≡ parts_in_sector sector spans.now }
+impl<'a> PositionsIn<'a> {
+    pub(crate) fn new(spans: &'a [Span], sector: u32) -> PositionsIn<'a>
+        ensures { positions_left result ≡ parts_in_sector sector spans.now }
     {
-        PlacesIn { spans, sector }
+        PositionsIn { spans, sector }
     }
 }
 
 /// Returns the positions in a sector that a span covers, or `None` if it covers none.
-fn part_of(span: &Span, sector: u32) -> Option<Places>
+fn part_of(span: &Span, sector: u32) -> Option<Positions>
     ensures { result ≡ part_in_sector sector span.now }
 {
     let (first, last) = (span.first / SECTOR_LEN, span.last / SECTOR_LEN);
@@ -47,25 +47,25 @@ fn part_of(span: &Span, sector: u32) -> Option<Places>
     } else {
         span.last % SECTOR_LEN + 1
     };
-    Some(Places {
+    Some(Positions {
         start: start as usize,
         end: end as usize,
     })
 }
 
-impl<'a> Iterator for PlacesIn<'a> {
-    type Item = Places;
+impl<'a> Iterator for PositionsIn<'a> {
+    type Item = Positions;
 
-    ghost next_gives = { YieldsFirst places_left };
+    ghost next_gives = { YieldsFirst positions_left };
 
-    ghost remaining = { item_count places_left };
+    ghost remaining = { item_count positions_left };
 
-    fn next(&mut self) -> Option<Places> {
+    fn next(&mut self) -> Option<Positions> {
         while let Some((first, others)) = self.spans.split_first() {
             self.spans = others;
-            let places = part_of(first, self.sector);
-            if places.is_some() {
-                return places;
+            let positions = part_of(first, self.sector);
+            if positions.is_some() {
+                return positions;
             }
         }
         None

@@ -13,8 +13,8 @@ use Rattle.nor_journal.proofs.SectorRecords.{IsBytes, records_text-sectors_in, w
 use Rattle.nor_journal.proofs.OneForm.{length-end_mark}
 
 -- the rest of a list of bytes is a list of bytes
-IsBytes-behind : (before rest bytes : List ℕ) → bytes ≡ before ++ rest → IsBytes bytes → IsBytes rest
-IsBytes-behind before rest bytes split fits i =
+IsBytes-rest : (before rest bytes : List ℕ) → bytes ≡ before ++ rest → IsBytes bytes → IsBytes rest
+IsBytes-rest before rest bytes split fits i =
     rw (← get_or-append-add before rest i 0, ← split) (fits (length before + i))
 
 pub is_content : (h : Head) (records : List ℕ) (k : ℕ) → IsHeader h → HasRecords h records k
@@ -33,7 +33,7 @@ module _ {h : Head} {bytes records : List ℕ} {k : ℕ} (split : bytes ≡ head
   front_splits : bytes ≡ front content ++ drop (4100 * k) records
   unfolding front head
   front_splits =
-      let read = records_text-sectors_in k records (IsBytes-behind (head (with_header h)) records bytes split fits)
+      let read = records_text-sectors_in k records (IsBytes-rest (head (with_header h)) records bytes split fits)
       has.within in
       split ∙ rw (
         read,

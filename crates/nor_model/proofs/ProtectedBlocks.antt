@@ -26,9 +26,9 @@ pub is_protected-sector : (chip : Chip) (a : ℕ) → a < chip.config.size
     → is_block_protected chip (4096 * (a / 4096)) 4096 ≡ false → is_protected chip a ≡ false
 is_protected-sector chip a below free =
     let blocks = (sized_bounds chip.config).blocks in
-    false_from_ne_true (is_protected chip a) (λ guarded.
+    false_from_ne_true (is_protected chip a) (λ protected.
     let there = at_borders chip.config.size (is_protected chip) (4096 * (a / 4096)) 4096 a (is_protected-end chip)
-    (omega arith) (omega arith) (omega arith) guarded in
+    (omega arith) (omega arith) (omega arith) protected in
     let both : true ≡ false = sym there ∙ free in cc)
 
 -- Nothing is protected past the chip's end.

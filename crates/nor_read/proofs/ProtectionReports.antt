@@ -12,7 +12,7 @@ use Rattle.nor_driver.specs.Reads.{ReadsStatus2}
 use Rattle.nor_probe.specs.declared.table.ChipName.{ChipName}
 use Rattle.nor_probe.specs.declared.probes.Probed.{Probed}
 use Rattle.nor_probe.specs.Found.{most_probe}
-use Rattle.nor_driver.proofs.ReadsInTurn.{looks_more, looks_on}
+use Rattle.nor_driver.proofs.ReadsInTurn.{only_reads_more, only_reads_within}
 use Rattle.nor_request.specs.declared.refusal.Refusal.{Refusal}
 use Rattle.nor_request.specs.declared.refusal.Refusal.TheVariants.{NoProtection, Stopped, Timeout}
 use Rattle.nor_request.specs.Errors.{IdentificationErrors, EndsAtError}
@@ -20,7 +20,7 @@ use Rattle.nor_read.specs.declared.protection.Protection.{Protection}
 use Rattle.nor_read.specs.Finding.{IsModelled, HasFound, ReadingErrors, most_status}
 use Rattle.nor_read.specs.Protecting.{IsProtectedRange, IsProtectionRefusal}
 use Rattle.nor_read.specs.Protecting.{ProtectionAlways, ProtectionHonest, ProtectionModelled, ProtectionErrors}
-use Rattle.nor_read.proofs.Whole.{find_tells, find_ends, ran_on, rested_on, has_name, size_of}
+use Rattle.nor_read.proofs.Whole.{find_errors, find_ends, ran_on, rested_on, has_name, size_of}
 
 -- Holds if the promises of `wp_status` are kept at an exit with this result.
 pub record HasReported (named : Option ChipName) (old new : BusState) (result : Result Protection Refusal) : Type 0 where
@@ -53,34 +53,34 @@ module _ (named : Option ChipName) where
   refused refusal only_reads is last errors own = search
 
   -- An error of the probe is one that `wp_status` may return, and `ProtectionErrors` says nothing about it.
-  unfound_tells : (old new : BusState) (refusal : Refusal) → IdentificationErrors most_probe named old new refusal
+  unfound_errors : (old new : BusState) (refusal : Refusal) → IdentificationErrors most_probe named old new refusal
       → IsProtectionRefusal refusal × ProtectionErrors named old.chip refusal
-  unfound_tells old new (Timeout address) errors = (errors.0, tt)
-  unfound_tells old new _ errors = search
+  unfound_errors old new (Timeout address) errors = (errors.0, tt)
+  unfound_errors old new _ errors = search
 
   pub unfound : {old new : BusState} (refusal : Refusal) → OnlyReads most_probe old new
       → IdentificationErrors most_probe named old new refusal → HasReported named old new (Err refusal)
   unfound {old} {new} refusal only_reads errors =
-      let own = unfound_tells old new refusal errors in
-      refused refusal (looks_more most_probe most_status old new (omega arith) only_reads) own.0
+      let own = unfound_errors old new refusal errors in
+      refused refusal (only_reads_more most_probe most_status old new (omega arith) only_reads) own.0
       (find_ends most_probe named old new refusal errors)
-      (find_tells most_status named old new refusal (omega arith) errors) (λ known. own.1)
+      (find_errors most_status named old new refusal (omega arith) errors) (λ known. own.1)
 
   -- the exits after a chip was found
   module _ {old mid new : BusState} {probed : Probed} (found : HasFound named old mid probed)
       (only_reads : OnlyReads most_probe old mid) (after : OnlyReads 1 mid new) where
-    looks_all : OnlyReads most_status old new
-    looks_all = looks_on most_status (omega arith) only_reads after
+    only_reads_all : OnlyReads most_status old new
+    only_reads_all = only_reads_within most_status (omega arith) only_reads after
 
     -- the exit after the bus stopped at the read of status 2
     pub stopped : HasStopped 1 mid new → HasReported named old new (Err Stopped)
     stopped out =
-        refused Stopped looks_all tt out.last (ran_on found only_reads 1 most_status (omega arith) out) (λ known. tt)
+        refused Stopped only_reads_all tt out.last (ran_on found only_reads 1 most_status (omega arith) out) (λ known. tt)
 
     module _ {status2 : ℕ} (reads : ReadsStatus2 mid new status2) where
       -- the exit with error 6: the chip has no block protection
       pub plain : probed.found.scheme ≡ false → HasReported named old new (Err NoProtection)
-      plain none = refused NoProtection looks_all tt tt (rested_on found only_reads (λ is. (reads.read is).rested))
+      plain none = refused NoProtection only_reads_all tt tt (rested_on found only_reads (λ is. (reads.read is).rested))
           (λ known. (has_name found only_reads known.honest, sym (found.is.config known).scheme ∙ none))
 
       -- the exit with a report: the chip has block protection
@@ -91,7 +91,7 @@ module _ (named : Option ChipName) where
           → locked ≡ is_locked (kept_in bytes)
           → HasReported named old new (Ok (record { range = range; locked = locked; size = probed.found.size }))
       returned bytes range locked same scheme are places lock = record {
-        always = search (looks_all, same ∙ found.polled_ready);
+        always = search (only_reads_all, same ∙ found.polled_ready);
         honest = λ honest.
             let rested = rested_on found only_reads (λ is. (reads.read is).rested) honest in
             let idle = found.idle honest in
@@ -105,7 +105,7 @@ module _ (named : Option ChipName) where
             reads.replied (only_reads.nature.honest ∙ known.honest) ∙ ap (λ (bits : KeptBits). bits.two) was.kept in
             let protects : old.chip.config.scheme ≡ true = sym (found.is.config known).scheme ∙ scheme in
             let code : code_of (kept_in bytes) ≡ code_of old.chip.kept = rw (are, one, two) (omega arith) in
-            let guarded = range_read old.chip range protects (rw (code, size_of found only_reads known) at places) in
+            let protected = range_read old.chip range protects (rw (code, size_of found only_reads known) at places) in
             let locks = lock ∙ ap (λ (bytes : List ℕ). is_locked (kept_in bytes)) are
             ∙ lock_read probed.found.status1 status2 old.chip.kept one two in
             search (size_of found only_reads known);

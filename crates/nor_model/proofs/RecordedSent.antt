@@ -5,7 +5,7 @@ use Rattle.std.proofs.Math.Bool.{or-false}
 use Rattle.std.proofs.lemmas.Bool.{or_cases, cases_Bool, eqb-true}
 use Rattle.std.proofs.lemmas.Bool.Decides.{nat_tests}
 use Rattle.nor_model.specs.Command.{begins_quiet, is_quiet_opcode, is_changing_opcode, is_erase_opcode}
-use Rattle.nor_model.specs.Sent.{Sent, Notes, with_sent, is_stirred, has_unknown, is_targeted, has_written, none_targeted, bare_targeted, addressed_targeted, is_in_targeted, targets, writes_status}
+use Rattle.nor_model.specs.Sent.{Sent, RecordsSent, with_sent, is_stirred, has_unknown, is_targeted, has_written, none_targeted, bare_targeted, addressed_targeted, is_in_targeted, targets, writes_status}
 
 -- what holds for the seven quiet opcodes holds for every opcode that passes `is_quiet_opcode`
 quiet_is : (opcode : ℕ) → is_quiet_opcode opcode ≡ true → (P : ℕ → Type 0) → P 0x03 → P 0x04 → P 0x05 → P 0x35 → P 0x4B
@@ -55,7 +55,7 @@ writes_none opcode (x ∷ y ∷ z ∷ rest) other one two = refl
 silent : (opcode : ℕ) (rest : List ℕ) (old : Sent) → bare_targeted opcode ≡ none_targeted
     → ((sector : ℕ) → addressed_targeted opcode sector ≡ none_targeted) → is_quiet_opcode opcode ≡ true
     → is_changing_opcode opcode ≡ false → (opcode == 0x01) ≡ false → (opcode == 0x02) ≡ false
-    → is_erase_opcode opcode ≡ false → Notes (opcode ∷ rest) old old
+    → is_erase_opcode opcode ≡ false → RecordsSent (opcode ∷ rest) old old
 silent opcode rest old bare at quiet change status program erase = record {
   quiet = λ is. refl;
   stirred = rw change (sym (or-false (is_stirred old)));
@@ -67,8 +67,8 @@ silent opcode rest old bare at quiet change status program erase = record {
   status_writes = rw status refl;
 }
 
-quiet_notes : (out : List ℕ) (old : Sent) → begins_quiet out ≡ true → Notes out old old
-quiet_notes [] old quiet = record {
+quiet_records_sent : (out : List ℕ) (old : Sent) → begins_quiet out ≡ true → RecordsSent out old old
+quiet_records_sent [] old quiet = record {
   quiet = λ is. refl;
   stirred = sym (or-false (is_stirred old));
   unknown = sym (or-false (has_unknown old));
@@ -78,9 +78,9 @@ quiet_notes [] old quiet = record {
   programs = refl;
   status_writes = refl;
 }
-quiet_notes (opcode ∷ rest) old quiet =
+quiet_records_sent (opcode ∷ rest) old quiet =
     let none : (sector : ℕ) → none_targeted ≡ none_targeted = λ sector. refl in
-    quiet_is opcode quiet (λ (o : ℕ). Notes (o ∷ rest) old old)
+    quiet_is opcode quiet (λ (o : ℕ). RecordsSent (o ∷ rest) old old)
     (silent 0x03 rest old refl none refl refl refl refl refl)
     (silent 0x04 rest old refl none refl refl refl refl refl)
     (silent 0x05 rest old refl none refl refl refl refl refl)
@@ -89,8 +89,8 @@ quiet_notes (opcode ∷ rest) old quiet =
     (silent 0x5A rest old refl none refl refl refl refl refl)
     (silent 0x9F rest old refl none refl refl refl refl refl)
 
-loud_notes : (out : List ℕ) (old : Sent) → begins_quiet out ≡ false → Notes out old (out ∷ old)
-loud_notes out old loud = record {
+loud_records_sent : (out : List ℕ) (old : Sent) → begins_quiet out ≡ false → RecordsSent out old (out ∷ old)
+loud_records_sent out old loud = record {
   quiet = λ quiet. absurd (true≢false (sym quiet ∙ loud));
   stirred = refl;
   unknown = refl;
@@ -101,13 +101,13 @@ loud_notes out old loud = record {
   status_writes = refl;
 }
 
--- a transaction has the effect `Notes` on the list `Sent`
-pub notes_by : {out : List ℕ} {old new : Sent} → new ≡ with_sent out old → Notes out old new
-notes_by {out} {old} {new} is = elim (cases_Bool (begins_quiet out)) [
+-- a transaction has the effect `RecordsSent` on the list `Sent`
+pub records_sent : {out : List ℕ} {old new : Sent} → new ≡ with_sent out old → RecordsSent out old new
+records_sent {out} {old} {new} is = elim (cases_Bool (begins_quiet out)) [
   | inl quiet ↦
-      subst (λ (n : Sent). Notes out old n)
-      (sym (is ∙ ap (λ (b : Bool). if b then old else out ∷ old) quiet)) (quiet_notes out old quiet)
+      subst (λ (n : Sent). RecordsSent out old n)
+      (sym (is ∙ ap (λ (b : Bool). if b then old else out ∷ old) quiet)) (quiet_records_sent out old quiet)
   | inr loud ↦
-      subst (λ (n : Sent). Notes out old n)
-      (sym (is ∙ ap (λ (b : Bool). if b then old else out ∷ old) loud)) (loud_notes out old loud)
+      subst (λ (n : Sent). RecordsSent out old n)
+      (sym (is ∙ ap (λ (b : Bool). if b then old else out ∷ old) loud)) (loud_records_sent out old loud)
 ]
