@@ -108,7 +108,7 @@ keeps_still files programmer done =
     })
     (λ any _ _. (same any).leaves) (λ journal _. (same journal.now).leaves) (λ file _ left can. inl can)
 
--- A task that creates a journal writes the chip back.
+-- If a task creates a journal's file, the chip is written back to its files after the call (`puts_back`).
 puts_journal : (done : Task) (file : Bor Text) → journal_by done ≡ Some file → puts_back done ≡ true
 puts_journal done file is = grind arith
 

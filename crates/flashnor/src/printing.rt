@@ -11,7 +11,7 @@ use std::io::Write;
 /// The end of a run, after everything that can be printed was printed.
 #[derive(Clone, Copy)]
 pub struct Ending {
-    /// The exit status: 0, or 1 after any fault or if the answer or the help could not be printed.
+    /// The exit status: 0 if the answer or the help was printed and every file was written, otherwise 1.
     pub status: u8,
     /// True if the answer or the help was printed.
     pub printed: bool,

@@ -185,7 +185,8 @@ DoesTask named (task.Change change) ranges bytes before after old new outcome =
 DoesTask named (task.Restore journal) ranges bytes before after old new outcome =
     HasRestored named bytes old new outcome
 
--- the faults of each task before its call
+-- the faults with which each task may end before the call that `DoesTask` describes; none for a task that isn't named
+-- here
 abbrev pub FailsBefore : Option ChipName → Task → (bytes : List ℕ) → View → (old new : BusState) → Fault → Type 0
 FailsBefore named (task.Read file regions) bytes view old new fault = FailsToRead named file.now view old new fault
 FailsBefore named (task.Change change) bytes view old new fault =

@@ -107,7 +107,8 @@ fn read_chip<'a, R: Store, B: Bus>(
     read_to_file(rt, bus, named, file, included)
 }
 
-// Compares the chip with an image, at the addresses of the included regions.
+// Compares the chip with an image at the included addresses: those of the included regions, or all if no regions were
+// given.
 fn verify_chip<B: Bus>(bus: &mut B, named: Option<ChipName>, sources: Sources) -> Outcome
     ensures { HasVerified named sources.included sources.bytes.items (B.state bus.old) (B.state bus.new) result }
 {

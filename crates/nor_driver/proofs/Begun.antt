@@ -100,7 +100,8 @@ may-after command sent old begun new is steady has stays =
     let kept = kept-cut command old.chip begun.chip.kept new.chip.kept is has.kept in
     grind (arith, stays.steady_or_idle, has.bytes, stays.bytes, outside, stays.worn, has.worn, or-false, kept)
 
--- on a bus that is not steady, `MayOperate` says nothing about the bytes that the command works on
+-- on a bus that is not steady, `MayOperate` doesn't depend on the bytes that were sent: a byte on which the command
+-- works may then have any value
 pub may-unsteady : (command : Command) (sent part : List ℕ) (old new : BusState) → old.steady ≡ false
     → MayOperate command part old new → MayOperate command sent old new
 may-unsteady command sent part old new unsteady may = grind (arith, may.bytes, may.worn)

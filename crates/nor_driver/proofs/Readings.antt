@@ -115,7 +115,7 @@ no_poll config (opcode ∷ []) is = elim (eqb_tells opcode 5) [
 ]
 no_poll config _ is = refl
 
--- a transaction that reads leaves `polled_ready` as it was
+-- a transaction that reads (`IsReading`) is no poll, so it leaves `polled_ready` as it was
 pub read_keeps_polled_ready : (outcome : Result Unit Stopped) (out answer : List ℕ) (old new : BusState) → IsReading out
     → Records out answer outcome old new → new.polled_ready ≡ old.polled_ready
 read_keeps_polled_ready outcome out answer old new is records =

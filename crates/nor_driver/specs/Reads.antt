@@ -28,8 +28,8 @@ pub record IsReading (out : List ℕ) : Type 0 where
   pub quiet : begins_quiet out ≡ true
   pub reading : (config : Config) (replies : ℕ) → changes_nothing (command_of config out replies) ≡ true
 
--- On an honest bus, one transaction that reads was carried out. It changed nothing, not even the write enable latch or
--- `busy`.
+-- On an honest bus, one transaction that reads was carried out. The chip is as it was, even its write enable latch and
+-- `busy`, and no sector was newly recorded as erased.
 pub record HasRead (old new : BusState) : Type 0 where
   pub rested : Rested old new
   pub busy : new.chip.busy ≡ old.chip.busy

@@ -84,7 +84,7 @@ module _ (whole : Bool) (kinds : Kinds) (set : ℕ → Bool) where
     ]
   ]
 
-  -- the planned block of a sector is also the planned block of the sector at which it begins
+  -- the planned block of a sector is also the planned block of that block's first sector
   pub planned_block-first : (s : ℕ) (unit : EraseBlock) → IsLargest s unit
       → planned_block whole kinds set (first_of unit s) ≡ unit
   unfolding planned_block

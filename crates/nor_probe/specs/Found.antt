@@ -139,8 +139,8 @@ pub record ProbeHonest (named : Option ChipName) (old new : BusState) (result : 
   -- a chip found is what the chip shows about itself; the chip is idle, and its bytes and non-volatile status bits are
   -- unchanged
   pub finds : IfOk result (Finds old new)
-  -- a fault says why no chip was found, that it has another name than the requested one, or that too few transactions
-  -- were left; a timeout doesn't occur
+  -- a fault says why no chip was found, that the chip has another name than the requested one, or that too few
+  -- transactions were left; a timeout doesn't occur
   pub errors : IfErr result (ProbeErrors named old new)
 
 -- the result of a probe without the number of transactions

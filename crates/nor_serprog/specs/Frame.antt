@@ -78,8 +78,9 @@ out_in frame = drop 7 frame
 abbrev pub replies_in : List ℕ → ℕ
 replies_in frame = number_in (slice_index frame 4) (slice_index frame 5) (slice_index frame 6)
 
--- A programmer that reads this frame carries out this command: a frame of O_SPIOP has its opcode, its bytes and its
--- number of reply bytes, and any other frame is the command's.
+-- Holds if a programmer that reads this frame carries out this command. For O_SPIOP the frame has the opcode 13h, and
+-- the bytes and the number of reply bytes of the command. For any other command it is the frame of the command
+-- (`frame_of`).
 abbrev pub ReadsAs : List ℕ → Command → Type 0
 ReadsAs frame (Operate out replies) =
     (slice_index frame 0 ≡ 0x13) × (out_in frame ≡ out.now) × (replies_in frame ≡ replies)

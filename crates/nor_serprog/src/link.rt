@@ -39,7 +39,7 @@ pub enum Failure<C> {
 /// Whether the replies of a programmer can be matched to the frames that were sent.
 #[derive(Clone, Copy, Debug, PartialEq, Eq)]
 pub enum Sync {
-    /// Each frame had its reply, and each reply was read.
+    /// Since `synchronize` returned `Ok`, each frame had its whole reply, and each reply was read.
     InStep,
     /// The link isn't synchronized: it is new, `synchronize` failed, or an exchange failed after its whole frame was
     /// sent, so that bytes of the reply may still arrive.

@@ -58,9 +58,9 @@ changes_nothing journal first old new report saves same done =
 
 -- ---- one session after the other
 
--- Holds if a restore of this chip from the journal leaves the original chip, provided that the restore succeeds
--- (`restored_same`). The journal saves the original chip, and the two chips have the same configuration and agree at
--- all addresses that a restore can't write. An operation may be in progress.
+-- Holds if the journal saves the original chip `first`, and the two chips have the same configuration and agree at all
+-- addresses that a restore can't write. An operation may be in progress. A restore of `chip` from the journal that
+-- succeeds then leaves the original chip (`restored_same`).
 record CanRestoreChip (journal : Content) (first chip : Chip) : Type 0 where
   saves : SavesChip journal first
   config : chip.config ≡ first.config

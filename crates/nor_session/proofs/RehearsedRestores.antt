@@ -187,7 +187,8 @@ module _ {journal : Content} {stops : List ℕ} {old now : BusState} {n : ℕ} (
   ended_at restores is inside by shows =
       let allowed = rw (← is) at (allowed_more (next_stop stops n inside) by) in search arith
 
-  -- the restore after the last stop ended
+  -- all stops were used, and the next restore, which was allowed `most_of 4096` transactions, ended; so the restores in
+  -- turn ended
   pub ended_last : (restores : ℕ) {allowance : ℕ} → restores ≡ n + 1 → n ≡ length stops → allowance ≡ most_of 4096
       → new.allowances ≡ allowance ∷ now.allowances → RunsRestore journal allowance now new true
       → RunsRestores journal stops old new restores

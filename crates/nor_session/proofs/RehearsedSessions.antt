@@ -217,7 +217,8 @@ module _ {request : Request} {image text later : List ℕ} {old mid new : BusSta
           is = both_allowed tried.calls tried.is;
         }
 
-  -- an error of these restores is one of `restore`, and names an address that `NamesAddress` allows
+  -- an error of these restores is one of `restore`; if it is a timeout or a mismatch, it names an address that
+  -- `NamesAddress` allows
   pub undo_refused : (had : VaultState) (refusal : Refusal) → RefusesUndo text mid new refusal
       → IsRehearsalRefusal had vault refusal × NamesAddress vault refusal
   undo_refused had refusal refuses = (

@@ -15,7 +15,7 @@ use Rattle.nor_words.specs.declared.job.Wanted.{Wanted}
 use Rattle.nor_words.specs.declared.job.Wanted.TheVariants as want
 use Rattle.nor_words.specs.declared.words.UsageFault.TheVariants as why
 
--- the list of faults, given whether the options have each
+-- the usage faults 2 to 9, in this order; each argument says whether the options have the fault at its position
 abbrev pub cases : (a b c d e f g h : Bool) → List Case
 cases a b c d e f g h = (a, why.NoProgrammer) ∷ (b, why.Programmer) ∷ (c, why.TwoOperations) ∷ (d, why.Range)
     ∷ (e, why.Journal) ∷ (f, why.Layout) ∷ (g, why.Unneeded) ∷ (h, why.Stops) ∷ []

@@ -41,7 +41,7 @@ const W25Q128FV: Found = Found {
     status1: 0x04,
 };
 
-// The result of a probe, with the number of its transactions.
+// The result of `probe_counted`: a chip and the number of transactions, or a fault.
 type Answer = Result<Probed, ProbeFault>;
 
 const SMALL: Answer = Ok(Probed {

@@ -303,7 +303,8 @@ fn check_refused_copy(alloc: Global, dice: &mut Dice, case: &Case) -> Result<(),
     )
 }
 
-// Reads out into a vault that refuses its call number `nth`, and keeps `kept` bytes of that call's piece.
+// Reads out into a vault that refuses its `nth` call, counted from 1. The vault keeps the first `kept` bytes of that
+// call's piece.
 fn copy_out(alloc: Global, case: &Case, bus: SimBus, (nth, kept): (u64, usize)) -> Copied {
     let mut sent = Vec::new(alloc);
     let mut bus = TraceBus::new(bus, &mut sent);

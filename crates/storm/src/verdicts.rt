@@ -130,8 +130,9 @@ pub fn of_journal(config: &Config, saved: Saved<'_>) -> Option<Refusal> {
     }
 }
 
-/// Returns error 20 if the journal is for another device. Otherwise returns error 17 if status bits that no restore
-/// changes differ from the journal's: with block protection all except the protection bits, without it all.
+/// Returns error 20 if the journal is for another device. Otherwise returns error 17 if non-volatile status bits that
+/// no restore changes differ from the journal's. With block protection these are all except the protection bits,
+/// without it all.
 pub fn of_unit(chip: &Chip, saved: Saved<'_>) -> Option<Refusal> {
     if chip.config.unique != saved.chip.config.unique {
         return Some(Refusal::OtherUnit);
