@@ -42,7 +42,8 @@ none_found view (Some name) len found is none = absurd cc
 
 -- ---- a file that is moved aside
 
--- the case of `pick` in which the file was missing at first and was moved aside
+-- the case of `pick` in which the file was missing at first and is missing again, for example because it was moved
+-- aside
 aside_of : (other : Bor Text) (was found left : Found) (len : ℕ) (mid new : FilesState) → AreAtRest mid
     → ((name : Name) → new.may_leave name (new.view.seen name)) → IsFileFound mid.view (Some other) len found
     → IfSome found (λ all. length all ≡ len) → LeavesAsLong (Some other) mid new → (was ≡ None) × (left ≡ None)

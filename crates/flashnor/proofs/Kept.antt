@@ -67,9 +67,9 @@ module _ (job : ChipJob) (held : Held) (s0 s1 s2 : FilesState) (bus bus' : BusSt
   status_many : length held.content.status ≡ 2
   status_many = as_many s0.view job.programmer.status 2 _ _ read.status refl
 
-  -- A file of the chip is ready to be written with as many bytes as were read from it (`IsReadyIfNamed`). Its name must
-  -- be apart from the trace's and from that of the file that the task creates. What was read from the file must be
-  -- durable (`MakesDurable`).
+  -- If the contents that were read of a file of the chip are durable (`MakesDurable`), the file is ready to be written
+  -- with as many bytes (`IsReadyIfNamed`). Its name must be apart from the trace's and from that of the file that the
+  -- task creates.
   ready : (name : Option (Bor Text)) (there : Bool) (had put : List ℕ)
       → AreTwo s0.view.nature name job.programmer.trace → AreTwo s0.view.nature name (made_by job.task)
       → MakesDurable name (was there had) s1 → length had ≡ length put

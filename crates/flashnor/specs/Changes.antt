@@ -133,7 +133,8 @@ pub record HasMadeChange (request : Request) (image : List ℕ) (kept : JournalU
 
 -- ---- restores
 
--- Holds if the restore succeeded, and the chip is the one that the journal saves (`IsRestored`).
+-- Holds if the answer is the report of a restore that succeeded: the chip has the saved bytes and the journal's
+-- non-volatile status bits (`IsRestored`).
 abbrev pub ReportsRestore : Journal → (old new : BusState) → Answer → Type 0
 ReportsRestore journal old new (answer.Done report) = IsRestored journal old new report
 ReportsRestore journal old new _ = ⊥

@@ -43,8 +43,9 @@ all_lost (was ∷ old) (now ∷ new) name many each =
     let later = all_lost old new name (omega (arith, many)) (λ k d within. each (suc k) d (omega (arith, within))) in
     grind arith
 
--- A read of each file returns what a host crash might have left, and a later host crash can leave nothing else. No
--- vault or log in any of the files is borrowed.
+-- A read of each file returns contents that a host crash might have left of the old files, or finds none if a crash
+-- might have left none. What the read finds is durable: a later host crash can leave nothing else. No vault or log in
+-- any of the files is borrowed.
 pub record AreLeft (old new : List Stored) (left : ℕ) (borrowed : Option Name) : Type 0 where
   pub at_rest : AreAtRest (files_state new left borrowed)
   pub allowed : (name : Name) → MayLeave (file_named old name) (file_named new name).seen

@@ -29,7 +29,7 @@ pub data Failure : Type 0 where
   -- the file is a regular file to which the program prints
   Printed : Name → Failure
 
--- The properties of a store of files that never change.
+-- What never changes about a store of files.
 pub record Nature : Type 0 where
   -- whether the files obey the contract
   pub lawful : Bool

@@ -1,5 +1,5 @@
--- Two ways to count the numbers below n that pass a test have the same result: in the list of these numbers, and step
--- by step (`IsCount`).
+-- Two ways to count the numbers below n that pass a test have the same result: in the list of all numbers below n, and
+-- step by step (`IsCount`).
 use Rattle.std.proofs.Common.{ℕ, zero, suc, ◌≡◌, ◌+◌, Bool, cond, sym, ap, ◌∙◌, add-one, arith}
 use Rattle.std.specs.Prelude.{count_by}
 use Rattle.std.specs.List.{range_with_len}

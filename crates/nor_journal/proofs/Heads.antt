@@ -44,8 +44,8 @@ pub unique_read : {E : Type 0} (part : List ℕ) (r : Result (List ℕ) E) → M
 unique_read part (Ok u) whole = (sym whole.same, ap length whole.same ∙ whole.long)
 unique_read part (Err e) other = other
 
--- Bytes, each below 256, that begin with a complete header of either format are the encoding of the header's fields and
--- the bytes after it. The unique ID, if there is one, has eight bytes.
+-- If bytes, each below 256, begin with a complete header of either format, they are the encoding of the header's
+-- fields, then the bytes after the header. The unique ID, if there is one, has eight bytes.
 pub splits : (returned : Option (List ℕ)) (len : ℕ) (bytes : List ℕ) (unique : Option (List ℕ)) → IsBytes bytes
     → take 8 bytes ≡ magic returned → len ≡ header_length returned → len ≤ length bytes
     → IsUnique (take (len - 6 - 11) (drop 11 bytes)) unique

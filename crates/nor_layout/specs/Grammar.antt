@@ -30,8 +30,8 @@ pub record IsLine (line : List ℕ) (region : Region) : Type 0 where
 abbrev pub full_lines : List ℕ → List (List ℕ)
 full_lines text = filter (λ line. not (length line == 0)) (lines_of text)
 
--- True if each nonempty line is that of a region (`IsLine`), in order. There are at most 64 regions, and no two of them
--- have the same name.
+-- True if the nonempty lines are those of the regions (`IsLine`), one line per region and in the same order. There must
+-- be at most 64 regions, and no two of them may have the same name.
 pub record IsLayout (text : List ℕ) (regions : List Region) : Type 0 where
   pub lines : AllZip IsLine (full_lines text) regions
   pub few : length regions ≤ 64

@@ -6,7 +6,7 @@ use Rattle.std.proofs.Math.ListN.{get_or-eq_default}
 use Rattle.std.proofs.lemmas.Bool.{cases_lt}
 use Rattle.std.specs.Prelude.{slice_index}
 
--- The address `done` places after `at`, modulo `n`, is `from`. Then the address `i` places after `at` is
+-- The address `done` places after `at`, modulo `n`, is `from`. Then the address `i` places after `at`, modulo `n`, is
 -- `from + (i - done)`, if `i` is at least `done` and that sum is below `n`.
 pub run_on : (at done i from n : ℕ) → (at + done) % n ≡ from → done ≤ i → from + (i - done) < n
     → (at + i) % n ≡ from + (i - done)
@@ -14,7 +14,8 @@ run_on at done i from n place behind small =
     let split : at + i ≡ (from + (i - done)) + n * ((at + done) / n) = omega (arith, mod-add-div (at + done) n) in
     rw (split, add-mul-mod_self_left) (mod-eq_of_lt small)
 
--- The address `done` places after `at`, modulo `n`, is `from`. Then the address `n - from` places after that is 0.
+-- The address `done` places after `at`, modulo `n`, is `from`, which is below `n`. Then the address `n - from` places
+-- further on, modulo `n`, is 0.
 pub run_round : (at done from n : ℕ) → (at + done) % n ≡ from → from < n → (at + (done + (n - from))) % n ≡ 0
 run_round at done from n place within =
     let split : at + (done + (n - from)) ≡ 0 + n * ((at + done) / n + 1) = omega (arith, mod-add-div (at + done) n) in

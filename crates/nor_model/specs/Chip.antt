@@ -30,8 +30,8 @@ pub record Chip : Type 0 where
   -- the operation in progress; it matters only while the chip is busy
   pub running : Running
 
--- The values are in range: `busy`, the non-volatile bits and each byte. Every bus must ensure that for its chip while
--- it is honest (`reaches` in `src/bus.rt`).
+-- The values are in range: `busy`, the non-volatile bits and each byte. An implementation of `Bus` must prove this for
+-- the chip of each honest bus (`reaches` in `src/bus.rt`).
 pub record IsChip (chip : Chip) : Type 0 where
   pub busy : chip.busy < 65536
   pub kept1 : chip.kept.one < 64

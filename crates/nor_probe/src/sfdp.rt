@@ -185,7 +185,7 @@ fn size_in_bytes(density: u32) -> Option<u32>
     }
 }
 
-// True if one of the four erase types has this exponent of its size in bytes and this opcode.
+// True if one of the four erase types has a size of 2 ^ `exponent` bytes and this opcode.
 #[tactic(auto, unfolding(crate::specs::Sfdp::has_erase_type))]
 fn offers(table: &[u8; 36], exponent: u8, opcode: u8) -> bool
     ensures { result ≡ has_erase_type exponent opcode table.now }

@@ -29,7 +29,7 @@ pub pieced_none : (included : Option (List Span)) (piece : ℕ) (bytes : List �
     → HasPieced included piece 0 bytes state state 0
 pieced_none included piece bytes state = grind (arith, has_only_read-none state)
 
--- `HasPieced` holds for `k + 1`, after sector `k` of the piece, below 16, was copied.
+-- If `HasPieced` holds for `k`, below 16, and then sector `k` of the piece is copied, `HasPieced` holds for `k + 1`.
 module _ {included : Option (List Span)} {piece k reads more : ℕ} {bytes part : List ℕ} {old mid new : BusState} where
   pub pieced_more : (width : ℕ) → k < 16 → width ≡ 4096 → length bytes ≡ 65536 → length part ≡ 4096
       → HasPieced included piece k bytes old mid reads → OnlyReads 1 mid new

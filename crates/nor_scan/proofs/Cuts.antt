@@ -70,9 +70,9 @@ cut_between {head = head} {chip = chip} {touched = touched} size sized below = �
     rw (← sized) (begins_whole head chip touched kept.content below.bound _ kept.same kept.saves kept.next
     (rw sized inside) (put_begins kept.written faithful))
 
--- For a refusal within the record of `n`, a touched sector of the chip. A `telling` vault then holds a prefix of the
--- header, the earlier records and this record. These are a prefix of the whole journal, so the vault's bytes are one,
--- too.
+-- After a refusal within the record of `n`, a touched sector of the chip, a `telling` vault holds a prefix of the
+-- header, the earlier records and this record. These are a prefix of the whole journal, so the vault's bytes are a
+-- prefix of the journal, too.
 pub cut_in_record : {V : Type 0} {state : V → VaultState} {writer : Writer V} {head : Content} {chip : ℕ → ℕ} {n : ℕ}
     {bytes : List ℕ} (vault : VaultState) (touched : ℕ → Bool) (size : ℕ)
     (kept : HasPutSectors state writer head chip (λ s. nat_lt s n && touched s) n) → head.size ≡ size

@@ -85,8 +85,8 @@ same_reply (a ∷ rest) old mid new first again reads one two len =
     let three = eqb-true a 3 reads in
     same_reply_03 rest old mid new first again (subst P three one) (subst Q three two) len
 
--- If an honest bus takes a transaction, it takes one with the same bytes and the same length of the reply after a call
--- that keeps its nature.
+-- If an honest bus takes a transaction, then after a call that keeps the nature of the bus (`SameNature`) it takes a
+-- transaction with the same bytes and a reply of the same length.
 pub fits_again : (out : List ℕ) (m n : ℕ) (old new : BusState) → SameNature old new → n ≡ m → IsHonestFor out m old
     → IsHonestFor out n new
 fits_again out m n old new nature same fits = record {

@@ -107,7 +107,8 @@ impl<P: Port + Drop> Batch<P> {
         self.link.synchronize()
     }
 
-    // Sends what waits, unless this and a frame of the given length fit into the serial buffer together.
+    // Sends the frames that wait, if they and a frame of the given length have more than `most` bytes together: more
+    // than fit into the serial buffer, or more than 512.
     fn make_room(&mut self, len: usize) -> Result<(), Failure<P::Cause>>
         requires in_step { is_in_step (batch_link self.old) ≡ true }
         requires len { len ≤ 267 }

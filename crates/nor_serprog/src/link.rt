@@ -70,8 +70,8 @@ const ROW_ANSWERS: [u8; ROW_ANSWERS_LEN] = [
     0x06, 0x06, 0x15, 0x06, 0x06, 0x15, 0x06, 0x15, 0x06,
 ];
 
-// The greatest number of bytes that are received in search of the reply to the first SYNCNOP, and then of the replies
-// to `ROW`.
+// The greatest number of bytes that are received in each of two searches: first for the reply to SYNCNOP, then for the
+// replies to `ROW`.
 const MOST_STALE: u32 = 1 << 16;
 
 impl<P: Port + Drop> Link<P> {

@@ -13,7 +13,7 @@ use Rattle.nor_session.specs.Restore.{restored}
 use Rattle.nor_session.proofs.SavedBytes.{sector_at}
 use Rattle.nor_session.proofs.Rescanned.{untouched_other}
 
--- if no position in a sector passes a test, none of its addresses does
+-- if no address in the sector of `a` passes a test, `a` doesn't pass it
 none_at : (test : ℕ → Bool) (a : ℕ) → any_below 4096 (λ i. test (4096 * (a / 4096) + i)) ≡ false → test a ≡ false
 none_at test a none =
     let place : 4096 * (a / 4096) + a % 4096 ≡ a = omega arith in

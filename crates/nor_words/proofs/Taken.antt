@@ -22,7 +22,7 @@ pub refusals_of-taken : (app : App) → app ≡ options → (words : List Text) 
     → (is_simple_and_free app ≡ true → FailsBy (fault_of app words) (Ok m)) → refusals_of words ≡ []
 refusals_of-taken app same words m fails = let free = rw same at fails in free options_are_free
 
--- the matches that `clap` found have the rows that the definition gives for the arguments
+-- the rows of the matches that `clap` found are those that `matches_of` defines for the options and the arguments
 pub rows-taken : (app : App) → app ≡ options → (words : List Text) (m : ArgMatches) → HasMatchesOf app words m
     → rows_of (found_of m) ≡ matches_of options words
 rows-taken app same words m matches = let simple = rw same at matches in (simple options_are_simple).0

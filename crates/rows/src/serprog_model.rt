@@ -33,7 +33,8 @@ pub enum Fault {
     Cut,
 }
 
-/// The reason why the port failed: fewer reply bytes arrived than were asked for, or the port was cut.
+/// The reason why the port failed: fewer reply bytes had arrived than were asked for (`Silent`), or the model's fault
+/// is `Fault::Cut` (`Cut`).
 #[derive(Clone, Copy, Debug, PartialEq, Eq)]
 pub enum Cause {
     Silent,

@@ -264,8 +264,8 @@ fn check_protection(case: &Case, told: Protection) -> Result<(), Fault> {
     ])
 }
 
-// Checks the report of a readout or a verification. It must count no changes, and as transactions the probe and one
-// read for each sector that contains an included address.
+// Checks the report of a readout or a verification. It must describe the chip (`check_found`), and count no changes.
+// Its transactions must be those of the probe, and one read for each sector that contains an included address.
 fn check_report(case: &Case, report: &Report) -> Result<(), Fault> {
     checks::check_found(&case.chip, &report.found)?;
     let idle = report.touched == 0 && report.erases == 0 && report.programs == 0;
