@@ -72,23 +72,20 @@ fn named_length(size: u32, code: u8) -> u32
 // True if the address is in the range that the code selects. At the end of the chip that includes addresses past the
 // end.
 fn is_named(size: u32, code: u8, at: u32) -> bool
-    requires { 65536 ≤ size }
     ensures { result ≡ is_address_named size code at }
 {
     let length = named_length(size, code);
     if is_bottom(code) {
         at < length
     } else {
-        at >= size - length
+        at >= size.saturating_sub(length)
     }
 }
 
 /// Returns whether the protection bits `code` protect this address, on a chip of this size that has block protection.
-/// `size` must be at least 65,536. Bits that the datasheets don't define protect every address of the chip. An address
-/// past the end is not protected.
+/// Bits that the datasheets don't define protect every address of the chip. An address past the end is not protected.
 #[tactic(auto, unfolding(crate::specs::Guard::protected_by))]
 pub fn is_protected(size: u32, code: u8, at: u32) -> bool
-    requires { 65536 ≤ size }
     ensures { result ≡ protected_by size code at }
 {
     at < size && (is_undefined(code) || is_named(size, code, at) != is_complement(code))
@@ -126,14 +123,13 @@ pub fn unit_protected(status: [u8; 2], size: u32, start: u32, len: u32) -> bool
     protected(status, size, start) || protected(status, size, start + len - 1)
 }
 
-// Returns the number of addresses that a defined code protects.
+// Returns the number of addresses that a defined code protects, if `size` is a chip's.
 fn protected_length(size: u32, code: u8) -> u32
-    requires { 65536 ≤ size }
     ensures { result ≡ (if is_complement code then size - named_length size code else named_length size code) }
 {
     let named = named_length(size, code);
     if is_complement(code) {
-        size - named
+        size.saturating_sub(named)
     } else {
         named
     }
