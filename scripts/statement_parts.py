@@ -44,7 +44,7 @@ NAMES = {
         "`is_protected chip a`: the chip has block protection, and its protection bits protect the address `a`.",
     "is_block_protected":
         "`is_block_protected chip start len`: the first or the last of the `len` addresses from `start` on is protected. "
-        "Protected addresses lie at one end of the chip, so this holds if any of them is protected.",
+        "Protected addresses lie at one end of the chip, so this holds if any of the `len` addresses is protected.",
     "code_of": "`code_of kept`: the protection bits CMP, SEC, TB, BP2, BP1 and BP0 as one number, CMP the highest.",
     "is_undefined": "`is_undefined code`: SEC is set and BP is 110, for which the datasheets define no range.",
     "IsLeastCode":
@@ -75,8 +75,8 @@ NAMES = {
         "`is_touched old wanted s`: some byte of sector `s` differs between `old` and `wanted`. A sector is *raised* if "
         "some bit of it must go from 0 to 1, which needs an erase.",
     "text":
-        "`text c`: the bytes of the journal with the content `c`: magic, ID, unique ID, status, size, saved sectors, "
-        "end mark, and the SHA-256 of all these.",
+        "`text c`: the bytes of the journal with the content `c`: magic, ID, unique ID if any, status, size, saved "
+        "sectors, end mark, and the SHA-256 of all these.",
     "IsContent":
         "`IsContent c`: `c` can be written as a journal: its fields have their lengths, its size is one of a chip, and "
         "its sectors are on such a chip, in rising order, of 4,096 bytes each.",
@@ -108,7 +108,7 @@ NAMES = {
         "`first_allowance stops`: the first stop, or without stops the bound of a session on a chip of 16 MiB.",
     "Meter":
         "`Meter`: a `Bus` with a call `allow`, which adds the allowance to `allowances` and, on an honest bus, sets "
-        "`left`. Nothing else changes.",
+        "`left` (on any other bus, `left` may have any value then). Nothing else changes.",
 }
 
 # The appendices of STATEMENT-FULL.md: the title of each, what breaks if it is wrong, and the definitions and contracts
@@ -223,8 +223,8 @@ APPENDICES = {
         },
     ),
     "The model of files": (
-        "If this is wrong, a real file system loses or mixes bytes that the next appendix relies on. docs/PROMISES.md "
-        "says where it asks for more than Linux guarantees.",
+        "If this is wrong, a real file system loses or mixes bytes that the next appendix relies on. "
+        "docs/SPECIFICATION.md says where it asks for more than Linux file systems guarantee.",
         {"Store": "nor_files/src/store.rt"},
     ),
     "The files of a run": (
@@ -241,14 +241,14 @@ ELSEWHERE = {"Work", "Fault", "Answer", "AreIncluded"}
 NOTES = {
     "The model of files":
         "`Memory` (nor_files) is proved to keep this contract, with files in memory, so it can be kept. `Disk`, the "
-        "system's files, is assumed to behave so. `seen_may_stay` makes `may_leave` mean something: a store of which a "
-        "host crash may leave nothing would meet each promise that speaks of what it may leave.",
+        "system's files, is assumed to behave so. `seen_may_stay` says that a crash may leave what a read returns. "
+        "Without it, a store whose `may_leave` never holds would meet each promise about what a crash may leave.",
     "The files of a run":
         "`R: Store` is any store of files, and `R.state` what contracts see of it. In this appendix `Journal` is the "
         "content of a journal, which the others call `Content`, and `Content` is what the chip's files hold at the "
-        "start. The clauses hold at every exit, and calls on files may fail from any one on (`left`): so they hold "
-        "wherever the process is killed or its host crashes. `AreIncluded` (crates/nor_lines/specs/Requests.antt) says "
-        "which addresses the regions of a layout have. `run_over` promises all this of each job on a chip.",
+        "start. The clauses hold at every exit, even if all calls on files fail from some call on (`left`). So they "
+        "hold wherever the process is killed or its host crashes. `AreIncluded` (crates/nor_lines/specs/Requests.antt) "
+        "says which addresses the regions of a layout have. `run_over` promises all this for each job on a chip.",
 }
 
 # The subjects of both pages in their order, and the files whose definitions each of them has. If a definition needs one
