@@ -3,10 +3,11 @@ use Rattle.std.proofs.Common.{◌≡◌, arith, Bool, List, [], Some, None, Resu
 use Rattle.std.specs.Prelude.{MatchResult}
 use Rattle.clap.specs.declared.error.Error.{Error}
 use Rattle.nor_words.specs.Text.{Text}
-use Rattle.nor_words.specs.Given.{Texts, given_by}
+use Rattle.nor_words.specs.Given.{Texts, given_by, hardware_given_by}
 use Rattle.nor_words.specs.Faults.{first_fault, usage_faults}
-use Rattle.nor_words.specs.Job.{IsAsked}
-use Rattle.nor_words.specs.Words.{IsFault, IsJob, refusals_of}
+use Rattle.nor_words.specs.Job.{IsAsked, IsHardwareAsked}
+use Rattle.nor_words.specs.Words.{IsFault, IsHardwareFault, IsHardwareJob, IsJob, hardware_refusals_of, refusals_of}
+use Rattle.nor_words.specs.declared.job.HardwareJob.{HardwareJob}
 use Rattle.nor_words.specs.declared.job.Job.{Job}
 use Rattle.nor_words.specs.declared.words.UsageFault.{UsageFault}
 use Rattle.nor_words.specs.declared.words.UsageFault.TheVariants as why
@@ -30,3 +31,14 @@ pub asked-by_words : (words : List Text) (given : Texts) (r : Result Job UsageFa
 asked-by_words words given (Ok job) taken same h =
     record { taken = taken; sound = rw same at h.0; asked = rw same at h.1 }
 asked-by_words words given (Err fault) taken same h = fault-returned words fault taken (rw same at h)
+
+-- ---- programs for hardware
+
+-- if `clap` accepts the arguments of a program for hardware, the job or fault of the options that they give is that of
+-- the arguments
+pub hardware_asked-by_words : (program : Text) (words : List Text) (given : Texts) (r : Result HardwareJob UsageFault)
+    → hardware_refusals_of program words ≡ [] → given ≡ hardware_given_by program words
+    → MatchResult r (IsHardwareAsked given) (λ fault. (fault ≡ why.NoProgrammer) × (given.programmer ≡ None))
+    → MatchResult r (IsHardwareJob program words) (IsHardwareFault program words)
+hardware_asked-by_words program words given (Ok job) taken same h = record { taken = taken; asked = rw same at h }
+hardware_asked-by_words program words given (Err fault) taken same h = rw h.0 (taken, rw same at h.1)

@@ -7,3 +7,5 @@ pub mod Taken
 pub mod Asked
 pub mod Sound
 pub mod Wrong
+pub mod Hardware
+pub mod Emulating

@@ -1,6 +1,6 @@
 -- The usage faults: which of faults 2 to 9 the options have if `clap` accepts the arguments, and the number and message
 -- of each fault.
-use Rattle.std.specs.Prelude.{◌&&◌, ◌||◌, ◌++◌, ℕ, Bool, false, Option, Some, None, List, [], ◌∷◌, codes, decimal, is_some, nat_eq, nat_lt, not, if◌then◌else◌}
+use Rattle.std.specs.Prelude.{◌&&◌, ◌||◌, ◌++◌, ℕ, Bool, false, Option, Some, None, List, [], ◌∷◌, codes, decimal, drop, is_some, nat_eq, nat_lt, not, if◌then◌else◌}
 use Rattle.std.specs.Option.{option_map_or}
 use Rattle.nor_words.specs.Text.{Text, reads}
 use Rattle.nor_words.specs.Given.{Texts, how_many, asks_change, is_new_content, operations, takes_regions}
@@ -49,6 +49,11 @@ usage_faults given =
       why.Stops,
     )
     ∷ []
+
+-- the faults 4 to 9, in this order, for a `-p` whose programmer is sound and has no `stop=`; a program for hardware has
+-- no `--rehearse`, and so no fault 9
+abbrev pub operation_faults : Texts → List Case
+operation_faults given = drop 2 (usage_faults (record given { programmer = None }))
 
 -- the first fault that the options have, or `None` if they have none
 abbrev pub first_fault : List Case → Option UsageFault

@@ -1,11 +1,11 @@
 -- The values that the arguments give the options.
-use Rattle.std.specs.Prelude.{◌||◌, ℕ, Bool, false, Option, List, [], ◌∷◌, codes, is_some, option_map}
+use Rattle.std.specs.Prelude.{◌||◌, ℕ, Bool, false, Option, None, List, [], ◌∷◌, codes, is_some, option_map}
 use Rattle.std.specs.List.{count_by}
 use Rattle.std.specs.Option.{option_map_or}
 use Rattle.std.specs.Str.{bytes_eq}
 use Rattle.clap.specs.Words.{Row, first_of, matches_of}
 use Rattle.nor_words.specs.Text.{Text}
-use Rattle.nor_words.specs.Options.{options}
+use Rattle.nor_words.specs.Options.{hardware_options, options}
 use Rattle.nor_words.specs.declared.given.Given.{Given}
 
 -- The values of the options that take one, and for each flag whether it is set.
@@ -74,6 +74,14 @@ given_in rows = record {
 -- the options that the arguments give, as `clap` parses them
 abbrev pub given_by : List Text → Texts
 given_by words = given_in (matches_of options words)
+
+-- the options in the matches of a parse for a program for hardware, which has neither `-L` nor `--rehearse`
+abbrev pub hardware_given_in : List Row → Texts
+hardware_given_in rows = record (given_in rows) { list = false; rehearse = None }
+
+-- the options that the arguments give a program for hardware with this name, as `clap` parses them
+abbrev pub hardware_given_by : (program : Text) → List Text → Texts
+hardware_given_by program words = hardware_given_in (matches_of (hardware_options program) words)
 
 -- the options in a `Given`, the type of the code, with each text as its bytes
 abbrev pub texts_of : Given → Texts

@@ -1,8 +1,9 @@
 -- The job that options without a fault ask for, and its parts.
-use Rattle.std.specs.Prelude.{◌≡◌, true, false, Option, Some, None, not, option_and_then, option_map}
+use Rattle.std.specs.Prelude.{◌≡◌, true, false, MatchResult, Option, Some, None, not, option_and_then, option_map}
 use Rattle.std.specs.Borrow.{Bor}
 use Rattle.std.specs.Option.{IsSomeAnd}
 use Rattle.nor_probe.specs.Table.{name_of}
+use Rattle.nor_words.specs.Faults.{first_fault, operation_faults}
 use Rattle.nor_words.specs.Given.{Texts, operations}
 use Rattle.nor_words.specs.Numbers.{range_of}
 use Rattle.nor_words.specs.Programmer.{IsProgrammer}
@@ -10,10 +11,12 @@ use Rattle.nor_words.specs.Stops.{stops_of}
 use Rattle.nor_words.specs.Text.{Text}
 use Rattle.nor_words.specs.declared.job.Change.{Change}
 use Rattle.nor_words.specs.declared.job.ChipJob.{ChipJob}
+use Rattle.nor_words.specs.declared.job.HardwareJob.{HardwareJob}
 use Rattle.nor_words.specs.declared.job.Job.{Job}
 use Rattle.nor_words.specs.declared.job.Job.TheVariants as job
 use Rattle.nor_words.specs.declared.job.JournalUse.{JournalUse}
 use Rattle.nor_words.specs.declared.job.JournalUse.TheVariants as uses
+use Rattle.nor_words.specs.declared.job.Operation.{Operation}
 use Rattle.nor_words.specs.declared.job.Regions.{Regions}
 use Rattle.nor_words.specs.declared.job.Task.{Task}
 use Rattle.nor_words.specs.declared.job.Task.TheVariants as task
@@ -71,3 +74,18 @@ pub record IsChipJob (given : Texts) (on_chip : ChipJob) : Type 0 where
 abbrev pub IsAsked : Texts → Job → Type 0
 IsAsked given job.List = given.list ≡ true
 IsAsked given (job.Chip on_chip) = (given.list ≡ false) × IsChipJob given on_chip
+
+-- ---- programs for hardware
+
+-- Holds if the options have none of the faults 4 to 9, and ask for this operation: the name is the value of `-c`.
+pub record IsOperation (given : Texts) (operation : Operation) : Type 0 where
+  pub sound : first_fault (operation_faults given) ≡ None
+  pub named : operation.named ≡ option_map name_of given.chip
+  pub task : IsTask given operation.task
+
+-- Holds if the programmer's text is the value of `-p`, and the operation is the one that the options ask for, or the
+-- first of the faults 4 to 9 that they have.
+pub record IsHardwareAsked (given : Texts) (on_hardware : HardwareJob) : Type 0 where
+  pub programmer : NamesFile given.programmer on_hardware.programmer
+  pub operation : MatchResult on_hardware.operation (IsOperation given)
+      (λ fault. first_fault (operation_faults given) ≡ Some fault)

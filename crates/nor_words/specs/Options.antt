@@ -1,5 +1,7 @@
 -- The options of the program, as rules of `clap`.
-use Rattle.std.specs.Prelude.{◌≡◌, true, false, List, [], ◌∷◌, ◌++◌, None, Some, codes, fold, is_some, slice_get, if◌then◌else◌}
+use Rattle.std.specs.Prelude.{◌≡◌, ◌&&◌, Bool, true, false, List, [], ◌∷◌, ◌++◌, None, Some, codes, fold, is_some, not, slice_get, if◌then◌else◌}
+use Rattle.std.specs.List.{filter}
+use Rattle.std.specs.Str.{bytes_eq}
 use Rattle.clap.specs.Words.{App, Rule, new_app, new_rule, rule_of, with_rule}
 use Rattle.clap.specs.declared.builder.arg.Arg.{Arg}
 use Rattle.clap.specs.declared.builder.action.ArgAction.TheVariants.{Set, SetTrue, HelpShort}
@@ -64,15 +66,24 @@ manner_rules =
 abbrev pub help_rule : Rule
 help_rule = by_letter (codes "h") (record (new_rule (codes "usage")) { action = Some HelpShort })
 
+-- all options except `-h`: those of the rows of the table in src/options.rt
+abbrev pub most_rules : List Rule
+most_rules = chip_rules ++ reader_rules ++ change_rules ++ manner_rules
+
 -- Holds if this `Arg` of `clap` has this rule and isn't a global one.
 pub record IsOption (option : Rule) (arg : Arg) : Type 0 where
   pub rule : rule_of arg ≡ option
   pub local : arg.global ≡ false
 
--- the command without options: the program's name isn't among the arguments, and `clap`'s own help option is disabled
-abbrev pub no_options : App
-no_options = let app = new_app (codes "flashnor") in
+-- the command of a program with this name, without options: the name isn't among the arguments, and `clap`'s own help
+-- option is disabled
+abbrev pub no_options_of : Text → App
+no_options_of program = let app = new_app program in
     record app { top = record app.top { no_binary_name = true; disable_help_flag = true } }
+
+-- the command of flashnor without options
+abbrev pub no_options : App
+no_options = no_options_of (codes "flashnor")
 
 -- the command with these options appended
 abbrev pub with_rules : App → List Rule → App
@@ -83,6 +94,17 @@ abbrev pub options : App
 options =
     with_rule (with_rules (with_rules (with_rules (with_rules no_options chip_rules) reader_rules) change_rules)
     manner_rules) help_rule
+
+-- ---- programs for hardware
+
+-- true for an option that a program for hardware has: it has all options except `-L` and `--rehearse`
+abbrev pub is_for_hardware : Text → Bool
+is_for_hardware id = not (bytes_eq id (codes "list")) && not (bytes_eq id (codes "rehearse"))
+
+-- the command of a program for hardware with this name: the options of flashnor except `-L` and `--rehearse`
+abbrev pub hardware_options : Text → App
+hardware_options program =
+    with_rule (with_rules (no_options_of program) (filter (λ rule. is_for_hardware rule.id) most_rules)) help_rule
 
 -- ---- the table in src/options.rt
 
@@ -104,6 +126,6 @@ chosen choice = record (named choice) {
 abbrev pub with_choice : App → Choice → App
 with_choice app choice = with_rule app (chosen choice)
 
--- the options of all rows: all options except `-h`
-abbrev pub most_rules : List Rule
-most_rules = chip_rules ++ reader_rules ++ change_rules ++ manner_rules
+-- the command with the option of one more row, if a program for hardware has it
+abbrev pub with_hardware_choice : App → Choice → App
+with_hardware_choice app choice = if is_for_hardware choice.name.now then with_choice app choice else app

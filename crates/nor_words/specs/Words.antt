@@ -4,10 +4,11 @@ use Rattle.clap.specs.Words.{Kinds, IsAmong, fault_of, kind_of}
 use Rattle.clap.specs.declared.error.Error.{Error}
 use Rattle.clap.specs.declared.error.kind.ErrorKind.TheVariants as kind
 use Rattle.nor_words.specs.Text.{Text}
-use Rattle.nor_words.specs.Options.{options}
-use Rattle.nor_words.specs.Given.{given_by}
+use Rattle.nor_words.specs.Options.{hardware_options, options}
+use Rattle.nor_words.specs.Given.{given_by, hardware_given_by}
 use Rattle.nor_words.specs.Faults.{first_fault, usage_faults}
-use Rattle.nor_words.specs.Job.{IsAsked}
+use Rattle.nor_words.specs.Job.{IsAsked, IsHardwareAsked}
+use Rattle.nor_words.specs.declared.job.HardwareJob.{HardwareJob}
 use Rattle.nor_words.specs.declared.job.Job.{Job}
 use Rattle.nor_words.specs.declared.words.UsageFault.{UsageFault}
 use Rattle.nor_words.specs.declared.words.UsageFault.TheVariants as why
@@ -40,3 +41,25 @@ BecomesFault error fault =
 pub record IsRefusedArguments (words : List Text) : Type 0 where
   pub no_job : (job : Job) → IsJob words job → ⊥
   pub no_help : IsAmong kind.DisplayHelp (refusals_of words) → ⊥
+
+-- ---- programs for hardware
+
+-- the kinds of error with which `clap` may reject the arguments of a program for hardware with this name; empty if it
+-- accepts them
+abbrev pub hardware_refusals_of : (program : Text) → List Text → Kinds
+hardware_refusals_of program words = fault_of (hardware_options program) words
+
+-- Holds if the arguments of the program with this name ask for this job: `clap` accepts them, and each part of the job
+-- is what an option asks for.
+pub record IsHardwareJob (program : Text) (words : List Text) (job : HardwareJob) : Type 0 where
+  pub taken : hardware_refusals_of program words ≡ []
+  pub asked : IsHardwareAsked (hardware_given_by program words) job
+
+-- Holds if the arguments of the program with this name may have this fault: `clap` may reject them with an error of
+-- this kind, or it accepts them and `-p` is missing. Any arguments may have the fault `Memory` (out of memory).
+abbrev pub IsHardwareFault : (program : Text) → List Text → UsageFault → Type 0
+IsHardwareFault program words (why.Words error) = IsAmong (kind_of error) (hardware_refusals_of program words)
+IsHardwareFault program words why.Memory = ⊤
+IsHardwareFault program words why.NoProgrammer =
+    (hardware_refusals_of program words ≡ []) × ((hardware_given_by program words).programmer ≡ None)
+IsHardwareFault program words fault = ⊥

@@ -3,13 +3,16 @@ ghost use Rattle.std.specs.Prelude.{◌≡◌, ◌&&◌, ◌||◌, None, Some, f
 ghost use Rattle.std.specs.Prelude.{MatchOption, MatchResult};
 ghost use Rattle.std.specs.Option.{IsSomeAnd};
 ghost use Rattle.clap.specs.Words.{found_of, rows_of};
-ghost use Rattle.nor_words.specs.Given.{given_in, is_set_in, operations, is_new_content, asks_change, takes_regions};
-ghost use Rattle.nor_words.specs.Faults.{first_fault, has_wrong_journal, has_wrong_regions, is_no, passes_test, usage_faults};
-ghost use Rattle.nor_words.specs.Job.{IsAsked, IsJournalUse, IsRegions, IsTask, IsWantedByArguments};
+ghost use Rattle.nor_words.specs.Given.{given_in, hardware_given_in, is_set_in, operations, is_new_content, asks_change, takes_regions};
+ghost use Rattle.nor_words.specs.Faults.{first_fault, has_wrong_journal, has_wrong_regions, is_no, operation_faults, passes_test};
+ghost use Rattle.nor_words.specs.Faults.{usage_faults};
+ghost use Rattle.nor_words.specs.Job.{IsAsked, IsHardwareAsked, IsJournalUse, IsOperation, IsRegions, IsTask};
+ghost use Rattle.nor_words.specs.Job.{IsWantedByArguments};
 ghost use Rattle.nor_words.specs.Numbers.{range_of};
 ghost use Rattle.nor_words.specs.Programmer.{IsProgrammer, has_stop, is_programmer_text};
 ghost use Rattle.nor_words.specs.Stops.{stops_of};
 ghost use Rattle.nor_words.specs.Text.{reads};
+ghost use Rattle.nor_words.specs.declared.words.UsageFault.TheVariants.{NoProgrammer};
 
 use crate::job::{Change, ChipJob, HardwareJob, Job, JournalUse, Operation, Regions, Task, Wanted};
 use crate::numbers::read_range;
@@ -75,6 +78,17 @@ impl<'a> Given<'a> {
         }
     }
 
+    /// Collects the options of a program for hardware, which has neither `-L` nor `--rehearse`.
+    pub fn of_hardware(matches: &ArgMatches<'a>) -> Given<'a>
+        ensures { texts_of result ≡ hardware_given_in (rows_of (found_of matches.now)) }
+    {
+        Given {
+            list: false,
+            rehearse: None,
+            ..Given::of(matches)
+        }
+    }
+
     /// Returns the job that the options ask for, or the first of the faults 2 to 9 that they have.
     pub fn job(self) -> Result<Job<'a>, UsageFault>
         ensures { MatchResult result
@@ -95,8 +109,12 @@ impl<'a> Given<'a> {
     }
 
     /// Returns the job of a program for hardware: the value of `-p`, and the operation or its fault. Returns fault 2 if
-    /// `-p` is missing.
-    pub fn hardware_job(self) -> Result<HardwareJob<'a>, UsageFault> {
+    /// `-p` is missing. Requires options without `-L`.
+    pub fn hardware_job(self) -> Result<HardwareJob<'a>, UsageFault>
+        requires { self.list ≡ false }
+        ensures { MatchResult result (IsHardwareAsked (texts_of self.entry))
+            (λ fault. (fault ≡ NoProgrammer) × ((texts_of self.entry).programmer ≡ None)) }
+    {
         match self.programmer {
             Some(programmer) => Ok(HardwareJob {
                 programmer,
@@ -106,8 +124,13 @@ impl<'a> Given<'a> {
         }
     }
 
-    // Returns the operation that the options ask for, or the first of the faults 4 to 9 that they have.
-    fn operation(self) -> Result<Operation<'a>, UsageFault> {
+    // Returns the operation that the options ask for, or the first of the faults 4 to 9 that they have. Requires options
+    // without `-L`, so the job is never a list.
+    fn operation(self) -> Result<Operation<'a>, UsageFault>
+        requires { self.list ≡ false }
+        ensures { MatchResult result (IsOperation (texts_of self.entry))
+            (λ fault. first_fault (operation_faults (texts_of self.entry)) ≡ Some fault) }
+    {
         // The faults of the other options are the same for each emulated chip without a `stop=`, so any will do.
         let emulated = Given {
             programmer: Some(ANY_CHIP),

@@ -1,14 +1,18 @@
 //! The options of the program, for `clap` and in its help.
 ghost use Rattle.std.specs.Prelude.{◌≡◌, IfOk, fold, map};
 ghost use Rattle.clap.specs.Words.{app_of};
-ghost use Rattle.nor_words.specs.Options.{options, no_options, help_rule, most_rules, IsOption};
-ghost use Rattle.nor_words.specs.Options.{named, chosen, with_choice};
+ghost use Rattle.nor_words.specs.Options.{options, no_options_of, help_rule, most_rules, IsOption};
+ghost use Rattle.nor_words.specs.Options.{hardware_options, is_for_hardware, named, chosen, with_choice, with_hardware_choice};
 
 use clap::{Arg, ArgAction, Command};
 use std::alloc::{AllocError, Global};
 
-// The first line of the help, above the options.
-const ABOUT: &str = "flashnor 1.0: programs SPI NOR flash, and can restore what it changed.";
+// The help of flashnor.
+const FLASHNOR: Help = Help {
+    program: "flashnor",
+    about: "flashnor 1.0: programs SPI NOR flash, and can restore what it changed.",
+    notes: NOTES,
+};
 
 // The end of the help, below the options. Its lines have at most 80 columns.
 const NOTES: &str = "\
@@ -199,7 +203,7 @@ static CHOICES: [Choice; 18] = [
 pub fn make_options<'a>(alloc: Global) -> Result<Command<'a>, AllocError>
     ensures { IfOk result (λ command. app_of command ≡ options) }
 {
-    let chosen = add_choices(alloc, new_command(alloc), choices())?;
+    let chosen = add_choices(alloc, new_command(alloc, FLASHNOR), choices())?;
     chosen.arg(help_option(alloc))
 }
 
@@ -216,29 +220,46 @@ pub struct Help {
 
 /// Returns the `clap` command of a program for hardware. It has all options except `-L`, which needs no chip, and
 /// `--rehearse`, which needs an emulated one. Fails only if memory runs out.
-pub fn make_hardware_options<'a>(alloc: Global, help: Help) -> Result<Command<'a>, AllocError> {
-    let mut command = Command::new(alloc, help.program)
+pub fn make_hardware_options<'a>(alloc: Global, help: Help) -> Result<Command<'a>, AllocError>
+    ensures { IfOk result (λ command. app_of command ≡ hardware_options help.program.now) }
+{
+    let chosen = add_hardware_choices(alloc, new_command(alloc, help), choices())?;
+    chosen.arg(help_option(alloc))
+}
+
+// Adds an option for each row that a program for hardware has, in the order of the table.
+fn add_hardware_choices<'a>(
+    alloc: Global,
+    command: Command<'a>,
+    choices: &[Choice],
+) -> Result<Command<'a>, AllocError>
+    ensures { IfOk result (λ longer. app_of longer ≡ fold with_hardware_choice (app_of command.entry) choices.now) }
+{
+    let mut longer = command;
+    for choice in choices {
+        if is_for_hardware(choice.name) {
+            longer = longer.arg(choice.option(alloc))?;
+        }
+    }
+    Ok(longer)
+}
+
+// True if a program for hardware has the option with this name.
+fn is_for_hardware(name: &str) -> bool
+    ensures { result ≡ is_for_hardware name.now }
+{
+    name != "list" && name != "rehearse"
+}
+
+// Returns the command of the program without options. The help option of `clap` itself is disabled.
+fn new_command<'a>(alloc: Global, help: Help) -> Command<'a>
+    ensures { app_of result ≡ no_options_of help.program.now }
+{
+    Command::new(alloc, help.program)
         .no_binary_name(true)
         .disable_help_flag(true)
         .about(help.about)
-        .after_help(help.notes);
-    for choice in choices() {
-        if !matches!(choice.name, "list" | "rehearse") {
-            command = command.arg(choice.option(alloc))?;
-        }
-    }
-    command.arg(help_option(alloc))
-}
-
-// Returns the command without options. The help option of `clap` itself is disabled.
-fn new_command<'a>(alloc: Global) -> Command<'a>
-    ensures { app_of result ≡ no_options }
-{
-    Command::new(alloc, "flashnor")
-        .no_binary_name(true)
-        .disable_help_flag(true)
-        .about(ABOUT)
-        .after_help(NOTES)
+        .after_help(help.notes)
 }
 
 // Returns the table `CHOICES`, whose options are `most_rules`.

@@ -1,6 +1,6 @@
 //! `request_of` and `operation_of`, which turn arguments into jobs, and the faults that arguments may have.
 ghost use Rattle.std.specs.Prelude.{◌≡◌, MatchResult, map, string_bytes};
-ghost use Rattle.nor_words.specs.Words.{IsJob, IsFault};
+ghost use Rattle.nor_words.specs.Words.{IsFault, IsHardwareFault, IsHardwareJob, IsJob};
 
 use crate::given::Given;
 use crate::job::{HardwareJob, Job};
@@ -115,7 +115,10 @@ pub fn operation_of<'a>(
     alloc: Global,
     help: Help,
     words: &'a [String],
-) -> Result<HardwareJob<'a>, UsageFault> {
+) -> Result<HardwareJob<'a>, UsageFault>
+    ensures { MatchResult result (IsHardwareJob help.program.now (map string_bytes words.now))
+        (IsHardwareFault help.program.now (map string_bytes words.now)) }
+{
     let matches = make_hardware_options(alloc, help)?.try_get_matches_from(words)?;
-    Given::of(&matches).hardware_job()
+    Given::of_hardware(&matches).hardware_job()
 }

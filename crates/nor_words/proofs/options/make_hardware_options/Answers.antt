@@ -1,0 +1,15 @@
+use Rattle.std.proofs.Common.{◌∙◌, ap, ap₂}
+use Rattle.std.specs.List.{filter}
+use Rattle.std.proofs.lemmas.Result.{IfOk-weaker}
+use Rattle.clap.specs.Words.{App, with_rule}
+use Rattle.nor_words.specs.Options.{is_for_hardware, most_rules, with_rules}
+use Rattle.nor_words.proofs.Hardware.{all-added}
+use Rattle.nor_words.proofs.options.make_hardware_options.Goals as goal
+
+pub returns : goal.returns
+returns c =
+    let listed = c.in_ok-chosen.ensures ∙ all-added _ c.choices.result.now c.choices.ensures in
+    let all = listed
+    ∙ ap (λ (app : App). with_rules app (filter (λ rule. is_for_hardware rule.id) most_rules)) c.new_command.ensures in
+    IfOk-weaker c.arg.result _ _ (λ command adds.
+    adds.shape c.help_option.ensures.local ∙ ap₂ with_rule all c.help_option.ensures.rule) c.arg.ensures
