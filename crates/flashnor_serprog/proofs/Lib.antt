@@ -1,2 +1,4 @@
 pub mod Found
 pub mod Sent
+pub mod Device
+pub mod Helped

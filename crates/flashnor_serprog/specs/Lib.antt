@@ -1,3 +1,4 @@
+pub mod Setting
 pub mod Jobs
 pub mod Sends
 pub mod Sources

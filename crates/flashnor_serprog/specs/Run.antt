@@ -1,10 +1,17 @@
 -- The end of a run: its job, and its exit status.
-use Rattle.std.specs.Prelude.{◌≡◌, ◌≤◌, ◌⊎◌, ℕ, List, Option, Result, Ok, Err}
+use Rattle.std.specs.Prelude.{◌≡◌, ◌≤◌, ◌⊎◌, ℕ, List, Option, Result, Ok, Err, codes, drop, map, string_bytes}
 use Rattle.std.specs.Borrow.{Bor}
+use Rattle.std.specs.Global.{Global}
+use Rattle.std.specs.Vec.Iter.{into_iter_items}
+use Rattle.std.specs.declared.string.String.{String}
+use Rattle.std.specs.declared.vec.IntoIter.{IntoIter}
+use Rattle.clap.specs.Words.{IsAmong}
+use Rattle.clap.specs.declared.error.kind.ErrorKind.TheVariants as kind
 use Rattle.nor_model.specs.Bus.{BusState}
 use Rattle.nor_files.specs.Files.{FilesState, View}
 use Rattle.nor_layout.specs.declared.ranges.Span.{Span}
 use Rattle.nor_words.specs.Text.{Text}
+use Rattle.nor_words.specs.Words.{IsHardwareJob, hardware_refusals_of}
 use Rattle.nor_words.specs.declared.job.Operation.{Operation}
 use Rattle.nor_lines.specs.AnswerLines.{AreLines}
 use Rattle.nor_lines.specs.Printing.{IsAnswered, Prints}
@@ -13,14 +20,31 @@ use Rattle.nor_lines.specs.declared.messages.Fault.{Fault}
 use Rattle.nor_lines.specs.declared.messages.Fault.TheVariants as end
 use Rattle.flashnor_serprog.specs.Jobs.{DoesTask, FailsBefore}
 use Rattle.flashnor_serprog.specs.Sends.{SendsOnly}
+use Rattle.flashnor_serprog.specs.Setting.{IsDeviceOf}
 use Rattle.flashnor_serprog.specs.Sources.{AreSources, HaveOneRole}
 use Rattle.flashnor_serprog.specs.declared.trouble.Trouble.{Trouble}
 use Rattle.flashnor_serprog.specs.declared.trouble.Trouble.TheVariants as trouble
 
--- Before the programmer is used: neither its device nor a file that the job writes has a second role (`HaveOneRole`),
--- and the job's ranges and bytes were read.
-pub record IsPrepared (view : View) (operation : Operation) (ranges : Option (List Span)) (bytes : List ℕ) : Type 0 where
+-- the name of this program, for `clap`
+abbrev pub program : Text
+program = codes "flashnor_serprog"
+
+-- the arguments of a run: all that the system provides after the program's name
+abbrev pub arguments_of : IntoIter (String Global) Global → List Text
+arguments_of args = map string_bytes (drop 1 (into_iter_items args))
+
+-- Holds if the arguments ask for this operation, and the value of `-p` names this device.
+pub record IsAskedFor (words : List Text) (device : Bor Text) (operation : Operation) : Type 0 where
+  pub programmer : Bor Text
+  pub asked : IsHardwareJob program words (record { programmer = programmer; operation = Ok operation })
+  pub named : IsDeviceOf programmer.now device.now
+
+-- Before the programmer is used: the arguments ask for the operation, and name the device of the programmer; neither
+-- the device nor a file that the job writes has a second role (`HaveOneRole`); and the job's ranges and bytes were read.
+pub record IsPrepared (words : List Text) (view : View) (operation : Operation) (ranges : Option (List Span))
+    (bytes : List ℕ) : Type 0 where
   pub device : Bor Text
+  pub asked : IsAskedFor words device operation
   pub roles : HaveOneRole view.nature device operation.task
   pub sources : AreSources view operation.task ranges bytes
 
@@ -52,20 +76,27 @@ pub record HasRun (operation : Operation) (ranges : Option (List Span)) (bytes :
   pub few : status ≤ 1
   pub printed : status ≡ 0 → HasPrinted outcome out out'
 
--- the fault is a request for help
+-- Holds if the arguments ask for help: `clap` may reject them with the help as its error.
+abbrev pub ArgumentsAskForHelp : List Text → Type 0
+ArgumentsAskForHelp words = IsAmong kind.DisplayHelp (hardware_refusals_of program words)
+
+-- Holds if the reason why a run ends early is a request for help.
 abbrev pub AsksForHelp : Trouble → Type 0
 AsksForHelp (trouble.Fault fault) = IsAnswered (Err fault)
 AsksForHelp _ = ⊥
 
--- A job that was prepared and run, with status 0.
-pub record HasDoneJob (files after : FilesState) (out out' : Option (List ℕ)) : Type 0 where
+-- Holds if the reason why a run ends early is a request for help only if the arguments ask for it.
+abbrev pub IsHelpAskedBy : List Text → Trouble → Type 0
+IsHelpAskedBy words ended = AsksForHelp ended → ArgumentsAskForHelp words
+
+-- The job that the arguments ask for was prepared and run, with status 0.
+pub record HasDoneJob (files after : FilesState) (words : List Text) (out out' : Option (List ℕ)) : Type 0 where
   pub operation : Operation
   pub ranges : Option (List Span)
   pub bytes : List ℕ
-  pub prepared : IsPrepared files.view operation ranges bytes
+  pub prepared : IsPrepared words files.view operation ranges bytes
   pub ran : HasRun operation ranges bytes files.view after out out' 0
 
--- a run with status 0: some fault is a request for help, or the job was done; nothing says that the arguments have that
--- fault
-abbrev pub HasSucceeded : (files after : FilesState) → (out out' : Option (List ℕ)) → Type 0
-HasSucceeded files after out out' = ((ended : Trouble) × AsksForHelp ended) ⊎ HasDoneJob files after out out'
+-- A run with status 0: the arguments ask for help, or their job was done.
+abbrev pub HasSucceeded : (files after : FilesState) → List Text → (out out' : Option (List ℕ)) → Type 0
+HasSucceeded files after words out out' = ArgumentsAskForHelp words ⊎ HasDoneJob files after words out out'

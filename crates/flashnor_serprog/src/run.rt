@@ -1,10 +1,11 @@
 //! A run of the program: from its arguments to its exit status.
-ghost use Rattle.std.specs.Prelude.{◌≡◌, ◌≤◌, IfOk, IsOk};
+ghost use Rattle.std.specs.Prelude.{◌≡◌, ◌≤◌, IfErr, IfOk, IsOk, map, string_bytes};
 ghost use Rattle.nor_files.specs.Disk.{unknown};
 ghost use Rattle.nor_files.specs.Files.{AreUntouched};
 ghost use Rattle.nor_lines.specs.AnswerLines.{AreLines};
 ghost use Rattle.nor_lines.specs.Printing.{Prints};
-ghost use Rattle.flashnor_serprog.specs.Run.{AsksForHelp, EndsJob, HasRun, HasSucceeded, IsPrepared};
+ghost use Rattle.flashnor_serprog.specs.Run.{AsksForHelp, EndsJob, HasRun, HasSucceeded, IsAskedFor, IsHelpAskedBy};
+ghost use Rattle.flashnor_serprog.specs.Run.{IsPrepared, arguments_of};
 ghost use Rattle.flashnor_serprog.specs.Sends.{SendsOnly, changes};
 
 use crate::connect::{ChipBus, connect};
@@ -38,7 +39,9 @@ pub fn run_words<O: Write, E: Write>(
     errors: &mut E,
 ) -> u8
     ensures few { result ≤ 1 }
-    ensures done { result ≡ 0 → HasSucceeded unknown unknown (O.contents output.old) (O.contents output.new) }
+    ensures done { IfOk given (λ args. result ≡ 0 → HasSucceeded unknown unknown (arguments_of args)
+        (O.contents output.old) (O.contents output.new)) }
+    ensures unread { IfErr given (λ error. result ≡ 1) }
 {
     match given {
         Ok(args) => match arguments_after_name(rt.alloc(), args) {
@@ -58,7 +61,9 @@ pub fn end_without_streams<E: Write>(errors: &mut E) -> u8
 }
 
 // Returns the arguments that follow the program's name.
-fn arguments_after_name(alloc: Global, args: Args) -> Result<Vec<String>, AllocError> {
+fn arguments_after_name(alloc: Global, args: Args) -> Result<Vec<String>, AllocError>
+    ensures { IfOk result (λ words. map string_bytes words.items ≡ arguments_of args) }
+{
     args.skip(1).collect(alloc)
 }
 
@@ -79,7 +84,7 @@ fn run_over<R: Store, O: Write, E: Write>(
     errors: &mut E,
 ) -> u8
     ensures few { result ≤ 1 }
-    ensures done { result ≡ 0 → HasSucceeded (R.state files.old) (R.state files.new)
+    ensures done { result ≡ 0 → HasSucceeded (R.state files.old) (R.state files.new) (map string_bytes words.now)
         (O.contents output.old) (O.contents output.new) }
 {
     match prepare(rt, files, words) {
@@ -126,8 +131,9 @@ fn prepare<'a, 'b, R: Store>(
     words: &'a [String],
 ) -> Result<Prepared<'a, 'b>, Trouble<'a>>
     ensures same { AreUntouched (R.state files.old) (R.state files.new) }
-    ensures ok { IfOk result (λ prepared. IsPrepared (R.state files.old).view prepared.operation
-        prepared.sources.included prepared.sources.bytes.items) }
+    ensures ok { IfOk result (λ prepared. IsPrepared (map string_bytes words.now) (R.state files.old).view
+        prepared.operation prepared.sources.included prepared.sources.bytes.items) }
+    ensures help { IfErr result (IsHelpAskedBy (map string_bytes words.now)) }
 {
     let (setting, operation) = read_words(rt.alloc(), words)?;
     have_one_role(files, setting.device, &operation.task)?;
@@ -150,7 +156,10 @@ fn prepare<'a, 'b, R: Store>(
 fn read_words<'a>(
     alloc: Global,
     words: &'a [String],
-) -> Result<(Setting<'a>, Operation<'a>), Trouble<'a>> {
+) -> Result<(Setting<'a>, Operation<'a>), Trouble<'a>>
+    ensures ok { IfOk result (λ asked. IsAskedFor (map string_bytes words.now) asked.0.device asked.1) }
+    ensures help { IfErr result (IsHelpAskedBy (map string_bytes words.now)) }
+{
     let HardwareJob {
         programmer,
         operation,

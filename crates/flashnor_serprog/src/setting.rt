@@ -1,5 +1,9 @@
 //! The value of the option `-p`.
 
+ghost use Rattle.std.specs.Prelude.{◌≡◌, IfOk, IfSome, None, OnOk, OnSome, is_some, true};
+ghost use Rattle.nor_words.specs.Text.{key_of, value_of};
+ghost use Rattle.flashnor_serprog.specs.Setting.{IsDeviceOf, TakesDevice};
+
 use nor_words::read_number;
 
 /// The programmer that the value of `-p` describes. The value is `serprog:`, followed by `KEY=VALUE` pairs that are
@@ -35,7 +39,9 @@ struct Settings<'a> {
 
 impl<'a> Setting<'a> {
     /// Parses the value of `-p`. A `KEY=VALUE` pair ends at the next comma, and its key at the first `=`.
-    pub fn read(text: &'a str) -> Result<Setting<'a>, WrongSetting<'a>> {
+    pub fn read(text: &'a str) -> Result<Setting<'a>, WrongSetting<'a>>
+        ensures { IfOk result (λ setting. IsDeviceOf text.now setting.device.now) }
+    {
         let Some(list) = text.strip_prefix("serprog:") else {
             return Err(WrongSetting::Other);
         };
@@ -58,17 +64,27 @@ impl<'a> Setting<'a> {
 impl<'a> Settings<'a> {
     // Parses and stores one `KEY=VALUE` pair. Returns an error if the key is unknown or already stored, or the value is
     // invalid.
-    fn take_in(&mut self, setting: &'a str) -> Result<(), WrongSetting<'a>> {
-        let taken = match setting.split_once('=') {
-            Some(("dev", value)) => set(&mut self.device, filled(value)),
-            Some(("spispeed", value)) => set(&mut self.hertz, read_hertz(value)),
-            Some(("cs", value)) => set(&mut self.chip_select, read_select(value)),
-            Some(("ip", _)) => return Err(WrongSetting::Network),
-            _ => None,
-        };
-        match taken {
-            Some(()) => Ok(()),
+    fn take_in(&mut self, setting: &'a str) -> Result<(), WrongSetting<'a>>
+        ensures { OnOk result
+            (TakesDevice (key_of setting.now) (value_of setting.now) self.old.device self.new.device) }
+    {
+        match setting.split_once('=') {
+            Some(("ip", _)) => Err(WrongSetting::Network),
+            Some((key, value)) => self.take_value(key, value).ok_or(WrongSetting::Other),
             None => Err(WrongSetting::Other),
+        }
+    }
+
+    // Parses and stores the value of one key. Returns `None` if the key is unknown or already stored, or the value is
+    // invalid.
+    fn take_value(&mut self, key: &str, value: &'a str) -> Option<()>
+        ensures { OnSome result (TakesDevice key.now value.now self.old.device self.new.device) }
+    {
+        match key {
+            "dev" => set(&mut self.device, filled(value)),
+            "spispeed" => set(&mut self.hertz, read_hertz(value)),
+            "cs" => set(&mut self.chip_select, read_select(value)),
+            _ => None,
         }
     }
 }
@@ -85,13 +101,17 @@ fn read_select(value: &str) -> Option<u8> {
 }
 
 // Returns the name, or `None` if it is empty.
-fn filled(name: &str) -> Option<&str> {
+fn filled(name: &str) -> Option<&str>
+    ensures { IfSome result (λ file. file.now ≡ name.now) }
+{
     if name.is_empty() { None } else { Some(name) }
 }
 
 // Stores the parsed value `read` in `place`. Returns `None`, and stores nothing, if `place` has a value already or
 // `read` is `None`.
-fn set<T: Copy>(place: &mut Option<T>, read: Option<T>) -> Option<()> {
+fn set<T: Copy>(place: &mut Option<T>, read: Option<T>) -> Option<()>
+    ensures { OnSome result ((place.old ≡ None) × (place.new ≡ read) × (is_some read ≡ true)) }
+{
     if place.is_some() {
         return None;
     }

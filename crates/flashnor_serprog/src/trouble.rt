@@ -1,4 +1,5 @@
 //! The reasons why a run ends early, the advice for each programmer fault, and the lines that are printed for them.
+ghost use Rattle.std.specs.Prelude.{◌≡◌};
 
 use crate::port::PortFault;
 use crate::setting::WrongSetting;
@@ -22,18 +23,31 @@ pub enum Trouble<'a> {
 }
 
 impl<'a> From<Fault<'a>> for Trouble<'a> {
+    ghost use Rattle.flashnor_serprog.specs.declared.trouble.Trouble.TheVariants as trouble;
+
+    ghost from_gives = { λ fault ended. ended ≡ trouble.Fault fault };
+
     fn from(fault: Fault<'a>) -> Trouble<'a> {
         Trouble::Fault(fault)
     }
 }
 
 impl<'a> From<UsageFault> for Trouble<'a> {
+    ghost use Rattle.flashnor_serprog.specs.declared.trouble.Trouble.TheVariants as trouble;
+    ghost use Rattle.nor_lines.specs.declared.messages.Fault.TheVariants as end;
+
+    ghost from_gives = { λ fault ended. ended ≡ trouble.Fault (end.Usage fault) };
+
     fn from(fault: UsageFault) -> Trouble<'a> {
         Trouble::Fault(Fault::Usage(fault))
     }
 }
 
 impl<'a> From<WrongSetting<'a>> for Trouble<'a> {
+    ghost use Rattle.flashnor_serprog.specs.declared.trouble.Trouble.TheVariants as trouble;
+
+    ghost from_gives = { λ wrong ended. ended ≡ trouble.Setting wrong };
+
     fn from(wrong: WrongSetting<'a>) -> Trouble<'a> {
         Trouble::Setting(wrong)
     }

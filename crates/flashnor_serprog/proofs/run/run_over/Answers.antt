@@ -11,4 +11,4 @@ returns-in-Ok-clause-done g c = λ zero. inr (record {
 })
 
 pub returns-in-Err-clause-done : goal.returns-in-Err-clause-done
-returns-in-Err-clause-done g c = λ zero. inl (_, c.end_early.ensures.help zero)
+returns-in-Err-clause-done g c = λ zero. inl (c.in-Err.ensures.help (c.end_early.ensures.help zero))
