@@ -1,11 +1,7 @@
 -- The results of a run: its call, its faults, the files that it leaves, and its exit status.
 use Rattle.std.specs.Prelude.{◌≡◌, ◌≤◌, ◌⊎◌, ℕ, Bool, true, false, List, Option, None, Some, Result, Ok, Err, ⊤}
-use Rattle.std.specs.Prelude.{IsSomeAnd, OnSome, drop, map, string_bytes}
+use Rattle.std.specs.Prelude.{IsSomeAnd, OnSome}
 use Rattle.std.specs.Borrow.{Bor}
-use Rattle.std.specs.Global.{Global}
-use Rattle.std.specs.Vec.Iter.{into_iter_items}
-use Rattle.std.specs.declared.string.String.{String}
-use Rattle.std.specs.declared.vec.IntoIter.{IntoIter}
 use Rattle.nor_model.specs.Bus.{BusState}
 use Rattle.nor_model.specs.Chip.{Chip, IsSame}
 use Rattle.nor_session.specs.Headline.{CanRestore}
@@ -321,10 +317,6 @@ AnswersArguments files after words outcome unwritten =
 abbrev pub RunSucceeds : (files after : FilesState) → List Text → (out out' : Option (List ℕ)) → Type 0
 RunSucceeds files after words out out' = IsAmong kind.DisplayHelp (refusals_of words)
     ⊎ ((found : Answer) × AnswersArguments files after words (Ok found) all_written × Prints (AreLines found) out out')
-
--- the arguments of a run: all that the system provides after the program's name
-abbrev pub arguments_of : IntoIter (String Global) Global → List Text
-arguments_of args = map string_bytes (drop 1 (into_iter_items args))
 
 -- Describes how a run ended, and what the streams hold before and after, if known. The status is 0 or 1. The status is
 -- 1 if the arguments ask neither for a job nor for help, and 0 only if the run succeeds.

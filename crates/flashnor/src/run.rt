@@ -1,6 +1,7 @@
 //! A run of the program: from its arguments to its exit status.
 ghost use Rattle.std.specs.Prelude.{◌≡◌, false, true, Err, IfOk, IfErr, OnErr, OnSome, Some, map, string_bytes};
 ghost use Rattle.nor_chip.specs.Trace.{has_lost};
+ghost use Rattle.nor_words.specs.Words.{arguments_of};
 ghost use Rattle.flashnor.specs.Chips.{IsReady};
 ghost use Rattle.nor_files.specs.Disk.{unknown};
 ghost use Rattle.nor_files.specs.Files.{AreAtRest, Name, KeepsFile, is_lawful};
@@ -9,7 +10,7 @@ ghost use Rattle.nor_lines.specs.Tasks.{made_by};
 ghost use Rattle.flashnor.specs.Endings.{EndsWith, HasPrinted, IsUnread, IsWithoutStreams, all_written};
 ghost use Rattle.flashnor.specs.Run.{AnswersArguments, DoesJob, DoesTraced, EndsChipJob, FailsTask, FailsJob};
 ghost use Rattle.flashnor.specs.Roles.{FilesHaveOneRole};
-ghost use Rattle.flashnor.specs.Run.{FailsTraced, HoldsResult, IsStatus, KeepsFiles, StayBut, arguments_of};
+ghost use Rattle.flashnor.specs.Run.{FailsTraced, HoldsResult, IsStatus, KeepsFiles, StayBut};
 ghost use Rattle.flashnor.specs.Tasks.{journal_by, puts_back};
 
 use crate::changes::{change_chip, restore_chip};

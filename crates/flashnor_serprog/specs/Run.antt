@@ -1,10 +1,6 @@
 -- The end of a run: its job, and its exit status.
-use Rattle.std.specs.Prelude.{◌≡◌, ◌≤◌, ◌⊎◌, ℕ, List, Option, Result, Ok, Err, codes, drop, map, string_bytes}
+use Rattle.std.specs.Prelude.{◌≡◌, ◌≤◌, ◌⊎◌, ℕ, List, Option, Result, Ok, Err, codes}
 use Rattle.std.specs.Borrow.{Bor}
-use Rattle.std.specs.Global.{Global}
-use Rattle.std.specs.Vec.Iter.{into_iter_items}
-use Rattle.std.specs.declared.string.String.{String}
-use Rattle.std.specs.declared.vec.IntoIter.{IntoIter}
 use Rattle.clap.specs.Words.{IsAmong}
 use Rattle.clap.specs.declared.error.kind.ErrorKind.TheVariants as kind
 use Rattle.nor_model.specs.Bus.{BusState}
@@ -28,10 +24,6 @@ use Rattle.flashnor_serprog.specs.declared.trouble.Trouble.TheVariants as troubl
 -- the name of this program, for `clap`
 abbrev pub program : Text
 program = codes "flashnor_serprog"
-
--- the arguments of a run: all that the system provides after the program's name
-abbrev pub arguments_of : IntoIter (String Global) Global → List Text
-arguments_of args = map string_bytes (drop 1 (into_iter_items args))
 
 -- Holds if the arguments ask for this operation, and the value of `-p` names this device.
 pub record IsAskedFor (words : List Text) (device : Bor Text) (operation : Operation) : Type 0 where

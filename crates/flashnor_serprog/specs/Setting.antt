@@ -7,8 +7,8 @@ use Rattle.nor_words.specs.Programmer.{value_in}
 use Rattle.nor_words.specs.Text.{Text, pieces_of}
 
 -- the settings after `serprog:`
-abbrev pub settings_of : Text → List Text
-settings_of text = pieces_of (drop 8 text)
+abbrev pub serprog_settings : Text → List Text
+serprog_settings text = pieces_of (drop 8 text)
 
 -- the value of `dev=` in the settings, or `None` if they lack it
 abbrev pub device_in : List Text → Option Text
@@ -17,7 +17,7 @@ device_in settings = value_in settings (codes "dev")
 -- Holds if the text begins with `serprog:`, and this is the value of `dev=` in it.
 pub record IsDeviceOf (text device : Text) : Type 0 where
   pub begins : starts_with nat_eq text (codes "serprog:") ≡ true
-  pub named : device_in (settings_of text) ≡ Some device
+  pub named : device_in (serprog_settings text) ≡ Some device
 
 -- The effect of one more setting on the device that is stored: the setting `dev=` stores its value if none was stored;
 -- any other setting leaves the device as it was.

@@ -4,8 +4,9 @@ ghost use Rattle.nor_files.specs.Disk.{unknown};
 ghost use Rattle.nor_files.specs.Files.{AreUntouched};
 ghost use Rattle.nor_lines.specs.AnswerLines.{AreLines};
 ghost use Rattle.nor_lines.specs.Printing.{Prints};
+ghost use Rattle.nor_words.specs.Words.{arguments_of};
 ghost use Rattle.flashnor_serprog.specs.Run.{AsksForHelp, EndsJob, HasRun, HasSucceeded, IsAskedFor, IsHelpAskedBy};
-ghost use Rattle.flashnor_serprog.specs.Run.{IsPrepared, arguments_of};
+ghost use Rattle.flashnor_serprog.specs.Run.{IsPrepared};
 ghost use Rattle.flashnor_serprog.specs.Sends.{SendsOnly, changes};
 
 use crate::connect::{ChipBus, connect};

@@ -1,5 +1,9 @@
 -- Which arguments ask for which job, which have a usage fault, and which are refused.
-use Rattle.std.specs.Prelude.{◌≡◌, ◌≢◌, [], List, Some, None, ⊤, ◌⊎◌}
+use Rattle.std.specs.Prelude.{◌≡◌, ◌≢◌, [], List, Some, None, ⊤, ◌⊎◌, drop, map, string_bytes}
+use Rattle.std.specs.Global.{Global}
+use Rattle.std.specs.Vec.Iter.{into_iter_items}
+use Rattle.std.specs.declared.string.String.{String}
+use Rattle.std.specs.declared.vec.IntoIter.{IntoIter}
 use Rattle.clap.specs.Words.{Kinds, IsAmong, fault_of, kind_of}
 use Rattle.clap.specs.declared.error.Error.{Error}
 use Rattle.clap.specs.declared.error.kind.ErrorKind.TheVariants as kind
@@ -12,6 +16,10 @@ use Rattle.nor_words.specs.declared.job.HardwareJob.{HardwareJob}
 use Rattle.nor_words.specs.declared.job.Job.{Job}
 use Rattle.nor_words.specs.declared.words.UsageFault.{UsageFault}
 use Rattle.nor_words.specs.declared.words.UsageFault.TheVariants as why
+
+-- the arguments of a run: all that the system provides after the program's name
+abbrev pub arguments_of : IntoIter (String Global) Global → List Text
+arguments_of args = map string_bytes (drop 1 (into_iter_items args))
 
 -- the kinds of error with which `clap` may reject the arguments; empty if it accepts them
 abbrev pub refusals_of : List Text → Kinds

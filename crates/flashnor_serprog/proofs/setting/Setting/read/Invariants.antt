@@ -1,5 +1,5 @@
 use Rattle.std.proofs.Common.{◌≡◌, length, drop}
-use Rattle.flashnor_serprog.specs.Setting.{device_in, settings_of}
+use Rattle.flashnor_serprog.specs.Setting.{device_in, serprog_settings}
 use Rattle.flashnor_serprog.proofs.Device.{device_with}
 use Rattle.flashnor_serprog.proofs.setting.Setting.read.Given as goal
 
@@ -8,4 +8,5 @@ abbrev pub invariant-loop-setting : goal.invariant-loop-setting
 invariant-loop-setting l =
     (goal.iterator-loop-setting).can_next l.setting-iterator
     × (goal.iterator-loop-setting).is_finite l.setting-iterator
-    × (device_with l.settings.device (drop (length l.yielded) (settings_of l.text)) ≡ device_in (settings_of l.text))
+    × (device_with l.settings.device (drop (length l.yielded) (serprog_settings l.text))
+    ≡ device_in (serprog_settings l.text))
