@@ -33,7 +33,7 @@ impl Error for LockFault {}
 /// Why a file can't be created or truncated.
 #[derive(Debug, Drop)]
 pub enum CreateFault {
-    /// A file that must be new exists, or the file is a journal, which `Disk` never truncates.
+    /// The file must be new, but a file or link of its name exists; or it is a journal, which `Disk` never truncates.
     There,
     /// Another process has locked the file.
     Busy,
