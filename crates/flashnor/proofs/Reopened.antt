@@ -30,7 +30,7 @@ as_many view name len missing bytes are many = ap length are.same
     ∙ (elim are.found as (λ f. IfSome f (λ all. length all ≡ len) → length (unwrap_or f missing) ≡ len)
     [ None ↦ λ _. many | Some all ↦ λ whole. whole ]) are.whole
 
--- the size of an opened chip, and the number of the bytes that were read from its image
+-- the size of an opened chip, and the number of bytes in its contents
 module _ {programmer : Programmer} {files : FilesState} (first : Opened programmer files) where
   pub opened_size : first.bus.chip.config.size ≡ (emulated_part programmer.chip).size
   opened_size = size_with programmer.chip programmer.unique first.bus.chip.config first.opens.ready.config

@@ -124,8 +124,8 @@ fn rehearse_change<B: Meter>(
 /// Restores the chip from the journal in the file of this name, which is locked against runs that would write it. If
 /// `named` is given, the chip must have that name.
 ///
-/// Returns the result of the restore, or the fault that occurred before it: error 15 for an invalid journal, or a fault
-/// of locking or reading the file.
+/// Returns the result of the restore, or the fault that occurred before it: a fault of locking or reading the file,
+/// error 18 if memory runs out, or error 15 for an invalid journal.
 pub fn restore_chip<'a, R: Store, B: Bus>(
     rt: &mut R,
     bus: &mut B,

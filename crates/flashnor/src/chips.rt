@@ -66,7 +66,7 @@ pub fn content_of(
 ///
 /// Returns one of these faults:
 ///
-/// - file fault 1 if the file can't be read, or if reading may block without end (a FIFO or a terminal)
+/// - file fault 1 if the file can't be read, or if reading may block without end, as for a FIFO or a terminal
 /// - file fault 3 if the file has another length
 /// - error 18 if memory runs out
 #[tactic(auto, using(nor_lines::proofs::FileFaults::unread_opening))]

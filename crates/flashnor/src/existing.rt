@@ -16,7 +16,7 @@ use nor_files::Store;
 use nor_lines::{Fault, FileFault, create_log, read_included};
 use nor_words::{Change, ChipJob, JournalUse, Task};
 
-/// Returns the name of the task's journal, if the task is to create its file and that file already exists.
+/// Returns the name of the task's journal, if the task is to create its file and a file or link of that name exists.
 pub fn existing_journal<'a, R: Store>(rt: &R, task: &Task<'a>) -> Option<&'a str>
     ensures { IfSome result (λ file. (journal_by task.now ≡ Some file)
         × Happens (R.state rt.now).view (There file.now)) }
@@ -34,9 +34,9 @@ pub fn existing_journal<'a, R: Store>(rt: &R, task: &Task<'a>) -> Option<&'a str
 
 /// Returns the first fault of a session whose journal exists.
 ///
-/// The trace is first compared with the other files of the job. Then everything that a session reads before it creates
-/// its journal is read, and the trace is created or truncated. The first fault of these steps is returned, or file
-/// fault 4 if there is none.
+/// The trace is first compared with the other files of the job, and with those that the program prints to. Then
+/// everything that a session reads before it creates its journal is read, and the trace is created or truncated. The
+/// first fault of these steps is returned, or file fault 4 if there is none.
 ///
 /// The trace is the only file that is created or truncated, and only if its name is apart from the names of the job's
 /// other files.

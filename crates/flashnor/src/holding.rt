@@ -34,9 +34,10 @@ pub struct Held {
 ///
 /// Returns one of these faults:
 ///
-/// - file fault 1 if a file can't be read, or reading may block without end, or the file was removed after it was
-///   locked
-/// - file fault 2 if a file can't be opened for overwriting, locked or synced, or its directory can't be synced
+/// - file fault 1 if a file can't be read, or reading may block without end, or the store finds no file of that name
+///   after it was locked
+/// - file fault 2 if a file can't be opened for overwriting, locked or synced, or its directory can't be synced; on a
+///   `Disk` also if the file was removed or replaced after it was locked, since a sync then fails
 /// - file fault 3 if the image has another length than the chip, or the status file does not have two bytes
 /// - file fault 5 if another process has locked a file
 /// - error 18 if memory runs out

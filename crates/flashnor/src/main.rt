@@ -10,7 +10,7 @@
 //!   the one to write), or is one that the program prints to
 //! - `holding.rt`: opens, locks, reads and syncs the chip's files if the job writes them, and writes them back
 //! - `chips.rt`: reads the chip's files, and makes the simulated bus
-//! - `readings.rt`: the jobs that leave a chip as it is
+//! - `readings.rt`: the jobs that identify, read or verify a chip; `nor_lines` has those that list its protection
 //! - `changes.rt`: the jobs that change a chip, and rehearsals
 //! - `laws.rt`: the law about a change and the restores that follow it
 //! - `printing.rt`: prints the end of a run, and chooses the exit status

@@ -1,4 +1,4 @@
-//! The jobs that leave a chip as it is.
+//! The jobs that identify, read or verify a chip.
 ghost use Rattle.std.specs.Prelude.{◌≡◌, ◌⊎◌, IfOk, IfErr, MatchResult, true};
 ghost use Rattle.nor_files.specs.Files.{OthersStay, is_lawful};
 ghost use Rattle.nor_driver.specs.OnlyReads.{OnlyReads};

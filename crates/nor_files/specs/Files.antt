@@ -11,8 +11,8 @@ Found = Option (List ℕ)
 
 -- A condition of a named file, or of two names, that a call may find or fail with.
 pub data Failure : Type 0 where
-  -- the file can't be looked up, opened or read, or a read of it may block forever; for `hold` and `share` also if the
-  -- program is out of memory
+  -- the file can't be looked up, opened or read, or a read of it may block forever; for `read_named`, `hold` and
+  -- `share` also if the program is out of memory
   Unread : Name → Failure
   -- a file or link of this name exists, but can't be opened for overwriting, or can't be locked
   Unheld : Name → Failure
@@ -20,7 +20,7 @@ pub data Failure : Type 0 where
   Busy : Name → Failure
   -- the file can't be created, read, truncated or locked for a vault or log, or its directory can't be synced
   Unmade : Name → Failure
-  -- the file exists, or is a journal that would be truncated
+  -- a file or link of this name exists, or is a journal that would be truncated
   There : Name → Failure
   -- the file can't be created, written, truncated or synced, or its directory can't be synced
   Unwritten : Name → Failure

@@ -2,7 +2,7 @@
 //!
 //! A `Store` reads, locks, creates, overwrites and syncs files, and lends vaults and logs in them. Contracts see the
 //! bytes of each file, what a host crash may leave of it, and how many calls can still succeed. A clause for every exit
-//! of a function therefore covers a kill at each call.
+//! of a function therefore covers a kill at each call that is counted.
 //!
 //! ```rust
 //! use nor_files::{Loss, Memory, Store};

@@ -10,7 +10,7 @@ use std::os::unix::fs::OpenOptionsExt;
 use std::rt::Files;
 use std::{fs, io};
 
-/// Creates the named file with this mode, and locks it. The error is `There` if it exists.
+/// Creates the named file with this mode, and locks it. The error is `There` if a file or link of this name exists.
 pub fn make_new<R: Files>(files: &R, name: &str, mode: u32) -> Result<R::File, CreateFault>
 where
     R::File: LockFile,
@@ -114,8 +114,8 @@ impl<'a, R: Files> VaultedFile<'a, R> {
         }
     }
 
-    // Checks that a later run finds this file under the name, with the number of bytes written. If not, the error is
-    // `NotFound`.
+    // Checks that a later run finds this file under the name, with the number of bytes written. If the name refers to
+    // another file, or the length differs, the error is `NotFound`.
     fn check(&self) -> io::Result<()> {
         let Some(name) = &self.name else {
             return Ok(());

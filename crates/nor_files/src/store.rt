@@ -33,7 +33,7 @@ impl Error for LockFault {}
 /// Why a file can't be created or truncated.
 #[derive(Debug, Drop)]
 pub enum CreateFault {
-    /// A file that must be new exists, or the file is a journal, which `Disk` never truncates.
+    /// The file must be new, but a file or link of its name exists; or it is a journal, which `Disk` never truncates.
     There,
     /// Another process has locked the file.
     Busy,
@@ -89,7 +89,7 @@ impl From<CreateFault> for io::Error {
 /// Contracts see the files as a `FilesState`. If the state is lawful, the files obey the contract. Each call then has
 /// the effect that its clauses give for success or failure, and the state says what a host crash may leave at each
 /// moment. For other files, such as those of `Disk`, most clauses say nothing. A clause proved for every lawful store
-/// covers an interruption at each call, because each call that is counted fails and changes nothing if none is left.
+/// covers an interruption at each call that is counted, because such a call fails and changes nothing if none is left.
 ///
 /// A file may have several names. On lawful files, a call on a name leaves each file whose name is apart from it as it
 /// was; `is_one_file` returns false only for names that are apart. Nothing is promised about other names of the same
@@ -149,17 +149,18 @@ pub trait Store: AllocGlobal {
             ReadsFile name.now most (option_map (λ bytes. bytes.items) found) (state self.now).view) }
         ensures unread { OnErr result ((state self.now).view.nature.fails (Unread name.now) ≡ true) };
 
-    /// Opens and locks the named file, if it exists, so that it can be overwritten later. The lock keeps other runs off
-    /// until the store is dropped; contracts don't describe locks. Returns whether the file exists. On lawful files,
-    /// all files are as they were.
+    /// Opens and locks the named file, if it exists, so that it can be overwritten later. The lock of a `Disk` keeps
+    /// other runs off until the store is dropped, if the file system has locks; contracts don't describe locks. Returns
+    /// whether the file exists. On lawful files, all files are as they were.
     fn hold(&mut self, name: &str) -> Result<bool, LockFault>
         ensures nature { (state self.new).view.nature ≡ (state self.old).view.nature }
         ensures holds { is_lawful (state self.old).view ≡ true
             → Holds name.now result (state self.old) (state self.new) }
         ensures fails { IfErr result (IsLockFault (state self.old).view.nature name.now) };
 
-    /// Locks the named file, if it exists, for reading, so that no other run overwrites it until the store is dropped;
-    /// contracts don't describe locks. All files are as they were.
+    /// Locks the named file, if it exists, for reading. The lock of a `Disk` keeps other runs from overwriting the file
+    /// until the store is dropped, if the file system has locks; contracts don't describe locks. All files are as they
+    /// were.
     fn share(&mut self, name: &str) -> Result<(), LockFault>
         ensures same { AreUntouched (state self.old) (state self.new) }
         ensures fails { IfErr result (IsLockFault (state self.old).view.nature name.now) };

@@ -124,7 +124,7 @@ impl Ranges {
     /// Returns the set with the addresses of the given spans, which may be in any order, adjacent, or overlapping.
     ///
     /// Returns `None` if a span ends before it begins, or if more than 64 spans are left after adjacent and overlapping
-    /// spans were joined. Allocates nothing. The time of the call grows with the square of the number of spans.
+    /// spans were joined. Allocates nothing. The time of the call grows at most with the square of the number of spans.
     pub fn of(spans: &[Span]) -> Option<Ranges>
         ensures { MatchOption result (MakeNoSet spans.now)
             (λ ranges. (has_backwards spans.now ≡ false) × IsSetOf spans.now ranges) }
