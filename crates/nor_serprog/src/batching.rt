@@ -25,7 +25,7 @@ use nor_model::{Bus, History, Stopped};
 /// modifying command that waits is already in the history, with an empty reply, and stays there even if it is dropped.
 ///
 /// A transaction that sends more than 260 bytes, or reads more than the programmer can, is rejected: nothing is sent,
-/// and what waits still waits. After any other transaction that failed, nothing waits, and nothing more is sent until
+/// and what waits still waits. After any other transaction that failed, nothing waits, and no transaction is sent until
 /// `synchronize` returns `Ok`. The programmer may have carried out any part of what waited.
 ///
 /// The bus is not honest as `Bus` defines it, even over an honest port: a command that waits has not reached the chip.
