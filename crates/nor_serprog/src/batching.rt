@@ -9,9 +9,9 @@ use crate::{Failure, Link, Port, Programmer, Sync};
 use nor_model::{Bus, History, Stopped};
 
 /// A bus to the chip at a serial programmer, over any port. It needs fewer round trips than `SerprogBus`: a modifying
-/// command without a reply is sent together with the next transaction of another kind. After a modifying command the
-/// engine polls, so write enable, page program and the first poll are one write to the port, if the programmer's serial
-/// buffer holds all three.
+/// command without a reply is sent together with the next transaction of another kind, if the programmer's serial
+/// buffer holds both. After a modifying command the engine polls, so write enable, page program and the first poll are
+/// one write to the port, if the buffer holds all three.
 ///
 /// - `transfer` of a modifying command (06h, 01h, 02h, 20h, 52h, D8h, C7h) that reads no reply may return `Ok` before
 ///   the command is sent. If it fails later, the transaction or `flush` that sends it returns `Stopped`.
