@@ -73,9 +73,9 @@ pub record TearsOff (torn fill : Option ℕ) (out : List ℕ) (old new : Chip) :
   pub torn_off : TornTo torn out old reached
   pub lost : LostTo fill reached new
 
--- The effect of a transaction of a simulated bus, in addition to the contract of a bus. The settings stay. After an
--- operation that the chip carried out, the chip is busy for `pace_of` polls. After a stop the chip is as the settings
--- of `tear` and `lose` state (`TearsOff`).
+-- The effect of a transaction of a simulated bus, in addition to the contract of a bus. The settings stay. After a
+-- transaction that succeeded and began an operation, the chip is busy for `pace_of` polls. After a stop the chip is as
+-- the settings of `tear` and `lose` state (`TearsOff`).
 pub record Simulates (out answer : List ℕ) (outcome : Result Unit Stopped) (old new : SimBus) : Type 0 where
   pub fill : fill_of new ≡ fill_of old
   pub torn : torn_of new ≡ torn_of old

@@ -65,8 +65,8 @@ pub record IsWithheld {B : Type 0} (byte : ℕ) (asked answer : List ℕ) (outco
   pub inner : new ≡ old
   pub replies : answer ≡ replicate (length asked) byte
 
--- The transaction was passed on to the bus inside. Each reply byte is `byte_for` of the byte that the bus inside
--- replied. If that bus is honest and takes a transaction of this length, it carried the transaction out.
+-- The transaction was passed on to the bus inside. Each reply byte is `byte_for` of the byte of `replied` at its index.
+-- If that bus is honest and takes a transaction of this length, it carried the transaction out and replied `replied`.
 pub record IsPassedOn (byte_for : ℕ → ℕ) (out asked answer : List ℕ) (old new : BusState) : Type 0 where
   pub replied : List ℕ
   pub as_many : length answer ≡ length replied

@@ -1,4 +1,4 @@
--- The bus that logs each transaction that it carries out, as contracts see it.
+-- The bus that logs each transaction that succeeds, as contracts see it.
 use Rattle.std.specs.Prelude.{◌≡◌, ◌++◌, ◌==◌, ℕ, Bool, true, false, List, [], Option, Result, OnOk, OnErr, length, codes, decimal, nat_lt, if◌then◌else◌}
 use Rattle.std.specs.Io.KnownBytes.{Appends}
 use Rattle.hex.specs.Hex.{encode_lower}

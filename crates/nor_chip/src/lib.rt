@@ -16,7 +16,7 @@
 //! - `sim.rt`: the simulated bus
 //! - `sim/flash.rt`: the modelled chip in memory
 //! - `sim/cells.rt`: reads, programs and fills plain slices
-//! - `trace.rt`: a bus that logs each transaction that it carries out
+//! - `trace.rt`: a bus that logs each transaction that succeeds
 //! - `spoilt.rt`: a faulty bus
 #![tactic(auto)]
 

@@ -53,8 +53,9 @@ impl SimBus {
     ghost use Rattle.nor_chip.specs.Sim.{sim_state, fill_of, torn_of, pace_of, TornTo, WornTo, TearsOff, KeepsBus};
 
     /// Returns a bus to a chip with this configuration, these contents and these two status bytes. BUSY (bit 0 of the
-    /// first) and SUS (bit 7 of the second) are ignored. The first `delays.now` polls show BUSY, and the operation in
-    /// progress at the start is unknown. The bus carries out no transaction before `allow` is called.
+    /// first) and SUS (bit 7 of the second) are ignored. The first `delays.now` polls show BUSY, unless a stop makes
+    /// the chip lose its power before. The operation in progress at the start is unknown. The bus carries out no
+    /// transaction before `allow` is called.
     ///
     /// Returns `WrongLength` if the number of bytes differs from the chip's size.
     pub fn new(

@@ -1,4 +1,4 @@
-//! A bus that logs each transaction that it carries out.
+//! A bus that logs each transaction that succeeds.
 ghost use Rattle.std.specs.Prelude.{◌≡◌, true, false, length, OnOk, OnErr};
 ghost use Rattle.std.specs.Io.KnownBytes.{Appends, Keeps};
 ghost use Rattle.hex.specs.Hex.{encode_lower};
@@ -11,9 +11,9 @@ use std::io::{self, Write};
 // The greatest number of bytes that are converted to digits at a time.
 const PIECE: usize = 64;
 
-/// A bus that writes one line to a log for each transaction that the bus inside carries out. A line has the bytes sent,
-/// as lower-case hexadecimal digits. If one to three bytes were received, ` > ` and their digits follow; if more were
-/// received, ` > `, their number and ` bytes`.
+/// A bus that writes one line to a log for each transaction that succeeds over the bus inside. A line has the bytes
+/// sent, as lower-case hexadecimal digits. If one to three bytes were received, ` > ` and their digits follow; if more
+/// were received, ` > `, their number and ` bytes`.
 ///
 /// A transaction at which the bus inside stops has no line, even if some or all of its bytes were sent to the chip
 /// before it was cut. A line that can't be written completely counts as `lost`; the transaction still succeeds.

@@ -16,7 +16,7 @@ use Rattle.nor_driver.specs.Operations.{operation_of, AsksForOperation, MayOpera
 use Rattle.nor_driver.proofs.Readings.{Wore, no_operation}
 
 -- On an honest bus, after write enable: an idle chip has its latch set, a busy chip has it as before, and nothing else
--- changed.
+-- of the chip changed. One transaction fewer is left.
 pub record IsEnabled (old new : BusState) : Type 0 where
   pub unchanged : Unchanged old new
   pub busy : new.chip.busy ≡ old.chip.busy

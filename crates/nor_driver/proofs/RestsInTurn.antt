@@ -9,9 +9,9 @@ use Rattle.nor_driver.proofs.ReadsInTurn.{only_reads_then, only_reads_more}
 use Rattle.nor_driver.proofs.Readings.{honest_reads_by}
 pub use Rattle.nor_driver.proofs.Readings.{rested_none, rested_then}
 
--- Holds after `reads` transactions that only read succeeded. On every bus, no transaction that may modify a chip was
--- sent, and `KeepsNature` and `StaysReady` hold. On an honest bus the chip is as `Rested` says, and exactly `reads`
--- fewer transactions are left.
+-- Holds after `reads` transactions that only read succeeded, if none of them was a poll that showed BUSY. On every bus,
+-- no transaction that may modify a chip was sent, and `KeepsNature` and `StaysReady` hold. On an honest bus the chip is
+-- as `Rested` says, and exactly `reads` fewer transactions are left.
 pub record HasOnlyRead (reads : ℕ) (old new : BusState) : Type 0 where
   pub nature : KeepsNature old new
   pub same_sent : new.sent ≡ old.sent

@@ -23,13 +23,13 @@ pub no_operation : (command : Command) (sent answer : List ℕ) (old new : BusSt
     → Does command sent old.chip answer new.chip → Wore command old new → Unchanged old new
 no_operation command sent answer old new is does wore = grind (arith, wore, or-false)
 
--- ---- a stop that changed nothing, or made the chip lose its power
+-- ---- a stop that left the chip as it was, or made it lose its power
 
 pub record IsAsBefore (old new : BusState) : Type 0 where
   pub chip : new.chip ≡ old.chip
   pub worn : (s : ℕ) → new.worn s ≡ old.worn s
 
--- a stop changed nothing, or the bus isn't steady
+-- a stop left the chip and the record of erased sectors as they were, or the bus isn't steady
 pub still_or_torn : (out : List ℕ) (old new : BusState) → AtStop out old new
     → IsAsBefore old new ⊎ ((old.steady ≡ false) × AtStop out old new)
 still_or_torn out old new stop = elim (cases_Bool old.steady) [
@@ -49,7 +49,8 @@ lost_stays old new unsteady lost worn = grind (arith, lost.bytes, worn)
 
 -- ---- a transaction that was cut
 
--- the state of the bus after the chip carried out the bytes that were sent, before a possible power failure
+-- the state `old`, but with the chip after it carried out the bytes that were sent and before a possible power failure,
+-- and with the erased sectors of `new`
 abbrev pub reached : (out : List ℕ) (old new : BusState) → AtStop out old new → BusState
 reached out old new cut = record old { chip = cut.reached; worn = new.worn }
 

@@ -34,8 +34,8 @@ pub enum OperationError {
     /// The bus stopped.
     #[error("the bus stopped")]
     Stopped,
-    /// 65,536 polls in a row showed BUSY. The address is that of the command before the wait; after a status write, and
-    /// for a wait without a command, it is 0.
+    /// 65,536 polls in a row showed BUSY. The address is that of the operation's command, or 0 for a status write. From
+    /// `wait` it is the address that the caller passed.
     #[error("the chip stayed busy after the command for address 0x{address:06x}")]
     Timeout { address: u32 },
 }

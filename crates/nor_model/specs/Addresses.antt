@@ -10,8 +10,8 @@ pub record IsSectorRange (size start len : ℕ) : Type 0 where
   pub not_empty : 0 < len
   pub within : start + len ≤ size
 
--- The command's address is below `size`; an erase covers whole sectors of a chip of this size. That holds for every
--- command that `command_of` returns for a configuration of this size.
+-- The command's address, if it has one, is below `size`; an erase covers whole sectors of a chip of this size. That
+-- holds for every command that `command_of` returns for a configuration of this size.
 abbrev pub HasValidAddress : ℕ → Command → Type 0
 HasValidAddress size (Program at) = at < size
 HasValidAddress size (ReadData at) = at < size

@@ -14,7 +14,7 @@ use Rattle.nor_model.specs.Step.{Step, done_of, wears}
 -- The state of a bus, as contracts see it.
 pub record BusState : Type 0 where
   pub chip : Chip
-  -- how many more transactions the bus will carry out; code can't read this
+  -- if the bus is honest: how many more transactions it will carry out unless `allow` is called; code can't read this
   pub left : ℕ
   -- the bus obeys the contract of a bus
   pub honest : Bool
@@ -24,7 +24,7 @@ pub record BusState : Type 0 where
   pub sent : Sent
   -- the allowances that were set, the last one first
   pub allowances : List ℕ
-  -- the sectors that the chip erased so far, over this bus
+  -- if the bus is honest: the sectors that the chip erased so far, over this bus
   pub worn : ℕ → Bool
   -- if the bus is honest: a stop sends no byte of its transaction and keeps the chip's power, so the chip stays as it
   -- was

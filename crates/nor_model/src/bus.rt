@@ -5,8 +5,8 @@ ghost use Rattle.nor_model.specs.Bus.{BusState, IsHonestFor, SameNature, Stops, 
 
 use std::fmt;
 
-/// The bus did not carry out the whole transaction, for example because its connection or its power failed, or because
-/// its allowance was used up.
+/// A transaction failed, for example because the connection or the power of the bus failed, or because its allowance
+/// was used up. The chip may have carried out all of the transaction, a part of it, or nothing.
 #[derive(Clone, Copy, Debug, PartialEq, Eq)]
 pub struct Stopped;
 
@@ -35,8 +35,8 @@ impl std::error::Error for Stopped {}
 pub trait Bus {
     ghost state: { Self → BusState };
 
-    /// Sends `out`, then reads `reply`. Returns `Stopped` if the bus did not carry out the whole transaction. An honest
-    /// bus that takes a transaction of this length then leaves `reply` as it was.
+    /// Sends `out`, then reads `reply`. Returns `Stopped` if the transaction failed. An honest bus that takes a
+    /// transaction of this length then leaves `reply` as it was.
     fn transfer(&mut self, out: &[u8], reply: &mut [u8]) -> Result<(), Stopped>
         ensures nature { SameNature (state self.old) (state self.new) }
         ensures stops { IsHonestFor out.now (length reply.old) (state self.old)

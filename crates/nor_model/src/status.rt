@@ -38,7 +38,8 @@ bitflag_items! {
         const LB1 = 0x08;
         const LB2 = 0x10;
         const LB3 = 0x20;
-        /// Set if the protected addresses are those outside the selected range, clear if those inside it.
+        /// Set if the protected addresses are those outside the selected range, clear if those inside it. If the
+        /// datasheets don't define the protection bits, the model protects every address.
         const CMP = 0x40;
         /// Set while an operation is suspended.
         const SUS = 0x80;

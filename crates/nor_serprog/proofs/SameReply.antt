@@ -12,7 +12,8 @@ use Rattle.nor_model.specs.Step.{Step, Does, reply_byte}
 use Rattle.nor_model.specs.Bus.{BusState, SameNature, IsHonestFor}
 use Rattle.nor_serprog.specs.Twice.{begins_read}
 
--- The parts of a chip that a read of data leaves as they are: all that the reply depends on.
+-- Configuration, bytes and `busy` of the chip are as they were. The reply to a read of data depends on nothing else of
+-- the chip.
 pub record Still (old new : Chip) : Type 0 where
   pub config : new.config ≡ old.config
   pub bytes : (a : ℕ) → new.bytes a ≡ old.bytes a

@@ -45,7 +45,7 @@ history_of bus = bus.history.exchanges
 abbrev pub sent_of : {P C : Type 0} {over : Ghosts P C} → SerprogBus P C over → Sent
 sent_of bus = sent_in (history_of bus)
 
--- True if the last poll that received a reply showed that the chip is ready. False without such a poll.
+-- True if the last poll that received at least one reply byte showed that the chip is ready. False without such a poll.
 abbrev pub polled_ready_of : {P C : Type 0} {over : Ghosts P C} → SerprogBus P C over → Bool
 polled_ready_of bus = polled_ready_in (history_of bus)
 

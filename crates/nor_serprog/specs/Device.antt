@@ -27,7 +27,7 @@ pub record IsIdle (device : Device) : Type 0 where
 -- The state of a port, as contracts see it.
 pub record PortState : Type 0 where
   pub device : Device
-  -- the greatest number of further calls that will succeed, which no program can read
+  -- if the port is honest: the greatest number of further calls that will succeed, which no program can read
   pub left : ℕ
   -- the port keeps the contract of an honest port
   pub honest : Bool
@@ -71,8 +71,8 @@ pub record IsSent (bytes : List ℕ) (old new : PortState) : Type 0 where
   pub left : old.left ≡ new.left + 1
   pub done : CompletesOperation bytes old.device → OperatesFrame (old.device.begun ++ bytes) old.device new.device
 
--- Every honest programmer carries out this frame of O_SPIOP: no reply is pending, and the frame sends at most 260 bytes
--- (a page program) and requests at most 4,096 (a sector).
+-- This frame of O_SPIOP is within the limits of every honest port: no reply is pending, and the frame sends at most 260
+-- bytes (a page program) and requests at most 4,096 (a sector).
 pub record IsWithinLimits (frame : List ℕ) (device : Device) : Type 0 where
   pub none_pending : device.pending ≡ []
   pub sends : length (out_in frame) ≤ 260
@@ -130,7 +130,7 @@ pub record Exchanged (out answer : List ℕ) (old new : PortState) : Type 0 wher
   pub steps : StepsOnce out answer old.device new.device
 
 -- A transaction that requests this number of reply bytes was cut, and too few calls are left for another one. If it is
--- within the limits of every honest programmer, and no more bytes were `wanted` than it requests, fewer than three
+-- within the limits of every honest port, and no more bytes were `wanted` than it requests, fewer than three
 -- calls were left before it.
 pub record Interrupted (out : List ℕ) (replies wanted : ℕ) (old new : PortState) : Type 0 where
   pub few_left : length out ≤ 260 → replies ≤ 4096 → wanted ≤ replies → old.left < 3

@@ -13,7 +13,8 @@ port_of link = link.port
 abbrev pub sync_of : {P C : Type 0} → Link P C → Sync
 sync_of link = link.sync
 
--- True if the link is in step: each frame had its reply, and each reply was read.
+-- True if the link is in step: since it was synchronized, each call that sent frames received ACK for each of them, and
+-- as many reply bytes as its caller requested.
 abbrev pub is_in_step : {P C : Type 0} → Link P C → Bool
 is_in_step link = elim link.sync [ InStep ↦ true | Lost ↦ false | Cut ↦ false ]
 

@@ -7,7 +7,7 @@ use Rattle.nor_serprog.specs.declared.paced.Paced.{Paced}
 abbrev pub paced_of : {B C : Type 0} → Paced B C → B
 paced_of paced = paced.bus
 
--- The number of polls in a row that showed BUSY, up to the last transaction.
+-- The number of polls in a row that showed BUSY, up to the last transaction that succeeded; at most 2^64 - 1.
 abbrev pub busy_row : {B C : Type 0} → Paced B C → ℕ
 busy_row paced = paced.busy_polls
 

@@ -15,8 +15,9 @@ const LONGEST_BLOCK: u32 = 1 << 16;
 
 const READ_DATA: u8 = 0x03;
 
-/// A bus that reads data (03h) ahead, if reads follow each other. A read that begins where the last block ended reads a
-/// block of up to twice its length, at most 64 KiB. Reads inside the last block are answered from memory.
+/// A bus that reads data (03h) ahead, if reads follow each other. Reads inside the last block are answered from memory.
+/// A read that begins where the last block ended doubles the length of a block, up to 64 KiB; any other read sets it to
+/// its own length. A block is longer if the read needs more bytes, and shorter if it would pass a multiple of 64 KiB.
 ///
 /// The block is forgotten at each transaction that is passed on as it is, and if the bus inside stops. A block ends at
 /// a multiple of 64 KiB at the latest, so it never reaches past the end of a chip. It is never longer than the bus
@@ -37,7 +38,8 @@ pub struct ReadAhead<B: Bus + Drop> {
     block: [u8; LONGEST_BLOCK as usize],
     start: u32,
     len: u32,
-    // The length of the last block before it was shortened to end at a multiple of 64 KiB.
+    // The intended length of the last block. The block is shorter if it would pass a multiple of 64 KiB, and longer if
+    // the read needed more bytes.
     step: u32,
     longest: u32,
     history: History,

@@ -52,11 +52,12 @@ impl<P: Port + Drop> Batch<P> {
     /// Makes one transaction. A modifying command without a reply waits for the next one instead, if its frame fits
     /// into the serial buffer.
     ///
-    /// Frames that wait are sent before a transaction that is sent, in the same write if the buffer has room for all.
-    /// They are also sent if the buffer has no room for one more frame that is to wait.
+    /// Frames that wait are sent before a transaction that is sent, in the same write if all of them fit into the
+    /// buffer and have at most 512 bytes. They are also sent if one more frame that is to wait would exceed a limit.
     ///
-    /// Returns `TooLong` if the transaction does not fit into one frame, or reads more than the programmer can; nothing
-    /// was sent then, and what waited still waits. After any other error nothing waits.
+    /// Returns `OutOfStep` or `CutFrame` if the link was out of step. Otherwise returns `TooLong` if the transaction
+    /// does not fit into one frame, or reads more than the programmer can; nothing was sent then, and what waited still
+    /// waits. After any other error nothing waits.
     pub(crate) fn transact(&mut self, out: &[u8], reply: &mut [u8]) -> Result<(), Failure<P::Cause>>
         ensures silent { is_in_step (batch_link self.old) ≡ false → self.new ≡ self.old }
         ensures was_in_step { OnOk result (is_in_step (batch_link self.old) ≡ true) }

@@ -9,9 +9,9 @@ use crate::{Failure, Link, Port, Programmer, Sync};
 use nor_model::{Bus, History, Stopped};
 
 /// A bus to the chip at a serial programmer, over any port. It needs fewer round trips than `SerprogBus`: a modifying
-/// command without a reply is sent together with the next transaction of another kind. After a modifying command the
-/// engine polls, so write enable, page program and the first poll are one write to the port, if the programmer's serial
-/// buffer holds all three.
+/// command without a reply is sent together with the next transaction of another kind, if the programmer's serial
+/// buffer holds both. After a modifying command the engine polls, so write enable, page program and the first poll are
+/// one write to the port, if the buffer holds all three.
 ///
 /// - `transfer` of a modifying command (06h, 01h, 02h, 20h, 52h, D8h, C7h) that reads no reply may return `Ok` before
 ///   the command is sent. If it fails later, the transaction or `flush` that sends it returns `Stopped`.
@@ -25,7 +25,7 @@ use nor_model::{Bus, History, Stopped};
 /// modifying command that waits is already in the history, with an empty reply, and stays there even if it is dropped.
 ///
 /// A transaction that sends more than 260 bytes, or reads more than the programmer can, is rejected: nothing is sent,
-/// and what waits still waits. After any other transaction that failed, nothing waits, and nothing more is sent until
+/// and what waits still waits. After any other transaction that failed, nothing waits, and no transaction is sent until
 /// `synchronize` returns `Ok`. The programmer may have carried out any part of what waited.
 ///
 /// The bus is not honest as `Bus` defines it, even over an honest port: a command that waits has not reached the chip.

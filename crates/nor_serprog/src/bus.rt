@@ -17,7 +17,7 @@ use nor_model::{Bus, History, Stopped};
 ///
 /// Over any port the history has each transaction with its reply; a transaction that failed or was rejected has none. A
 /// transaction that sends more than 260 bytes, or reads more than the programmer can, is rejected, and nothing is sent.
-/// After any other transaction that failed, nothing more is sent until `synchronize` returns `Ok`.
+/// After any other transaction that failed, no transaction is sent until `synchronize` returns `Ok`.
 #[derive(Drop)]
 pub struct SerprogBus<P: Port + Drop> {
     link: Link<P>,

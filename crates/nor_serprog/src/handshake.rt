@@ -5,7 +5,7 @@ ghost use Rattle.nor_serprog.specs.Link.{is_in_step};
 use crate::{Command, Failure, LONGEST_OUT, Link, Port};
 use thiserror::Error;
 
-/// The greatest number of bytes that a transaction of flashnor reads: a sector.
+/// The number of bytes that a transaction must be able to read: a sector.
 pub const LONGEST_REPLY: u32 = 4096;
 
 // The flag of SPI in the reply to Q_BUSTYPE and in S_BUSTYPE.

@@ -39,7 +39,8 @@ pub enum Failure<C> {
 /// Whether the replies of a programmer can be matched to the frames that were sent.
 #[derive(Clone, Copy, Debug, PartialEq, Eq)]
 pub enum Sync {
-    /// Since `synchronize` returned `Ok`, each frame had its whole reply, and each reply was read.
+    /// Since `synchronize` returned `Ok`, each call that sent frames received ACK for each of them, and as many reply
+    /// bytes as its caller requested.
     InStep,
     /// The link isn't synchronized: it is new, `synchronize` failed, or an exchange failed after its whole frame was
     /// sent, so that bytes of the reply may still arrive.
@@ -104,8 +105,8 @@ impl<P: Port + Drop> Link<P> {
     /// Sends the frame of a command, and reads the reply: ACK, and as many bytes as `reply` holds.
     ///
     /// Returns `TooLong` if the command does not fit into one frame; nothing was sent then, and the link is as it was.
-    /// After any other error nothing more is sent, until `synchronize` returns `Ok`. If the link was out of step, the
-    /// call returns `OutOfStep` or `CutFrame` and does not use the port.
+    /// After any other error no exchange sends anything until `synchronize` returns `Ok`. If the link was out of step,
+    /// the call returns `OutOfStep` or `CutFrame` and does not use the port.
     pub fn exchange(
         &mut self,
         command: Command<'_>,
@@ -172,8 +173,8 @@ impl<P: Port + Drop> Link<P> {
     /// Sends frames of O_SPIOP together, and then reads their replies: an ACK for each frame, and after the last ACK as
     /// many bytes as `reply` holds. Before the last frame there are `earlier` frames, which request no reply bytes.
     ///
-    /// After an error nothing more is sent, until `synchronize` returns `Ok`; the programmer may have carried out any
-    /// of the frames. If the link was out of step, the call returns `OutOfStep` or `CutFrame` and does not use the
+    /// After an error no exchange sends anything until `synchronize` returns `Ok`; the programmer may have carried out
+    /// any of the frames. If the link was out of step, the call returns `OutOfStep` or `CutFrame` and does not use the
     /// port.
     pub(crate) fn exchange_batch(
         &mut self,

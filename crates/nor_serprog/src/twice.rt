@@ -23,7 +23,7 @@ const READ_DATA: u8 = 0x03;
 /// that is the image of a session, each sector that its journal saves was read twice: a session saves no sector that
 /// equals its image.
 ///
-/// An error that is the same in both reads is not detected. A read over this bus is two transactions over the bus
+/// An error that is the same in both reads is not detected. A read over this bus may be two transactions over the bus
 /// inside, so this bus is not honest as `Bus` defines it, even if the bus inside is. If the bus inside is honest and
 /// takes a read of this length, a read that succeeds had the same reply twice, or returned the expected bytes. A read
 /// of at most 65,536 bytes then fails only if no transaction is left afterwards.

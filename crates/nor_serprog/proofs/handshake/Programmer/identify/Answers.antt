@@ -1,6 +1,6 @@
 use Rattle.nor_serprog.proofs.handshake.Programmer.identify.Goals as goal
 
--- Each step keeps the link in step.
+-- The first step puts the link in step, and each later step that succeeds leaves it in step.
 pub returns : goal.returns
 returns g c =
     c.in_ok-enable_pins.ensures
