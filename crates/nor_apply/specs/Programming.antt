@@ -112,7 +112,7 @@ pub record CanProgramAll (touched raised : ℕ → Bool) (wanted : ℕ → ℕ) 
   pub falls : OnlyFalls touched wanted chip.bytes
 
 -- Holds at every exit of the programs. On every bus the number of programs is at most sixteen times that of the touched
--- sectors, and they target only touched sectors (`SendsWithin` says this exactly). On a well-behaved bus, if
+-- sectors, and the programs target only touched sectors (`SendsWithin` says this exactly). On a well-behaved bus, if
 -- `CanProgramAll` held at the start, the chip changes only as `MayChange` allows: if the bus is also steady, each byte
 -- is the old or the target one.
 pub record LeavesPrograms (touched raised : ℕ → Bool) (wanted : ℕ → ℕ) (old new : BusState) : Type 0 where
