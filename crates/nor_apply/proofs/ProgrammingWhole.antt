@@ -135,10 +135,10 @@ before_more touched n is s = grind (arith, nat_tests)
 before_skip : (touched : ℕ → Bool) (n : ℕ) → touched n ≡ false → (s : ℕ) → before touched n s ≡ before touched (n + 1) s
 before_skip touched n free s = grind (arith, nat_tests)
 
--- Holds if the touched sectors below `n` were programmed. No erase or status write was sent, the programs target only
--- touched sectors (`SendsWithin` says this exactly), and there was at most one read per touched sector below `n`. On a
--- well-behaved bus, if `CanProgramAll` held at the start, the touched sectors below `n` have the target bytes, and one
--- program was sent for each of their pages that differed.
+-- Holds if the touched sectors below `n` were programmed. No erase or status write was sent, and the programs target
+-- only touched sectors (`SendsWithin` says this exactly). The number of reads is at most that of the touched sectors
+-- below `n`. On a well-behaved bus, if `CanProgramAll` held at the start, the touched sectors below `n` have the target
+-- bytes, and one program was sent for each of their pages that differed.
 pub record SectorsSoFar (touched raised : ℕ → Bool) (wanted : ℕ → ℕ) (n : ℕ) (first now : BusState)
     (tally : Tally) : Type 0 where
   pub ran : Ran (programming touched tally.count) (count_below n touched) first now tally

@@ -58,8 +58,8 @@ sending changes erases programs status_writes = record {
   status_writes = status_writes;
 }
 
--- The most that the changes may send: an erase for each raised sector, sixteen page programs for each touched one, and
--- the status writes that are asked for.
+-- The limits of all changes together. The number of erases is at most that of the raised sectors, the number of page
+-- programs at most sixteen times that of the touched ones, and status writes are sent only if they are asked for.
 abbrev pub most_sent : Changes → Limits
 most_sent changes =
     sending changes (sector_count (raised_in changes)) (16 * sector_count (touched_in changes)) (status_writes changes)
@@ -106,9 +106,9 @@ abbrev pub most_applied : ℕ → ℕ
 most_applied touched = touched + most_operation * (17 * touched + 2)
 
 -- Holds at every exit of `apply`. On every bus, erases and programs target only touched sectors, or if these are the
--- whole chip, also sectors past its end; no more operations are sent than `most_sent` allows (`SendsWithin`). On a
--- well-behaved bus at most `most_applied` transactions are carried out. If `CanApply` held at the start, too, the chip
--- changes only as `MayChange` allows.
+-- whole chip, also sectors past its end; no more operations are sent than `most_sent` allows. `SendsWithin` says this
+-- exactly. On a well-behaved bus at most `most_applied` transactions are carried out. If `CanApply` held at the start,
+-- too, the chip changes only as `MayChange` allows.
 pub record LeavesApply (changes : Changes) (wanted : ℕ → ℕ) (old new : BusState) : Type 0 where
   pub spends : Spends (most_applied (sector_count (touched_in changes))) old new
   pub sends : SendsWithin (most_sent changes) old new

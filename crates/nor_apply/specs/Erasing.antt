@@ -16,10 +16,11 @@ pub record CanEraseAll (sectors : ℕ → Bool) (kinds : Kinds) (size : ℕ) (ch
   pub can : CanChange sectors chip
   pub sized : IsSized size kinds chip
 
--- Holds at every exit of the erases. On every bus at most one erase per sector is sent, and the erases target only
--- these sectors, or if these are the whole chip, also sectors past its end (`SendsWithin`). On a well-behaved bus at
--- most 65,538 transactions per sector are carried out. If `CanEraseAll` held at the start, too, the chip changes only
--- as `MayChange` allows: the bytes of these sectors may have any value.
+-- Holds at every exit of the erases. On every bus the number of erases is at most that of the sectors. The erases
+-- target only these sectors, or if these are the whole chip, also sectors past its end (`SendsWithin` says this
+-- exactly). On a well-behaved bus the number of transactions carried out is at most 65,538 times that of the sectors.
+-- If `CanEraseAll` held at the start, too, the chip changes only as `MayChange` allows: the bytes of these sectors may
+-- have any value.
 pub record LeavesErases (sectors : ℕ → Bool) (kinds : Kinds) (size : ℕ) (old new : BusState) : Type 0 where
   pub spends : Spends (most_operation * sector_count sectors) old new
   pub sends : SendsWithin (erasing (may_target sectors size) (sector_count sectors)) old new

@@ -31,8 +31,8 @@ pub record CanProgramSpans (sector : ℕ) (old wanted : List ℕ) (chip : Chip) 
   pub falls : (i : ℕ) → i < 4096 → bit_and (slice_index wanted i) (slice_index old i) ≡ slice_index wanted i
 
 -- Holds at every exit of the page programs of a sector. On every bus at most sixteen programs were sent, all of them in
--- this sector. On a well-behaved bus, if `CanProgramSpans` held at the start, the chip changes only as `MayChange`
--- allows, with no sector erased.
+-- this sector (`SendsWithin` says this exactly). On a well-behaved bus, if `CanProgramSpans` held at the start, the
+-- chip changes only as `MayChange` allows, with no sector erased.
 pub record LeavesSpans (sector : ℕ) (bytes wanted : List ℕ) (old new : BusState) : Type 0 where
   pub spends : Spends most_pages old new
   pub sends : SendsWithin (programming (only sector) 16) old new
@@ -83,8 +83,8 @@ pub record Loads (sector : ℕ) (erased : Bool) (bytes bytes' : List ℕ) (outco
   pub ends : LoadEnds sector erased bytes bytes' outcome old new
 
 -- Holds at every exit of programming a sector. On every bus at most sixteen programs were sent, all of them in this
--- sector. On a well-behaved bus, if `CanProgramSector` held at the start, the chip changes only as `MayChange` allows,
--- with no sector erased.
+-- sector (`SendsWithin` says this exactly). On a well-behaved bus, if `CanProgramSector` held at the start, the chip
+-- changes only as `MayChange` allows, with no sector erased.
 pub record LeavesSector (sector : ℕ) (wanted : List ℕ) (erased : Bool) (old new : BusState) : Type 0 where
   pub spends : Spends most_sector old new
   pub sends : SendsWithin (programming (only sector) 16) old new
@@ -111,9 +111,10 @@ pub record CanProgramAll (touched raised : ℕ → Bool) (wanted : ℕ → ℕ) 
   pub blank : (a : ℕ) → touched (a / 4096) ≡ true → raised (a / 4096) ≡ true → chip.bytes a ≡ 255
   pub falls : OnlyFalls touched wanted chip.bytes
 
--- Holds at every exit of the programs. On every bus at most sixteen programs per touched sector are sent, and they
--- target only touched sectors (`SendsWithin`). On a well-behaved bus, if `CanProgramAll` held at the start, the chip
--- changes only as `MayChange` allows: if the bus is also steady, each byte is the old or the target one.
+-- Holds at every exit of the programs. On every bus the number of programs is at most sixteen times that of the touched
+-- sectors, and the programs target only touched sectors (`SendsWithin` says this exactly). On a well-behaved bus, if
+-- `CanProgramAll` held at the start, the chip changes only as `MayChange` allows: if the bus is also steady, each byte
+-- is the old or the target one.
 pub record LeavesPrograms (touched raised : ℕ → Bool) (wanted : ℕ → ℕ) (old new : BusState) : Type 0 where
   pub spends : Spends (most_sector * sector_count touched) old new
   pub sends : SendsWithin (programming touched (16 * sector_count touched)) old new

@@ -11,8 +11,9 @@ use Rattle.nor_driver.specs.Operations.{most_operation}
 use Rattle.nor_apply.specs.Spending.{Spends}
 
 -- Holds at every exit of `write_code`. If no status write is needed, nothing was sent. Otherwise on every bus at most
--- one status write was sent, with these protection bits and the bits of `status` that are never changed. On a
--- well-behaved bus, if `CanWriteStatus` held at the start, the chip changes only as `MayWriteStatus` allows.
+-- one status write was sent, with these protection bits and the bits of `status` that are never changed (`SendsWithin`
+-- says this exactly). On a well-behaved bus, if `CanWriteStatus` held at the start, the chip changes only as
+-- `MayWriteStatus` allows.
 pub record LeavesCode (status : Status) (code : ℕ) (needed : Bool) (old new : BusState) : Type 0 where
   pub spends : Spends (if needed then most_operation else 0) old new
   pub sends : SendsWithin

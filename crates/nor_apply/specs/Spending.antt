@@ -10,8 +10,8 @@ use Rattle.nor_driver.specs.Operations.{most_operation}
 use Rattle.nor_plan.specs.Planned.{holds_run}
 use Rattle.nor_apply.specs.declared.tally.Tally.{Tally}
 
--- Holds at every exit of a part: what never changes about the bus and its chip is as it was (`KeepsNature`), and on a
--- well-behaved bus at most `most` transactions were carried out.
+-- Holds at every exit of a part: `KeepsNature` holds on every bus, and on a well-behaved bus at most `most`
+-- transactions were carried out.
 pub record Spends (most : ℕ) (old new : BusState) : Type 0 where
   pub nature : KeepsNature old new
   pub falls : old.honest ≡ true → Falls most old new

@@ -21,8 +21,8 @@ pub fn differs(a: &[u8], b: &[u8]) -> bool
     blocks_differ(a, b) || first_from(a, b, a.len() / BLOCK * BLOCK).is_some()
 }
 
-/// Returns whether some byte of the whole 256-byte blocks differs. All blocks are compared before the one test, which
-/// takes less time than a test per block.
+/// Returns whether some byte of the whole 256-byte blocks differs. All blocks are compared before the one test. For
+/// equal slices this avoids a test per block.
 fn blocks_differ(a: &[u8], b: &[u8]) -> bool
     requires { length a.now ≡ length b.now }
     ensures { MatchBool result (SomeDiffer a.now b.now) (AgreeWithin a.now b.now 0 (length a.now / 256 * 256)) }

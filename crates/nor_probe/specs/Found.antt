@@ -1,4 +1,4 @@
--- The result of a probe: the chip that it found, or the reason why it found none.
+-- The result of a probe: the chip that it found, or the reason why it returned none.
 use Rattle.std.specs.Prelude.{◌≡◌, ◌+◌, ◌%◌, ◌≤◌, ◌<◌, ◌⊎◌, ℕ, true, false, List, if◌then◌else◌, ⊤}
 use Rattle.std.specs.Prelude.{Option, None, Some, Result, Ok, Err, IfOk, IfErr, OnOk}
 use Rattle.nor_model.specs.declared.config.Config.{Config}

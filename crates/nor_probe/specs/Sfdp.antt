@@ -67,7 +67,8 @@ table_faults table =
     ∷ (not (has_erase_type 0x0C 0x20 table), NoSector)
     ∷ []
 
--- the geometry that the table gives: the size in bytes, and whether 32 KiB and 64 KiB are among the erase types
+-- the geometry that the table gives: the size in bytes, and whether 32 KiB with opcode 52h and 64 KiB with opcode D8h
+-- are among the erase types
 abbrev pub geometry_of : (table : List ℕ) → Geometry
 geometry_of table = record {
   size = size_in_bits (double_word 2 table) / 8;

@@ -34,7 +34,7 @@ part_with_id of_id = find (λ part. bytes_eq part.id of_id) chips
 abbrev pub part_with_name : (text : List ℕ) → Option Part
 part_with_name text = find (λ part. bytes_eq (name_text part.name) text) chips
 
--- the name of a row or, without a row, the name of a chip that isn't in the table
+-- the name of a row or, without a row, the given name `unlisted`
 abbrev pub name_or : (unlisted : ChipName) → Option Part → ChipName
 name_or unlisted (Some part) = part.name
 name_or unlisted None = unlisted

@@ -18,7 +18,7 @@ use nor_driver::{OperationError, read_id, read_parameters, wait};
 use nor_model::{Bus, Kinds, Stopped};
 use thiserror::Error;
 
-/// The reason why a probe found no chip. The first three variants are checked in this order.
+/// The reason why a probe returned no chip. The first three variants are checked in this order.
 #[derive(Clone, Copy, Debug, PartialEq, Eq, Error)]
 pub enum ProbeFault {
     /// The ID reads `FF FF FF` or `00 00 00`, as it does if nothing drives the bus.

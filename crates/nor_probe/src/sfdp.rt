@@ -19,7 +19,8 @@ use thiserror::Error;
 pub struct Geometry {
     /// The size in bytes. `read_sfdp` returns a power of two from 65,536 to 16,777,216.
     pub size: u32,
-    /// Whether 32 KiB and 64 KiB are among the erase types. An accepted SFDP always has 4 KiB.
+    /// Whether 32 KiB with opcode 52h and 64 KiB with opcode D8h are among the erase types. An accepted SFDP always has
+    /// 4 KiB with opcode 20h.
     pub kinds: Kinds,
 }
 

@@ -103,8 +103,8 @@ module _ {included : Option (List Span)} {size n reads more : ℕ} {bytes : List
         (took.bytes (has.accepted.telling ∙ telling)) piece_right;
   }
 
-  -- If the vault refuses the piece, `CopyErrors` holds: error 19 has the number of bytes accepted of all pieces
-  -- together.
+  -- If the vault refuses the piece, `CopyErrors` holds: error 19 has the number of bytes that a `telling` vault
+  -- accepted of all pieces together.
   pub copy_fails : (later : VaultState) (refusal : Refusal) → PutErrors n bytes now later refusal
       → CopyErrors included size old new vault later refusal
   copy_fails later (Output written) errors =

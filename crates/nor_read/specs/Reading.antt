@@ -175,7 +175,7 @@ CopyErrors included size old new vault vault' (Output written) = BreaksCopy incl
 CopyErrors included size old new vault vault' _ = ⊥
 
 -- The meaning of an error when a piece is appended. `written` counts the bytes of the earlier pieces, 65,536 each, and
--- those that the vault accepted of this piece.
+-- those that a `telling` vault accepted of this piece.
 abbrev pub PutErrors : ℕ → List ℕ → (old new : VaultState) → Refusal → Type 0
 PutErrors piece bytes old new (Output written) =
     (kept : ℕ) × (written ≡ 65536 * piece + kept) × PutRefused old bytes kept new

@@ -1,5 +1,5 @@
 //! Calls that only read a flash chip: they copy its bytes, compare them with an image, and report its block protection.
-//! They never send a modifying command. They allocate no memory, except what the vault of `read_out` allocates.
+//! They never send a modifying command. They allocate no memory themselves; the bus or the vault of `read_out` may.
 //!
 //! - `finding.rt`: finds the chip, and makes the report
 //! - `reading.rt`: `read_out`, a copy of the chip in a vault

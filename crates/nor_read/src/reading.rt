@@ -121,7 +121,8 @@ fn read_part<B: Bus>(
     Ok(1)
 }
 
-// Appends a piece to the copy. Error 19 has the number of bytes accepted so far, including those of the earlier pieces.
+// Appends a piece to the copy, after `piece` earlier ones that were accepted. Error 19 has the number of bytes that a
+// `telling` vault accepted so far, including those of the earlier pieces.
 fn put_piece<V: Vault>(out: &mut V, piece: u32, bytes: &[u8; PIECE_LEN]) -> Result<(), Refusal>
     requires reachable { piece < 256 }
     requires unsealed { (V.state out.old).sealed ≡ false }
