@@ -146,8 +146,8 @@ pub fn taken(name: &str) -> Fault<'_>
     Fault::File { fault, name }
 }
 
-/// Returns the fault of a file that can't be created, truncated, locked, written or synced, or whose directory can't be
-/// synced (file fault 2).
+/// Returns the fault of a file that can't be created, truncated (or read before that), locked, written or synced, or
+/// whose directory can't be synced (file fault 2).
 pub fn unmade(name: &str) -> Fault<'_>
     ensures { result ≡ Faults.File FileFaults.Write name.entry }
 {
