@@ -73,8 +73,8 @@ abbrev pub FailsToFind : Option ChipName → (old new : BusState) → Fault → 
 FailsToFind named old new fault =
     (refusal : Refusal) × HasIdentified named old new (Err refusal) × (fault ≡ end.Refused refusal)
 
--- The identification found a chip, and nothing else was sent. Then the file of this name could not be created or
--- truncated, existed but must be new, is a journal, or was locked by another process; or memory ran out.
+-- The identification found a chip, and nothing else was sent. Then creating or truncating the file of this name failed.
+-- The fault is one that `IsMaking` allows.
 abbrev pub FailsToMake : Option ChipName → Text → View → (old new : BusState) → Fault → Type 0
 FailsToMake named file view old new fault =
     (chip : Found) × HasIdentified named old new (Ok chip) × IsMaking view file fault

@@ -84,7 +84,8 @@ abbrev pub IsThere : View → JournalUse → Fault → Type 0
 IsThere view (uses.Journal name) (end.File file.Exists of) = (of.now ≡ name.now) × Happens view (There name.now)
 IsThere view _ fault = ⊥
 
--- the fault is that the journal could not be locked or read, or is invalid (error 15)
+-- the fault is that the journal could not be locked or read, that memory ran out (error 18), or that the journal is
+-- invalid (error 15)
 abbrev pub FailsJournal : View → Text → Fault → Type 0
 FailsJournal view name (end.Refused (BadJournal why)) =
     (bytes : List ℕ) × IsRead view name 16793662 bytes × HasFault bytes why

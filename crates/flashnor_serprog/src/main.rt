@@ -7,7 +7,7 @@
 //! - `run.rt`: a run of the program, from its arguments to its exit status
 //! - `help.rt`: the text of the help that `-h` prints
 //! - `setting.rt`: the value of `-p`
-//! - `roles.rt`: checks that no file that a job writes has a second role
+//! - `roles.rt`: checks that neither the device nor a file that a job writes has a second role
 //! - `sources.rt`: reads the files that a job needs, before the programmer is used
 //! - `port.rt`: a port over the device of the programmer
 //! - `progress.rt`: a bus that prints the progress of a job to standard error

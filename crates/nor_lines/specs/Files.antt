@@ -70,7 +70,7 @@ IsLockingFault view name len fault = IsOpeningFault view name len fault
 -- Holds for the faults of locking a journal and reading at most `most` bytes of it. These are the faults of
 -- `IsReadingFault` and, of this name:
 --
--- - file fault 2 if the file may fail to be opened or locked
+-- - file fault 2 if the file may fail to be opened for overwriting or to be locked
 -- - file fault 5 if another process may have locked the file
 abbrev pub IsSharingFault : View → Text → ℕ → Fault → Type 0
 IsSharingFault view name most (end.File file.Write of) = (of.now ≡ name) × Happens view (Unheld name)

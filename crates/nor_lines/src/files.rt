@@ -146,8 +146,8 @@ pub fn taken(name: &str) -> Fault<'_>
     Fault::File { fault, name }
 }
 
-/// Returns the fault of a file that can't be created, truncated, locked, written or synced, or whose directory can't be
-/// synced (file fault 2).
+/// Returns the fault of a file that can't be created, truncated (or read before that), locked, written or synced, or
+/// whose directory can't be synced (file fault 2).
 pub fn unmade(name: &str) -> Fault<'_>
     ensures { result ≡ Faults.File FileFaults.Write name.entry }
 {
@@ -155,8 +155,9 @@ pub fn unmade(name: &str) -> Fault<'_>
     Fault::File { fault, name }
 }
 
-/// Locks the journal in the file of this name, so that other runs can read it, but not change it. Returns its first
-/// `MOST_JOURNAL_BYTES` bytes, or all if it has fewer, without checking that they are a journal.
+/// Locks the journal in the file of this name, so that other runs can read it, but not change it. On a file system
+/// without locks nothing is locked. Returns its first `MOST_JOURNAL_BYTES` bytes, or all if it has fewer, without
+/// checking that they are a journal.
 ///
 /// Returns one of these faults:
 ///

@@ -15,8 +15,8 @@ use std::{fmt, io};
 pub enum FileFault {
     /// The file is missing, can't be looked up or read, or is a layout of more than 16 MiB.
     Read = 1,
-    /// The file can't be created, truncated, locked, written or synced, its directory can't be synced, or it is the
-    /// trace and lost a line.
+    /// The file can't be created, truncated (or read before that), locked, written or synced, its directory can't be
+    /// synced, or it is the trace and lost a line.
     Write,
     /// The file with the chip's bytes has another length than the chip, or the status file does not have two bytes.
     Length,

@@ -76,8 +76,8 @@ fn a_torn_write_fails(rt: HostRuntime) -> Result<(), AllocError> {
     Ok(())
 }
 
-// A host crash loses all that wasn't synced. The bytes of a sealed vault in a file that existed remain. The bytes of an
-// unsealed vault are lost, and the file has its old bytes.
+// The host crash of this test loses all that wasn't synced. The bytes of a sealed vault in a file that existed remain.
+// The bytes of an unsealed vault are lost, and the file has its old bytes.
 #[test]
 fn a_sealed_vault_is_durable(rt: HostRuntime) -> Result<(), io::Error> {
     for is_sealed in [false, true] {

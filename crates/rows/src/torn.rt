@@ -7,8 +7,8 @@ use crate::runs::Runs;
 use std::alloc::Global;
 use std::process::Abort;
 
-// The numbers of bytes that a stop sends for the rows that program at most two bytes of a page. Their longest
-// transactions are a read of the SFDP, which sends five bytes, and a program of two bytes, which sends six.
+// The numbers of bytes that a stop sends for the rows that program at most two bytes of a page. A program of two bytes
+// sends six. Each other transaction of these rows sends at most five, as a read of the SFDP or of the unique ID does.
 const SHORT: [u32; 7] = [0, 1, 2, 3, 4, 5, 6];
 
 // The numbers of bytes that a stop sends for the row that programs whole pages. A program of a page sends 260 bytes, of

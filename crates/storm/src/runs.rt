@@ -68,7 +68,7 @@ fn check_case(
 }
 
 // Checks a session, which may be refused with one of errors 1 to 8 before the scan, refused with error 9 or 10 after
-// the scan, or accepted.
+// the scan, if there is one, or accepted.
 fn check_session(
     alloc: Global,
     dice: &mut Dice,
@@ -92,7 +92,7 @@ fn check_session(
     }
 }
 
-// Checks a session that is refused with error 9 or 10, after its scan.
+// Checks a session that is refused with error 9 or 10, after its scan if it has one.
 fn check_late(
     alloc: Global,
     dice: &mut Dice,

@@ -3,7 +3,7 @@
 use crate::digits::{address_of, addresses_of};
 use crate::fault::Fault;
 
-/// The bytes to send and, after `<`, the expected reply, both as text.
+/// The bytes to send and, after `<`, the bytes that the reply buffer must have after the transaction, both as text.
 #[derive(Clone, Copy)]
 pub struct Exchange<'a> {
     pub out: &'a str,
