@@ -30,8 +30,8 @@ refusal_number Memory = 18
 refusal_number (Output written) = 19
 refusal_number OtherUnit = 20
 
--- the error of a call for a probe's fault; the address of a timeout is 0, because no modifying command was sent before
--- the wait
+-- the error of a call for a probe's fault; the address of a timeout is 0, because a probe sends no modifying command
+-- before its wait
 abbrev pub of_probe : ProbeFault → Refusal
 of_probe Probes.NoChip = NoChip
 of_probe (Probes.UnknownChip fault) = UnknownChip fault

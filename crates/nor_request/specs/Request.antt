@@ -8,8 +8,7 @@ use Rattle.nor_request.specs.declared.request.Request.{Request}
 use Rattle.nor_request.specs.declared.request.What.{What}
 use Rattle.nor_request.specs.declared.request.What.TheVariants.{Write, WpRange}
 
--- the request for this change on a chip of any name: each address is included, and the session neither lifts protection
--- nor reads anything back
+-- the request for this change on a chip of any name: each address is included, and neither `unlock` nor `verify` is set
 abbrev pub plain : What → Request
 plain wish = record { what = wish; named = None; included = None; unlock = false; verify = false }
 

@@ -58,8 +58,8 @@ impl Request {
         Request::plain(What::WpRange { start, len })
     }
 
-    // Returns a request for this change on the whole chip, on a chip of any name, that lifts no protection and reads
-    // nothing back.
+    // Returns a request for this change on a chip of any name. Each address is included, and neither `unlock` nor
+    // `verify` is set.
     const fn plain(what: What) -> Request
         ensures { result ≡ plain what }
     {

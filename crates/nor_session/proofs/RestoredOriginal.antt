@@ -153,8 +153,8 @@ code_locked : (journal : Content) (first chip : Chip) → first.kept ≡ kept_in
     → code_of chip.kept ≡ code_of (kept_in journal.status)
 code_locked journal first chip bits stay = ap code_of (stay ∙ bits)
 
--- The journal saves the original chip, whose status is locked. If another chip has its configuration and non-volatile
--- bits, and differs from it only at open addresses, no touched sector of that chip is protected.
+-- The journal saves the original chip, which is known and whose status is locked. If another chip has its configuration
+-- and non-volatile bits, and differs from it only at open addresses, no touched sector of that chip is protected.
 free_held : (journal : Content) (first chip : Chip) → IsKnown first.config → SavesChip journal first → chip.config ≡ first.config → chip.kept ≡ first.kept → is_locked first.kept ≡ true
     → ((b : ℕ) → open_addresses journal first b ≡ false → chip.bytes b ≡ first.bytes b) → ¬ SomeProtected (is_touched chip.bytes (restored journal chip.bytes)) chip
 free_held journal first chip known saves config stay locked same some =

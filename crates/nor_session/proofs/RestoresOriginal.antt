@@ -57,8 +57,8 @@ can_restore_read saved first text state journal can_undo read = record {
       can_undo.within;
 }
 
--- If `CanBeUndone` holds after a session with a faithful vault, and the original chip is genuine, the vault's bytes can
--- restore that chip (`CanUndo`).
+-- If `CanBeUndone` holds after a session with a faithful vault, and the original chip is genuine with its values in
+-- range (`IsChip`), the vault's bytes can restore that chip (`CanUndo`).
 pub restorable : (request : Request) (image : List ℕ) (old new : BusState) (vault : VaultState) → IsChip old.chip → IsGenuine old.chip.config → vault.telling ≡ true
     → CanBeUndone request image old new vault → CanUndo (is_touched old.chip.bytes (wanted request image old.chip)) old.chip vault.bytes new
 restorable request image old new vault is genuine telling undone = record {

@@ -40,7 +40,7 @@ use Rattle.nor_session.proofs.RestoredBytes.{unraised_byte}
 use Rattle.nor_session.proofs.Ready.{Ready, changes_of, lifts_none, ran_out_ready, scanned_few}
 use Rattle.nor_session.proofs.ReadyChip.{most_sized}
 
--- All that is known about the chip on a modelled bus after its touched sectors are saved.
+-- Facts about the chip on a modelled bus after its touched sectors are saved.
 pub record ReadyChip (request : Request) (image image' : List ℕ) (identity : Identity) (code : ℕ) (kept : SavedScan) (old mid : BusState) : Type 0 where
   pub honest : old.honest ≡ true
   pub is : IsIdentityOf old.chip identity

@@ -69,9 +69,9 @@ abbrev pub HasBytes : (sectors : ℕ → Bool) → (wanted : ℕ → ℕ) → Ch
 HasBytes sectors wanted chip = (a : ℕ) → sectors (a / 4096) ≡ true → chip.bytes a ≡ wanted a
 
 -- Holds at every exit of the changes and their check. On every bus the modifying commands that were sent are within
--- `most_sent` (`SendsWithin`): the sectors targeted for the first time, the bytes of status writes, and the numbers of
--- commands. On a well-behaved bus the number of transactions is bounded, and if `CanApply` held at the start, the chip
--- changes only as `MayChange` allows.
+-- `most_sent` (`SendsWithin`). That limits the sectors targeted for the first time, the bytes that a status write has
+-- for the first time, and the numbers of erases, page programs and status writes. On a well-behaved bus the number of
+-- transactions is bounded, and if `CanApply` held at the start, the chip changes only as `MayChange` allows.
 pub record LeavesChange (changes : Changes) (wanted : ℕ → ℕ) (old new : BusState) : Type 0 where
   pub spends : Spends (most_changed changes) old new
   pub sends : SendsWithin (most_sent changes) old new

@@ -144,8 +144,8 @@ pub record RehearsalAlways (request : Request) (stops : List ℕ) (old new : Bus
   -- after the seal, the modifying commands that were sent fit the journal in the vault (`SendsSaved`)
   pub sends : vault'.sealed ≡ true → (journal : IsJournal vault'.bytes)
       × SendsSaved (IsRehearsedCode request.what journal.content) (1 + max 1 (length stops)) journal.content old new
-  -- At every exit the status was written no more often than the request may need, and at most twice by each restore.
-  -- The number of restores is at most the number of stops, or one without stops.
+  -- At every exit the number of status writes is at most what the request may need, plus two for each possible restore.
+  -- There are at most as many restores as there are stops, or one without stops.
   pub writes : WritesStatusAtMost (most_status_writes request.what request.unlock + 2 * max 1 (length stops)) old new
 
 -- The promises of a rehearsal on a modelled bus: a well-behaved one whose chip is what its ID or SFDP says.

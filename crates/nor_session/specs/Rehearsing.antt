@@ -189,7 +189,8 @@ pub record LeavesUndo (text stops : List ℕ) (old new : BusState) (result : Res
   pub wears : WearsSaved text old new
   -- if the bytes are a journal, the modifying commands that were sent fit it (`SendsSaved`)
   pub sends : SendsFromJournal text (length stops + 1) old new
-  -- at every exit at most two status writes were sent for each stop, and two more for a restore without a stop
+  -- at every exit the number of status writes is at most twice the number of stops, plus two for a restore without a
+  -- stop
   pub writes : WritesStatusAtMost (2 * (length stops + 1)) old new
   -- if the restores ended on a modelled bus, and the bytes could restore the original chip, that chip is restored
   pub undoes : IfOk result (Undoes text stops old new)

@@ -127,8 +127,8 @@ IsRestoreRefusal refusal = list_any (λ n. refusal_number refusal == n) (12 ∷ 
 
 -- ---- on a modelled bus
 
--- Holds if the error is the verdict; or 12, and fewer transactions were left at the start than the bound. A restore
--- promises this on a modelled bus.
+-- Holds if the error is the verdict; or 12, no transaction is left, and fewer were left at the start than the bound. A
+-- restore promises this on a modelled bus.
 abbrev pub RestoreErrors : Content → (old new : BusState) → Refusal → Type 0
 RestoreErrors journal old new Stopped = RanOut (most_of (length journal.saved)) old new
 RestoreErrors journal old new refusal = IsRestoreVerdict journal old.chip refusal

@@ -162,8 +162,8 @@ HonestErrors most IsEarly old new refusal = IsEarly refusal → IsSame old.chip 
 
 -- ---- on a modelled bus
 
--- Holds if the error is the verdict on the request; or 11, and the vault failed; or 12, and fewer transactions were
--- left at the start than the bound. A session promises this on a modelled bus.
+-- Holds if the error is the verdict on the request; or 11, and the vault failed; or 12, no transaction is left, and
+-- fewer were left at the start than the bound. A session promises this on a modelled bus.
 abbrev pub SessionErrors : Request → List ℕ → (old new : BusState) → (vault vault' : VaultState) → Refusal → Type 0
 SessionErrors request image old new vault vault' Vault = CountsRefusal vault vault'
 SessionErrors request image old new vault vault' Stopped = RanOut (most_of (old.chip.config.size / 4096)) old new

@@ -14,11 +14,11 @@ use nor_journal::{Journal, Vault};
 use nor_model::Bus;
 use nor_request::Refusal;
 
-/// Evidence that the journal is in a sealed vault, or was read.
+/// Evidence that the vault that received the journal is sealed, or that the journal was read.
 pub(crate) struct Restorer(());
 
 impl Restorer {
-    /// Returns the evidence, given that the vault with the journal is sealed.
+    /// Returns the evidence, given that the vault that received the journal is sealed.
     pub(crate) fn in_vault<V: Vault>(_vault: &V) -> Restorer
         requires { (V.state _vault.now).sealed ≡ true }
     {
@@ -31,8 +31,8 @@ impl Restorer {
     }
 }
 
-/// The state in which all that may be changed is saved. Only this state changes the chip. A `Kept` can't be dropped, so
-/// `finish` must consume it.
+/// The state after the vault was sealed, or the journal was read. A faithful vault then holds the journal. Only this
+/// state changes the chip. A `Kept` can't be dropped, so `finish` must consume it.
 pub(crate) struct Kept<'a, B: Bus, S: Source> {
     pub(crate) bus: &'a mut B,
     pub(crate) source: &'a S,

@@ -24,8 +24,8 @@ pub fn restored_stays()
 {}
 
 /// A journal that can restore the original chip can still do so after the chip has lost its power, if the bus wasn't
-/// steady or the chip was idle. So the power may fail between a session that was stopped and its restore, and between
-/// restores.
+/// steady or the chip was idle. Under this condition the power may fail between a session that was stopped and its
+/// restore, and between restores.
 pub fn power_lost_restores_original()
     ensures { (journal : Content) (first : Chip) (old new : BusState)
         → CanRestore journal first old → LosesPower old new → CanRestore journal first new }

@@ -26,10 +26,11 @@ pub struct Rehearsal {
     pub restores: u32,
 }
 
-/// Runs a session that may send at most the number of transactions given by the first of `stops`. If the session sealed
-/// the vault, runs restores, each with the next number of `stops`, until one ends. If no stop is left, a call may send
-/// a number of transactions that is enough for every session and restore. Exactly one allowance is set for each of
-/// these calls: its stop or, without one, this number.
+/// Runs a session that may send at most the number of transactions given by the first of `stops`. If the session ended
+/// or was stopped by its entry in `stops`, and the vault is sealed, runs restores, each with the next number of
+/// `stops`. They are run until one ends or an error is returned. If no stop is left, a call may send a number of
+/// transactions that is enough for every session and restore on a well-behaved bus. Exactly one allowance is set for
+/// each of these calls: its stop or, without one, this number.
 ///
 /// `stops` must have at most 64 entries, and `vault` must be empty and unsealed. `image` and `request` are as for
 /// `session`.

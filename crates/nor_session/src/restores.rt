@@ -12,10 +12,10 @@ use nor_model::Bus;
 use nor_request::{Refusal, Report};
 
 /// Restores the saved sectors and the protection bits of `journal`, and verifies the sectors that it changed. Sectors
-/// that still have their saved bytes are not written.
+/// that are read with their saved bytes are not written.
 ///
-/// A journal of format 2 is accepted only for the device whose unique ID it contains. A journal of format 1 contains no
-/// unique ID, so a restore from it compares only ID, size and status bits.
+/// A journal of format 2 is accepted only if the unique ID that is read from the chip is the one that it contains. A
+/// journal of format 1 contains none, so a restore from it checks ID, size and status bits, but no unique ID.
 ///
 /// On a modelled bus a restore that is stopped can be run again: if the journal could restore a chip at the start, it
 /// can restore that chip at every exit. In this case success leaves that chip, and the only possible error is 12.

@@ -42,12 +42,12 @@ pub enum SimFailure {
 /// The programmer carries out an O_SPIOP frame only if one call of `send` sends that frame and nothing else. It replies
 /// to the queries of a handshake (`Programmer::identify`). If the port fails while it sends an O_SPIOP, the chip stops
 /// as `SimBus::tear` and `SimBus::lose` set. The programmer sends as many bytes of the transaction as `tear` set (none
-/// by default), and the chip loses its power only if `lose` set that. If the port fails later in an exchange, the chip
-/// has carried out the transaction, and the reply is lost.
+/// by default, at most all), and the chip loses its power only if `lose` set that. If the port fails later in an
+/// exchange, the chip has carried out the transaction, and the reply is lost.
 ///
-/// A call also fails if it sends an O_SPIOP while a reply is pending, or one that requests more than 4,096 bytes. It
-/// fails, too, if it sends frames whose replies are longer than 4,097 bytes together with those that are pending, or if
-/// it requests more bytes than are pending. After any failure no call succeeds.
+/// A call that sends one O_SPIOP frame also fails if a reply is pending, or if the frame requests more than 4,096
+/// bytes. A call fails, too, if it sends other frames whose replies are longer than 4,097 bytes together with those
+/// that are pending, or if it requests more bytes than are pending. After any failure no call succeeds.
 #[derive(Drop)]
 pub struct SimPort {
     chip: SimBus,
