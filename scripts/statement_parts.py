@@ -185,8 +185,8 @@ APPENDICES = {
         },
     ),
     "Counts and bounds": (
-        "If this is wrong, a report's numbers are wrong, or a call takes longer than promised. No promise about the "
-        "chip's bytes depends on it.",
+        "If this is wrong, a report's numbers are wrong, a call takes longer than promised, or a call that only reads "
+        "changes more than promised. The headline doesn't depend on it.",
         {
             "OnlyReads": "nor_driver/specs/OnlyReads.antt",
             "Spends": "nor_apply/specs/Spending.antt",
@@ -195,8 +195,8 @@ APPENDICES = {
         },
     ),
     "All clauses of a session and a restore": (
-        "If this is wrong, what is left in the vault, or erased and programmed by a session or restore, isn't as "
-        "promised. The clauses of STATEMENT.md don't depend on the others.",
+        "If this is wrong, what is left in the vault, what a session or restore erases and programs, or the verdict of "
+        "a restore isn't as promised. The clauses of STATEMENT.md don't depend on the other clauses.",
         {
             "session": "nor_session/src/sessions.rt",
             "restore": "nor_session/src/restores.rt",
