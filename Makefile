@@ -1,4 +1,5 @@
-# `make help` lists the targets; README.md and docs/TESTING.md say how long they take.
+# `make help` lists the targets. README.md says how long `make` and `make demo` take, and docs/TESTING.md how long `make
+# quick` and `make check` take.
 
 PROGRAM := crates/flashnor/out/flashnor
 HARDWARE := crates/flashnor_serprog/out/flashnor_serprog
@@ -16,7 +17,7 @@ blank := $(subst ,, )
 BUILT := $(subst $(blank),\ ,$(PROGRAM))
 
 # The directories of `make install`, below DESTDIR if that is given. The program goes to bin, since it works only on
-# files and needs no permissions; flashrom, which drives hardware, is in sbin.
+# files and needs no special permissions; flashrom, which drives hardware, is in sbin.
 PREFIX ?= /usr/local
 INTO = $(DESTDIR)$(PREFIX)
 IN_BIN = $(INTO)/bin/flashnor
@@ -70,8 +71,8 @@ files:
 	@{ printf '\001'; cat '$(SCRATCH)/rest'; } > '$(SCRATCH)/new.bin'
 
 # The first example of README, on the files of `make files`: a session that is stopped after 25 transactions, and its
-# restore. The exit status is that of the program. The first line printed is the command; the last one says how to
-# continue with README's session.
+# restore. If the program fails, so does the target. If a program of these sources is built, the first line printed is
+# the command, and the last one says how to continue with README's session.
 demo: files ## rehearses a write that is stopped half-way, and its restore
 	@if [ -x '$(PROGRAM)' ] && $(MAKE) --no-print-directory -q '$(PROGRAM)'; then \
 	  program=$$(realpath '$(PROGRAM)'); \
@@ -82,7 +83,7 @@ demo: files ## rehearses a write that is stopped half-way, and its restore
 	  $(MAKE) --no-print-directory try; \
 	fi
 
-# The run of `make demo` if the program isn't built yet. If the run fails, the messages of `rt` are shown.
+# The run of `make demo` if no program of these sources is built. If the run fails, the messages of `rt` are shown.
 try: toolchain files
 	@echo "(no proved program of these sources is built: this run compiles one without its proof, and keeps none)"
 	@echo '$$ flashnor $(WORDS)'
@@ -125,7 +126,7 @@ storm: toolchain ## compares random sessions with the reference implementation: 
 sweep: $(BUILT) ## runs the program with each of its allocations refused in turn (with a C compiler)
 	@tests/sweep/run.sh '$(PROGRAM)'
 
-kill: $(BUILT) ## kills the program at each of its calls on files, and makes each fail (with a C compiler)
+kill: $(BUILT) ## kills the program at its calls on files, and makes them fail (with a C compiler)
 	@tests/kill/run.sh '$(PROGRAM)'
 
 # An archive for users without a prover: the proved program, PROVED-WITH, the pages in their directories, and the
@@ -160,7 +161,7 @@ lint: ## checks each script with its linter (shellcheck, a C compiler, pyflakes)
 quick: toolchain ## makes checks that need no proof, in a few minutes
 	@scripts/quick.sh '$(PROGRAM)'
 
-check: toolchain ## the merge gate: proves everything from nothing and passes all tests
+check: toolchain ## the merge gate: all proofs, and all tests except 'make compare'
 	@bash .ci/run
 
 price: toolchain ## prints the processor minutes of the gate, or of COMMAND='rt must-fail nor_driver'
