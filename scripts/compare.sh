@@ -2,11 +2,12 @@
 # scripts/compare.sh [PROGRAM]: compares flashrom and flashnor on the same emulated W25Q128FV.
 #
 # Both programs find the chip, read it, and write a random image onto a chip full of FFh. flashrom verifies what it
-# wrote; flashnor verifies, too, and writes a journal. Then both write and erase two regions, list the protection
-# ranges, and print the protected range of each status. Their bytes and ranges must be the same, and some must have been
-# compared; otherwise the exit status is 1. Times are printed as ratios of flashnor's to flashrom's, and for a reading
-# also to that of `cp`. Each time is the best of three rounds (or of ROUNDS). A ratio above its goal is printed, but is
-# no failure. This is no part of the gate, since it needs flashrom.
+# wrote; flashnor verifies, too, and writes a journal, from which it then restores its chip. Both write and erase two
+# regions. If flashrom lists protection ranges, flashnor must list the same, and both must print the same protected
+# range for each value of the protection bits that the datasheets define. Their bytes must be the same; otherwise the
+# exit status is 1. Times are printed as ratios of flashnor's to flashrom's, and for a reading also to that of `cp`.
+# Each time is the best of three rounds (or of ROUNDS). A ratio above its goal is marked, but is no failure. This is no
+# part of the gate, since it needs flashrom.
 set -euo pipefail
 
 top=$(cd "$(dirname "$0")/.." && pwd)

@@ -1,10 +1,11 @@
 #!/usr/bin/env bash
 # scripts/lint.sh: checks each script and C file with its linter.
 #
-# Shell scripts are checked by shellcheck, C by the compiler with its warnings, Python by Python and by pyflakes. A
-# script must be executable if and only if its first line names an interpreter, and the completion must not use what
-# bash 3.2 lacks. For a linter that isn't installed a line `skipped: ..` is printed. The last line is `N passed, M
-# failed`, where each file counts once for each linter, and the exit status is 1 if a check failed.
+# Shell scripts are checked by shellcheck, C by the compiler with its warnings, Python by Python and by pyflakes. Each
+# file outside crates/ must be executable if and only if its first line names an interpreter, and the completion must
+# not use what bash 3.2 lacks. For a linter that isn't installed a line `skipped: ..` is printed. The last line is `N
+# passed, M failed`, where each file counts once for each check, and the exit status is 1 if a check failed. Without
+# git, which lists the files, nothing is checked.
 set -uo pipefail
 
 cd "$(dirname "$0")/.." || exit

@@ -1,10 +1,10 @@
 #!/usr/bin/env bash
 # scripts/quick.sh [PROGRAM]: makes checks that need no proof, in a few minutes.
 #
-# It checks that the sources are formatted, that the pages agree, that each crate compiles and its tests pass, and, if a
-# program is built, that it passes the cases of tests/. It checks no contract: only the gate proves. The output of what
-# failed is shown, the last line has the counts, and the exit status is 1 if anything failed. Tests that run out of time
-# in such a build are named; the gate runs them.
+# It checks that the sources are formatted, that the pages agree, that each crate compiles and most programs run, and,
+# if flashnor or transcripts is built from these sources, that it passes its cases. It proves nothing. The end of the
+# output of what failed is shown, the last line has the counts, and the exit status is 1 if anything failed. Tests that
+# run out of time in such a build, as those of `rows` do, are named; the gate runs them.
 set -euo pipefail
 
 top=$(cd "$(dirname "$0")/.." && pwd)
