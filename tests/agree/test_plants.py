@@ -168,7 +168,7 @@ PLANTS = {
     "a version without its date": (
         WORDS, "CHANGELOG.md", r"(?m)^(## \[\d[^]]*\]) - .*", "## [1.0]", "version: nothing found in CHANGELOG"),
     "a version of the program": (
-        WORDS, "crates/nor_words/src/options.rt", r'= "flashnor [^:]*:', '= "flashnor 9.9:',
+        WORDS, "crates/nor_words/src/options.rt", r'about: "flashnor [^:]*:', 'about: "flashnor 9.9:',
         "version: parser has '9.9', manual hasn't"),
     "a message of an error": (
         AGREE, "man/flashnor.8", r"(?m)^8\trange not", "8\trange never",
