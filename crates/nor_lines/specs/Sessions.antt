@@ -15,7 +15,7 @@ use Rattle.nor_lines.specs.Stored.{IsKeptFile}
 use Rattle.nor_lines.specs.declared.answers.Answer.{Answer}
 use Rattle.nor_lines.specs.declared.answers.Answer.TheVariants as answer
 
--- Holds if the answer is this report, as that of a change or a restore that ended.
+-- Holds if the answer is `Done` with this report: the answer of a change or a restore that succeeded.
 abbrev pub ReportsDone : Report → Answer → Type 0
 ReportsDone report (answer.Done returned) = returned ≡ report
 ReportsDone report _ = ⊥

@@ -35,9 +35,10 @@ read_back changes verify = if verify then touched_count changes else 0
 
 -- ---- the check, after all is written
 
--- Holds after the check succeeded. The touched sectors were read if `verify` is set, and the work counts these reads.
--- No modifying command was sent. On a well-behaved bus contents and non-volatile status bits are as before. If `verify`
--- is set there and the chip can be checked (`CanCheck`), each byte of a touched sector is the target one.
+-- Holds after the check succeeded. In addition to those of `written`, the work counts one transaction for each touched
+-- sector if `verify` is set, otherwise none; a well-behaved bus carried out exactly that number. No modifying command
+-- was sent. On a well-behaved bus contents and non-volatile status bits are as before. If in addition `verify` is set
+-- and the chip can be checked (`CanCheck`), each byte of a touched sector is the target one.
 pub record DoesCheck (changes : Changes) (wanted : ℕ → ℕ) (verify : Bool) (written : Work) (old new : BusState)
     (work : Work) : Type 0 where
   pub erases : work.erases ≡ written.erases

@@ -1,6 +1,6 @@
 use Rattle.nor_serprog.proofs.handshake.Programmer.identify.Goals as goal
 
--- The first step puts the link in step, and each later step that succeeds leaves it in step.
+-- A successful `synchronize` leaves the link in step (`is_in_step`), and so does each later call that succeeds.
 pub returns : goal.returns
 returns g c =
     c.in_ok-enable_pins.ensures
