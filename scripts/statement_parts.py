@@ -96,7 +96,8 @@ NAMES = {
         "`Records out answer result old new`: the bus adds the transaction to `history` and, if it may modify a chip, "
         "to `sent`. `polled_ready` follows the replies to polls.",
     "Report": "`Report`: the chip that was found, and the numbers of sectors, erases, programs and transactions.",
-    "refusal_number": "`refusal_number refusal`: the number in the comment above the case of `Refusal`.",
+    "refusal_number": "`refusal_number refusal`: the number of the error. In the definition of `Refusal`, the comment "
+        "above each case begins with this number.",
     "IsRestoreVerdict":
         "`IsRestoreVerdict journal chip refusal`: the refusal is the first of these, in this order, that holds: "
         "`NoChip`, `UnknownChip`, `OtherChip` (the ID or size differs from the journal's), `OtherUnit` (the journal "

@@ -1,4 +1,4 @@
--- The results of the jobs that change a chip: all that the engine promises of a session, with its journal in a file.
+-- The results of the jobs that run a session, with its journal in a file: all that the engine promises for the session.
 use Rattle.std.specs.Prelude.{◌≡◌, ℕ, true, List, None, Result}
 use Rattle.nor_model.specs.Bus.{BusState}
 use Rattle.nor_files.specs.Files.{FilesState, IsKnownFile, View, is_lawful}

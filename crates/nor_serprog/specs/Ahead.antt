@@ -27,6 +27,6 @@ history_of ahead = ahead.history.exchanges
 abbrev pub inside_of : {B : Type 0} {over : Ghosts B} → ReadAhead B over → BusState
 inside_of {over = over} ahead = over.state (ahead_of ahead)
 
--- The state of the bus, by its history and by the state of the bus inside (`view_of`).
+-- The state of the bus, computed from its history and from the state of the bus inside (`view_of`).
 abbrev pub ahead_state : {B : Type 0} {over : Ghosts B} → ReadAhead B over → BusState
 ahead_state ahead = view_of (inside_of ahead) (history_of ahead)
