@@ -28,12 +28,12 @@ use Rattle.flashnor.specs.Requests.{IsBufferOf}
 use Rattle.nor_lines.specs.Tasks.{image_of, layout_of, named_by}
 use Rattle.flashnor.specs.Run.{DoesJob, IsViewBut}
 use Rattle.nor_lines.specs.Stored.{AreTwo}
-use Rattle.flashnor.specs.Tasks.{keeps_journal, puts_back}
+use Rattle.flashnor.specs.Tasks.{keeps_journal, writes_back}
 use Rattle.nor_lines.specs.Tasks.{journal_of}
 use Rattle.nor_lines.specs.declared.answers.Answer.{Answer}
 use Rattle.flashnor.proofs.Stays.{StayApart, not_that}
 use Rattle.nor_lines.proofs.Lent.{lawful_after}
-use Rattle.flashnor.proofs.Stays.{settled_after}
+use Rattle.flashnor.proofs.Stays.{durable_after}
 use Rattle.flashnor.proofs.Traced.{reads_before}
 
 -- ---- the chip and the journal after the call
@@ -43,7 +43,7 @@ pub kept_after : {file : Text} {vault : VaultState} {s2 s3 : FilesState} → Kee
 kept_after stays kept = record {
   telling = kept.telling;
   seen = stays.seen ∙ kept.seen;
-  settled = λ is. settled_after stays (kept.settled is);
+  durable = λ is. durable_after stays (kept.durable is);
 }
 
 -- A change that isn't a rehearsal leaves the chip's configuration as it was.
@@ -58,7 +58,7 @@ setup_kept before (uses.Journal file) keeps made =
 setup_kept before (uses.Rehearse stops) keeps made = absurd cc
 
 pub setup_done : (done : Task) (amid : View) (after : FilesState) (programmer : Programmer) (named : Option ChipName)
-    (old new : BusState) (outcome : Result Answer Refusal) → puts_back done ≡ true
+    (old new : BusState) (outcome : Result Answer Refusal) → writes_back done ≡ true
     → DoesJob amid after programmer named done old new outcome → new.chip.config ≡ old.chip.config
 setup_done (task.Change change) amid after programmer named old new outcome puts does =
     setup_kept amid change.journal_use puts does.changed
@@ -79,7 +79,7 @@ module _ (programmer : Programmer) (s2 s3 : FilesState) (nature : s3.view.nature
   kept_in_after (uses.Rehearse stops) vault vault' one other before = before
 
   pub does_after : (done : Task) (amid : View) (named : Option ChipName) (old new : BusState)
-      (outcome : Result Answer Refusal) → puts_back done ≡ true
+      (outcome : Result Answer Refusal) → writes_back done ≡ true
       → AreTwo s2.view.nature programmer.image (named_by done).journal
       → AreTwo s2.view.nature programmer.status (named_by done).journal
       → DoesJob amid s2 programmer named done old new outcome

@@ -78,12 +78,12 @@ pick (Some one) None was found left len mid new same rest may_stay is whole long
 
 -- An idle chip with the original chip's configuration is restorable, if each byte and the non-volatile status bits are
 -- those of a restorable chip or of the original chip.
-pub mixed_back : (journal : Journal) (first : Chip) (state later : BusState) → CanRestore journal first state
+pub mixed_can_restore : (journal : Journal) (first : Chip) (state later : BusState) → CanRestore journal first state
     → later.chip.config ≡ first.config
     → ((a : ℕ) → (later.chip.bytes a ≡ state.chip.bytes a) ⊎ (later.chip.bytes a ≡ first.bytes a))
     → (later.chip.kept ≡ state.chip.kept) ⊎ (later.chip.kept ≡ first.kept) → later.chip.busy ≡ 0
     → CanRestore journal first later
-mixed_back journal first state later can config bytes kept idle = record {
+mixed_can_restore journal first state later can config bytes kept idle = record {
   known = can.known;
   saves = can.saves;
   within = record {

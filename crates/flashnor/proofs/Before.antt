@@ -14,7 +14,7 @@ use Rattle.flashnor.specs.Roles.{HasOwnTrace, FilesHaveOneRole}
 use Rattle.nor_lines.specs.Tasks.{named_by}
 use Rattle.flashnor.specs.Run.{KeepsChange, KeepsFiles, StayBut}
 use Rattle.nor_lines.specs.Stored.{AreTwo, IsNot, LeavesNoMoreOf, MakesNothing, StaysOf}
-use Rattle.flashnor.specs.Tasks.{journal_by, keeps_journal, puts_back}
+use Rattle.flashnor.specs.Tasks.{journal_by, keeps_journal, writes_back}
 use Rattle.nor_lines.specs.Tasks.{journal_of, made_by}
 use Rattle.flashnor.proofs.Stays.{StayApart, apart, known_after, known_at_rest, not_after, not_that}
 use Rattle.nor_lines.proofs.Lent.{stays_same}
@@ -80,7 +80,7 @@ module _ (programmer : Programmer) (old new : FilesState) (image : LeavesNoMoreO
       inl (record { image = image; status = status; others = leave; empty = empty file refl })
   keeps_begun (uses.Rehearse stops) stay_but leave empty = stay_but refl
 
-  keeps_unmade : (done : Task) → (puts_back done ≡ false → StayBut programmer (made_by done) old new)
+  keeps_unmade : (done : Task) → (writes_back done ≡ false → StayBut programmer (made_by done) old new)
       → ((any : Name) → IsNot old.view.nature programmer.trace any → IsNot old.view.nature (made_by done) any
       → LeavesNoMore any old new)
       → ((journal : Bor Text) → done ≡ task.Restore journal → LeavesNoMore journal.now old new)
@@ -108,8 +108,8 @@ keeps_still files programmer done =
     })
     (λ any _ _. (same any).leaves) (λ journal _. (same journal.now).leaves) (λ file _ left can. inl can)
 
--- If a task creates a journal's file, the chip is written back to its files after the call (`puts_back`).
-puts_journal : (done : Task) (file : Bor Text) → journal_by done ≡ Some file → puts_back done ≡ true
+-- If a task creates a journal's file, the chip is written back to its files after the call (`writes_back`).
+puts_journal : (done : Task) (file : Bor Text) → journal_by done ≡ Some file → writes_back done ≡ true
 puts_journal done file is = grind arith
 
 pub keeps_existing : (job : ChipJob) (old new : FilesState) (file : Bor Text) → journal_by job.task ≡ Some file
@@ -146,7 +146,7 @@ module _ (old mid new : FilesState) (rest : AreAtRest old) (nature : mid.view.na
 
   -- The promise of a task that writes the chip back holds if its call was not made, because of a fault of the trace or
   -- of the task's files.
-  pub keeps_before : (job : ChipJob) → FilesHaveOneRole old.view.nature job → puts_back job.task ≡ true
+  pub keeps_before : (job : ChipJob) → FilesHaveOneRole old.view.nature job → writes_back job.task ≡ true
       → StayApart job.programmer.trace (made_by job.task) mid new → MakesNothing (journal_by job.task) mid new
       → KeepsFiles job.programmer job.task old new
   keeps_before job roles puts stay makes =

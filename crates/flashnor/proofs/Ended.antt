@@ -20,7 +20,7 @@ use Rattle.nor_lines.specs.declared.messages.Fault.{Fault}
 use Rattle.nor_lines.specs.declared.messages.Fault.TheVariants as end
 use Rattle.flashnor.specs.declared.printing.Ending.{Ending}
 use Rattle.flashnor.specs.declared.run.Work.{Work}
-use Rattle.flashnor.specs.Tasks.{keeps_journal, puts_back}
+use Rattle.flashnor.specs.Tasks.{keeps_journal, writes_back}
 use Rattle.nor_probe.specs.declared.table.ChipName.{ChipName}
 use Rattle.nor_words.specs.declared.job.Change.{Change}
 use Rattle.nor_words.specs.declared.job.JournalUse.{JournalUse}
@@ -75,27 +75,27 @@ holds_reported on_chip unwritten (Err refusal) returned old new reported holds =
 readonly_change : (programmer : Programmer) (named : Option ChipName) (change : Change) (kept : JournalUse)
     (found : Answer) (old new : FilesState) → keeps_journal kept ≡ false
     → HoldsChange programmer named change kept found old new
-readonly_change programmer named change (uses.Journal file) found old new not_put_back = absurd cc
-readonly_change programmer named change (uses.Rehearse stops) found old new not_put_back = tt
+readonly_change programmer named change (uses.Journal file) found old new not_written_back = absurd cc
+readonly_change programmer named change (uses.Rehearse stops) found old new not_written_back = tt
 
 readonly_task : (programmer : Programmer) (named : Option ChipName) (done : Task) (found : Answer) (old new : FilesState)
-    → puts_back done ≡ false → HoldsTask programmer named done found old new
-readonly_task programmer named (task.Change change) found old new not_put_back =
-    readonly_change programmer named change change.journal_use found old new not_put_back
-readonly_task programmer named (task.Restore journal) found old new not_put_back = absurd cc
-readonly_task programmer named _ found old new not_put_back = tt
+    → writes_back done ≡ false → HoldsTask programmer named done found old new
+readonly_task programmer named (task.Change change) found old new not_written_back =
+    readonly_change programmer named change change.journal_use found old new not_written_back
+readonly_task programmer named (task.Restore journal) found old new not_written_back = absurd cc
+readonly_task programmer named _ found old new not_written_back = tt
 
 readonly_result : (on_chip : ChipJob) (unwritten : Unwritten) (returned : Result Answer Fault) (old new : FilesState)
-    → puts_back on_chip.task ≡ false → HoldsResult on_chip unwritten returned old new
-readonly_result on_chip unwritten (Ok found) old new not_put_back =
-    λ _. readonly_task on_chip.programmer on_chip.named on_chip.task found old new not_put_back
-readonly_result on_chip unwritten (Err fault) old new not_put_back = tt
+    → writes_back on_chip.task ≡ false → HoldsResult on_chip unwritten returned old new
+readonly_result on_chip unwritten (Ok found) old new not_written_back =
+    λ _. readonly_task on_chip.programmer on_chip.named on_chip.task found old new not_written_back
+readonly_result on_chip unwritten (Err fault) old new not_written_back = tt
 
 pub holds_readonly : (on_chip : ChipJob) (result : Result Work Fault) (old new : FilesState)
-    → puts_back on_chip.task ≡ false
+    → writes_back on_chip.task ≡ false
     → IfOk result (λ work. HoldsResult on_chip work.unwritten work.answer old new)
-holds_readonly on_chip (Ok work) old new not_put_back = readonly_result on_chip work.unwritten work.answer old new not_put_back
-holds_readonly on_chip (Err fault) old new not_put_back = tt
+holds_readonly on_chip (Ok work) old new not_written_back = readonly_result on_chip work.unwritten work.answer old new not_written_back
+holds_readonly on_chip (Err fault) old new not_written_back = tt
 
 -- ---- runs
 

@@ -18,10 +18,10 @@ use Rattle.flashnor.proofs.Stays.{known_after}
 missing : (found : Found) → is_some found ≡ false → found ≡ None
 missing found gone = grind arith
 
-pub missing_settled : {E : Type 0} {name : Name} {there : Bool} {old held new : FilesState} → there ≡ false
+pub missing_durable : {E : Type 0} {name : Name} {there : Bool} {old held new : FilesState} → there ≡ false
     → IsKnownFile name old.view → Holds {E = E} name (Ok there) old held → IsPlaced name held new
     → IsDurable name None new
-missing_settled {name = name} {there = there} {old = old} gone known holds placed =
+missing_durable {name = name} {there = there} {old = old} gone known holds placed =
     let none = missing (old.view.seen name) (sym (holds.there there refl known) ∙ gone) in
     let seen = (holds.stay name).seen ∙ none in
     record {

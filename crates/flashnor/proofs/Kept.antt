@@ -26,7 +26,7 @@ use Rattle.nor_words.specs.declared.job.Task.{Task}
 use Rattle.nor_words.specs.declared.job.Task.TheVariants as task
 use Rattle.flashnor.specs.Changes.{HasMadeChange}
 use Rattle.nor_lines.specs.Stored.{IsKeptFile}
-use Rattle.flashnor.specs.Chips.{ArePutBack, IsContentOf, OpensChip}
+use Rattle.flashnor.specs.Chips.{AreWrittenBack, IsContentOf, OpensChip}
 use Rattle.flashnor.specs.Endings.{all_written}
 use Rattle.flashnor.specs.Holding.{AreAmid, AreHeld, AreReady, IsReadyIfNamed, MakesDurable, FillsMissing, was}
 use Rattle.flashnor.specs.Left.{IsNoFileOf, IsOpenedFrom, IsRestorableFrom, LeavesAsLong, MayFind, Opened}
@@ -36,7 +36,7 @@ use Rattle.flashnor.specs.Roles.{FilesHaveOneRole}
 use Rattle.nor_lines.specs.Tasks.{image_of, layout_of, named_by}
 use Rattle.flashnor.specs.Run.{DoesJob, HoldsChange, HoldsTask, IsViewBut, KeepsChange, KeepsFiles}
 use Rattle.nor_lines.specs.Stored.{AreTwo, IsNot}
-use Rattle.flashnor.specs.Tasks.{keeps_journal, puts_back}
+use Rattle.flashnor.specs.Tasks.{keeps_journal, writes_back}
 use Rattle.nor_lines.specs.Tasks.{journal_of, made_by}
 use Rattle.nor_lines.specs.declared.answers.Answer.{Answer}
 use Rattle.flashnor.specs.declared.holding.Held.{Held}
@@ -44,7 +44,7 @@ use Rattle.flashnor.specs.declared.holding.Unwritten.{Unwritten}
 use Rattle.flashnor.proofs.Before.{image_made, status_made}
 use Rattle.flashnor.proofs.Stays.{StayApart, known_after, known_at_rest, not_after, not_that, rest_on}
 use Rattle.nor_lines.proofs.Lent.{lawful_after, stays_on}
-use Rattle.flashnor.proofs.Stays.{settled_after}
+use Rattle.flashnor.proofs.Stays.{durable_after}
 use Rattle.flashnor.proofs.Traced.{missing_before, reads_before}
 use Rattle.flashnor.proofs.AfterCall.{buffer_before, kept_after, ranges_before}
 use Rattle.flashnor.proofs.Reopened.{as_long, as_many, found_either, of_gone, of_none, opened_many, opened_size}
@@ -74,13 +74,13 @@ module _ (job : ChipJob) (held : Held) (s0 s1 s2 : FilesState) (bus bus' : BusSt
       → AreTwo s0.view.nature name job.programmer.trace → AreTwo s0.view.nature name (made_by job.task)
       → MakesDurable name (was there had) s1 → length had ≡ length put
       → IsReadyIfNamed name there had put s2
-  ready None there had put traced other settled many = tt
-  ready (Some name) there had put traced other settled many =
+  ready None there had put traced other durable many = tt
+  ready (Some name) there had put traced other durable many =
       let stays = stay at_rest.lawful name.now (not_after job.programmer.trace name.now nature1 traced)
       (not_after (made_by job.task) name.now nature1 other) in
       record {
         known = known_after nature2 stays (known_at_rest at_rest name.now);
-        settled = settled_after stays settled;
+        durable = durable_after stays durable;
         as_many = many;
       }
 
@@ -190,12 +190,12 @@ module _ (job : ChipJob) (held : Held) (s0 s1 s2 : FilesState) (bus bus' : BusSt
           record {
             journal = saves.content;
             sound = saves.saves.is;
-            left = λ any can. (in_file.settled is).leaves any can ∙ ap Some saves.is;
+            left = λ any can. (in_file.durable is).leaves any can ∙ ap Some saves.is;
             back = λ i s later can can_s from.
                 (made.done.over later (over i s later can can_s from)).back is in_file.telling saves.content
                 saves.saves.is saves.is;
           },
-          rw saves.is at (in_file.settled is),
+          rw saves.is at (in_file.durable is),
         )
 
     -- a session with its journal in a file keeps its promise about the files
@@ -221,7 +221,7 @@ module _ (job : ChipJob) (held : Held) (s0 s1 s2 : FilesState) (bus bus' : BusSt
         })
     keeps_change (uses.Rehearse stops) keeps stay' one other traced made = absurd cc
 
-    pub keeps_files : (done : Task) (named : Option ChipName) (outcome : Result Answer Refusal) → puts_back done ≡ true
+    pub keeps_files : (done : Task) (named : Option ChipName) (outcome : Result Answer Refusal) → writes_back done ≡ true
         → StayApart job.programmer.trace (made_by done) s1 s2
         → AreTwo s0.view.nature job.programmer.image (named_by done).journal
         → AreTwo s0.view.nature job.programmer.status (named_by done).journal
@@ -249,8 +249,8 @@ module _ (job : ChipJob) (held : Held) (s0 s1 s2 : FilesState) (bus bus' : BusSt
     -- ---- what the files hold at the end
 
     module _ (unwritten : Unwritten) (all : unwritten ≡ all_written)
-        (put : ArePutBack job.programmer bus'.chip unwritten.image unwritten.status s3) where
-      put_all : ArePutBack job.programmer bus'.chip None None s3
+        (put : AreWrittenBack job.programmer bus'.chip unwritten.image unwritten.status s3) where
+      put_all : AreWrittenBack job.programmer bus'.chip None None s3
       put_all = rw all at put
 
       holds_change : (change : Change) (named : Option ChipName) (found : Answer) (kept : JournalUse)
@@ -277,12 +277,12 @@ module _ (job : ChipJob) (held : Held) (s0 s1 s2 : FilesState) (bus bus' : BusSt
             target = made.done.returned;
             held = put_all;
             restorable = restorable.0;
-            settled = restorable.1;
+            durable = restorable.1;
           }
       holds_change change named found (uses.Rehearse stops) keeps two_layout two_image one other ranges are image is made =
           absurd cc
 
-      pub holds_task : (done : Task) (named : Option ChipName) (found : Answer) → puts_back done ≡ true
+      pub holds_task : (done : Task) (named : Option ChipName) (found : Answer) → writes_back done ≡ true
           → StayApart job.programmer.trace (made_by done) s1 s2
           → AreTwo s0.view.nature job.programmer.trace (named_by done).layout
           → AreTwo s0.view.nature job.programmer.trace (named_by done).wanted

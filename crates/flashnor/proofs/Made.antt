@@ -61,11 +61,11 @@ module _ {T E : Type 0} {name : Name} {had bytes : List ℕ} {a b : FilesState} 
   mixed : LeavesFileAmid name true had bytes b
   mixed left can = elim (writes.leaves left can) [
     | inl was ↦
-        (had, ready.settled.leaves left was, record { shortest = omega arith; longest = omega arith; each = λ i. inl refl })
+        (had, ready.durable.leaves left was, record { shortest = omega arith; longest = omega arith; each = λ i. inl refl })
     | inr might ↦
         let (first, was, becomes) = might in
         let (has, same, mix) = becomes in
-        (has, same, rw (same_Some first had (ready.settled.leaves (Some first) was)) at mix)
+        (has, same, rw (same_Some first had (ready.durable.leaves (Some first) was)) at mix)
   ]
 
   -- what a host crash may leave of an overwritten file after its length was set, or setting it failed
@@ -89,7 +89,7 @@ module _ {T E : Type 0} {name : Name} {had bytes : List ℕ} {a b : FilesState} 
     | inl is ↦ (
       bytes,
       is ∙ sets.seen two refl ∙ ap (option_map (with_length (length bytes))) (writes.seen one refl
-          ∙ ap (option_map (written_over bytes)) ready.settled.seen)
+          ∙ ap (option_map (written_over bytes)) ready.durable.seen)
           ∙ ap Some (ap (with_length (length bytes)) (all_over had bytes ready.as_many) ∙ with_its_length _ bytes refl),
       record { shortest = omega (arith, ready.as_many); longest = omega arith; each = λ i. inr refl },
     )
@@ -193,7 +193,7 @@ made {bytes = bytes} make = record {
   whole = empty_whole bytes;
   seen = λ had ready. (make.makes ready.known).seen;
   leaves = λ had ready left can. elim ((make.makes ready.known).leaves left can) [
-    | inl before ↦ inl (ready.settled.leaves left before)
+    | inl before ↦ inl (ready.durable.leaves left before)
     | inr empty ↦ inr empty
   ];
 }

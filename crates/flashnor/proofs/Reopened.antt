@@ -73,11 +73,11 @@ found_either had bytes missing (Some name) there files was' left stood unnamed m
 pub as_long : (name : Option (Bor Text)) (there : Bool) (had put : List ℕ) (s0 s1 s3 : FilesState) → AllStay s0 s1
     → MakesDurable name (was there had) s1 → length had ≡ length put → LeavesAmid name there had put s3
     → LeavesAsLong name s0 s3
-as_long None there had put s0 s1 s3 stay settled many amid = tt
-as_long (Some name) true had put s0 s1 s3 stay settled many amid = λ all seen left can.
+as_long None there had put s0 s1 s3 stay durable many amid = tt
+as_long (Some name) true had put s0 s1 s3 stay durable many amid = λ all seen left can.
     let (has, is, mix) = amid left can in
-    let same : all ≡ had = same_Some all had (sym seen ∙ sym (stay name.now).seen ∙ settled.seen) in
+    let same : all ≡ had = same_Some all had (sym seen ∙ sym (stay name.now).seen ∙ durable.seen) in
     rw is (omega (arith, mix.shortest, mix.longest, many, ap length same))
-as_long (Some name) false had put s0 s1 s3 stay settled many amid = λ all seen left can.
-    let both : None ≡ Some all = sym settled.seen ∙ (stay name.now).seen ∙ seen in
+as_long (Some name) false had put s0 s1 s3 stay durable many amid = λ all seen left can.
+    let both : None ≡ Some all = sym durable.seen ∙ (stay name.now).seen ∙ seen in
     absurd cc

@@ -48,9 +48,9 @@ known_after same stays known = record {
   in_store = stays.out ∙ known.in_store;
 }
 
-pub settled_after : {name : Name} {content : Found} {old new : FilesState} → KeepsFile name old new
+pub durable_after : {name : Name} {content : Found} {old new : FilesState} → KeepsFile name old new
     → IsDurable name content old → IsDurable name content new
-settled_after stays is = record {
+durable_after stays is = record {
   seen = stays.seen ∙ is.seen;
   leaves = λ left can. is.leaves left (stays.leaves left can);
 }

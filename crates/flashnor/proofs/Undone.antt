@@ -28,7 +28,7 @@ use Rattle.nor_words.specs.declared.job.Task.{Task}
 use Rattle.nor_words.specs.declared.job.Task.TheVariants as task
 use Rattle.nor_words.specs.declared.programmer.Emulated.{Emulated}
 use Rattle.nor_words.specs.declared.programmer.Programmer.{Programmer}
-use Rattle.flashnor.specs.Chips.{ArePutBack, IsConfigWith}
+use Rattle.flashnor.specs.Chips.{AreWrittenBack, IsConfigWith}
 use Rattle.flashnor.specs.Endings.{all_written}
 use Rattle.flashnor.specs.Found.{emulated_part}
 use Rattle.flashnor.specs.Left.{IsOpenedFrom, KeepsRestorable, IsRestorableFrom, LeavesRestorable, MayFind, Opened}
@@ -41,7 +41,7 @@ use Rattle.flashnor.proofs.Reopened.{of_gone, opened_many, opened_size}
 use Rattle.flashnor.proofs.Stays.{known_at_rest, not_that}
 use Rattle.nor_lines.proofs.Lent.{lawful_after}
 use Rattle.flashnor.proofs.Traced.{reads_before}
-use Rattle.flashnor.proofs.Aside.{left_seen, mixed_back, none_found, pick}
+use Rattle.flashnor.proofs.Aside.{left_seen, mixed_can_restore, none_found, pick}
 
 -- ---- an emulated chip with a given unique ID has one configuration
 
@@ -171,9 +171,9 @@ module _ (programmer : Programmer) (file : Text) (start : FilesState) (first : O
           }
 
       -- the journal can restore the original chip from the chip that the run opened
-      can_back : (journal : Journal) → IsContent journal → IsRead mid.view file 16793662 (text journal)
+      can_restore_then : (journal : Journal) → IsContent journal → IsRead mid.view file 16793662 (text journal)
           → CanRestore journal first.bus.chip found.bus
-      can_back journal is reads =
+      can_restore_then journal is reads =
           rw (one_journal journal is reads) (restorable.back found.read.bytes.found found.read.status.found found.bus
           (found_one programmer.image other.image _ _ mid same.image
           (left_seen mid rest may_stay other.image _ _ found.read.bytes.is_found found.read.bytes.whole _))
@@ -223,7 +223,7 @@ module _ (programmer : Programmer) (file : Text) (start : FilesState) (first : O
       can_state =
           subst (λ (j : Journal). CanRestore j first.bus.chip state)
           (one_journal kept.journal kept.sound kept.read) (kept.back first.bus.chip
-          (can_back found kept.journal kept.sound kept.read) kept_image.0 kept_status.0 state kept_image.1 kept_status.1
+          (can_restore_then found kept.journal kept.sound kept.read) kept_image.0 kept_status.0 state kept_image.1 kept_status.1
           (record {
             config = is.config ∙ sym setup;
             whole = subst (λ (n : ℕ). IfSome kept_image.0 (λ all. length all ≡ n)) (sym (opened_size found))
@@ -242,7 +242,7 @@ module _ (programmer : Programmer) (file : Text) (start : FilesState) (first : O
 
       can_later : CanRestore restorable.journal first.bus.chip later
       can_later =
-          mixed_back restorable.journal first.bus.chip state later can_state is.config
+          mixed_can_restore restorable.journal first.bus.chip state later can_state is.config
           (λ a. elim kept_image.3 [
             | inl same' ↦ inl (is.bytes a ∙ ap (byte_in a) same'
                 ∙ ap (λ (c : Config). slice_index (unwrap_or kept_image.0 (replicate c.size 255)) a) (sym setup))
@@ -271,18 +271,18 @@ module _ (programmer : Programmer) (file : Text) (start : FilesState) (first : O
 
   -- files that durably hold the original chip open to that chip
   module _ (chip : Chip) (new : FilesState) (lawful : is_lawful new.view ≡ true) (is : IsSame first.bus.chip chip)
-      (put : ArePutBack other chip None None new) where
+      (put : AreWrittenBack other chip None None new) where
     -- What may be found of a file of the chip is what was written to it; or nothing is found, and no file is named or
     -- the file was missing at first.
-    settled : (name given : Option (Bor Text)) (was : Found) (bytes : List ℕ) (left : Found) → (given ≡ None → was ≡ None)
+    durable : (name given : Option (Bor Text)) (was : Found) (bytes : List ℕ) (left : Found) → (given ≡ None → was ≡ None)
         → NameOne given name → ArePut name bytes None new → MayFind given was left new
         → ((was ≡ None) × (left ≡ None)) ⊎ (left ≡ Some bytes)
-    settled name None was bytes left none one has can = inl (none refl, can)
-    settled (Some name) (Some given) was bytes left none one has can = elim can [
+    durable name None was bytes left none one has can = inl (none refl, can)
+    durable (Some name) (Some given) was bytes left none one has can = elim can [
       | inl may ↦ inr ((has lawful).leaves left (rw one may))
       | inr aside ↦ inl aside
     ]
-    settled None (Some given) was bytes left none one has can = absurd one
+    durable None (Some given) was bytes left none one has can = absurd one
 
     byte_of : (left : Found) (a : ℕ) → ((first.read.bytes.found ≡ None) × (left ≡ None)) ⊎ (left ≡ Some put.bytes)
         → slice_index (unwrap_or left (replicate first.bus.chip.config.size 255)) a ≡ first.bus.chip.bytes a
@@ -297,9 +297,9 @@ module _ (programmer : Programmer) (file : Text) (start : FilesState) (first : O
     opens_original : LeavesOriginal first new
     opens_original image status opened can can_status from' =
         let small : chip.kept.two < 128 = rw (is.kept ∙ first.opens.holds.kept) (omega arith) in
-        let i = settled other.image programmer.image first.read.bytes.found put.bytes image
+        let i = durable other.image programmer.image first.read.bytes.found put.bytes image
         (none_found start.view programmer.image _ _ first.read.bytes.is_found) same.image put.image_put can in
-        let s = settled other.status programmer.status first.read.status.found (status_of chip) status
+        let s = durable other.status programmer.status first.read.status.found (status_of chip) status
         (none_found start.view programmer.status _ _ first.read.status.is_found) same.status put.status_put can_status in
         record {
           config = from'.config;
@@ -338,7 +338,7 @@ module _ (programmer : Programmer) (file : Text) (start : FilesState) (first : O
       let apart = rw named at (not_that mid.view.nature on_chip.programmer.trace journal
       (rw task' at called.roles.trace_journal)) in
       let reads = reads_before on_chip.programmer.trace file 16793662 _ mid.view amid apart but does.read in
-      let can = can_back programmer file start first on_chip.programmer ran.same mid ran.follows.rest may_stay
+      let can = can_restore_then programmer file start first on_chip.programmer ran.same mid ran.follows.rest may_stay
       (restorable_mid all_written (Ok answer) ran)
       (record { content = called.content; read = called.read; bus = sim_state called.bus; opens = called.started.opens })
       does.journal does.sound reads in

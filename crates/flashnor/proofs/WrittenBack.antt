@@ -8,10 +8,10 @@ use Rattle.nor_files.specs.Files.{FilesState, Name, KeepsFile, View, is_lawful}
 use Rattle.nor_files.specs.Files.Failure.{Unwritten}
 use Rattle.nor_words.specs.Text.{Text}
 use Rattle.nor_words.specs.declared.programmer.Programmer.{Programmer}
-use Rattle.flashnor.specs.Chips.{ArePutBack}
+use Rattle.flashnor.specs.Chips.{AreWrittenBack}
 use Rattle.flashnor.specs.Holding.{AreAmid, AreReady, IsReadyIfNamed, LeavesAmid, MakesDurable}
 use Rattle.nor_lines.specs.Stored.{ArePut, AreTwo, Happens, IsNot, IsReportedOf}
-use Rattle.flashnor.proofs.Stays.{known_after, not_after, not_that, settled_after}
+use Rattle.flashnor.proofs.Stays.{known_after, not_after, not_that, durable_after}
 use Rattle.nor_lines.proofs.Lent.{lawful_after}
 
 -- Holds if, provided that the files obey their contract, each file is as it was whose name is apart from the given one,
@@ -19,7 +19,7 @@ use Rattle.nor_lines.proofs.Lent.{lawful_after}
 abbrev OthersOf : Option (Bor Text) → (old new : FilesState) → Type 0
 OthersOf name old new = is_lawful old.view ≡ true → (any : Name) → IsNot old.view.nature name any → KeepsFile any old new
 
--- the clauses of `put_back` for a file, if one is named; `failed` is the name that is returned if the file could not be
+-- the clauses of `write_if_named` for a file, if one is named; `failed` is the name that is returned if the file could not be
 -- written
 abbrev PutsBack : Option (Bor Text) → (there : Bool) → (bytes : List ℕ) → (failed : Option (Bor Text))
     → (old new : FilesState) → Type 0
@@ -42,7 +42,7 @@ ready_still one (Some name) there had bytes a b two same others ready =
     let stays = others ready.known.lawful name.now (not_that a.view.nature one name two) in
     record {
       known = known_after same stays ready.known;
-      settled = settled_after stays ready.settled;
+      durable = durable_after stays ready.durable;
       as_many = ready.as_many;
     }
 
@@ -55,7 +55,7 @@ other_write_keeps : (there : Bool) (had bytes : List ℕ) (a b c : FilesState) (
 other_write_keeps there had bytes a b c None other two same others ready = (λ _. tt, λ _. tt)
 other_write_keeps there had bytes a b c (Some name) other two same others ready =
     let stays = others (lawful_after same ready.known.lawful) name.now (not_after other name.now same two) in
-    (settled_after stays, λ amid left can. amid left (stays.leaves left can))
+    (durable_after stays, λ amid left can. amid left (stays.leaves left can))
 
 -- ---- the names that are returned
 
@@ -91,7 +91,7 @@ module _ {programmer : Programmer} {image_there status_there : Bool} {had bits :
       ready_still programmer.image programmer.status status_there bits (status_of chip) a b two first.nature first.others
       ready.status
 
-  pub both_put : ArePutBack programmer chip image status c
+  pub both_put : AreWrittenBack programmer chip image status c
   both_put = record {
     bytes = bytes;
     are = are;

@@ -96,7 +96,7 @@ FailsToHold view programmer fault = (fault ≡ end.Refused Memory)
 -- Holds for the chip's files after the chip was written back. `image` and `status` are the names of files that may have
 -- failed to be written. If the files obey their contract, each other named file of the chip has the chip's bytes or
 -- status bytes, and has them durably.
-pub record ArePutBack (programmer : Programmer) (chip : Chip) (image status : Option (Bor Text))
+pub record AreWrittenBack (programmer : Programmer) (chip : Chip) (image status : Option (Bor Text))
     (files : FilesState) : Type 0 where
   pub bytes : List ℕ
   pub are : AreChipBytes chip bytes

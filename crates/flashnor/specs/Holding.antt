@@ -20,7 +20,7 @@ MakesDurable (Some name) content files = IsDurable name.now content files
 -- durable, as is the absence of a missing file.
 pub record IsHeld (name : Option (Bor Text)) (found : Found) (old new : FilesState) : Type 0 where
   pub stay : AllStay old new
-  pub settled : MakesDurable name found new
+  pub durable : MakesDurable name found new
 
 -- the contents of a file: these bytes if it exists (`there`), otherwise `None`
 abbrev pub was : (there : Bool) → List ℕ → Found
@@ -63,7 +63,7 @@ LeavesAmid (Some name) there had bytes files = LeavesFileAmid name.now there had
 -- missing file, what stands for it) has as many bytes as `bytes`.
 pub record IsReadyFile (name : Text) (there : Bool) (had bytes : List ℕ) (files : FilesState) : Type 0 where
   pub known : IsKnownFile name files.view
-  pub settled : IsDurable name (was there had) files
+  pub durable : IsDurable name (was there had) files
   pub as_many : length had ≡ length bytes
 
 -- Holds if no file is named, or if the named file is ready to be written (`IsReadyFile`).

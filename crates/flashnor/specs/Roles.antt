@@ -7,20 +7,20 @@ use Rattle.nor_files.specs.Files.{Nature}
 use Rattle.nor_lines.specs.Roles.{IsPrintedTo, IsShared, IsUnseenFile}
 use Rattle.nor_lines.specs.Stored.{AreTwo}
 use Rattle.nor_lines.specs.Tasks.{named_by}
-use Rattle.flashnor.specs.Tasks.{puts_back}
+use Rattle.flashnor.specs.Tasks.{writes_back}
 use Rattle.nor_lines.specs.declared.messages.Fault.{Fault}
 use Rattle.flashnor.specs.declared.roles.Role.{Role}
 use Rattle.flashnor.specs.declared.roles.Role.TheVariants as role
 
 -- Holds if the roles that need different files have names that are apart. If the task writes the chip back
--- (`puts_back`), the chip's image is apart from its status file and the layout, and the status file from the layout and
+-- (`writes_back`), the chip's image is apart from its status file and the layout, and the status file from the layout and
 -- the image to write. The trace, the output and the journal are apart from every other file of the job. No task names
 -- an output together with a journal or an image to write or compare.
 pub record FilesHaveOneRole (nature : Nature) (job : ChipJob) : Type 0 where
-  pub status : puts_back job.task ≡ true → AreTwo nature job.programmer.image job.programmer.status
-  pub image_layout : puts_back job.task ≡ true → AreTwo nature job.programmer.image (named_by job.task).layout
-  pub status_layout : puts_back job.task ≡ true → AreTwo nature job.programmer.status (named_by job.task).layout
-  pub status_wanted : puts_back job.task ≡ true → AreTwo nature job.programmer.status (named_by job.task).wanted
+  pub status : writes_back job.task ≡ true → AreTwo nature job.programmer.image job.programmer.status
+  pub image_layout : writes_back job.task ≡ true → AreTwo nature job.programmer.image (named_by job.task).layout
+  pub status_layout : writes_back job.task ≡ true → AreTwo nature job.programmer.status (named_by job.task).layout
+  pub status_wanted : writes_back job.task ≡ true → AreTwo nature job.programmer.status (named_by job.task).wanted
   pub image_trace : AreTwo nature job.programmer.image job.programmer.trace
   pub status_trace : AreTwo nature job.programmer.status job.programmer.trace
   pub trace_layout : AreTwo nature job.programmer.trace (named_by job.task).layout
@@ -69,8 +69,8 @@ order_of role.Journal = 6
 -- True if the file in that role is written. A journal counts as written even in a restore, so that its file has no
 -- second role.
 abbrev pub is_written : ChipJob → Role → Bool
-is_written job role.Image = puts_back job.task
-is_written job role.Status = puts_back job.task
+is_written job role.Image = writes_back job.task
+is_written job role.Status = writes_back job.task
 is_written job role.Layout = false
 is_written job role.Wanted = false
 is_written job _ = true

@@ -32,13 +32,13 @@ use Rattle.nor_words.specs.declared.programmer.Emulated.{Emulated}
 use Rattle.nor_words.specs.declared.programmer.Programmer.{Programmer}
 use Rattle.nor_lines.specs.AnswerLines.{AreLines}
 use Rattle.flashnor.specs.Changes.{HasMadeChange, HasRestoredNamed, ReportsChange, ReportsRestore}
-use Rattle.flashnor.specs.Chips.{ArePutBack, FailsToHold, FailsToOpen, IsContentOf, StartsBus}
+use Rattle.flashnor.specs.Chips.{AreWrittenBack, FailsToHold, FailsToOpen, IsContentOf, StartsBus}
 use Rattle.flashnor.specs.Endings.{HasPrinted, all_written}
 use Rattle.nor_lines.specs.Printing.{Prints}
 use Rattle.nor_lines.specs.Stored.{IsNot, IsRead, IsReportedOf, StaysOf}
 use Rattle.flashnor.specs.Left.{KeepsOriginalFiles, KeepsRestorable, IsRestorableFrom, Opened}
 use Rattle.flashnor.specs.Roles.{FailsFileRoles, FilesHaveOneRole}
-use Rattle.flashnor.specs.Tasks.{puts_back}
+use Rattle.flashnor.specs.Tasks.{writes_back}
 use Rattle.nor_lines.specs.Tasks.{made_by}
 use Rattle.nor_files.specs.Files.{AllStay, AreAtRest, FilesState, IsKnownFile, IsDurable, Name, KeepsFile, View}
 use Rattle.nor_lines.specs.Files.{IsMaking, IsReadingFault, IsSharingFault}
@@ -145,9 +145,9 @@ pub record IsCalled (files after : FilesState) (job : ChipJob) (unwritten : Unwr
   pub started : StartsBus job.programmer content bus
   pub new : BusState
   pub does : DoesTraced files after job (sim_state bus) new outcome
-  pub reported : AreReported (puts_back job.task) job.programmer unwritten files.view
-  pub left : AreAtRest files → puts_back job.task ≡ true
-      → ArePutBack job.programmer new.chip unwritten.image unwritten.status after
+  pub reported : AreReported (writes_back job.task) job.programmer unwritten files.view
+  pub left : AreAtRest files → writes_back job.task ≡ true
+      → AreWrittenBack job.programmer new.chip unwritten.image unwritten.status after
   pub traced : OnSome unwritten.trace (unwritten.trace ≡ job.programmer.trace)
 
 -- ---- faults from before the call
@@ -198,7 +198,7 @@ FailsTraced view on_chip fault = IsSomeAnd on_chip.programmer.trace (λ name. Is
 -- syncing the chip's files, of the trace, and of its task.
 abbrev pub FailsJob : View → ChipJob → Fault → Type 0
 FailsJob view on_chip fault = FailsFileRoles view.nature on_chip fault
-    ⊎ (FailsToStart (puts_back on_chip.task) view on_chip.programmer fault
+    ⊎ (FailsToStart (writes_back on_chip.task) view on_chip.programmer fault
     ⊎ FailsTraced view on_chip fault)
 
 -- ---- the files at every exit of a run
@@ -240,9 +240,9 @@ pub record HoldsTarget (programmer : Programmer) (named : Option ChipName) (chan
   pub buffer : IsBufferOf old.view programmer.chip change.wanted image
   pub target : ReportsChange (request_for change named ranges) image first.bus last found
   -- the files hold the target chip and the journal
-  pub held : ArePutBack programmer last.chip None None new
+  pub held : AreWrittenBack programmer last.chip None None new
   pub restorable : IsRestorableFrom file first new
-  pub settled : IsDurable file (Some (text restorable.journal)) new
+  pub durable : IsDurable file (Some (text restorable.journal)) new
 
 -- Holds after a restore ended with this answer, and all files were written. If the files obey their contract, the
 -- chip's files durably hold the chip that the journal restores (`held`). The journal's file is as it was.
@@ -260,7 +260,7 @@ pub record HoldsRestored (programmer : Programmer) (file : Text) (found : Answer
   pub target : ReportsRestore journal probed last found
   pub back : (first : Chip) → CanRestore journal first opened.bus → IsSame first last.chip
   -- the chip's files hold the restored chip, and the journal's file is as it was
-  pub held : ArePutBack programmer last.chip None None new
+  pub held : AreWrittenBack programmer last.chip None None new
   pub stays : KeepsFile file old new
 
 -- The result of a change in the files, if its journal is in a file. Nothing is claimed for a rehearsal.

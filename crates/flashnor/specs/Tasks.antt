@@ -15,10 +15,10 @@ keeps_journal (uses.Rehearse stops) = false
 
 -- True if the chip is written back to its files after the call: the task is a restore, or a change that is not a
 -- rehearsal.
-abbrev pub puts_back : Task → Bool
-puts_back (task.Change change) = keeps_journal change.journal_use
-puts_back (task.Restore journal) = true
-puts_back _ = false
+abbrev pub writes_back : Task → Bool
+writes_back (task.Change change) = keeps_journal change.journal_use
+writes_back (task.Restore journal) = true
+writes_back _ = false
 
 -- the name of the journal's file, if the task creates one; `None` for a rehearsal, whose journal is in memory
 abbrev pub journal_by : Task → Option (Bor Text)

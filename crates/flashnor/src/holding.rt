@@ -4,7 +4,7 @@ ghost use Rattle.std.specs.Prelude.{option_map, vec_len};
 ghost use Rattle.nor_files.specs.Calls.{LeaveNoMore};
 ghost use Rattle.nor_files.specs.Files.{AreAtRest, IsDurable, KnownStay, Name, OthersStay, KeepsFile, is_lawful};
 ghost use Rattle.nor_files.specs.Files.Failure.{Unwritten as FailsWrite};
-ghost use Rattle.flashnor.specs.Chips.{ArePutBack, FailsToHold, IsContentOf};
+ghost use Rattle.flashnor.specs.Chips.{AreWrittenBack, FailsToHold, IsContentOf};
 ghost use Rattle.nor_lines.specs.Files.{IsLockingFault};
 ghost use Rattle.flashnor.specs.Found.{emulated_part};
 ghost use Rattle.flashnor.specs.Holding.{AreAmid, AreHeld, AreReady, IsHeld, IsReadyIfNamed, IsReadyFile};
@@ -152,21 +152,21 @@ pub fn write_back<'a, R: Store>(
     ensures put { AreTwo (R.state rt.old).view.nature programmer.now.image programmer.now.status
         → (bytes bits : List ℕ) → AreReady programmer.now image_there status_there bytes bits
         (⟦<SimBus as Bus>⟧.state bus.now).chip (R.state rt.old)
-        → ArePutBack programmer.now (⟦<SimBus as Bus>⟧.state bus.now).chip result.0 result.1 (R.state rt.new) }
+        → AreWrittenBack programmer.now (⟦<SimBus as Bus>⟧.state bus.now).chip result.0 result.1 (R.state rt.new) }
     ensures amid { AreTwo (R.state rt.old).view.nature programmer.now.image programmer.now.status
         → (bytes bits : List ℕ) → AreReady programmer.now image_there status_there bytes bits
         (⟦<SimBus as Bus>⟧.state bus.now).chip (R.state rt.old)
         → AreAmid programmer.now image_there status_there bytes bits (⟦<SimBus as Bus>⟧.state bus.now).chip
         (R.state rt.new) }
 {
-    let image = put_back(rt, programmer.image, image_there, bus.bytes());
-    let status = put_back(rt, programmer.status, status_there, &bus.status());
+    let image = write_if_named(rt, programmer.image, image_there, bus.bytes());
+    let status = write_if_named(rt, programmer.status, status_there, &bus.status());
     (image, status)
 }
 
 // Writes `bytes` to the file of this name, if one is given: overwrites it if it existed (`there`), or creates it.
 // Returns the name if that fails.
-fn put_back<'a, R: Store>(
+fn write_if_named<'a, R: Store>(
     rt: &mut R,
     name: Option<&'a str>,
     there: bool,

@@ -4,7 +4,7 @@ ghost use Rattle.flashnor.specs.Roles.{FailsFileRoles, FilesHaveOneRole, HasOwnT
 ghost use Rattle.flashnor.specs.Roles.{must_differ};
 ghost use Rattle.nor_lines.specs.Stored.{AreTwo};
 
-use crate::run::puts_back;
+use crate::run::writes_back;
 use nor_files::Store;
 use nor_lines::{Fault, Named, apart, named_by, unprinted};
 use nor_words::ChipJob;
@@ -58,7 +58,7 @@ fn are_apart<'a, R: Store>(rt: &R, job: &ChipJob<'a>) -> Result<(), Fault<'a>>
     ensures ok { OnOk result (FilesHaveOneRole (R.state rt.now).view.nature job.now) }
     ensures err { IfErr result (FailsFileRoles (R.state rt.now).view.nature job.now) }
 {
-    if puts_back(&job.task) {
+    if writes_back(&job.task) {
         check_pair(rt, job, Role::Image, Role::Status)?;
         check_pair(rt, job, Role::Image, Role::Layout)?;
         check_pair(rt, job, Role::Status, Role::Layout)?;
@@ -83,7 +83,7 @@ fn are_apart<'a, R: Store>(rt: &R, job: &ChipJob<'a>) -> Result<(), Fault<'a>>
 fn are_unprinted<'a, R: Store>(rt: &R, job: &ChipJob<'a>) -> Result<(), Fault<'a>>
     ensures { IfErr result (FailsFileRoles (R.state rt.now).view.nature job.now) }
 {
-    if puts_back(&job.task) {
+    if writes_back(&job.task) {
         check_unprinted(rt, job, Role::Image)?;
         check_unprinted(rt, job, Role::Status)?;
     }

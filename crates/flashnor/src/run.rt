@@ -11,7 +11,7 @@ ghost use Rattle.flashnor.specs.Endings.{EndsWith, HasPrinted, IsUnread, IsWitho
 ghost use Rattle.flashnor.specs.Run.{AnswersArguments, DoesJob, DoesTraced, EndsChipJob, FailsTask, FailsJob};
 ghost use Rattle.flashnor.specs.Roles.{FilesHaveOneRole};
 ghost use Rattle.flashnor.specs.Run.{FailsTraced, HoldsResult, IsStatus, KeepsFiles, StayBut};
-ghost use Rattle.flashnor.specs.Tasks.{journal_by, puts_back};
+ghost use Rattle.flashnor.specs.Tasks.{journal_by, writes_back};
 
 use crate::changes::{change_chip, restore_chip};
 use crate::chips::{read_content, start};
@@ -172,7 +172,7 @@ fn work_on_chip<'a, R: Store>(rt: &mut R, job: &ChipJob<'a>) -> Result<Work<'a>,
         return Err(fault_before(rt, job, name));
     }
     have_one_role(rt, job)?;
-    if puts_back(&job.task) {
+    if writes_back(&job.task) {
         change_files(rt, job)
     } else {
         look_at_files(rt, job)
@@ -181,7 +181,7 @@ fn work_on_chip<'a, R: Store>(rt: &mut R, job: &ChipJob<'a>) -> Result<Work<'a>,
 
 // Reads the chip's files, and performs a task that does not write them back.
 fn look_at_files<'a, R: Store>(rt: &mut R, job: &ChipJob<'a>) -> Result<Work<'a>, Fault<'a>>
-    requires only_reads { puts_back job.now.task ≡ false }
+    requires only_reads { writes_back job.now.task ≡ false }
     requires roles { FilesHaveOneRole (R.state rt.old).view.nature job.now }
     ensures ok { IfOk result (λ work.
         EndsChipJob (R.state rt.old) (R.state rt.new) job.now work.unwritten work.answer) }
@@ -204,7 +204,7 @@ fn look_at_files<'a, R: Store>(rt: &mut R, job: &ChipJob<'a>) -> Result<Work<'a>
 
 // Locks and reads the chip's files, performs a task that changes the chip, and writes the chip back to its files.
 fn change_files<'a, R: Store>(rt: &mut R, job: &ChipJob<'a>) -> Result<Work<'a>, Fault<'a>>
-    requires changes { puts_back job.now.task ≡ true }
+    requires changes { writes_back job.now.task ≡ true }
     requires roles { FilesHaveOneRole (R.state rt.old).view.nature job.now }
     ensures ok { IfOk result (λ work.
         EndsChipJob (R.state rt.old) (R.state rt.new) job.now work.unwritten work.answer) }
@@ -330,8 +330,8 @@ fn do_task<'a, R: Store, B: Meter>(
 
 /// True if the chip is written back to its files after the call: the task is a restore, or a change that is not a
 /// rehearsal.
-pub fn puts_back(task: &Task<'_>) -> bool
-    ensures { result ≡ puts_back task.now }
+pub fn writes_back(task: &Task<'_>) -> bool
+    ensures { result ≡ writes_back task.now }
 {
     match task {
         Task::Change(Change { journal_use, .. }) => match journal_use {

@@ -59,7 +59,7 @@ module _ (request : Request) (image : List ℕ) (file : Text) (before : View) (a
       record {
         bytes = ran.vault'.bytes;
         journal = sends.0;
-        settled = kept.settled is;
+        durable = kept.durable is;
         sends = sends_after _ _ old found new same sends.1;
       })
 

@@ -28,7 +28,7 @@ KeepsSent old new = new.sent ≡ old.sent
 pub record SendsJournalled (what : What) (file : Text) (old new : BusState) (after : FilesState) : Type 0 where
   pub bytes : List ℕ
   pub journal : IsJournal bytes
-  pub settled : IsDurable file (Some bytes) after
+  pub durable : IsDurable file (Some bytes) after
   pub sends : SendsSaved (IsWrittenCode what journal.content) 1 journal.content old new
 
 -- A change sent no modifying command; or, if the files obey the contract of `Store`, its journal is durable, and all

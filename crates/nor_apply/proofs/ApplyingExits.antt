@@ -24,7 +24,7 @@ use Rattle.nor_apply.specs.Erasing.{LeavesErases, DoesErases}
 use Rattle.nor_apply.specs.Programming.{LeavesPrograms, DoesPrograms, most_sector}
 use Rattle.nor_apply.specs.Applying.{touched_in, raised_in, writes_code, status_writes, is_status_asked, most_sent, most_applied, CanApply, LeavesApply, DoesApply, NamesChange}
 use Rattle.nor_apply.proofs.InTurn.{ran_none, spends_ended}
-use Rattle.nor_apply.proofs.Targeting.{aim_here, aim_wider}
+use Rattle.nor_apply.proofs.Targeting.{target_here, target_wider}
 use Rattle.nor_apply.proofs.Changing.{change_as, same_change}
 use Rattle.nor_apply.proofs.ApplyingSteps.{code_read, code_once, intermediate_first, intermediate_changed, can_erase_all, can_program_all, applied}
 use Rattle.nor_apply.proofs.ApplyingInTurn.{raised_few, code_limits, Numbers, sending_these, SoFar, Leaves, EndsInError, now_honest, ends_in_error, goes_on, code_leaves, code_written, names_writing, names_sectors}
@@ -93,15 +93,15 @@ module _ {changes : Changes} {wanted : ℕ → ℕ} {old mid new : BusState} {do
         (leaves.reached (now_honest so honest) (can_erase_all can (so.intermediate honest can)));
   }
 
-  aims_raised : (s : ℕ) → may_target (raised_in changes) changes.size s ≡ true
+  targets_raised : (s : ℕ) → may_target (raised_in changes) changes.size s ≡ true
       → may_target (touched_in changes) changes.size s ≡ true
-  aims_raised s = aim_wider _ _ changes.size s inside
+  targets_raised s = target_wider _ _ changes.size s inside
 
   erase_parts : AreParts (sending_these changes (lifting changes)) (erasing (may_target (raised_in changes) changes.size)
       (sector_count (raised_in changes))) (most_sent changes)
   erase_parts = record {
     sectors = λ s targeted. targeted;
-    sectors' = aims_raised;
+    sectors' = targets_raised;
     status = λ one two written. written;
     status' = λ one two written. absurd (true≢false (sym written));
     erases = omega arith;
@@ -113,7 +113,7 @@ module _ {changes : Changes} {wanted : ℕ → ℕ} {old mid new : BusState} {do
       (erasing (may_target (raised_in changes) changes.size) n) (sending_these changes (and_more (lifting changes) n 0))
   erase_sum n = record {
     sectors = λ s targeted. targeted;
-    sectors' = aims_raised;
+    sectors' = targets_raised;
     status = λ one two written. written;
     status' = λ one two written. absurd (true≢false (sym written));
     erases = refl;
@@ -170,7 +170,7 @@ module _ {changes : Changes} {wanted : ℕ → ℕ} (erases : ℕ) {old mid new 
       (programming (touched_in changes) (16 * sector_count (touched_in changes))) (most_sent changes)
   program_parts fits = record {
     sectors = λ s targeted. targeted;
-    sectors' = λ s touched. aim_here (touched_in changes) changes.size s touched;
+    sectors' = λ s touched. target_here (touched_in changes) changes.size s touched;
     status = λ one two written. written;
     status' = λ one two written. absurd (true≢false (sym written));
     erases = omega (arith, fits);
@@ -182,7 +182,7 @@ module _ {changes : Changes} {wanted : ℕ → ℕ} (erases : ℕ) {old mid new 
       (programming (touched_in changes) n) (sending_these changes (and_more (and_more (lifting changes) erases 0) 0 n))
   program_sum n = record {
     sectors = λ s targeted. targeted;
-    sectors' = λ s touched. aim_here (touched_in changes) changes.size s touched;
+    sectors' = λ s touched. target_here (touched_in changes) changes.size s touched;
     status = λ one two written. written;
     status' = λ one two written. absurd (true≢false (sym written));
     erases = refl;

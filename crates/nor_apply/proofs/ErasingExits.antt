@@ -27,9 +27,9 @@ use Rattle.nor_apply.specs.Within.{addresses_of}
 use Rattle.nor_apply.specs.Change.{MayChange, blank}
 use Rattle.nor_apply.specs.Spending.{may_target, NamesTimeoutIn}
 use Rattle.nor_apply.specs.Erasing.{CanEraseAll, LeavesErases, DoesErases}
-use Rattle.nor_apply.proofs.InTurn.{Listed, listed_none, listed_failed, listed_more, come_all, come_before, come_next, come_fewer, spends_ended}
+use Rattle.nor_apply.proofs.InTurn.{Listed, listed_none, listed_failed, listed_more, listed_all, listed_split, listed_next, listed_fewer, spends_ended}
 use Rattle.nor_apply.proofs.Changing.{can_after, change_then, HasMade, changed_of, made_may, made_none, made_same, made_then}
-use Rattle.nor_apply.proofs.Targeting.{unit_aims}
+use Rattle.nor_apply.proofs.Targeting.{unit_targets}
 
 -- Holds for an erase of the plan on a chip of `total` sectors: it is one that the chip offers (`IsErase`), erases at
 -- least one sector, and erases only sectors of the set.
@@ -139,7 +139,7 @@ module _ {kinds : Kinds} {size : ℕ} {set : ℕ → Bool} {units left : List Er
   module _ (none : left ≡ []) where
     pub does_ended : DoesErases set kinds size old mid tally
     does_ended =
-        let all = come_all so.listed none in
+        let all = listed_all so.listed none in
         let same : (s : ℕ) → erased_by (size / 4096) units s ≡ set s = λ s. rw all (so.covers.union s) in
         record {
           count = so.listed.count ∙ ap length all;
@@ -160,7 +160,7 @@ module _ {kinds : Kinds} {size : ℕ} {set : ℕ → Bool} {units left : List Er
   -- For the point at which `unit` is the next erase.
   module _ {unit : Erase} {rest : List Erase} (next : left ≡ unit ∷ rest) where
     pub few_units : tally.count < 4096
-    few_units = omega (arith, come_fewer so.listed next, so.few, count_below-most 4096 set)
+    few_units = omega (arith, listed_fewer so.listed next, so.few, count_below-most 4096 set)
 
     some_total : 1 ≤ size / 4096
     some_total = elim (cases_lt 0 (size / 4096)) [
@@ -168,7 +168,7 @@ module _ {kinds : Kinds} {size : ℕ} {set : ℕ → Bool} {units left : List Er
       | inr none ↦
           let free : (s : ℕ) → s < 4096 → set s ≡ false = λ s small.
           false_from_ne_true (set s) (λ is. omega (arith, so.below s is)) in
-          omega (arith, come_fewer so.listed next, so.few, count_below-none 4096 set free)
+          omega (arith, listed_fewer so.listed next, so.few, count_below-none 4096 set free)
     ]
 
     of_plan : IsOfPlan kinds (size / 4096) set unit
@@ -176,15 +176,15 @@ module _ {kinds : Kinds} {size : ℕ} {set : ℕ → Bool} {units left : List Er
         let total = size / 4096 in
         let parts = λ (s : ℕ). list_any-append (erases_sector total s) units (unit ∷ rest) in
         record {
-          is = come_next so.listed next (IsErase kinds total) so.covers.units;
+          is = listed_next so.listed next (IsErase kinds total) so.covers.units;
           some = some_sectors total unit.unit some_total;
           inside = λ s erased.
-              sym (so.covers.union s) ∙ rw (← come_before so.listed next, parts s, erased) (or-true _);
+              sym (so.covers.union s) ∙ rw (← listed_split so.listed next, parts s, erased) (or-true _);
         }
 
-    aims_next : (s : ℕ) → is_sector_named unit s ≡ true → may_target set size s ≡ true
-    aims_next s =
-        unit_aims unit.unit unit.sector size set s of_plan.is.aligned
+    targets_next : (s : ℕ) → is_sector_named unit s ≡ true → may_target set size s ≡ true
+    targets_next s =
+        unit_targets unit.unit unit.sector size set s of_plan.is.aligned
         (λ k low high. of_plan.inside k (in_unit (size / 4096) k unit low high))
 
     -- a timeout names the block's first address, which is in the set
@@ -199,7 +199,7 @@ module _ {kinds : Kinds} {size : ℕ} {set : ℕ → Bool} {units left : List Er
         → IsSum (erasing (may_target set size) n) (erasing (is_sector_named unit) 1) (erasing (may_target set size) more)
     one_more n more is = record {
       sectors = λ s targeted. targeted;
-      sectors' = aims_next;
+      sectors' = targets_next;
       status = λ one two written. written;
       status' = λ one two written. written;
       erases = omega (arith, is);
@@ -216,7 +216,7 @@ module _ {kinds : Kinds} {size : ℕ} {set : ℕ → Bool} {units left : List Er
           sectors' = sum.sectors';
           status = sum.status;
           status' = sum.status';
-          erases = come_fewer so.listed next;
+          erases = listed_fewer so.listed next;
           programs = omega arith;
           status_writes = omega arith;
         }

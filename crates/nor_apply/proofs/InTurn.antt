@@ -105,18 +105,18 @@ all_middle P (y ∷ ys) x rest all = all_middle P ys x rest (All-tail P y (ys ++
 
 module _ {A : Type 0} {all done left : List A} {limits : ℕ → Limits} {old mid : BusState} {tally : Tally}
     (listed : Listed all done left limits old mid tally) where
-  pub come_all : left ≡ [] → done ≡ all
-  come_all none = sym (append-nil done) ∙ ap (λ (rest : List A). done ++ rest) (sym none) ∙ listed.split
+  pub listed_all : left ≡ [] → done ≡ all
+  listed_all none = sym (append-nil done) ∙ ap (λ (rest : List A). done ++ rest) (sym none) ∙ listed.split
 
   module _ {x : A} {rest : List A} (next : left ≡ x ∷ rest) where
-    pub come_before : done ++ x ∷ rest ≡ all
-    come_before = ap (λ (later : List A). done ++ later) (sym next) ∙ listed.split
+    pub listed_split : done ++ x ∷ rest ≡ all
+    listed_split = ap (λ (later : List A). done ++ later) (sym next) ∙ listed.split
 
-    pub come_next : (P : A → Type 0) → All P all → P x
-    come_next P each = all_middle P done x rest (rw come_before each)
+    pub listed_next : (P : A → Type 0) → All P all → P x
+    listed_next P each = all_middle P done x rest (rw listed_split each)
 
-    pub come_fewer : tally.count + 1 ≤ length all
-    come_fewer = omega (arith, ap length come_before, length-append done (x ∷ rest), listed.count)
+    pub listed_fewer : tally.count + 1 ≤ length all
+    listed_fewer = omega (arith, ap length listed_split, length-append done (x ∷ rest), listed.count)
 
     module _ {one : Limits} {new : BusState} (stirs : Stirs one mid new) where
       -- The bounds at an exit at which the next operation returned an error.
@@ -125,9 +125,9 @@ module _ {A : Type 0} {all done left : List A} {limits : ℕ → Limits} {old mi
           → OperationFails most_operation mid new error → most_operation * length all ≤ most
           → Spends most old new × SendsWithin (limits (length all)) old new × OperationFails most old new error
       listed_failed most parts falls fails fits = (
-        spends_after listed.ran (record { nature = stirs.nature; falls = falls }) (omega (arith, come_fewer)),
+        spends_after listed.ran (record { nature = stirs.nature; falls = falls }) (omega (arith, listed_fewer)),
         sends_after listed.ran parts stirs.sends,
-        fails_after listed.ran fails (omega (arith, come_fewer)),
+        fails_after listed.ran fails (omega (arith, listed_fewer)),
       )
 
       -- `Listed` for one more element, if the next operation succeeded.
@@ -136,7 +136,7 @@ module _ {A : Type 0} {all done left : List A} {limits : ℕ → Limits} {old mi
           → more.count ≡ tally.count + 1
           → more.transactions ≡ tally.transactions + sent → Listed all (done ++ x ∷ []) rest limits old new more
       listed_more sum exactly ends count transactions = record {
-        split = append_assoc done (x ∷ []) rest ∙ come_before;
+        split = append_assoc done (x ∷ []) rest ∙ listed_split;
         ran = ran_after listed.ran sum (ran_one stirs exactly ends) (omega arith) count transactions;
         count = omega (arith, count, listed.count, length_push done x);
       }

@@ -32,7 +32,7 @@ use Rattle.nor_plan.specs.Content.{is_other, is_page_other}
 use Rattle.nor_plan.specs.Span.{page_differs, pages_changed, page_count, spans_of}
 use Rattle.nor_apply.specs.declared.tally.Tally.{Tally}
 use Rattle.nor_apply.specs.Spending.{NamesTimeoutIn}
-use Rattle.nor_apply.proofs.InTurn.{Listed, listed_none, listed_failed, listed_more, come_all, come_next, come_fewer, spends_ended}
+use Rattle.nor_apply.proofs.InTurn.{Listed, listed_none, listed_failed, listed_more, listed_all, listed_next, listed_fewer, spends_ended}
 use Rattle.nor_apply.proofs.Targeting.{named_in}
 
 -- true at the addresses of these spans of the sector
@@ -267,7 +267,7 @@ module _ {sector : ℕ} {old wanted : List ℕ} {spans left : List PageSpan} {fi
   module _ (none : left ≡ []) where
     pub does_ended : DoesSpans sector old wanted first now tally
     does_ended =
-        let all = come_all so.listed none in
+        let all = listed_all so.listed none in
         let counted : tally.count ≡ pages_changed old wanted = so.listed.count ∙ ap length all ∙ so.are.count in
         record {
           fewer = omega (arith, pages_most old wanted so.whole);
@@ -290,15 +290,15 @@ module _ {sector : ℕ} {old wanted : List ℕ} {spans left : List PageSpan} {fi
     spanned = record {
       whole = so.whole;
       wanted_whole = so.wanted_whole;
-      is = come_next so.listed next (IsSpan old wanted) so.are.each;
+      is = listed_next so.listed next (IsSpan old wanted) so.are.each;
     }
 
     -- fewer than 16 spans were programmed
     pub few_spans : (tally.count ≤ 15) × (tally.transactions ≤ 983070)
-    few_spans = omega (arith, come_fewer so.listed next, so.are.count, pages_most old wanted so.whole)
+    few_spans = omega (arith, listed_fewer so.listed next, so.are.count, pages_most old wanted so.whole)
 
-    aims_next : (s : ℕ) → is_sector_of (4096 * sector + span.first) s ≡ true → only sector s ≡ true
-    aims_next s named =
+    targets_next : (s : ℕ) → is_sector_of (4096 * sector + span.first) s ≡ true → only sector s ≡ true
+    targets_next s named =
         let last = below_end spanned in
         let order = spanned.is.order in
         let at = named_in 1 ((4096 * sector + span.first) / 4096) s (omega arith) (omega arith) named in
@@ -310,7 +310,7 @@ module _ {sector : ℕ} {old wanted : List ℕ} {spans left : List PageSpan} {fi
         (programming (only sector) more)
     one_more n more is = record {
       sectors = λ s targeted. targeted;
-      sectors' = aims_next;
+      sectors' = targets_next;
       status = λ one two written. written;
       status' = λ one two written. written;
       erases = refl;
@@ -329,7 +329,7 @@ module _ {sector : ℕ} {old wanted : List ℕ} {spans left : List PageSpan} {fi
           status = sum.status;
           status' = sum.status';
           erases = omega arith;
-          programs = come_fewer so.listed next;
+          programs = listed_fewer so.listed next;
           status_writes = omega arith;
         }
 

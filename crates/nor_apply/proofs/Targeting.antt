@@ -9,23 +9,23 @@ use Rattle.nor_apply.specs.Spending.{may_target}
 
 -- ---- one of the sectors, or a sector past the end of the chip
 
-pub aim_here : (sectors : ℕ → Bool) (size s : ℕ) → sectors s ≡ true → may_target sectors size s ≡ true
-aim_here sectors size s is = rw is refl
+pub target_here : (sectors : ℕ → Bool) (size s : ℕ) → sectors s ≡ true → may_target sectors size s ≡ true
+target_here sectors size s is = rw is refl
 
-aim_behind : (sectors : ℕ → Bool) (size s : ℕ) → size / 4096 ≤ s → ((k : ℕ) → k < size / 4096 → sectors k ≡ true)
+target_past_end : (sectors : ℕ → Bool) (size s : ℕ) → size / 4096 ≤ s → ((k : ℕ) → k < size / 4096 → sectors k ≡ true)
     → may_target sectors size s ≡ true
-aim_behind sectors size s behind whole =
+target_past_end sectors size s outside whole =
     grind (arith, holds_run-from sectors 0 (size / 4096), whole, nat_tests)
 
-pub aim_split : (sectors : ℕ → Bool) (size s : ℕ) → may_target sectors size s ≡ true
+pub target_split : (sectors : ℕ → Bool) (size s : ℕ) → may_target sectors size s ≡ true
     → (sectors s ≡ true) ⊎ ((size / 4096 ≤ s) × ((k : ℕ) → k < size / 4096 → sectors k ≡ true))
-aim_split sectors size s may = grind (arith, holds_run-at sectors 0 (size / 4096), nat_tests)
+target_split sectors size s may = grind (arith, holds_run-at sectors 0 (size / 4096), nat_tests)
 
 -- a sector that may be targeted for a set may be targeted for a larger set
-pub aim_wider : (sectors more : ℕ → Bool) (size s : ℕ) → ((k : ℕ) → sectors k ≡ true → more k ≡ true)
+pub target_wider : (sectors more : ℕ → Bool) (size s : ℕ) → ((k : ℕ) → sectors k ≡ true → more k ≡ true)
     → may_target sectors size s ≡ true → may_target more size s ≡ true
-aim_wider sectors more size s wider may =
-    grind (arith, aim_split sectors size s may, wider, aim_here more size s, aim_behind more size s)
+target_wider sectors more size s wider may =
+    grind (arith, target_split sectors size s may, wider, target_here more size s, target_past_end more size s)
 
 -- ---- erase blocks
 
@@ -36,10 +36,10 @@ named_in n sector s some aligned named = grind (arith, nat_tests)
 
 -- an aligned erase block that lies in the set, on a chip of this size, targets only sectors that may be targeted for
 -- the set
-pub unit_aims : (unit : EraseBlock) (sector size : ℕ) (set : ℕ → Bool) (s : ℕ) → is_aligned unit sector ≡ true
+pub unit_targets : (unit : EraseBlock) (sector size : ℕ) (set : ℕ → Bool) (s : ℕ) → is_aligned unit sector ≡ true
     → ((k : ℕ) → sector ≤ k → k < sector + sectors_in (size / 4096) unit → set k ≡ true)
     → is_in_targeted (block_targeted (sectors_in 4096 unit) sector) s ≡ true → may_target set size s ≡ true
-unit_aims unit sector size set s aligned inside named =
-    let behind = aim_behind set size s in
-    let here = aim_here set size s in
+unit_targets unit sector size set s aligned inside named =
+    let outside = target_past_end set size s in
+    let here = target_here set size s in
     grind (arith, nat_tests, inside s, inside)

@@ -37,7 +37,7 @@ module _ (at : ℕ) (sent : List ℕ) (skipped : ℕ) (front back old mid new : 
         | inl within ↦
             rw (last_for-at at sent a (skipped + length front + p) (omega arith) (omega arith) (omega arith))
             (cc (place, second.inside p within, first.below a (omega arith), parted.back_at p within))
-        | inr behind ↦ second.above a (omega arith) ∙ elim (cases_lt p start) [
+        | inr later ↦ second.above a (omega arith) ∙ elim (cases_lt p start) [
           | inl before ↦ rw (last_for-apart at sent a (λ i small same. omega arith)) (first.below a (omega arith))
           | inr from ↦ elim (cases_lt p (start + length front)) [
             | inl within ↦

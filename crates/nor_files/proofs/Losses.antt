@@ -49,7 +49,7 @@ all_lost (was ∷ old) (now ∷ new) name many each =
 pub record AreLeft (old new : List Stored) (left : ℕ) (borrowed : Option Name) : Type 0 where
   pub at_rest : AreAtRest (files_state new left borrowed)
   pub allowed : (name : Name) → MayLeave (file_named old name) (file_named new name).seen
-  pub settled : (name : Name) → IsDurable name (file_named new name).seen (files_state new left borrowed)
+  pub durable : (name : Name) → IsDurable name (file_named new name).seen (files_state new left borrowed)
 
 -- after the loop that interrupts each file, the files are as `AreLeft` says
 pub are_left : (old now : List Stored) {len left : ℕ} {borrowed : Option Name} → length now ≡ len → len ≡ length old
@@ -61,5 +61,5 @@ are_left old now {len} whole kept each =
     rw (take_at now (drop (length now) old) len whole) (record {
       at_rest = record { lawful = refl; in_store = λ name. ap (λ its. its.out) (lost name).file };
       allowed = λ name. (lost name).allowed;
-      settled = λ name. let file = (lost name).file in grind arith;
+      durable = λ name. let file = (lost name).file in grind arith;
     })

@@ -158,5 +158,5 @@ pub record TakesBack (name : Name) (vault : VaultState) (old new : FilesState) :
   pub in_store : new.view.out name ≡ false
   pub telling : vault.telling ≡ true
   pub seen : new.view.seen name ≡ Some vault.bytes
-  pub settled : vault.sealed ≡ true → IsDurable name (Some vault.bytes) new
+  pub durable : vault.sealed ≡ true → IsDurable name (Some vault.bytes) new
   pub others : OthersStay name old new

@@ -182,7 +182,7 @@ where
         Ok(FileVault::new(VaultedFile::new(self.files, file, None)))
     }
 
-    fn hand_back(&mut self, vault: FileVault<VaultedFile<'a, R>>) -> bool {
+    fn return_vault(&mut self, vault: FileVault<VaultedFile<'a, R>>) -> bool {
         let sealed = vault.is_sealed();
         self.vaulted = Some(vault.into_inner());
         sealed

@@ -17,7 +17,7 @@ use std::{io, mem};
 ///
 /// A host crash may leave each byte as it was at the last sync of the file, or as any later write or change of length
 /// made it. A file whose vault or log was borrowed since its last sync may have any bytes. A file that was created may
-/// be missing until its directory is synced. `vault_in_new` syncs the directory, and `hand_back` of a sealed vault
+/// be missing until its directory is synced. `vault_in_new` syncs the directory, and `return_vault` of a sealed vault
 /// syncs the file and the directory.
 #[derive(Drop)]
 pub struct Memory {
@@ -73,7 +73,7 @@ impl Memory {
         ensures left { (memory_state result).left ≡ left }
         ensures at_rest { AreAtRest (memory_state result) }
         ensures allowed { (name : Name) → (memory_state self).may_leave name ((memory_state result).view.seen name) }
-        ensures settled { (name : Name) → IsDurable name ((memory_state result).view.seen name) (memory_state result) }
+        ensures durable { (name : Name) → IsDurable name ((memory_state result).view.seen name) (memory_state result) }
     {
         let Memory {
             alloc,
@@ -277,14 +277,14 @@ impl Store for Memory {
         Ok(MemVault::new(self.alloc))
     }
 
-    fn hand_back(&mut self, vault: MemVault) -> bool {
+    fn return_vault(&mut self, vault: MemVault) -> bool {
         let sealed = vault.is_sealed();
         let Some(name) = mem::replace(&mut self.borrowed, None) else {
             return sealed;
         };
         match self.place(&name) {
             Some(at) => {
-                self.files[at].take_back(vault);
+                self.files[at].take_contents(vault);
                 sealed
             }
             None => sealed,

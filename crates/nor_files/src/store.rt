@@ -226,7 +226,7 @@ pub trait Store: AllocGlobal {
             → Creates name.now result (state self.old) (state self.new) }
         ensures fails { OnErr result ((state self.old).view.nature.fails (Unwritten name.now) ≡ true) };
 
-    /// Creates the named file, which must not exist, and lends a vault in it; return the vault with `hand_back`. `Disk`
+    /// Creates the named file, which must not exist, and lends a vault in it; return the vault with `return_vault`. `Disk`
     /// returns `There` for an existing file, and syncs the directory. After a failure on lawful files, a host crash can
     /// leave of this file only what it could leave before, or an empty file if it was missing. This requires that no
     /// vault or log in the file was borrowed before the call.
@@ -243,7 +243,7 @@ pub trait Store: AllocGlobal {
             → OthersStay name.now (state self.old) (state self.new) }
         ensures unmade { IfErr result (IsCreateFault (state self.old).view.nature name.now) };
 
-    /// Creates or truncates the named file, and lends a vault in it; return the vault with `hand_back`. `Disk` refuses
+    /// Creates or truncates the named file, and lends a vault in it; return the vault with `return_vault`. `Disk` refuses
     /// to truncate a journal.
     fn vault_in(&mut self, name: &str) -> Result<Self::Filed, CreateFault>
         ensures nature { (state self.new).view.nature ≡ (state self.old).view.nature }
@@ -258,7 +258,7 @@ pub trait Store: AllocGlobal {
 
     /// Takes back the vault that was borrowed last, and returns whether it is sealed. On lawful files, that vault is
     /// faithful (`telling`), the file has its bytes, and if it is sealed, a host crash can leave nothing else.
-    fn hand_back(&mut self, vault: Self::Filed) -> bool
+    fn return_vault(&mut self, vault: Self::Filed) -> bool
         ensures nature { (state self.new).view.nature ≡ (state self.old).view.nature }
         ensures sealed { result ≡ (Self.Filed.state vault).sealed }
         ensures takes { is_lawful (state self.old).view ≡ true → (name : Name) → (state self.old).borrowed ≡ Some name

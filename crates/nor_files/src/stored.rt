@@ -237,7 +237,7 @@ impl Stored {
 
     /// Takes back the vault in the file, whose bytes the file has from now on. If the vault is sealed, a host crash can
     /// leave nothing else.
-    pub fn take_back(&mut self, vault: MemVault)
+    pub fn take_contents(&mut self, vault: MemVault)
         ensures { FileTakesBack (held_by vault) self.old self.new }
     {
         if vault.is_sealed() {

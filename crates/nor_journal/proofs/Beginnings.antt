@@ -47,9 +47,9 @@ text_is c = refl
 -- ---- lists
 
 -- a prefix of a list is a prefix of the list with more elements appended
-pub begins_longer : (whole behind bytes : List ℕ) → StartsWith whole bytes → StartsWith (whole ++ behind) bytes
-begins_longer whole behind bytes begins =
-    take-append-le (length bytes) whole behind (omega (arith, ap length begins, length-take (length bytes) whole))
+pub begins_longer : (whole following bytes : List ℕ) → StartsWith whole bytes → StartsWith (whole ++ following) bytes
+begins_longer whole following bytes begins =
+    take-append-le (length bytes) whole following (omega (arith, ap length begins, length-take (length bytes) whole))
     ∙ begins
 
 -- ---- a vault

@@ -218,11 +218,11 @@ not_in_head bytes f c rest is split found =
     none_in_head c (records_text c.saved ++ rest) f is (rw (split ∙ front_opened c rest) at found)
 
 -- after the header and records of a valid content, bytes that begin with the end mark don't begin with a valid record
-no_record : (c : Content) (behind : List ℕ) → IsContent c
-    → NoRecord (c.size / 4096) (next_number c) (end_mark ++ behind)
-no_record c behind is begins =
-    let mark = take_at end_mark behind 4 length-end_mark in
-    omega (arith, begins.place, number_at-marked (end_mark ++ behind) mark, few_sectors c.size is.size)
+no_record : (c : Content) (following : List ℕ) → IsContent c
+    → NoRecord (c.size / 4096) (next_number c) (end_mark ++ following)
+no_record c following is begins =
+    let mark = take_at end_mark following 4 length-end_mark in
+    omega (arith, begins.place, number_at-marked (end_mark ++ following) mark, few_sectors c.size is.size)
 
 pub one_fault : (bytes : List ℕ) (f g : JournalFault) → HasFault bytes f → HasFault bytes g → f ≡ g
 one_fault bytes f g (inl p) (inl q) = one_in_head bytes f g p q

@@ -1,5 +1,5 @@
 -- What the vault that a function borrows ends as, if the function returns a writer that holds the vault, or an error.
--- For the proofs by hand of `Writer::settled`, `Writer::start` and `Writer::sector`.
+-- For the proofs by hand of `Writer::into_result`, `Writer::start` and `Writer::sector`.
 use mathlib.Core.Path.{◌≡◌, refl}
 use mathlib.Core.Logic.{inl, inr}
 use mathlib.Core.Option.{Option, some, none}

@@ -61,8 +61,8 @@ pub fn count_records(head: &Head, bytes: &[u8]) -> Result<usize, JournalFault>
     let mut least = 0;
     let mut rest = bytes;
     while let Some(number) = next_record(sectors, least, rest)? {
-        let (_, behind) = rest.split_at(RECORD);
-        rest = behind;
+        let (_, following) = rest.split_at(RECORD);
+        rest = following;
         least = number + 1;
         count += 1;
     }

@@ -73,11 +73,11 @@ impl<'a, V: Vault> Writer<'a, V> {
         ensures written { IfOk result (λ writer. HasWritten V.state writer
             (empty_content id (Some unique) status size)) }
     {
-        Self::settled(Self::begun(vault, id, unique, status, size))
+        Self::into_result(Self::try_start(vault, id, unique, status, size))
     }
 
     // Writes the header to `vault`, which must be empty and unsealed.
-    fn begun(
+    fn try_start(
         vault: &'a mut V,
         id: [u8; 3],
         unique: [u8; 8],
@@ -106,7 +106,7 @@ impl<'a, V: Vault> Writer<'a, V> {
     }
 
     // Returns the writer, or gives up the reference to the vault and returns the fault.
-    fn settled(attempt: Attempt<'a, V>) -> Result<Writer<'a, V>, VaultFault>
+    fn into_result(attempt: Attempt<'a, V>) -> Result<Writer<'a, V>, VaultFault>
         ensures* refused { sem 𝓛 (RestsIfErr V.row (lent_by attempt.entry) (λ writer. (vault_of writer).ghost_name)
             result (λ last. last ≡ (lent_by attempt.entry).now)) }
         ensures outcome { result ≡ outcome_of attempt.entry }
@@ -138,11 +138,11 @@ impl<'a, V: Vault> Writer<'a, V> {
         ensures written { (c : Content) → HasWritten V.state self.entry c → MayFollow c number
             → IfOk result (λ writer. HasWritten V.state writer (with_sector c number bytes.now)) }
     {
-        Self::settled(self.added(number, bytes))
+        Self::into_result(self.try_sector(number, bytes))
     }
 
     // Writes a sector after the others, as `add` does.
-    fn added(mut self, number: u32, bytes: &[u8; SECTOR_LEN as usize]) -> Attempt<'a, V>
+    fn try_sector(mut self, number: u32, bytes: &[u8; SECTOR_LEN as usize]) -> Attempt<'a, V>
         requires { (vault_seen V.state self).sealed ≡ false }
         ensures same_vault { (lent_by result).ghost_name ≡ (vault_of self.entry).ghost_name }
         ensures refused { OnErr (outcome_of result)

@@ -112,9 +112,9 @@ pub line_says-found : (line : List ℕ) (region : Region) → line_says line ≡
 line_says-found line region e =
     let first = some_of (IsCut 58 line) (cut_at 58 line) (λ cut. parts_say (parts_after cut)) region
     (cut_at-is 58 line) (λ none. cc) e in
-    let behind = first.0.1 in
-    let second = some_of (IsCut 32 behind) (cut_at 32 behind) (λ cut. parts_say (with_start first.0.0 cut)) region
-    (cut_at-is 32 behind) (λ none. cc) first.2 in
+    let later = first.0.1 in
+    let second = some_of (IsCut 32 later) (cut_at 32 later) (λ cut. parts_say (with_start first.0.0 cut)) region
+    (cut_at-is 32 later) (λ none. cc) first.2 in
     let name = without_spaces second.0.1 in
     let start = some_of (IsAddress first.0.0) (digits_address first.0.0)
     (λ start. region_of start (digits_address second.0.0) name) region (address_of-found first.0.0) (λ none. cc)

@@ -40,8 +40,8 @@ apart_after low new (span ∷ spans) lt forward apart =
     let below = apart_after span new spans in
     let above = apart_after new span spans in
     let joined = apart_after low (join new span) spans in
-    let new_behind = further new span spans in
-    let low_behind = further low span spans in
+    let further_new = further new span spans in
+    let further_low = further low span spans in
     grind (arith, nat_tests)
 
 AreDisjoint-merged : (new : Span) (spans : List Span) → new.first ≤ new.last → AreDisjoint spans → AreDisjoint (merged new spans)
@@ -51,7 +51,7 @@ AreDisjoint-merged new (span ∷ spans) forward apart =
     let below = apart_after span new spans in
     let above = apart_after new span spans in
     let joined = AreDisjoint-merged (join new span) spans in
-    let behind = further new span spans in
+    let later = further new span spans in
     grind (arith, nat_tests)
 
 -- when the loop has passed the last span, the spans so far and `new` are the set with the span added

@@ -80,13 +80,13 @@ lines_say-found (line ∷ lines) regions all n kept e = elim (cases_Bool (eqb (l
   | inr full ↦
       let is = joined regions all n (line_says line) (λ more. lines_say more (n + 1) lines) (rw full at e) in
       let line_is = line_says-found line is.0 is.1 in
-      let behind = lines_say-found lines (regions ++ is.0 ∷ []) all (n + 1) (record {
+      let later = lines_say-found lines (regions ++ is.0 ∷ []) all (n + 1) (record {
         few = omega (arith, is.3, length-append regions (is.0 ∷ []));
         forward = push_forward regions is.0 kept.forward line_is.forward;
         named_apart = push_apart regions is.0 kept.named_apart is.2;
       }) is.4 in
-      let all_is = behind.1.1 ∙ append_assoc regions (is.0 ∷ []) behind.1.0 in
-      rw full (behind.0, (is.0 ∷ behind.1.0, all_is, (line_is, behind.1.2)))
+      let all_is = later.1.1 ∙ append_assoc regions (is.0 ∷ []) later.1.0 in
+      rw full (later.0, (is.0 ∷ later.1.0, all_is, (line_is, later.1.2)))
 ]
 
 pub with_line-keeps : (regions more : List Region) (n : ℕ) (line : List ℕ) → AreRegions regions
@@ -117,7 +117,7 @@ lines_say-taken all few apart (line ∷ lines) regions (region ∷ rest) n are i
     let once = named_before regions region rest (rw is at apart) in
     let room = length-append regions (region ∷ rest) in
     let more = append_assoc regions (region ∷ []) rest in
-    let behind = lines_say-taken all few apart lines (regions ++ region ∷ []) rest (n + 1) in
+    let later = lines_say-taken all few apart lines (regions ++ region ∷ []) rest (n + 1) in
     grind (arith, nat_tests, lines_say-taken all few apart lines regions (region ∷ rest) (n + 1))
 
 -- for a text in the grammar, the result of reading is its regions, or `Memory`
@@ -183,8 +183,8 @@ module _ (before : List (List ℕ)) (n : ℕ) (line : List ℕ) (regions : List 
     define_one region kept e none =
         let more = regions ++ region ∷ [] in
         let kept_more = with_line-keeps regions more (n + 1) line kept e in
-        let behind = lines_say-found after more [] (n + 1 + 1) kept_more (sym (returned (Ok more) e) ∙ none) in
-        omega (arith, ap length behind.1.1, length-append more behind.1.0, length-append regions (region ∷ []))
+        let later = lines_say-found after more [] (n + 1 + 1) kept_more (sym (returned (Ok more) e) ∙ none) in
+        omega (arith, ap length later.1.1, length-append more later.1.0, length-append regions (region ∷ []))
 
     pub reads_fault : (new : List Region) (fault : LayoutFault) → AreRegions regions
         → AddsRegion regions new (Err fault) (with_line regions (n + 1) line)

@@ -33,7 +33,7 @@ module _ (name : Name) (old mid new : FilesState) (vault : VaultState)
   pub kept_file : is_lawful new.view ≡ true → IsKeptFile name vault new
   kept_file is =
       let t = taken (lawful_after (sym (back ∙ made)) is) in
-      record { telling = t.telling; seen = t.seen; settled = t.settled }
+      record { telling = t.telling; seen = t.seen; durable = t.durable }
 
   pub others_stay : is_lawful old.view ≡ true → (any : Name) → AreApart old.view.nature name any → KeepsFile any old new
   others_stay is any other = stays_on ((borrows is).others any other) ((taken is).others any (apart_after made other))

@@ -86,4 +86,4 @@ MakesNothing (Some name) old new = IsKnownFile name.now old.view → LeavesOrEmp
 pub record IsKeptFile (name : Text) (vault : VaultState) (files : FilesState) : Type 0 where
   pub telling : vault.telling ≡ true
   pub seen : files.view.seen name ≡ Some vault.bytes
-  pub settled : vault.sealed ≡ true → IsDurable name (Some vault.bytes) files
+  pub durable : vault.sealed ≡ true → IsDurable name (Some vault.bytes) files

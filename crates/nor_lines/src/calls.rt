@@ -59,7 +59,7 @@ pub fn read_to_file<'a, R: Store, B: Bus>(
 {
     let mut out = empty(rt, file)?;
     let outcome = read_into(bus, named, included, &mut out);
-    rt.hand_back(out);
+    rt.return_vault(out);
     Ok(outcome)
 }
 
@@ -123,7 +123,7 @@ pub fn session_in_file<'a, R: Store, B: Bus>(
 {
     let mut journal = make(rt, file)?;
     let outcome = run_session(bus, &mut journal, image, request);
-    rt.hand_back(journal);
+    rt.return_vault(journal);
     Ok(outcome)
 }
 

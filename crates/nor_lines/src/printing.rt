@@ -213,10 +213,10 @@ fn print_ranges<W: Write>(output: &mut W, ranges: Offered) -> io::Result<()>
 }
 
 #[tactic(auto, using(nor_request::proofs::Printed::padded_hex), unfolding(crate::specs::Lines::line))]
-fn print_protected<W: Write>(output: &mut W, places: (u32, u32)) -> io::Result<()>
-    ensures { OnOk result (Appends (W.contents output.old) (W.contents output.new) (range_line places)) }
+fn print_protected<W: Write>(output: &mut W, range: (u32, u32)) -> io::Result<()>
+    ensures { OnOk result (Appends (W.contents output.old) (W.contents output.new) (range_line range)) }
 {
-    let (start, len) = places;
+    let (start, len) = range;
     writeln!(output, "0x{start:06x},0x{len:06x}")
 }
 

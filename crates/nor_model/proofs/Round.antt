@@ -10,7 +10,7 @@ use Rattle.std.specs.Prelude.{slice_index}
 -- `from + (i - done)`, if `i` is at least `done` and that sum is below `n`.
 pub run_on : (at done i from n : ℕ) → (at + done) % n ≡ from → done ≤ i → from + (i - done) < n
     → (at + i) % n ≡ from + (i - done)
-run_on at done i from n place behind small =
+run_on at done i from n place later small =
     let split : at + i ≡ (from + (i - done)) + n * ((at + done) / n) = omega (arith, mod-add-div (at + done) n) in
     rw (split, add-mul-mod_self_left) (mod-eq_of_lt small)
 
@@ -30,8 +30,8 @@ written_before a xs ys zs i fits before =
 
 pub written_within : (a : ℕ) (xs ys zs : List ℕ) (i : ℕ) → a ≤ length xs → a ≤ i → i < a + length ys
     → slice_index (take a xs ++ (ys ++ zs)) i ≡ slice_index ys (i - a)
-written_within a xs ys zs i fits behind within =
-    get_or-append_right (take a xs) (ys ++ zs) a i 0 (length-take-le a xs fits) behind
+written_within a xs ys zs i fits later within =
+    get_or-append_right (take a xs) (ys ++ zs) a i 0 (length-take-le a xs fits) later
     ∙ get_or_append_left ys zs 0 (i - a) (omega arith)
 
 -- reading a list of copies of `x`, with `x` as the default, returns `x` at every index

@@ -15,7 +15,7 @@ pub cut_out : (image : List ℕ) (start k i : ℕ) → k ≡ 4096 → i < 4096 �
 cut_out image start k i long below = get_or-take k (drop start image) i 0 (omega arith) ∙ get_or-drop start image i 0
 
 pub part_long : (image : List ℕ) (start k : ℕ) → k ≡ 4096 → start + 4096 ≤ length image → length (take k (drop start image)) ≡ 4096
-part_long image start k long fits = length-take-le k (drop start image) (let behind = length-drop start image in omega arith) ∙ long
+part_long image start k long fits = length-take-le k (drop start image) (let later = length-drop start image in omega arith) ∙ long
 
 -- writing 4,096 bytes over a sector that lies in the image gives that sector these bytes, and changes no other sector
 pub put_back : (n k : ℕ) (image part : List ℕ) → k ≡ 4096 → length part ≡ 4096 → 4096 * n + 4096 ≤ length image → HasPart n part image (put_mid (4096 * n) k image part)

@@ -68,9 +68,9 @@ module _ {known : Type 0} {included : Option (List Span)} {content : ℕ → ℕ
         };
         right = λ is a below. elim (cases_lt a m) [
           | inl low ↦ get_or_append_left before.bytes part 0 a (omega arith) ∙ has.right is a low
-          | inr behind ↦
+          | inr later ↦
               let at : m + (a - m) ≡ a = omega arith in
-              get_or-append_right before.bytes part m a 0 whole behind ∙ rw at at (right is (a - m) (omega arith))
+              get_or-append_right before.bytes part m a 0 whole later ∙ rw at at (right is (a - m) (omega arith))
         ];
       }
 

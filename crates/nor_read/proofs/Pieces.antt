@@ -45,7 +45,7 @@ module _ {included : Option (List Span)} {piece k reads more : ℕ} {bytes part 
             let put = put_back k width bytes part exact long (omega arith) in
             elim (cases_lt i (4096 * k)) [
               | inl before ↦ put.outside i (λ same. omega arith) ∙ has.right honest idle fits i before
-              | inr behind ↦
+              | inr later ↦
                   let j = i - 4096 * k in
                   let at : 4096 * k + j ≡ i = omega arith in
                   let far : 4096 * (16 * piece + k) + j ≡ 65536 * piece + i = omega arith in

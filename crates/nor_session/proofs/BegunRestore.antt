@@ -15,10 +15,10 @@ use Rattle.nor_session.specs.Headline.{CanRestore, open_addresses}
 use Rattle.nor_session.specs.Session.{HoldsBegun}
 use Rattle.nor_session.proofs.RestoresOriginal.{saves_chip}
 
-pub begun_back : (request : Request) (image : List ℕ) (old new : BusState) (bytes : List ℕ) (journal : Content) → IsModelled old → IsChip old.chip → HoldsBegun request image old.chip bytes
+pub begun_restores : (request : Request) (image : List ℕ) (old new : BusState) (bytes : List ℕ) (journal : Content) → IsModelled old → IsChip old.chip → HoldsBegun request image old.chip bytes
     → IsContent journal → bytes ≡ text journal → IsSame old.chip new.chip → new.chip.busy ≡ 0 → CanRestore journal old.chip new
-begun_back request image old new bytes journal modelled chip (inl none) is read same idle = absurd (never_empty journal (sym read ∙ none))
-begun_back request image old new bytes journal modelled chip (inr begun) is read same idle =
+begun_restores request image old new bytes journal modelled chip (inl none) is read same idle = absurd (never_empty journal (sym read ∙ none))
+begun_restores request image old new bytes journal modelled chip (inr begun) is read same idle =
     let returned = begins_all_of_it (header_of old.chip) old.chip.bytes (is_touched old.chip.bytes (wanted request image old.chip)) bytes journal begun.1 is read in
     record {
       known = record { genuine = modelled.genuine; shown = rw begun.0.shown };

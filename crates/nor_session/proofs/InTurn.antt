@@ -75,8 +75,8 @@ can_restore_same : (journal : Content) (first new taken : Chip) → CanRestoreCh
 can_restore_same journal first new taken can same = search arith
 
 -- the proof of the law `power_lost_restores_original`
-pub lost_back : (journal : Content) (first : Chip) (old new : BusState) → CanRestore journal first old → LosesPower old new → CanRestore journal first new
-lost_back journal first old new can loses = record {
+pub lost_can_restore : (journal : Content) (first : Chip) (old new : BusState) → CanRestore journal first old → LosesPower old new → CanRestore journal first new
+lost_can_restore journal first old new can loses = record {
   known = can.known;
   saves = can.saves;
   within = lost_within (open_addresses journal first) first old new loses.known loses.lost can.within;
@@ -86,17 +86,17 @@ lost_back journal first old new can loses = record {
 -- bytes and status bits, or lost its power
 can_restore_kept : (journal : Content) (first : Chip) (new taken : BusState) → CanRestore journal first new → MayLosePower new taken → CanRestoreChip journal first taken.chip
 can_restore_kept journal first new taken can (inl same) = can_restore_same journal first new.chip taken.chip (can_restore_chip journal first new can) same
-can_restore_kept journal first new taken can (inr loses) = can_restore_chip journal first taken (lost_back journal first new taken can loses)
+can_restore_kept journal first new taken can (inr loses) = can_restore_chip journal first taken (lost_can_restore journal first new taken can loses)
 
--- the journal of a session can restore the original chip from the chip that the session left (`left_back`), and
+-- the journal of a session can restore the original chip from the chip that the session left (`left_can_restore`), and
 -- `CanRestoreChip` holds for the chip with which the next run starts (`left_taken`)
-left_back : (request : Request) (image : List ℕ) (old new : BusState) (journal : Content) → LeavesJournal request image old new journal → CanRestore journal old.chip new
-left_back request image old new journal left = search (arith, read_back)
+left_can_restore : (request : Request) (image : List ℕ) (old new : BusState) (journal : Content) → LeavesJournal request image old new journal → CanRestore journal old.chip new
+left_can_restore request image old new journal left = search (arith, read_back)
 
 left_taken : (request : Request) (image : List ℕ) (old new taken : BusState) (journal : Content) → LeavesJournal request image old new journal → IsTakenUp old new taken
     → CanRestoreChip journal old.chip taken.chip
 left_taken request image old new taken journal left (inl kept) =
-    can_restore_kept journal old.chip new taken (left_back request image old new journal left) kept
+    can_restore_kept journal old.chip new taken (left_can_restore request image old new journal left) kept
 left_taken request image old new taken journal left (inr over) = search (arith, can_restore_chip, session_over)
 
 -- for the journal of a session, `CanRestoreChip` holds for a chip that was taken up after the session (`IsTakenUp`),
@@ -122,9 +122,9 @@ idle_again p first old new within same idle =
 taken_within : (request : Request) (image : List ℕ) (old mid mid' back : BusState) (journal : Content) → LeavesJournal request image old mid journal → IsTakenUp old mid mid'
     → IsSame mid'.chip back.chip → back.chip.busy ≡ 0 → IsWithin (open_addresses journal old.chip) old.chip back
 taken_within request image old mid mid' back journal left (inl (inl same)) again idle =
-    idle_again _ old.chip mid back (left_back request image old mid journal left).within (same_then _ _ _ same again) idle
+    idle_again _ old.chip mid back (left_can_restore request image old mid journal left).within (same_then _ _ _ same again) idle
 taken_within request image old mid mid' back journal left (inl (inr loses)) again idle =
-    idle_again _ old.chip mid' back (lost_back journal old.chip mid mid' (left_back request image old mid journal left) loses).within again idle
+    idle_again _ old.chip mid' back (lost_can_restore journal old.chip mid mid' (left_can_restore request image old mid journal left) loses).within again idle
 taken_within request image old mid mid' back journal left (inr over) again idle =
     idle_again _ old.chip mid' back
     (session_over request image old mid mid' left.vault journal left.modelled left.is left.telling left.undone left.whole left.same over).within again idle
@@ -133,7 +133,7 @@ pub later_undone : (request later : Request) (image later_image : List ℕ) (old
     → LeavesJournal request image old mid journal → IsTakenUp old mid mid' → LeavesJournal later later_image mid' new other → IsTakenUp mid' new new' ⊎ CanRestore other mid'.chip new'
     → IsRestored other new' back report → CanRestore journal old.chip back
 later_undone request later image later_image old mid mid' new new' back journal other report first passed second gone undone =
-    let can = left_back request image old mid journal first in
+    let can = left_can_restore request image old mid journal first in
     let same = restored_same other mid'.chip new' back report (left_reached later later_image mid' new new' other second gone) undone in
     record {
       known = can.known;

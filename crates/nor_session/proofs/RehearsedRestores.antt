@@ -225,8 +225,8 @@ module _ {bytes : List ℕ} {journal : Content} (is : IsContent journal) (same :
     → SameHeader head journal × Saves chip saved journal)
     (old : BusState) where
   -- if the bytes can restore a chip (`CanUndo`), the journal can (`CanRestore`)
-  can_back : (saved : ℕ → Bool) (first : Chip) → CanUndo saved first bytes old → CanRestore journal first old
-  can_back saved first can_undo =
+  can_restore_then : (saved : ℕ → Bool) (first : Chip) → CanUndo saved first bytes old → CanRestore journal first old
+  can_restore_then saved first can_undo =
       can_restore_read saved first bytes old journal can_undo (reads (header_of first) first.bytes saved can_undo.journal)
 
   saves_all : (saved : ℕ → Bool) (first : Chip) → CanUndo saved first bytes old → Saves first.bytes saved journal
@@ -239,7 +239,7 @@ module _ {bytes : List ℕ} {journal : Content} (is : IsContent journal) (same :
     most = shows.most;
     allowed = shows.allowed;
     latch = shows.latch;
-    same = λ modelled saved first can_undo. shows.back modelled first (can_back saved first can_undo);
+    same = λ modelled saved first can_undo. shows.back modelled first (can_restore_then saved first can_undo);
     are = λ modelled saved first can_undo.
         rw (saved_count first.bytes saved journal (saves_all saved first can_undo)) at (shows.are modelled);
     last = λ modelled saved first can_undo.
@@ -264,7 +264,7 @@ module _ {bytes : List ℕ} {journal : Content} (is : IsContent journal) (same :
     last_transaction = refuses.last_transaction;
     names = saved_names journal bytes refusal is same refuses.names;
     fails = refuses.fails (saved_room journal is);
-    never = λ modelled saved first can_undo. refuses.never modelled first (can_back saved first can_undo);
+    never = λ modelled saved first can_undo. refuses.never modelled first (can_restore_then saved first can_undo);
   }
 
 -- on a modelled bus, if the session and the only restore ended, the latch is set only if it was set before

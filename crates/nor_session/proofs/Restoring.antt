@@ -105,8 +105,8 @@ pub record AreChanged (journal : Content) (prepared : PreparedRestore) (old mid 
   pub is : IsPreparedRestore journal old mid prepared
   pub leaves : LeavesChange prepared.changes (saved_byte journal) mid new
 
-pub changed_back : (journal : Content) (first : Chip) (prepared : PreparedRestore) (old mid new : BusState) → AreChanged journal prepared old mid new → IsModelled old → CanRestore journal first old → CanRestore journal first new
-changed_back journal first prepared old mid new are modelled can =
+pub changed_can_restore : (journal : Content) (first : Chip) (prepared : PreparedRestore) (old mid new : BusState) → AreChanged journal prepared old mid new → IsModelled old → CanRestore journal first old → CanRestore journal first new
+changed_can_restore journal first prepared old mid new are modelled can =
     let for = are.is.modelled modelled in
     let may = are.leaves.reached (are.only_reads.nature.honest ∙ modelled.honest) for.can in
     let before = can_restore_after_reads journal first (most_identity + length journal.saved) old mid modelled.honest are.only_reads can in
@@ -261,5 +261,5 @@ module _ (journal : Content) (prepared : PreparedRestore) (old mid new : BusStat
         }
 
 -- if the journal can restore the original chip, a restore that succeeds on a modelled bus leaves that chip
-pub restored_back : (journal : Content) (first : Chip) (old new : BusState) (report : Report) → CanRestore journal first old → IsRestored journal old new report → IsSame first new.chip
-restored_back journal first old new report can done = search (arith, same_as_original)
+pub restored_original : (journal : Content) (first : Chip) (old new : BusState) (report : Report) → CanRestore journal first old → IsRestored journal old new report → IsSame first new.chip
+restored_original journal first old new report can done = search (arith, same_as_original)

@@ -16,7 +16,7 @@ use Rattle.nor_journal.specs.Text.{Content}
 use Rattle.nor_journal.specs.Saved.{is_saved}
 use Rattle.nor_apply.specs.declared.changes.Changes.{Changes}
 use Rattle.nor_apply.specs.Applying.{touched_in, raised_in, status_writes, is_status_asked}
-use Rattle.nor_apply.proofs.Targeting.{aim_split}
+use Rattle.nor_apply.proofs.Targeting.{target_split}
 use Rattle.nor_apply.proofs.ApplyingInTurn.{count_below-fewer}
 use Rattle.nor_session.specs.Changing.{LeavesChange}
 use Rattle.nor_session.specs.Session.{SendsSaved, SendsFew, WritesOnly, WritesStatusAtMost}
@@ -167,11 +167,11 @@ module _ {changes : Changes} {wanted : ℕ → ℕ} (old : BusState) {mid new : 
     change_sends = record {
       targeted = λ s. elim (leaves.sends.targeted s) [
         | inl same ↦ inl (same ∙ ap (λ (sent : Sent). is_targeted sent s) unsent)
-        | inr targeted ↦ elim (aim_split (touched_in changes) changes.size s targeted) [
+        | inr targeted ↦ elim (target_split (touched_in changes) changes.size s targeted) [
           | inl here ↦ inr (inl (are.saved s here))
-          | inr behind ↦ inr (inr record {
-            whole = λ k below. are.saved k (behind.1 k (omega (arith, below, are.sized)));
-            past_end = let past = behind.0 in omega (arith, past, are.sized);
+          | inr outside ↦ inr (inr record {
+            whole = λ k below. are.saved k (outside.1 k (omega (arith, below, are.sized)));
+            past_end = let past = outside.0 in omega (arith, past, are.sized);
           })
         ]
       ];

@@ -22,7 +22,7 @@ use Rattle.nor_session.specs.Bounds.{most_of}
 use Rattle.nor_session.specs.Headline.{CanRestore, KeepsOriginal, RestoresOriginal, open_addresses}
 use Rattle.nor_session.specs.Session.{SessionErrors, SessionModelled, SessionAlways}
 use Rattle.nor_session.specs.Restore.{RestoreErrors, RestoreModelled}
-use Rattle.nor_session.proofs.InTurn.{lost_back}
+use Rattle.nor_session.proofs.InTurn.{lost_can_restore}
 use Rattle.nor_serprog.specs.Device.{PortState}
 use Rattle.nor_serprog.specs.Bus.{over_port}
 use Rattle.nor_wire.specs.Headline.{ReachesGenuine, CanRestoreChip, CanRestoreChipFrom, HadFewCalls, SessionFails, KeepsOriginalChip, SessionResults, RestoresOriginalChip}
@@ -62,13 +62,13 @@ read_from bytes first chip journal from is read =
     subst P same from.back
 
 -- The proof of the law `disconnected_restores_chip`. `CanRestoreChip` holds for every bus to the chip, so also for one
--- that isn't steady, and on that bus `lost_back` covers a busy chip.
+-- that isn't steady, and on that bus `lost_can_restore` covers a busy chip.
 pub lost_from_chip : (journal : Content) (first old new : Chip) → CanRestoreChip journal first old
     → PowerLost old new → CanRestoreChip journal first new
 lost_from_chip journal first old new can lost = λ state same.
     let before : BusState = record state { chip = old; steady = false } in
     let P : Chip → Type 0 = λ c. PowerLost old c in
-    lost_back journal first before state (can before refl)
+    lost_can_restore journal first before state (can before refl)
     (record { known = inl refl; lost = subst P (sym same) lost })
 
 -- If a bus over a port ran out of transactions (`RanOut`), the port had few calls left (`HadFewCalls`).

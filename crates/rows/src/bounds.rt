@@ -76,7 +76,7 @@ fn read_each(rt: &impl Abort, alloc: Global, row: Row, spoil: Spoil) -> u64 {
 
 // Without a fault, `read_out` and `verify` send 21 transactions.
 #[test]
-fn readings_on_buses_that_lie(rt: HostRuntime) {
+fn readings_on_faulty_buses(rt: HostRuntime) {
     let row = Row::ABitRises;
     let mut runs: u64 = 0;
     for n in 0..=22 {
@@ -100,7 +100,7 @@ fn session_each(rt: &impl Abort, alloc: Global, row: Row, n: u8) -> u64 {
 
 // Without a fault, the sessions send 30 and 57 transactions.
 #[test]
-fn sessions_on_buses_that_lie(rt: HostRuntime) {
+fn sessions_on_faulty_buses(rt: HostRuntime) {
     let mut runs: u64 = 0;
     for n in 0..=58 {
         for row in [Row::ABitRises, Row::TheRestOfASectorStays] {
@@ -123,7 +123,7 @@ fn restore_each(rt: &impl Abort, stopped: &Runs, n: u8) -> u64 {
 
 // The session is stopped after its erase, so the restore sends 58 transactions without a fault.
 #[test]
-fn restores_on_buses_that_lie(rt: HostRuntime) {
+fn restores_on_faulty_buses(rt: HostRuntime) {
     let row = Row::TheRestOfASectorStays;
     let stopped = Runs::new(&rt, rt.alloc(), row, Start::IDLE);
     let mut runs: u64 = 0;

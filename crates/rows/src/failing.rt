@@ -25,11 +25,11 @@ pub struct OnceBus {
     pub bus: SimBus,
     fault: Fault,
     // the number of transactions before the one that fails; `None` if none fails
-    behind: Option<u64>,
+    after: Option<u64>,
     allowed: u64,
     /// The number of transactions requested, including those that failed.
     pub asked: u64,
-    /// The first four bytes that were sent by transaction `behind`, counted from 0. If it sent fewer than four, these
+    /// The first four bytes that were sent by transaction `after`, counted from 0. If it sent fewer than four, these
     /// are its first byte and three zeros. Before that transaction all four are zeros. With `Busy` the bytes are
     /// recorded even if the transaction isn't a poll; then nothing fails.
     pub met: [u8; 4],
@@ -37,14 +37,14 @@ pub struct OnceBus {
 }
 
 impl OnceBus {
-    /// Returns a bus with the allowance `allowed`. After `behind` transactions, the next one fails as `fault` says; if
-    /// `behind` is `None`, no transaction fails.
-    pub fn new(mut bus: SimBus, allowed: u64, fault: Fault, behind: Option<u64>) -> OnceBus {
+    /// Returns a bus with the allowance `allowed`. After `after` transactions, the next one fails as `fault` says; if
+    /// `after` is `None`, no transaction fails.
+    pub fn new(mut bus: SimBus, allowed: u64, fault: Fault, after: Option<u64>) -> OnceBus {
         bus.allow(allowed);
         OnceBus {
             bus,
             fault,
-            behind,
+            after,
             allowed,
             asked: 0,
             met: [0; 4],
@@ -54,7 +54,7 @@ impl OnceBus {
 
     // Returns the value of `met` after the next transaction, which sends `out`.
     fn met_at(&self, out: &[u8]) -> [u8; 4] {
-        if self.behind == Some(self.asked) {
+        if self.after == Some(self.asked) {
             beginning(out)
         } else {
             self.met
@@ -63,15 +63,15 @@ impl OnceBus {
 
     // True if the next transaction, which sends `out`, fails.
     fn fails_at(&self, out: &[u8]) -> bool {
-        let Some(behind) = self.behind else {
+        let Some(after) = self.after else {
             return false;
         };
         match self.fault {
-            Fault::Stop | Fault::Spoil => self.asked == behind,
+            Fault::Stop | Fault::Spoil => self.asked == after,
             Fault::Busy => {
                 self.met == [0x05, 0, 0, 0]
                     && beginning(out) == self.met
-                    && self.asked < behind.saturating_add(65_536)
+                    && self.asked < after.saturating_add(65_536)
             }
         }
     }

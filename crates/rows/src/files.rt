@@ -215,7 +215,7 @@ fn put_all(rt: &impl Abort, alloc: Global) {
 }
 
 #[test]
-fn a_failure_is_told_at_once(rt: HostRuntime) {
+fn a_failure_is_returned_at_once(rt: HostRuntime) {
     put_half(&rt, rt.alloc(), Failure::Write(1));
     put_half(&rt, rt.alloc(), Failure::Nothing(1));
     put_all(&rt, rt.alloc());

@@ -57,7 +57,7 @@ fn stop_second(rt: &impl Abort, alloc: Global, runs: &Runs, other: Row, n: u64) 
             return m;
         }
     }
-    panic!(rt; "no session behind {n} ended")
+    panic!(rt; "no session after {n} ended")
 }
 
 // The first session raises a bit of byte 0, and the second writes FFh to byte 0 and four bytes from FEh on; all are in

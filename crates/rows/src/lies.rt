@@ -19,7 +19,7 @@ const MISMATCH: Refusal = Refusal::Mismatch { address: 0 };
 fn assert_lied(rt: &impl Abort, alloc: Global, row: Row, lied: Lied, told: (Refusal, u64)) {
     let (refusal, sent) = told;
     assert!(rt; lied.refusal == Some(refusal) && lied.sent == sent);
-    lied.assert_given_back(rt, alloc, row);
+    lied.assert_undone(rt, alloc, row);
 }
 
 // Each row has the session, the fault, the error, and the number of transactions sent. Transactions are counted from 1:
@@ -159,7 +159,7 @@ fn lie_past_the_seal(rt: &impl Abort, alloc: Global, row: Row) -> u64 {
             let lied = Lied::session(rt, alloc, row, spoil);
             let holds = is_fitting(spoil, lied.refusal) && lied.cut.vault.is_sealed();
             assert_held(rt, holds, n);
-            lied.assert_given_back(rt, alloc, row);
+            lied.assert_undone(rt, alloc, row);
             runs = runs.saturating_add(1);
         }
     }
@@ -195,7 +195,7 @@ fn lie_to_restores(rt: &impl Abort, alloc: Global, row: Row, stop: u64, length: 
     for n in 0..length {
         for spoil in [Spoil::Drop(n + 1), Spoil::BusyFrom(n + 1)] {
             let lied = Lied::restore(rt, runs.cut(rt, stop), spoil);
-            lied.assert_given_back(rt, alloc, row);
+            lied.assert_undone(rt, alloc, row);
         }
     }
 }

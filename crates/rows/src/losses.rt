@@ -10,7 +10,7 @@ fn change<S: Store>(files: &mut S) -> io::Result<()> {
     let mut journal = files.vault_in_new("journal")?;
     let _ = journal.put(b"abcd");
     let _ = journal.seal();
-    if files.hand_back(journal) {
+    if files.return_vault(journal) {
         files.write_over("image", b"wxyz")?;
         files.sync("image")?;
     }
@@ -88,7 +88,7 @@ fn a_sealed_vault_is_durable(rt: HostRuntime) -> Result<(), io::Error> {
         if is_sealed {
             let _ = vault.seal();
         }
-        assert_eq!(rt; files.hand_back(vault), is_sealed);
+        assert_eq!(rt; files.return_vault(vault), is_sealed);
         let files = files.lose(Loss::Unsynced, 0);
         let kept: &[u8] = if is_sealed { b"new" } else { b"old" };
         assert!(rt; has(&files, "copy", kept));

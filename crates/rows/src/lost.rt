@@ -112,7 +112,7 @@ fn lose_in_restore(rt: &impl Abort, pair: &Pair, n: u64) -> u64 {
         };
         assert_restored(rt, &pair.whole, left);
     }
-    panic!(rt; "no restore behind {n} ended")
+    panic!(rt; "no restore after {n} ended")
 }
 
 // Each row has its start and the number of replies that its restores lose. A session that loses a reply leaves the chip

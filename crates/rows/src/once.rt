@@ -195,7 +195,7 @@ fn a_spoilt_reply_is_taken_as_it_is(rt: HostRuntime) {
 // Returns the number of transactions of a restore after a session, or after a session and a restore, that sent `sent`
 // transactions in all. Before the seal there is no restore. A restore needs 8 transactions if the sector is as saved,
 // and 13 if it programs one byte.
-fn restore_behind(sent: u64) -> Option<u64> {
+fn restore_after(sent: u64) -> Option<u64> {
     match sent {
         0..=22 => None,
         23..=24 | 41..=42 => Some(8),
@@ -206,16 +206,16 @@ fn restore_behind(sent: u64) -> Option<u64> {
 // The result of a rehearsal, and the number of transactions requested in all.
 type Rehearsed = (Result<Rehearsal, Refusal>, u64);
 
-// Returns the expected result of a rehearsal with the given number of stops, on a bus that stops once, after `behind`
+// Returns the expected result of a rehearsal with the given number of stops, on a bus that stops once, after `after`
 // transactions. If no stop was given for the call in which the bus stops, the rehearsal returns `Stopped`. Otherwise a
 // restore follows if the vault is sealed.
-fn rehearsed(behind: u64, stops: usize) -> Rehearsed {
-    let asked = behind.saturating_add(1);
-    let ended = behind >= 30;
+fn rehearsed(after: u64, stops: usize) -> Rehearsed {
+    let asked = after.saturating_add(1);
+    let ended = after >= 30;
     if stops == 0 || ended && stops == 1 {
         return (Err(Refusal::Stopped), asked);
     }
-    let needed = restore_behind(behind);
+    let needed = restore_after(after);
     let told = Rehearsal {
         ended,
         sealed: needed.is_some(),
@@ -225,15 +225,10 @@ fn rehearsed(behind: u64, stops: usize) -> Rehearsed {
 }
 
 // Rehearses with the given number of stops, each of which allows more transactions than a call sends. The bus stops
-// once, after `behind` transactions. Returns the result, and the number of transactions requested.
-fn rehearse_behind(rt: &impl Abort, alloc: Global, behind: u64, stops: usize) -> Rehearsed {
+// once, after `after` transactions. Returns the result, and the number of transactions requested.
+fn rehearse_after(rt: &impl Abort, alloc: Global, after: u64, stops: usize) -> Rehearsed {
     let row = Row::ABitRises;
-    let mut bus = OnceBus::new(
-        row.bus(rt, alloc, Start::IDLE),
-        0,
-        Fault::Stop,
-        Some(behind),
-    );
+    let mut bus = OnceBus::new(row.bus(rt, alloc, Start::IDLE), 0, Fault::Stop, Some(after));
     let mut vault = MemVault::new(alloc);
     let mut image = row.wanted(rt, alloc);
     let request = row.request(rt, alloc);
@@ -249,7 +244,7 @@ fn rehearse_behind(rt: &impl Abort, alloc: Global, behind: u64, stops: usize) ->
 fn a_stop_in_a_rehearsal(rt: HostRuntime) {
     for n in 0..30 + 13 {
         for stops in 0..3 {
-            let came = rehearse_behind(&rt, rt.alloc(), n, stops);
+            let came = rehearse_after(&rt, rt.alloc(), n, stops);
             assert_held(&rt, came == rehearsed(n, stops), n);
         }
     }

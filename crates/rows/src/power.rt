@@ -29,7 +29,7 @@ fn lose_at_each(rt: &impl Abort, alloc: Global, row: Row, runs: u64, cut_off: [u
 // page program, so the whole page has the fill byte. If that is FFh, the byte is as it was. With another fill, and
 // after the last three stops, the restore erases the sector, with 14 transactions.
 #[test]
-fn each_loss_behind_a_programmed_byte(rt: HostRuntime) {
+fn each_loss_after_a_programmed_byte(rt: HostRuntime) {
     let runs = 23 + 3 * 9 + 3 * 15;
     lose_at_each(
         &rt,
@@ -45,7 +45,7 @@ fn each_loss_behind_a_programmed_byte(rt: HostRuntime) {
 // erase, and two the page program. With the fill FFh one program is then enough, too. With another fill the restore
 // also erases the sector, with 19 transactions.
 #[test]
-fn each_loss_behind_a_bit_that_rises(rt: HostRuntime) {
+fn each_loss_after_a_bit_that_rises(rt: HostRuntime) {
     let runs = 23 + 2 * 9 + 6 * 16;
     lose_at_each(
         &rt,
@@ -61,7 +61,7 @@ fn each_loss_behind_a_bit_that_rises(rt: HostRuntime) {
 // is another byte, the restore erases the sector and has 14 transactions. So does the restore after each of the last
 // eight stops, with every fill byte.
 #[test]
-fn each_loss_behind_two_pages(rt: HostRuntime) {
+fn each_loss_after_two_pages(rt: HostRuntime) {
     let runs = 23 + 3 * 9 + 8 * 15;
     lose_at_each(
         &rt,
@@ -81,7 +81,7 @@ fn each_loss_behind_two_pages(rt: HostRuntime) {
 // 00h nothing remains to be done after an interrupted erase, and an interrupted page program leaves its page as it was
 // originally.
 #[test]
-fn each_loss_behind_a_sector_that_mostly_stays(rt: HostRuntime) {
+fn each_loss_after_a_sector_that_mostly_stays(rt: HostRuntime) {
     let runs = 8 + 2 * 9 + 3 * 91 + 5 * (15 * 11 + 5 * 15 * 16 / 2);
     let again = 2 * 91 + 2 * 15 * 5;
     lose_at_each(

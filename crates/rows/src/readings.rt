@@ -51,7 +51,7 @@ fn read_under(alloc: Global, bus: &mut SimBus, before: &[u8], left: u64) -> [Sen
 
 // Reading out or verifying a TINY64 sends 21 transactions.
 #[test]
-fn any_stop_is_told(rt: HostRuntime) {
+fn any_stop_is_returned(rt: HostRuntime) {
     let row = Row::ABitRises;
     let before = row.before(&rt, rt.alloc());
     let mut bus = row.bus(&rt, rt.alloc(), Start::IDLE);
@@ -69,7 +69,7 @@ fn any_stop_is_told(rt: HostRuntime) {
 
 // `wp_status` sends 6 transactions on a TINY64, and 3 on a W25Q64FV.
 #[test]
-fn any_stop_of_a_look_at_the_protection_is_told(rt: HostRuntime) {
+fn any_stop_of_a_protection_report_is_returned(rt: HostRuntime) {
     let protection = Protection {
         range: Some((0x7E_0000, 0x2_0000)),
         locked: false,

@@ -33,7 +33,7 @@ fn rehearsed(
 // Returns the number of transactions that the restore of `ABitRises` sends if the session was allowed `stop`
 // transactions. Before the seal there is no restore. A restore needs 8 transactions if the sector is as saved, and 13
 // if it programs one byte.
-fn restore_behind(stop: u64) -> Option<u64> {
+fn restore_after(stop: u64) -> Option<u64> {
     match stop {
         0..=22 => None,
         23..=24 => Some(8),
@@ -43,11 +43,11 @@ fn restore_behind(stop: u64) -> Option<u64> {
 
 // The session sends 30 transactions. After a restore that was stopped, the rehearsal runs another one without a stop.
 #[test]
-fn each_pair_of_stops_tells_how_it_went(rt: HostRuntime) {
+fn each_pair_of_stops_is_reported(rt: HostRuntime) {
     let row = Row::ABitRises;
     for n in 0..=31 {
         for m in 0..=14 {
-            let restores = match restore_behind(n) {
+            let restores = match restore_after(n) {
                 None => 0,
                 Some(needed) => 1 + u32::from(m < needed),
             };
@@ -86,7 +86,7 @@ fn restores_under(needed: u64, first: u64, second: u64) -> u32 {
 fn a_third_stop_is_the_second_restores(rt: HostRuntime) {
     let row = Row::ABitRises;
     for n in [23, 25, 28, 30] {
-        let needed = restore_behind(n).expect(&rt, "a sealed journal");
+        let needed = restore_after(n).expect(&rt, "a sealed journal");
         for m in 0..=14 {
             for k in [0, 7, 8, 12, 13] {
                 let wanted = Rehearsal {
@@ -209,7 +209,7 @@ fn lies() -> [(Row, Spoil, Told); 8] {
 
 // In each row except the first, the error is returned even if stops are given, and nothing is sent after it.
 #[test]
-fn a_refusal_in_a_rehearsal_is_told(rt: HostRuntime) {
+fn an_error_in_a_rehearsal_is_returned(rt: HostRuntime) {
     for (row, spoil, told) in lies() {
         for stops in 0..3 {
             let came = rehearsed_lied(&rt, rt.alloc(), row, spoil, stops);

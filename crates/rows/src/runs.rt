@@ -109,14 +109,14 @@ impl Runs {
         let mut vault = MemVault::new(self.alloc);
         let answer = keep(rt, self.alloc, self.row, &mut bus, &mut vault);
         let told = (ended(rt, answer), vault.is_sealed());
-        assert_held(rt, told == self.told_at(allowed), allowed);
+        assert_held(rt, told == self.expected_at(allowed), allowed);
         assert_held(rt, told.0.is_none() || bus.status()[0] & 0x03 == 0, allowed);
         Cut { bus, vault }
     }
 
     // Returns what is expected of the session with `allowed` transactions: the number that it sends if it ends, and
     // whether its vault is sealed.
-    fn told_at(&self, allowed: u64) -> (Option<u64>, bool) {
+    fn expected_at(&self, allowed: u64) -> (Option<u64>, bool) {
         let length = self.row.ends_at(self.start);
         let sealed = allowed >= self.row.sealed_at(self.start);
         let sent = if allowed >= length {
@@ -155,7 +155,7 @@ impl Runs {
     pub fn stop_restores_at_each(&self, rt: &impl Abort, first: u64) -> u64 {
         let mut runs: u64 = 0;
         for n in first..=self.row.ends_at(self.start) {
-            runs = runs.saturating_add(self.stop_restores_behind(rt, n));
+            runs = runs.saturating_add(self.stop_restores_after(rt, n));
         }
         runs
     }
@@ -182,13 +182,13 @@ impl Runs {
     /// transactions that is too small for it, and restores again. Asserts that each run leaves the chip as before.
     /// Returns the number of stopped restores.
     pub fn stop_restores(&self, rt: &impl Abort, n: u64) -> u64 {
-        self.stop_restores_behind(rt, n).saturating_sub(1)
+        self.stop_restores_after(rt, n).saturating_sub(1)
     }
 
     // Stops the session after `n` transactions. If its vault is sealed, stops the restore after 0, 1, .. transactions
     // until it ends; after each stopped restore another one follows. Asserts that each run leaves the chip as before.
     // Returns the number of runs, which is 1 if the vault isn't sealed.
-    fn stop_restores_behind(&self, rt: &impl Abort, n: u64) -> u64 {
+    fn stop_restores_after(&self, rt: &impl Abort, n: u64) -> u64 {
         for m in 0..AMPLE {
             let mut cut = self.cut(rt, n);
             cut.bus.tear(self.torn);
@@ -198,7 +198,7 @@ impl Runs {
                 return m + 1;
             }
         }
-        panic!(rt; "no restore behind {n} ended")
+        panic!(rt; "no restore after {n} ended")
     }
 }
 

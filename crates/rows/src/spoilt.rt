@@ -78,7 +78,7 @@ impl Lied {
 
     /// Restores on the bus without the fault, if the vault is sealed. Asserts that afterwards the chip is as before the
     /// session.
-    pub fn assert_given_back(self, rt: &impl Abort, alloc: Global, row: Row) {
+    pub fn assert_undone(self, rt: &impl Abort, alloc: Global, row: Row) {
         let Lied { mut cut, .. } = self;
         if cut.vault.is_sealed() {
             cut.restore(rt, AMPLE).expect(rt, "the restore ends");

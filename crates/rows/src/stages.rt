@@ -163,8 +163,8 @@ impl Stage {
     }
 
     // Returns a bus to the original chip, or for a restore to the chip that the session left. The bus fails as `fault`
-    // says after `behind` transactions, and allows the bound of a session.
-    fn bus(&self, rt: &impl Abort, call: Call, fault: Fault, behind: Option<u64>) -> OnceBus {
+    // says after `after` transactions, and allows the bound of a session.
+    fn bus(&self, rt: &impl Abort, call: Call, fault: Fault, after: Option<u64>) -> OnceBus {
         let bytes = if call == Call::Restore {
             &self.image
         } else {
@@ -176,7 +176,7 @@ impl Stage {
             rt,
             "as many bytes as the chip has",
         );
-        OnceBus::new(bus, most(self.job.size() / SECTOR_LEN), fault, behind)
+        OnceBus::new(bus, most(self.job.size() / SECTOR_LEN), fault, after)
     }
 
     fn session(
@@ -261,7 +261,7 @@ impl Stage {
         for n in 0..right.1 {
             let mut bus = self.bus(rt, call, Fault::Spoil, Some(n));
             let refusal = self.refusal(rt, call, &mut bus);
-            if let Some(told) = told_of_spoilt(call, touched, right, n, bus.met) {
+            if let Some(told) = expected_of_spoilt(call, touched, right, n, bus.met) {
                 assert_held(rt, (refusal, bus.asked) == told, n);
                 spoilt = spoilt.saturating_add(1);
             }
@@ -275,7 +275,7 @@ impl Stage {
 // restore verifies at its end, and `met` has the first bytes that transaction `n` sent.
 //
 // Returns `None` unless the reply is that of a poll, or of a sector that is verified or written to the output.
-fn told_of_spoilt(
+fn expected_of_spoilt(
     call: Call,
     touched: u64,
     right: (Option<Refusal>, u64),

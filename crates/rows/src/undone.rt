@@ -52,8 +52,8 @@ const SMALL: [(Row, Start, u64); 6] = [
 #[test]
 fn each_stop_on_a_small_chip(rt: HostRuntime) {
     for (row, start, runs) in SMALL {
-        let behind = Runs::new(&rt, rt.alloc(), row, start);
-        assert!(rt; behind.stop_restores_at_each(&rt, 0) == runs);
+        let after = Runs::new(&rt, rt.alloc(), row, start);
+        assert!(rt; after.stop_restores_at_each(&rt, 0) == runs);
     }
 }
 
@@ -67,8 +67,8 @@ const LATCHED: [(Row, Start, u64); 4] = [
 #[test]
 fn each_stop_on_a_chip_with_its_latch_set(rt: HostRuntime) {
     for (row, start, runs) in LATCHED {
-        let behind = Runs::new(&rt, rt.alloc(), row, start.latched());
-        assert!(rt; behind.stop_restores_at_each(&rt, 0) == runs);
+        let after = Runs::new(&rt, rt.alloc(), row, start.latched());
+        assert!(rt; after.stop_restores_at_each(&rt, 0) == runs);
     }
 }
 
@@ -76,9 +76,9 @@ fn each_stop_on_a_chip_with_its_latch_set(rt: HostRuntime) {
 // without its protection, three without its protection and with the byte programmed, and three with the byte programmed
 // and the protection set again. The restores have 5, 8, 12 and 15 transactions.
 #[test]
-fn each_stop_behind_a_guarded_byte(rt: HostRuntime) {
+fn each_stop_after_a_protected_byte(rt: HostRuntime) {
     let row = Row::AGuardedByteIsProgrammed;
-    let behind = Runs::new(&rt, rt.alloc(), row, Start::IDLE);
+    let after = Runs::new(&rt, rt.alloc(), row, Start::IDLE);
     let runs = 3 + 2 * 6 + 4 * 9 + 3 * 13 + 3 * 16;
-    assert!(rt; behind.stop_restores_at_each(&rt, 2049) == runs);
+    assert!(rt; after.stop_restores_at_each(&rt, 2049) == runs);
 }

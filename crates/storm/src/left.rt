@@ -72,7 +72,7 @@ pub fn run(alloc: Global, accepted: Accepted<'_>, stop: Stop) -> Result<(Left, M
         stop,
     };
     check_session(call, &ran)?;
-    let model = model_behind(alloc, &accepted.case.chip, call, &ran.bus)?;
+    let model = model_after(alloc, &accepted.case.chip, call, &ran.bus)?;
     let left = Left {
         bus: ran.bus,
         sent: ran.sent,
@@ -83,7 +83,7 @@ pub fn run(alloc: Global, accepted: Accepted<'_>, stop: Stop) -> Result<(Left, M
 }
 
 // Returns the model of `chip` after a call, or a fault if the chip on the bus differs from the model.
-fn model_behind(alloc: Global, chip: &Chip, call: Call<'_>, bus: &SimBus) -> Result<Model, Fault> {
+fn model_after(alloc: Global, chip: &Chip, call: Call<'_>, bus: &SimBus) -> Result<Model, Fault> {
     let mut model = Model::of(alloc, chip)?;
     model.call(call.whole, call.stop);
     model.check(bus)?;
@@ -165,5 +165,5 @@ fn check_restore(accepted: Accepted<'_>, call: Call<'_>, ran: &Restored) -> Resu
             "a restore with too few transactions",
         )?;
     }
-    traces::check_trace(ran.sent.as_slice(), call.lines(), "a restore behind a stop")
+    traces::check_trace(ran.sent.as_slice(), call.lines(), "a restore after a stop")
 }

@@ -50,7 +50,7 @@ impl Lines {
         for _ in 0..=self.pace.busy {
             let status1 = self.status[0] | self.pace.bits();
             self.lost |= writeln!(self.text, "05 > {status1:02x}").is_err();
-            self.pace = self.pace.behind("05");
+            self.pace = self.pace.after("05");
         }
     }
 
@@ -124,12 +124,12 @@ impl Lines {
     // Appends the write enable with which every operation begins.
     fn enable(&mut self) {
         self.put("06\n");
-        self.pace = self.pace.behind("06");
+        self.pace = self.pace.after("06");
     }
 
     // Appends the wait with which every operation ends.
     fn finish(&mut self, opcode: &str) {
-        self.pace = self.pace.behind(opcode);
+        self.pace = self.pace.after(opcode);
         self.wait();
     }
 }

@@ -94,7 +94,7 @@ impl Model {
             ),
             (
                 shown == self.pace().bits(),
-                "BUSY and the latch behind a call",
+                "BUSY and the latch after a call",
             ),
         ])
     }
@@ -134,7 +134,7 @@ impl Model {
 
     // Sets BUSY and the write enable latch as after a transaction with this opcode that the chip carried out.
     fn pass(&mut self, opcode: &str) {
-        self.set_pace(self.pace().behind(opcode));
+        self.set_pace(self.pace().after(opcode));
     }
 
     fn set_pace(&mut self, pace: Pace) {

@@ -29,9 +29,9 @@ impl Pace {
 
     /// Returns the pace after the chip carried out a transaction with this opcode. For a write enable or an operation
     /// the chip must be idle, and for an operation its write enable latch must be set, too.
-    pub fn behind(self, opcode: &str) -> Pace {
+    pub fn after(self, opcode: &str) -> Pace {
         match opcode {
-            "05" => self.behind_poll(),
+            "05" => self.after_poll(),
             "06" => Pace {
                 latch: true,
                 ..self
@@ -47,7 +47,7 @@ impl Pace {
 
     // Returns the pace after a poll. A poll of a busy chip reduces `busy` by one. When `busy` becomes 0, the write
     // enable latch is cleared.
-    fn behind_poll(self) -> Pace {
+    fn after_poll(self) -> Pace {
         let busy = self.busy.saturating_sub(1);
         Pace {
             busy,
@@ -60,16 +60,16 @@ impl Pace {
     pub fn waited(self) -> Pace {
         let mut pace = self;
         for _ in 0..self.busy {
-            pace = pace.behind_poll();
+            pace = pace.after_poll();
         }
         pace
     }
 
     /// Returns the pace after the chip carried out the transactions of a trace.
-    pub fn behind_lines(self, lines: &str) -> Pace {
+    pub fn after_lines(self, lines: &str) -> Pace {
         let mut pace = self;
         for line in lines.lines() {
-            pace = pace.behind(line.get(..2).unwrap_or(""));
+            pace = pace.after(line.get(..2).unwrap_or(""));
         }
         pace
     }

@@ -176,7 +176,7 @@ fn check_ran(
     first: &str,
     ran: &Ran,
 ) -> Result<(), Fault> {
-    let pace = Pace::of(&case.chip).behind_lines(first);
+    let pace = Pace::of(&case.chip).after_lines(first);
     let shown = ran.bus.status()[0] & 0b0000_0011;
     let same = checks::is_same(&ran.bus, &case.chip);
     agree_all(&[

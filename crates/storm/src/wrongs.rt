@@ -107,16 +107,16 @@ fn check_cut_after(alloc: Global, case: &Case, lines: &str, after: u64) -> Resul
         ..Stop::after(after)
     };
     let ran = checks::run(alloc, case, stop)?;
-    model_behind(alloc, case, lines, stop)?.check(&ran.bus)?;
+    model_after(alloc, case, lines, stop)?.check(&ran.bus)?;
     let less = Stop {
         cut: Some(4),
         ..stop
     };
-    let told = model_behind(alloc, case, lines, less)?.check(&ran.bus);
+    let told = model_after(alloc, case, lines, less)?.check(&ran.bus);
     must_tell(told, "the bytes after a call")
 }
 
-fn model_behind(alloc: Global, case: &Case, lines: &str, stop: Stop) -> Result<Model, Fault> {
+fn model_after(alloc: Global, case: &Case, lines: &str, stop: Stop) -> Result<Model, Fault> {
     let mut model = Model::of(alloc, &case.chip)?;
     model.call(lines, stop);
     Ok(model)

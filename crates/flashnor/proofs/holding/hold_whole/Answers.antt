@@ -1,4 +1,4 @@
-use Rattle.flashnor.proofs.Holds.{missing_settled}
+use Rattle.flashnor.proofs.Holds.{missing_durable}
 use Rattle.flashnor.proofs.Stays.{known_after, known_at_rest, rest_on}
 use Rattle.nor_lines.proofs.Lent.{stays_on}
 use Rattle.flashnor.proofs.holding.hold_whole.Goals as goal
@@ -17,7 +17,7 @@ returns-in_ok-read_held-in-Ok-true-clause-held g c = λ rest.
     let held = rest_on c.in-Ok-true.ensures.nature rest one in
     record {
       stay = λ name. stays_on (one name) (c.in_ok-read_held-in-Ok-true.ensures.stay name (known_at_rest held name));
-      settled = rw c.in-Some.is (c.in_ok-read_held-in-Ok-true.ensures.held held);
+      durable = rw c.in-Some.is (c.in_ok-read_held-in-Ok-true.ensures.held held);
     }
 
 pub returns-in_ok-read_held-in-Ok-true-clause-no_more :
@@ -42,7 +42,7 @@ returns-in-Ok-clause-held g c = λ rest.
     let held = rest_on c.in-Ok-false.ensures.nature rest holds.stay in
     record {
       stay = λ name. stays_on (holds.stay name) (c.in-Ok.ensures.stay name (known_at_rest held name));
-      settled = rw c.in-Some.is (missing_settled c.in-Ok-false.field-0-test (known_at_rest rest c.in-Some.name.now) holds
+      durable = rw c.in-Some.is (missing_durable c.in-Ok-false.field-0-test (known_at_rest rest c.in-Some.name.now) holds
           (c.in-Ok.ensures.places (known_at_rest held c.in-Some.name.now)));
     }
 

@@ -8,7 +8,7 @@ returns-in_err-make-clause-others g c = λ lawful. (c.in_err-make.ensures.alone 
 
 pub returns-in_err-make-clause-amid : goal.returns-in_err-make-clause-amid
 returns-in_err-make-clause-amid g c = λ had ready left can.
-    inl (ready.settled.leaves left ((c.in_err-make.ensures.makes ready.known).leaves left can))
+    inl (ready.durable.leaves left ((c.in_err-make.ensures.makes ready.known).leaves left can))
 
 pub returns-in_err-set_len : goal.returns-in_err-set_len
 returns-in_err-set_len g c =

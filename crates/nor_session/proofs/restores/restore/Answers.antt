@@ -4,7 +4,7 @@ use Rattle.nor_scan.specs.Identity.{most_identity}
 use Rattle.nor_driver.specs.OnlyReads.{OnlyReads}
 use Rattle.nor_session.specs.Restore.{IsCheckedFirst, FitsReplies}
 use Rattle.nor_session.specs.Bounds.{most_reads, most_of}
-use Rattle.nor_session.proofs.Restoring.{AreChanged, only_reads_most, only_reads_spend, prepare_answers, prepare_fails, prepare_errors, prepare_last, change_last, leaves_after_reads, can_restore_after_reads, changed_spends, changed_fits, changed_leaves, changed_back, change_answers, change_not_judged, change_fails, change_errors, sum_fits, restored_bounded, restored_counted, restored_checked, restored_sparing, restored_done, restored_back}
+use Rattle.nor_session.proofs.Restoring.{AreChanged, only_reads_most, only_reads_spend, prepare_answers, prepare_fails, prepare_errors, prepare_last, change_last, leaves_after_reads, can_restore_after_reads, changed_spends, changed_fits, changed_leaves, changed_can_restore, change_answers, change_not_judged, change_fails, change_errors, sum_fits, restored_bounded, restored_counted, restored_checked, restored_sparing, restored_done, restored_original}
 use Rattle.nor_session.proofs.Changed.{two_writes, no_write}
 use Rattle.nor_session.proofs.RestoredOriginal.{only_stopped}
 use Rattle.nor_session.proofs.Naming.{prepare_names, change_names}
@@ -49,7 +49,7 @@ returns-in_err-work g c =
     rw (p.1, p.2) (record {
       restores_original = λ modelled.
           let returned = change_errors journal prepared old mid new refusal are modelled errors in
-          search (rules, changed_back, only_stopped);
+          search (rules, changed_can_restore, only_stopped);
       always =
           let fits : (new.sent ≡ old.sent) ⊎ FitsReplies journal old new =
           inr (changed_fits c.in_ok-prepared.ensures.replies are.leaves.spends.nature) in
@@ -91,7 +91,7 @@ returns g c =
     record {
       restores_original = λ modelled.
           let done = restored_done journal prepared old mid new work sent are does modelled in
-          search (rules, changed_back, restored_back);
+          search (rules, changed_can_restore, restored_original);
       always =
           let fits : (new.sent ≡ old.sent) ⊎ FitsReplies journal old new =
           inr (changed_fits c.in_ok-prepared.ensures.replies are.leaves.spends.nature) in

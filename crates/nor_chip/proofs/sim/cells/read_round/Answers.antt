@@ -11,7 +11,7 @@ loop-done-preserved c =
     record {
       read = λ i small. elim (cases_lt i c.loop-done.done) [
         | inl before ↦ grind (arith, common_steps, written_before, was.read i before)
-        | inr behind ↦ grind (arith, common_steps, written_within, run_on _ _ i _ _ place behind)
+        | inr later ↦ grind (arith, common_steps, written_within, run_on _ _ i _ _ place later)
       ];
       within = grind (arith, common_steps);
       from_in = grind (arith, common_steps);

@@ -12,5 +12,5 @@ returns c =
       left = search rules;
       at_rest = lost.at_rest;
       allowed = lost.allowed;
-      settled = lost.settled;
+      durable = lost.durable;
     }

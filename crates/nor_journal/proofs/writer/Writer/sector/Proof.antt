@@ -1,5 +1,5 @@
 -- A walk of the code of `sector`, by hand, since Rattle doesn't prove what a borrowed value ends as if its type is a
--- parameter. It passes on what the contracts of `added` and `settled` say.
+-- parameter. It passes on what the contracts of `try_sector` and `into_result` say.
 use mathlib.Core.Path.{◌≡◌, refl, sym, subst}
 use mathlib.Core.List.{[], ◌∷◌}
 use seplogic.Ra.Ura.{Ura}
@@ -51,10 +51,10 @@ use Rattle.nor_journal.specs.contracts.writer.Writer as writer
 use Rattle.nor_journal.proofs.writer.Writer.TheLaws as writer_laws
 use Rattle.nor_journal.specs.contracts.vault.VaultFault as fault
 use Rattle.nor_journal.proofs.vault.VaultFault.TheLaws as fault_laws
-use Rattle.nor_journal.specs.contracts.writer.Writer.added as adds
-use Rattle.nor_journal.proofs.writer.Writer.added.Met as adds_met
-use Rattle.nor_journal.specs.contracts.writer.Writer.settled as settles
-use Rattle.nor_journal.proofs.writer.Writer.settled.Met as settles_met
+use Rattle.nor_journal.specs.contracts.writer.Writer.try_sector as adds
+use Rattle.nor_journal.proofs.writer.Writer.try_sector.Met as adds_met
+use Rattle.nor_journal.specs.contracts.writer.Writer.into_result as settles
+use Rattle.nor_journal.proofs.writer.Writer.into_result.Met as settles_met
 use Rattle.nor_journal.specs.contracts.writer.Writer.sector as F
 use Rattle.nor_journal.specs.contracts.writer.Writer.sector.Key.{name as #self}
 use Rattle.nor_journal.proofs.writer.Writer.sector.Statement.{statement}
@@ -107,7 +107,7 @@ sector_spec 𝓤 𝓛 𝓜 𝓡 wired V L g d bound =
     enter ! 𝓣.C 𝓣.Λ fn (struct.val (writer.the_type lt P) (writer_laws.the_laws lt P LP) h ∷ vint w32 a.1.0 ∷ vptr a.1.1.0.ref_ptr.0 a.1.1.0.ref_ptr.1 ∷ []) _ $ alloc_all ! (λ l.
     pass_all ! refl (tw, ((tt, record { fits = are.1.0.1 }), ((tt, tt), tt))) $
     sets ! (of_opd ! (get ! refl)) refl tw $
-    calls_at ! fm k1 (adds_met.met 𝓤 𝓛 𝓜 𝓡 (code.calls-nor_journal::writer::Writer::added 𝓡.env wired) V L g d bound) y1
+    calls_at ! fm k1 (adds_met.met 𝓤 𝓛 𝓜 𝓡 (code.calls-nor_journal::writer::Writer::try_sector 𝓡.env wired) V L g d bound) y1
     (and_then ! (get ! refl) (and_then ! (get ! refl) (and_then ! (get ! refl) (no_more !)))) (λ v.
     use1 𝓛 (later (some (λ (b : B.Denot). ((‵ first ⊛ ‵ second ⊛ ‵ third ⊛ ‵ ftrue) ⊛ ‵ (B.own_val b (v ∷ []))) ⊛ some (λ (ls : Lasts (adds.ended V g d) κs a).
     ‵ (lasts (adds.ended V g d) κs a ls) ⊛ (raw (fact 𝓤 (Same b)) ⊛ raw (fact 𝓤 (Bad b)) ⊛ raw (fact 𝓤 (IfOk (outcome_of b) Vault)) ⊛ raw (fact 𝓤 (Written (outcome_of b)))))))) (id⊢ 𝓤 (k1.post y1 v)) $
@@ -122,7 +122,7 @@ sector_spec 𝓤 𝓛 𝓜 𝓡 wired V L g d bound =
     move ! (1 ∷ 0 ∷ []) $ join ! $
     let y2 : k2.Ghost = ((κs2, qs2, bounds, (b, tt), ((v ∷ []), tt)), tt) in
     use1 𝓛 (raw (k2.pre y2)) (id⊢ 𝓤 _) $
-    calls_at ! fm k2 (settles_met.met 𝓤 𝓛 𝓜 𝓡 (code.calls-nor_journal::writer::Writer::settled 𝓡.env wired) V L g d bound) y2
+    calls_at ! fm k2 (settles_met.met 𝓤 𝓛 𝓜 𝓡 (code.calls-nor_journal::writer::Writer::into_result 𝓡.env wired) V L g d bound) y2
     (and_then ! (get ! refl) (no_more !)) (λ u.
     use1 𝓛 (later (some (λ (x : R.Denot). ((‵ first ⊛ ‵ third ⊛ ‵ ftrue) ⊛ ‵ (R.own_val x (u ∷ []))) ⊛ some (λ (ls' : Lasts (settles.ended V g d) κs2 (b, tt)).
     ‵ (lasts (settles.ended V g d) κs2 (b, tt) ls') ⊛ (‵ (Rested (lent_by b).ghost_name x (λ n. n ≡ (lent_by b).now)) ⊛ raw (fact 𝓤 (x ≡ outcome_of b))))))) (id⊢ 𝓤 (k2.post y2 u)) $

@@ -1,5 +1,5 @@
 -- A walk of the code of `start`, by hand, since Rattle doesn't prove what a borrowed value ends as if its type is a
--- parameter. It passes on what the contracts of `begun` and `settled` say.
+-- parameter. It passes on what the contracts of `try_start` and `into_result` say.
 use mathlib.Core.Path.{◌≡◌, refl, sym, subst}
 use mathlib.Core.List.{[], ◌∷◌}
 use Prim.Native.Nat.{ℕ}
@@ -50,10 +50,10 @@ use Rattle.nor_journal.specs.contracts.writer.Writer as writer
 use Rattle.nor_journal.proofs.writer.Writer.TheLaws as writer_laws
 use Rattle.nor_journal.specs.contracts.vault.VaultFault as fault
 use Rattle.nor_journal.proofs.vault.VaultFault.TheLaws as fault_laws
-use Rattle.nor_journal.specs.contracts.writer.Writer.begun as begins
-use Rattle.nor_journal.proofs.writer.Writer.begun.Met as begins_met
-use Rattle.nor_journal.specs.contracts.writer.Writer.settled as settles
-use Rattle.nor_journal.proofs.writer.Writer.settled.Met as settles_met
+use Rattle.nor_journal.specs.contracts.writer.Writer.try_start as begins
+use Rattle.nor_journal.proofs.writer.Writer.try_start.Met as begins_met
+use Rattle.nor_journal.specs.contracts.writer.Writer.into_result as settles
+use Rattle.nor_journal.proofs.writer.Writer.into_result.Met as settles_met
 use Rattle.nor_journal.specs.contracts.writer.Writer.start as F
 use Rattle.nor_journal.specs.contracts.writer.Writer.start.Key.{name as #self}
 use Rattle.nor_journal.proofs.writer.Writer.start.Statement.{statement}
@@ -98,7 +98,7 @@ start_spec 𝓤 𝓛 𝓜 𝓡 wired V L g d bound =
     enter ! 𝓣.C 𝓣.Λ fn (vptr r.ref_ptr.0 r.ref_ptr.1 ∷ (A 3).val a.1.0 ∷ (A 8).val a.1.1.0 ∷ (A 2).val a.1.1.1.0 ∷ vint w32 a.1.1.1.1.0 ∷ []) _ $ alloc_all ! (λ l.
     pass_all ! refl ((tt, tt), ((((A 3).lawful 𝓛).typed a.1.0 _ are.1.0).0, ((((A 8).lawful 𝓛).typed a.1.1.0 _ are.1.1.0).0, ((((A 2).lawful 𝓛).typed a.1.1.1.0 _ are.1.1.1.0).0, ((tt, record { fits = are.1.1.1.1.0.1 }), tt))))) $
     sets ! (addr ! (through ! refl (stop !))) refl (tt, tt) $
-    calls_at ! fm k1 (begins_met.met 𝓤 𝓛 𝓜 𝓡 (code.calls-nor_journal::writer::Writer::begun 𝓡.env wired) V L g d bound) y1
+    calls_at ! fm k1 (begins_met.met 𝓤 𝓛 𝓜 𝓡 (code.calls-nor_journal::writer::Writer::try_start 𝓡.env wired) V L g d bound) y1
     (and_then ! (get ! refl) (and_then ! (get ! refl) (and_then ! (get ! refl) (and_then ! (get ! refl) (and_then ! (get ! refl) (no_more !)))))) (λ v.
     use1 𝓛 (later (some (λ (b : B.Denot). (raw toks ⊛ ‵ (B.own_val b (v ∷ []))) ⊛ some (λ (ls : Lasts (begins.ended V g d) κs a).
     ‵ (lasts (begins.ended V g d) κs a ls) ⊛ (raw (fact 𝓤 (Same b)) ⊛ raw (fact 𝓤 (Bad b)) ⊛ raw (fact 𝓤 (IfOk (outcome_of b) Vault)) ⊛ raw (fact 𝓤 (IfOk (outcome_of b) Written))))))) (id⊢ 𝓤 (k1.post y1 v)) $
@@ -112,7 +112,7 @@ start_spec 𝓤 𝓛 𝓜 𝓡 wired V L g d bound =
     move ! (1 ∷ 0 ∷ []) $ join ! $
     let y2 : k2.Ghost = ((κs, qs, bounds, (b, tt), ((v ∷ []), tt)), tt) in
     use1 𝓛 (raw (k2.pre y2)) (id⊢ 𝓤 _) $
-    calls_at ! fm k2 (settles_met.met 𝓤 𝓛 𝓜 𝓡 (code.calls-nor_journal::writer::Writer::settled 𝓡.env wired) V L g d bound) y2
+    calls_at ! fm k2 (settles_met.met 𝓤 𝓛 𝓜 𝓡 (code.calls-nor_journal::writer::Writer::into_result 𝓡.env wired) V L g d bound) y2
     (and_then ! (get ! refl) (no_more !)) (λ u.
     use1 𝓛 (later (some (λ (x : R.Denot). (raw toks ⊛ ‵ (R.own_val x (u ∷ []))) ⊛ some (λ (ls' : Lasts (settles.ended V g d) κs (b, tt)).
     ‵ (lasts (settles.ended V g d) κs (b, tt) ls') ⊛ (‵ (Rested (lent_by b).ghost_name x (λ n. n ≡ (lent_by b).now)) ⊛ raw (fact 𝓤 (x ≡ outcome_of b))))))) (id⊢ 𝓤 (k2.post y2 u)) $

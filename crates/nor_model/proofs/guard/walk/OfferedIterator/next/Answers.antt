@@ -8,7 +8,7 @@ loop-code-preserved c = record {
   same = c.loop-code.invariant.same;
   none = λ other start len from below least. elim (cases_lt other c.loop-code.code) [
     | inl before ↦ c.loop-code.invariant.none other start len from before least
-    | inr behind ↦
+    | inr later ↦
         let here : other ≡ c.loop-code.code = omega arith in
         let size = sym (ap (λ (walk : Offered). walk.size) c.loop-code.invariant.same) in
         c.in_default.ensures.none start len (rw (size, here) at least)

@@ -1,5 +1,5 @@
-use Rattle.flashnor.proofs.holding.put_back.Goals as goal
-use Rattle.flashnor.proofs.holding.put_back.Goals.{else-there, then-there}
+use Rattle.flashnor.proofs.holding.write_if_named.Goals as goal
+use Rattle.flashnor.proofs.holding.write_if_named.Goals.{else-there, then-there}
 
 pub returns-in-Ok-clause-others : goal.returns-in-Ok-clause-others
 returns-in-Ok-clause-others g c = λ lawful any differ.

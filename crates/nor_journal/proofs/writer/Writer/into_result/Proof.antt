@@ -1,4 +1,4 @@
--- A walk of the code of `settled`, by hand, since Rattle doesn't prove what a borrowed value ends as if its type is a
+-- A walk of the code of `into_result`, by hand, since Rattle doesn't prove what a borrowed value ends as if its type is a
 -- parameter. In the first arm the reference to the vault goes into the result. In the second arm it is given up, so that
 -- its last value is known.
 use mathlib.Core.Path.{◌≡◌, refl, sym}
@@ -49,10 +49,10 @@ use Rattle.std.specs.Prelude.{Ok, Err}
 use Rattle.std.specs.Borrow.{RestsIfErr}
 use Rattle.nor_journal.specs.Writer.{lent_by, vault_of, outcome_of}
 use Rattle.nor_journal.proofs.writer.Attempt.TheLaws as attempt_laws
-use Rattle.nor_journal.specs.contracts.writer.Writer.settled as F
-use Rattle.nor_journal.specs.contracts.writer.Writer.settled.Key.{name as #self}
-use Rattle.nor_journal.proofs.writer.Writer.settled.Statement.{statement}
-use Rattle.nor_journal.proofs.writer.Writer.settled.Code as code
+use Rattle.nor_journal.specs.contracts.writer.Writer.into_result as F
+use Rattle.nor_journal.specs.contracts.writer.Writer.into_result.Key.{name as #self}
+use Rattle.nor_journal.proofs.writer.Writer.into_result.Statement.{statement}
+use Rattle.nor_journal.proofs.writer.Writer.into_result.Code as code
 
 module _ (V : RattleType) (L : Laws V) (g : Ghosts V.Denot) (d : Dict) where
   abbrev P : RattleType
@@ -168,8 +168,8 @@ goes V 𝓛 κs (Accepted h) f vs fit =
 goes V 𝓛 κs (Refused r fault) f vs fit =
     qed 𝓛 (‵ ftrue ∷ []) ∵ updating ! $ now ! $ nothing ! $ fjoin ! $ done !
 
-pub settled_spec : {M : Type 1} → statement M
-settled_spec 𝓤 𝓛 𝓜 𝓡 wired V L g d _ =
+pub into_result_spec : {M : Type 1} → statement M
+into_result_spec 𝓤 𝓛 𝓜 𝓡 wired V L g d _ =
     let 𝓣 = tables 𝓤 𝓛.H 𝓜 𝓡 𝓡.env in let c = F.clauses V g d 𝓛 𝓜.mem 𝓡.returns in
     proved 𝓛 (En V L g d) (hs V L g d) c 𝓜 𝓡 (goes V 𝓛, tt)
     (#self (inst V L g d)) (fn V L g d) (code.unfolded 𝓤 𝓛.H 𝓜 𝓡 wired (V, tt) d)
