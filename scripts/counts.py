@@ -32,7 +32,7 @@ def of_sources():
 def of_storm(log):
     """Returns the numbers of Storm. The second one is the number of cases for each case on a faulty bus."""
     cases = int(re.search(r"(?m)^storm: (\d+) passed", log)[1])
-    faulty = sum(map(int, re.findall(r"(?m)^sessions on a bus that lies: (\d+)$", log)))
+    faulty = sum(map(int, re.findall(r"(?m)^sessions on a faulty bus: (\d+)$", log)))
     cut = r"(?m)^stops inside a transaction: (\d+) of sessions, (\d+) of restores, (\d+) that lost the power$"
     return {
         "Random sessions, compared with the reference implementation": [cases, round(cases / faulty) if faulty else 0],

@@ -13,9 +13,9 @@ import texts
 # The output of the gate, with the lines of its parts.
 LOG = """agree: fine
 storm: a line before
-sessions on a bus that lies: 130
+sessions on a faulty bus: 130
 stops inside a transaction: 51 of sessions, 64 of restores, 20 that lost the power
-sessions on a bus that lies: 120
+sessions on a faulty bus: 120
 stops inside a transaction: 60 of sessions, 70 of restores, 21 that lost the power
 storm: 1000 passed, 0 failed
 first_job: 7 allocations refused in turn, 2 own answers, the rest by Error 18 (5); no difference

@@ -64,7 +64,8 @@ pub record IsSafe (old opened : BusState) (vault : VaultState) : Type 0 where
 -- chip's files is interrupted.
 pub record HasKeptChange (request : Request) (image : List ℕ) (old new : BusState) (vault vault' : VaultState)
     (outcome : Result Answer Refusal) : Type 0 where
-  pub returned : MatchResult outcome (ReportsChange request image old new) (FailsSession request image old new vault vault')
+  pub returned : MatchResult outcome (ReportsChange request image old new)
+      (FailsSession request image old new vault vault')
   pub sealed : IsOk outcome → vault'.sealed ≡ true
   pub same : vault'.sealed ≡ false → IsSame old.chip new.chip
   pub undo : vault'.sealed ≡ true → CanBeUndone request image old new vault'

@@ -13,9 +13,9 @@ use Rattle.flashnor.specs.declared.roles.Role.{Role}
 use Rattle.flashnor.specs.declared.roles.Role.TheVariants as role
 
 -- Holds if the roles that need different files have names that are apart. If the task writes the chip back
--- (`writes_back`), the chip's image is apart from its status file and the layout, and the status file from the layout and
--- the image to write. The trace, the output and the journal are apart from every other file of the job. No task names
--- an output together with a journal or an image to write or compare.
+-- (`writes_back`), the chip's image is apart from its status file and the layout, and the status file from the layout
+-- and the image to write. The trace, the output and the journal are apart from every other file of the job. No task
+-- names an output together with a journal or an image to write or compare.
 pub record FilesHaveOneRole (nature : Nature) (job : ChipJob) : Type 0 where
   pub status : writes_back job.task ≡ true → AreTwo nature job.programmer.image job.programmer.status
   pub image_layout : writes_back job.task ≡ true → AreTwo nature job.programmer.image (named_by job.task).layout

@@ -62,5 +62,6 @@ pub record RestoresFrom {programmer : Programmer} {start : FilesState} (file : T
 
 -- Holds if each later run that opens the chip's files opens the original chip, even if the host crashes before that
 -- run.
-abbrev pub LeavesOriginal : {programmer : Programmer} {start : FilesState} → Opened programmer start → FilesState → Type 0
+abbrev pub LeavesOriginal : {programmer : Programmer} {start : FilesState} → Opened programmer start → FilesState
+    → Type 0
 LeavesOriginal first files = LeavesOnly first (λ opened. IsSame first.bus.chip opened.chip) files

@@ -80,7 +80,8 @@ fn make_trace<'a, R: Store>(rt: &mut R, trace: Option<&'a str>) -> Result<(), Fa
     ensures nature { (R.state rt.new).view.nature ≡ (R.state rt.old).view.nature }
     ensures others { is_lawful (R.state rt.old).view ≡ true → (name : Name)
         → IsNot (R.state rt.old).view.nature trace.entry name → KeepsFile name (R.state rt.old) (R.state rt.new) }
-    ensures err { IfErr result (λ fault. IsSomeAnd trace.entry (λ name. IsMaking (R.state rt.old).view name.now fault)) }
+    ensures err { IfErr result (λ fault.
+        IsSomeAnd trace.entry (λ name. IsMaking (R.state rt.old).view name.now fault)) }
 {
     let Some(name) = trace else {
         return Ok(());

@@ -174,7 +174,8 @@ abbrev pub DoesTask : Option ChipName → Task → (ranges : Option (List Span))
     → (after : FilesState) → (old new : BusState) → Result Answer Refusal → Type 0
 DoesTask named task.Probe ranges bytes before after old new outcome = HasLookedUp ReportsFound named old new outcome
 DoesTask named task.FlashSize ranges bytes before after old new outcome = HasLookedUp ReportsSize named old new outcome
-DoesTask named task.WpStatus ranges bytes before after old new outcome = HasReported ReportsProtection named old new outcome
+DoesTask named task.WpStatus ranges bytes before after old new outcome =
+    HasReported ReportsProtection named old new outcome
 DoesTask named task.WpList ranges bytes before after old new outcome = HasReported ListsRanges named old new outcome
 DoesTask named (task.Read file regions) ranges bytes before after old new outcome =
     HasReadChip named file.now ranges after.view old new outcome

@@ -32,7 +32,8 @@ pub record IsAskedFor (words : List Text) (device : Bor Text) (operation : Opera
   pub named : IsDeviceOf programmer.now device.now
 
 -- Before the programmer is used: the arguments ask for the operation, and name the device of the programmer; neither
--- the device nor a file that the job writes has a second role (`HaveOneRole`); and the job's ranges and bytes were read.
+-- the device nor a file that the job writes has a second role (`HaveOneRole`); and the job's ranges and bytes were
+-- read.
 pub record IsPrepared (words : List Text) (view : View) (operation : Operation) (ranges : Option (List Span))
     (bytes : List ℕ) : Type 0 where
   pub device : Bor Text

@@ -226,10 +226,10 @@ pub trait Store: AllocGlobal {
             → Creates name.now result (state self.old) (state self.new) }
         ensures fails { OnErr result ((state self.old).view.nature.fails (Unwritten name.now) ≡ true) };
 
-    /// Creates the named file, which must not exist, and lends a vault in it; return the vault with `return_vault`. `Disk`
-    /// returns `There` for an existing file, and syncs the directory. After a failure on lawful files, a host crash can
-    /// leave of this file only what it could leave before, or an empty file if it was missing. This requires that no
-    /// vault or log in the file was borrowed before the call.
+    /// Creates the named file, which must not exist, and lends a vault in it; give the vault to `return_vault` when it
+    /// is complete. `Disk` returns `There` for an existing file, and syncs the directory. After a failure on lawful
+    /// files, a host crash can leave of this file only what it could leave before, or an empty file if it was missing.
+    /// This requires that no vault or log in the file was borrowed before the call.
     fn vault_in_new(&mut self, name: &str) -> Result<Self::Filed, CreateFault>
         ensures nature { (state self.new).view.nature ≡ (state self.old).view.nature }
         ensures fresh { IfOk result (λ vault. IsFresh (Self.Filed.state vault)) }
@@ -243,8 +243,8 @@ pub trait Store: AllocGlobal {
             → OthersStay name.now (state self.old) (state self.new) }
         ensures unmade { IfErr result (IsCreateFault (state self.old).view.nature name.now) };
 
-    /// Creates or truncates the named file, and lends a vault in it; return the vault with `return_vault`. `Disk` refuses
-    /// to truncate a journal.
+    /// Creates or truncates the named file, and lends a vault in it; give the vault to `return_vault` when it is
+    /// complete. `Disk` refuses to truncate a journal.
     fn vault_in(&mut self, name: &str) -> Result<Self::Filed, CreateFault>
         ensures nature { (state self.new).view.nature ≡ (state self.old).view.nature }
         ensures fresh { IfOk result (λ vault. IsFresh (Self.Filed.state vault)) }

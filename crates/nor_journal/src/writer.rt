@@ -53,9 +53,9 @@ impl<'a, V: Vault> Writer<'a, V> {
     ///
     /// `status` has status 1 and 2. `size` is in bytes, and must be a power of two from 64 KiB to 16 MiB.
     ///
-    /// If it fails, the vault is unsealed and has counted one refusal, and a faithful (`telling`) vault holds a prefix of
-    /// the header. Rattle proves the clause `refused` but can't use it in the proof of a caller: call `on` and `header`
-    /// if a proof needs the state after a failure.
+    /// If it fails, the vault is unsealed and has counted one refusal, and a faithful (`telling`) vault holds a prefix
+    /// of the header. Rattle proves the clause `refused` but can't use it in the proof of a caller: call `on` and
+    /// `header` if a proof needs the state after a failure.
     pub fn start(
         vault: &'a mut V,
         id: [u8; 3],
@@ -120,8 +120,8 @@ impl<'a, V: Vault> Writer<'a, V> {
     /// Writes a sector after the others, as `add` does, and returns the writer.
     ///
     /// If it fails, the writer is consumed, and the vault is unsealed and has counted one refusal. After a header and
-    /// ascending sectors, a faithful (`telling`) vault then holds a prefix of the journal's bytes up to this sector. Call
-    /// `add` if a proof needs this: Rattle can't use the clause `refused` in the proof of a caller.
+    /// ascending sectors, a faithful (`telling`) vault then holds a prefix of the journal's bytes up to this sector.
+    /// Call `add` if a proof needs this: Rattle can't use the clause `refused` in the proof of a caller.
     pub fn sector(
         mut self,
         number: u32,

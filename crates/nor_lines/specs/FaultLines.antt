@@ -32,7 +32,8 @@ text_of (end.Layout fault) =
     Some (concat (codes "Layout fault " ∷ decimal (layout_number fault) ∷ place (line_of_fault fault) ∷ codes "." ∷ []))
 text_of (end.File fault name) = Some (file_text fault name.now)
 text_of (end.Refused refusal) =
-    Some (concat (codes "Error " ∷ decimal (refusal_number refusal) ∷ codes ": " ∷ refusal_text refusal ∷ codes "." ∷ []))
+    Some (concat (codes "Error " ∷ decimal (refusal_number refusal) ∷ codes ": " ∷ refusal_text refusal
+    ∷ codes "." ∷ []))
 
 -- the line of a fault: its text and a line feed; `None` if `text_of` is `None`
 abbrev pub line_of : Fault → Option (List ℕ)

@@ -116,8 +116,8 @@ pub fn unit_protected(status: [u8; 2], size: u32, start: u32, len: u32) -> bool
     requires sized { IsTrue (is_chip_size size) }
     requires some { 0 < len }
     requires inside { start + len ≤ size }
-    ensures borders { result
-        ≡ (protected_by size (code_of (kept_in status)) start || protected_by size (code_of (kept_in status)) (start + len - 1)) }
+    ensures borders { result ≡ (protected_by size (code_of (kept_in status)) start
+        || protected_by size (code_of (kept_in status)) (start + len - 1)) }
     ensures somewhere { IsTrue result ↔ HoldsSomewhere (protected_by size (code_of (kept_in status))) start len }
 {
     protected(status, size, start) || protected(status, size, start + len - 1)

@@ -16,7 +16,8 @@ use Rattle.nor_request.specs.declared.refusal.Refusal.TheVariants.{NoChip, Unkno
 -- stop or a timeout, the address of a timeout is 0, and only these five errors occur.
 abbrev pub IdentificationErrors : (most : ℕ) → Option ChipName → (old new : BusState) → Refusal → Type 0
 IdentificationErrors most named old new NoChip = old.honest ≡ true → ProbeErrors named old new Probes.NoChip
-IdentificationErrors most named old new (UnknownChip fault) = old.honest ≡ true → ProbeErrors named old new (Probes.UnknownChip fault)
+IdentificationErrors most named old new (UnknownChip fault) =
+    old.honest ≡ true → ProbeErrors named old new (Probes.UnknownChip fault)
 IdentificationErrors most named old new OtherName = old.honest ≡ true → ProbeErrors named old new Probes.OtherName
 IdentificationErrors most named old new Stopped = HasStopped most old new
 IdentificationErrors most named old new (Timeout address) =

@@ -42,7 +42,8 @@ RefusalHolds request image chip _ = ⊥
 -- Holds if the error is the verdict: it applies, and no error with a lower number does.
 pub record IsVerdict (request : Request) (image : List ℕ) (chip : Chip) (refusal : Refusal) : Type 0 where
   pub holds : RefusalHolds request image chip refusal
-  pub first : (other : Refusal) → refusal_number other < refusal_number refusal → ¬ RefusalHolds request image chip other
+  pub first : (other : Refusal) → refusal_number other < refusal_number refusal
+      → ¬ RefusalHolds request image chip other
 
 -- Holds if the request is accepted: no error applies.
 abbrev pub IsAccepted : Request → (image : List ℕ) → Chip → Type 0

@@ -190,7 +190,8 @@ pub record RestoreHonest (journal : Content) (old new : BusState) (result : Resu
   -- After success, if the chip has the journal's size, each saved sector in which a byte differed has the saved bytes.
   -- The sector was read back and compared, so this holds even for a chip that isn't genuine.
   pub checked : IfOk result (λ report. old.chip.config.size ≡ journal.size
-      → HasBytes (is_touched old.chip.bytes (restored journal old.chip.bytes)) (restored journal old.chip.bytes) new.chip)
+      → HasBytes (is_touched old.chip.bytes (restored journal old.chip.bytes))
+      (restored journal old.chip.bytes) new.chip)
 
 -- The promises of a restore on a modelled bus: a well-behaved one whose chip is what its ID or SFDP says.
 pub record RestoreModelled (journal : Content) (old new : BusState) (result : Result Report Refusal) : Type 0 where

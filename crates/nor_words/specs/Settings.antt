@@ -14,7 +14,8 @@ OfKey = (T : Type 0) → (key : Text) → (is_value : Text → Bool) → (read :
 
 -- Holds if the statement is true for each key.
 pub record EachKey (P : OfKey) : Type 0 where
-  pub chip : P _ (codes "emulate") (reads emulated_named) emulated_named (λ said. option_map (λ chip. chip.part) said.chip)
+  pub chip : P _ (codes "emulate") (reads emulated_named) emulated_named
+      (λ said. option_map (λ chip. chip.part) said.chip)
   pub image : P _ (codes "image") is_file Some (λ said. option_map (λ name. name.now) said.image)
   pub status : P _ (codes "status") is_file Some (λ said. option_map (λ name. name.now) said.status)
   pub trace : P _ (codes "trace") is_file Some (λ said. option_map (λ name. name.now) said.trace)

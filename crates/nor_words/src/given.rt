@@ -124,8 +124,8 @@ impl<'a> Given<'a> {
         }
     }
 
-    // Returns the operation that the options ask for, or the first of the faults 4 to 9 that they have. Requires options
-    // without `-L`, so the job is never a list.
+    // Returns the operation that the options ask for, or the first of the faults 4 to 9 that they have. Requires
+    // options without `-L`, so the job is never a list.
     fn operation(self) -> Result<Operation<'a>, UsageFault>
         requires { self.list ≡ false }
         ensures { MatchResult result (IsOperation (texts_of self.entry))

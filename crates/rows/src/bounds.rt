@@ -53,12 +53,18 @@ impl Reading {
     }
 
     // Returns the number of transactions that the call sends on a bus with the fault `spoil`, to the row's chip.
+    // Asserts that the chip's bytes and status are as before, with the write enable latch clear.
     fn sent(self, rt: &impl Abort, alloc: Global, row: Row, spoil: Spoil) -> u64 {
         let mut bus = spoilt(row.bus(rt, alloc, Start::IDLE), spoil);
         let mut out = MemVault::new(alloc);
         let image = row.wanted(rt, alloc);
         let _ = self.ends(&mut bus, &mut out, &image);
-        bus.sent()
+        let sent = bus.sent();
+        let bus = bus.into_inner();
+        let before = row.before(rt, alloc);
+        assert!(rt; bus.bytes() == before.as_slice());
+        assert!(rt; bus.status() == row.status());
+        sent
     }
 }
 

@@ -50,7 +50,7 @@ fn check_damaged(bytes: &[u8], damage: Damage) -> Result<(), Fault> {
         ),
         Damage::Longer => agree(
             matches!(read, Err(JournalFault::Long)),
-            "a journal with a byte behind it",
+            "a journal with a byte after it",
         ),
         Damage::Changed => agree(read.is_err(), "a journal with a byte changed"),
     }

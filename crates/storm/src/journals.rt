@@ -64,8 +64,8 @@ pub fn check_put(vault: &MemVault, begun: &[u8], sealed: bool) -> Result<(), Fau
         held == begun
     };
     agree_all(&[
-        (vault.is_sealed() == sealed, "the seal on a bus that lies"),
-        (same, "the journal on a bus that lies"),
+        (vault.is_sealed() == sealed, "the seal on a faulty bus"),
+        (same, "the journal on a faulty bus"),
     ])
 }
 

@@ -58,7 +58,7 @@ fn compare_session(
 ) -> Result<(), Fault> {
     let bus = liar(alloc, &case.chip, lie)?;
     let (told, put) = tell_session(alloc, bus, case);
-    check(ran, told, "a session on a bus that lies")?;
+    check(ran, told, "a session on a faulty bus")?;
     journals::check_put(vault, put.begun.as_slice(), put.sealed)
 }
 
@@ -104,7 +104,7 @@ fn compare_restore(
 ) -> Result<(), Fault> {
     let bus = liar(alloc, chip, lie)?;
     let told = tell_restore(alloc, bus, saved);
-    check(ran, told, "a restore on a bus that lies")
+    check(ran, told, "a restore on a faulty bus")
 }
 
 fn tell_restore(alloc: Global, bus: Faulty, saved: Saved<'_>) -> Told {
@@ -138,13 +138,13 @@ fn check_answer(
     match (answer, told) {
         (_, Err(CallError::Failed(fault))) => Err(fault),
         (Err(refusal), Err(CallError::Refused(wanted))) => {
-            agree(refusal == wanted, "the refusal on a bus that lies")
+            agree(refusal == wanted, "the refusal on a faulty bus")
         }
         (Ok(report), Ok(())) => agree(
             report.transactions == count,
-            "the transactions on a bus that lies",
+            "the transactions on a faulty bus",
         ),
-        (_, _) => Err(Fault::Differs("whether a call ends on a bus that lies")),
+        (_, _) => Err(Fault::Differs("whether a call ends on a faulty bus")),
     }
 }
 
@@ -207,7 +207,7 @@ fn tell_reading(alloc: Global, bus: Faulty, case: &Case, reading: Reading) -> Kn
 }
 
 fn check_read(alloc: Global, read: &Read, known: Known) -> Result<(), Fault> {
-    let call = "a reading on a bus that lies";
+    let call = "a reading on a faulty bus";
     check_sent(read.sent.as_slice(), known.sent.as_slice(), call)?;
     check_known(alloc, &read.answer, known.answer)
 }
@@ -221,10 +221,10 @@ fn check_known(
         (_, Err(CallError::Failed(fault))) => Err(fault),
         (Err(refusal), Err(CallError::Refused(wanted))) => agree(
             *refusal == wanted,
-            "the refusal of a reading on a bus that lies",
+            "the refusal of a reading on a faulty bus",
         ),
         (Ok(told), Ok(known)) => readings::check_known(alloc, &known, told),
-        (_, _) => Err(Fault::Differs("whether a reading ends on a bus that lies")),
+        (_, _) => Err(Fault::Differs("whether a reading ends on a faulty bus")),
     }
 }
 

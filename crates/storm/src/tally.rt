@@ -178,7 +178,7 @@ impl Tally {
     fn write_others<W: fmt::Write>(&self, f: &mut fmt::Formatter<W>) -> fmt::Result {
         write!(f, "\nrehearsals: {}", self.rehearsed)?;
         write!(f, "\nchips read: {}", self.read)?;
-        write!(f, "\nsessions on a bus that lies: {}", self.lied)?;
+        write!(f, "\nsessions on a faulty bus: {}", self.lied)?;
         let Cuts {
             sessions,
             restores,
