@@ -1,4 +1,4 @@
 pub mod Found
 pub mod Sent
-pub mod Device
+pub mod Gathering
 pub mod Helped

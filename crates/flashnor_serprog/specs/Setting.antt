@@ -1,14 +1,70 @@
--- The device in the value of `-p`.
-use Rattle.std.specs.Prelude.{◌≡◌, List, Option, Some, true, false, None, codes, drop, nat_eq, option_map}
-use Rattle.std.specs.Borrow.{Bor}
-use Rattle.std.specs.List.{starts_with}
+-- The value of `-p`.
+use Rattle.std.specs.Prelude.{◌≡◌, ◌==◌, ◌&&◌, ◌⊎◌, ◌++◌, ℕ, Bool, true, false, not, List, [], ◌∷◌, Option, None, Some, codes, drop, is_some, nat_eq, nat_le, nat_lt, option_and_then, option_map, if◌then◌else◌}
+use Rattle.std.specs.List.{list_any, starts_with}
 use Rattle.std.specs.Str.{bytes_eq}
-use Rattle.nor_words.specs.Programmer.{value_in}
-use Rattle.nor_words.specs.Text.{Text, pieces_of}
+use Rattle.nor_words.specs.Numbers.{decimal_number}
+use Rattle.nor_words.specs.Programmer.{is_file, value_in}
+use Rattle.nor_words.specs.Text.{Text, key_of, pieces_of, reads, value_of}
+use Rattle.flashnor_serprog.specs.declared.setting.Setting.{Setting}
+use Rattle.flashnor_serprog.specs.declared.setting.Settings.{Settings}
+use Rattle.flashnor_serprog.specs.declared.setting.WrongSetting.{WrongSetting}
+use Rattle.flashnor_serprog.specs.declared.setting.WrongSetting.TheVariants.{Network, BaudRate, Other}
+
+-- a clock in hertz: 1 to 20 decimal digits with a value from 1 to 4,294,967,295
+abbrev pub clock_of : Text → Option ℕ
+clock_of text = option_and_then
+    (λ hertz. if nat_lt 0 hertz && nat_le hertz 4294967295 then Some hertz else None) (decimal_number text)
+
+-- the number of a chip select: 1 to 20 decimal digits with a value of at most 255
+abbrev pub chip_select_of : Text → Option ℕ
+chip_select_of text = option_and_then
+    (λ number. if nat_le number 255 then Some number else None) (decimal_number text)
+
+-- a statement about a key: the test of its values, the parser of its values, and the field of `Settings` that has its
+-- value
+abbrev pub OfHardwareKey : Type 1
+OfHardwareKey = (T : Type 0) → (key : Text) → (is_value : Text → Bool) → (read : Text → Option T)
+    → (place : Settings → Option T) → Type 0
+
+-- Holds if the statement is true for each key.
+pub record EachHardwareKey (P : OfHardwareKey) : Type 0 where
+  pub device : P _ (codes "dev") is_file Some (λ said. option_map (λ name. name.now) said.device)
+  pub hertz : P _ (codes "spispeed") (reads clock_of) clock_of (λ said. said.hertz)
+  pub chip_select : P _ (codes "cs") (reads chip_select_of) chip_select_of (λ said. said.chip_select)
+
+-- the known keys, each with the test that its values pass
+abbrev pub hardware_keys : List (Text × (Text → Bool))
+hardware_keys =
+    (codes "dev", is_file) ∷ (codes "spispeed", reads clock_of) ∷ (codes "cs", reads chip_select_of) ∷ []
+
+-- true if the key is known and the value passes its test
+abbrev pub may_have_value : (key value : Text) → Bool
+may_have_value key value = list_any (λ known. bytes_eq key known.0 && known.1 value) hardware_keys
 
 -- the settings after `serprog:`
 abbrev pub serprog_settings : Text → List Text
 serprog_settings text = pieces_of (drop 8 text)
+
+-- true if the text begins with `serprog:`
+abbrev pub names_serprog : Text → Bool
+names_serprog text = starts_with nat_eq text (codes "serprog:")
+
+-- The first setting that is wrong after settings with the keys `taken`: its key is unknown, or its value does not pass
+-- the test of its key, or an earlier setting has the same key.
+abbrev pub first_wrong : (taken settings : List Text) → Option Text
+first_wrong taken [] = None
+first_wrong taken (setting ∷ later) =
+    if may_have_value (key_of setting) (value_of setting) && not (list_any (bytes_eq (key_of setting)) taken)
+    then first_wrong (key_of setting ∷ taken) later else Some setting
+
+-- true for a setting `ip=..`, which would name a programmer in the network
+abbrev pub names_network : Text → Bool
+names_network setting = bytes_eq (key_of setting) (codes "ip") && list_any (λ byte. byte == 61) setting
+
+-- Holds if the text ends with a colon and a number: `device` is the text before this colon, and `rate` the number.
+pub record HasRate (text device rate : Text) : Type 0 where
+  pub parts : text ≡ device ++ 58 ∷ rate
+  pub number : reads decimal_number rate ≡ true
 
 -- the value of `dev=` in the settings, or `None` if they lack it
 abbrev pub device_in : List Text → Option Text
@@ -16,11 +72,56 @@ device_in settings = value_in settings (codes "dev")
 
 -- Holds if the text begins with `serprog:`, and this is the value of `dev=` in it.
 pub record IsDeviceOf (text device : Text) : Type 0 where
-  pub begins : starts_with nat_eq text (codes "serprog:") ≡ true
+  pub begins : names_serprog text ≡ true
   pub named : device_in (serprog_settings text) ≡ Some device
 
--- The effect of one more setting on the device that is stored: the setting `dev=` stores its value if none was stored;
--- any other setting leaves the device as it was.
-pub record TakesDevice (key value : Text) (old new : Option (Bor Text)) : Type 0 where
-  pub met : bytes_eq key (codes "dev") ≡ true → (old ≡ None) × (option_map (λ name. name.now) new ≡ Some value)
-  pub other : bytes_eq key (codes "dev") ≡ false → new ≡ old
+-- The value of `-p` describes this programmer: it begins with `serprog:`, no setting is wrong, and each field has the
+-- value of its key, or is `None` if the text lacks the key.
+pub record IsSetting (text : Text) (setting : Setting) : Type 0 where
+  pub device : IsDeviceOf text setting.device.now
+  pub sound : first_wrong [] (serprog_settings text) ≡ None
+  pub hertz : option_and_then clock_of (value_in (serprog_settings text) (codes "spispeed")) ≡ setting.hertz
+  pub chip_select : option_and_then chip_select_of (value_in (serprog_settings text) (codes "cs"))
+      ≡ setting.chip_select
+
+-- The first wrong setting of the text, if it begins with `serprog:` and has one.
+pub record BeginsWrong (text setting : Text) : Type 0 where
+  pub begins : names_serprog text ≡ true
+  pub first : first_wrong [] (serprog_settings text) ≡ Some setting
+
+-- Why the value of `-p` describes no programmer.
+--
+-- - `Network`: the first wrong setting is `ip=..`.
+-- - `BaudRate`: no setting is wrong, and the value of `dev=` is the given device, a colon and the given number.
+-- - `Other`: the text doesn't begin with `serprog:`, or its first wrong setting is another one, or no setting is wrong
+--   and `dev=` is missing.
+abbrev pub IsWrongSetting : Text → WrongSetting → Type 0
+IsWrongSetting text Network = (setting : Text) × BeginsWrong text setting × (names_network setting ≡ true)
+IsWrongSetting text (BaudRate device rate) = (value : Text) × IsDeviceOf text value
+    × (first_wrong [] (serprog_settings text) ≡ None) × HasRate value device.now rate.now
+IsWrongSetting text Other = (names_serprog text ≡ false)
+    ⊎ ((setting : Text) × BeginsWrong text setting × (names_network setting ≡ false))
+    ⊎ ((first_wrong [] (serprog_settings text) ≡ None) × (device_in (serprog_settings text) ≡ None))
+
+-- Holds for a refused device: its value ends with a colon and a number.
+abbrev pub EndsWithRate : Text → WrongSetting → Type 0
+EndsWithRate text (BaudRate device rate) = HasRate text device.now rate.now
+EndsWithRate text _ = ⊥
+
+-- The effect of one more setting on the field of one key: if the setting has this key, the field was empty and now has
+-- the setting's value; otherwise the field is as before.
+pub record StoresAt {T : Type 0} (key : Text) (read : Text → Option T) (given value : Text) (old new : Option T)
+    : Type 0 where
+  pub met : bytes_eq given key ≡ true → (old ≡ None) × (read value ≡ new) × (is_some new ≡ true)
+  pub other : bytes_eq given key ≡ false → new ≡ old
+
+-- Holds if a setting with this key and value was stored.
+abbrev pub StoresSetting : (key value : Text) → (old new : Settings) → Type 0
+StoresSetting given value old new =
+    EachHardwareKey (λ T key is_value read place. StoresAt key read given value (place old) (place new))
+
+-- Holds if a setting with this key and value can't be stored: its key is unknown or already has a value, or its value
+-- isn't valid for its key.
+abbrev pub IsNotStored : (key value : Text) → Settings → Type 0
+IsNotStored given value said = EachHardwareKey (λ T key is_value read place.
+    bytes_eq given key ≡ true → is_value value ≡ true → is_some (place said) ≡ true)

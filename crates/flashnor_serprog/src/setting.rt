@@ -1,8 +1,13 @@
 //! The value of the option `-p`.
 
-ghost use Rattle.std.specs.Prelude.{◌≡◌, IfOk, IfSome, None, OnOk, OnSome, is_some, true};
+ghost use Rattle.std.specs.Prelude.{◌≡◌, ◌&&◌, IfErr, None, false, is_none, is_some, true, if◌then◌else◌};
+ghost use Rattle.std.specs.Option.{MatchOption};
+ghost use Rattle.std.specs.Result.{MatchResult};
+ghost use Rattle.nor_words.specs.Programmer.{is_file};
 ghost use Rattle.nor_words.specs.Text.{key_of, value_of};
-ghost use Rattle.flashnor_serprog.specs.Setting.{IsDeviceOf, TakesDevice};
+ghost use Rattle.flashnor_serprog.specs.Setting.{EndsWithRate, IsNotStored, IsSetting, IsWrongSetting, StoresSetting};
+ghost use Rattle.flashnor_serprog.specs.Setting.{chip_select_of, clock_of, may_have_value, names_network};
+ghost use Rattle.flashnor_serprog.specs.declared.setting.WrongSetting.TheVariants.{Network, Other};
 
 use nor_words::read_number;
 
@@ -39,8 +44,12 @@ struct Settings<'a> {
 
 impl<'a> Setting<'a> {
     /// Parses the value of `-p`. A `KEY=VALUE` pair ends at the next comma, and its key at the first `=`.
+    ///
+    /// Returns `Network` if the first wrong setting is `ip=..`, `BaudRate` if no setting is wrong but the device ends
+    /// with a colon and a number, and `Other` for all other texts that describe no programmer. No clause says that
+    /// every device with a baud rate is refused.
     pub fn read(text: &'a str) -> Result<Setting<'a>, WrongSetting<'a>>
-        ensures { IfOk result (λ setting. IsDeviceOf text.now setting.device.now) }
+        ensures { MatchResult result (IsSetting text.now) (IsWrongSetting text.now) }
     {
         let Some(list) = text.strip_prefix("serprog:") else {
             return Err(WrongSetting::Other);
@@ -63,10 +72,13 @@ impl<'a> Setting<'a> {
 
 impl<'a> Settings<'a> {
     // Parses and stores one `KEY=VALUE` pair. Returns an error if the key is unknown or already stored, or the value is
-    // invalid.
+    // invalid: `Network` for the key `ip`, otherwise `Other`.
     fn take_in(&mut self, setting: &'a str) -> Result<(), WrongSetting<'a>>
-        ensures { OnOk result
-            (TakesDevice (key_of setting.now) (value_of setting.now) self.old.device self.new.device) }
+        ensures { MatchResult result
+            (λ _. (may_have_value (key_of setting.now) (value_of setting.now) ≡ true)
+            × StoresSetting (key_of setting.now) (value_of setting.now) self.old self.new)
+            (λ wrong. (wrong ≡ (if names_network setting.now then Network else Other))
+            × IsNotStored (key_of setting.now) (value_of setting.now) self.old) }
     {
         match setting.split_once('=') {
             Some(("ip", _)) => Err(WrongSetting::Network),
@@ -78,7 +90,8 @@ impl<'a> Settings<'a> {
     // Parses and stores the value of one key. Returns `None` if the key is unknown or already stored, or the value is
     // invalid.
     fn take_value(&mut self, key: &str, value: &'a str) -> Option<()>
-        ensures { OnSome result (TakesDevice key.now value.now self.old.device self.new.device) }
+        ensures { MatchOption result (IsNotStored key.now value.now self.old)
+            (λ _. (may_have_value key.now value.now ≡ true) × StoresSetting key.now value.now self.old self.new) }
     {
         match key {
             "dev" => set(&mut self.device, filled(value)),
@@ -91,18 +104,23 @@ impl<'a> Settings<'a> {
 
 // Returns a clock in hertz, or `None` if the value is no number from 1 to 4,294,967,295: serprog has no clock of 0 Hz.
 // A number with leading zeros is decimal.
-fn read_hertz(value: &str) -> Option<u32> {
+fn read_hertz(value: &str) -> Option<u32>
+    ensures { result ≡ clock_of value.now }
+{
     let hertz = u32::try_from(read_number(value)?).ok()?;
     if hertz == 0 { None } else { Some(hertz) }
 }
 
-fn read_select(value: &str) -> Option<u8> {
+fn read_select(value: &str) -> Option<u8>
+    ensures { result ≡ chip_select_of value.now }
+{
     u8::try_from(read_number(value)?).ok()
 }
 
 // Returns the name, or `None` if it is empty.
 fn filled(name: &str) -> Option<&str>
-    ensures { IfSome result (λ file. file.now ≡ name.now) }
+    ensures { MatchOption result (is_file name.now ≡ false)
+        (λ file. (is_file name.now ≡ true) × (file.now ≡ name.now)) }
 {
     if name.is_empty() { None } else { Some(name) }
 }
@@ -110,7 +128,8 @@ fn filled(name: &str) -> Option<&str>
 // Stores the parsed value `read` in `place`. Returns `None`, and stores nothing, if `place` has a value already or
 // `read` is `None`.
 fn set<T: Copy>(place: &mut Option<T>, read: Option<T>) -> Option<()>
-    ensures { OnSome result ((place.old ≡ None) × (place.new ≡ read) × (is_some read ≡ true)) }
+    ensures { MatchOption result ((is_none place.old && is_some read) ≡ false)
+        (λ _. (place.old ≡ None) × (place.new ≡ read) × (is_some read ≡ true)) }
 {
     if place.is_some() {
         return None;
@@ -120,7 +139,9 @@ fn set<T: Copy>(place: &mut Option<T>, read: Option<T>) -> Option<()>
 }
 
 // Returns `BaudRate` if the device ends with a colon and a number: flashrom's syntax is `dev=DEVICE:BAUD`.
-fn refuse_rate(device: &str) -> Result<(), WrongSetting<'_>> {
+fn refuse_rate(device: &str) -> Result<(), WrongSetting<'_>>
+    ensures { IfErr result (EndsWithRate device.now) }
+{
     match device.rsplit_once(':') {
         Some((device, rate)) if read_number(rate).is_some() => {
             Err(WrongSetting::BaudRate { device, rate })

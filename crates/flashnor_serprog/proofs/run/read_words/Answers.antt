@@ -26,5 +26,5 @@ returns-clause-ok c = record {
       operation = rw c.in_ok-operation.was at c.in_ok-programmer.ensures.asked.operation;
     };
   };
-  named = c.in_ok-setting.ensures;
+  named = c.in_ok-setting.ensures.device;
 }
