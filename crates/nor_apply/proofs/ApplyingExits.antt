@@ -9,9 +9,7 @@ use Rattle.nor_model.specs.Bus.{BusState}
 use Rattle.nor_driver.specs.declared.waits.OperationError.{OperationError}
 use Rattle.nor_driver.specs.Waits.{OperationFails}
 use Rattle.nor_driver.specs.StatusWrites.{is_status_with_code}
-use Rattle.nor_driver.specs.Limits.{erasing, programming}
 use Rattle.nor_driver.specs.Operations.{most_operation}
-use Rattle.nor_driver.proofs.Limits.{AreParts, IsSum, sends_more, sends_exactly}
 use Rattle.nor_plan.specs.Content.{once_erased, is_programmed}
 use Rattle.nor_plan.specs.SectorSet.{none}
 use Rattle.nor_apply.specs.declared.changes.Changes.{Changes}
@@ -20,14 +18,15 @@ use Rattle.nor_apply.specs.declared.tally.Tally.{Tally}
 use Rattle.nor_apply.specs.Within.{is_writable}
 use Rattle.nor_apply.specs.Spending.{may_target, NamesTimeoutIn}
 use Rattle.nor_apply.specs.Protecting.{LeavesCode, DoesCode, FailsWriting}
-use Rattle.nor_apply.specs.Erasing.{LeavesErases, DoesErases}
-use Rattle.nor_apply.specs.Programming.{LeavesPrograms, DoesPrograms, most_sector}
+use Rattle.nor_apply.specs.Change.{MayChange, blank}
+use Rattle.nor_apply.specs.Erasing.{CanEraseAll, LeavesErases, DoesErases}
+use Rattle.nor_apply.specs.Programming.{CanProgramAll, LeavesPrograms, DoesPrograms, most_sector}
 use Rattle.nor_apply.specs.Applying.{touched_in, raised_in, writes_code, status_writes, is_status_asked, most_sent, most_applied, CanApply, LeavesApply, DoesApply, NamesChange}
-use Rattle.nor_apply.proofs.InTurn.{ran_none, spends_ended}
+use Rattle.nor_apply.proofs.InTurn.{ran_none, ran_leaves, honest_now}
 use Rattle.nor_apply.proofs.Targeting.{target_here, target_wider}
 use Rattle.nor_apply.proofs.Changing.{change_as, same_change}
 use Rattle.nor_apply.proofs.ApplyingSteps.{code_read, code_once, intermediate_first, intermediate_changed, can_erase_all, can_program_all, applied}
-use Rattle.nor_apply.proofs.ApplyingInTurn.{raised_few, code_limits, Numbers, sending_these, SoFar, Leaves, EndsInError, now_honest, ends_in_error, goes_on, code_leaves, code_written, names_writing, names_sectors}
+use Rattle.nor_apply.proofs.ApplyingInTurn.{raised_few, code_limits, Numbers, sending_these, SoFar, EndsInError, ends_in_error, goes_on, code_leaves, code_written, names_writing, names_sectors}
 
 -- ---- the four parts
 
@@ -60,15 +59,7 @@ lifted changes {old} wanted leaves does =
       may = λ honest can. same_change (search) can.idle (λ s. refl);
       intermediate = λ honest can. intermediate_first can;
     } in
-    code_written nothing (λ lifts can. can.writable (rw lifts refl)) leaves does (record {
-      sectors = λ s targeted. targeted;
-      sectors' = λ s targeted. absurd (true≢false (sym targeted));
-      status = λ one two written. written;
-      status' = λ one two written. or_left _ _ written;
-      erases = refl;
-      programs = refl;
-      status_writes = omega arith;
-    }) (omega arith) (omega arith) (omega arith)
+    code_written nothing (λ lifts can. can.writable (rw lifts refl)) leaves does (grind arith) (omega arith) (omega arith) (omega arith)
 
 -- States `SoFar` for the first two parts: the protection bits were cleared, if that was requested, and the raised
 -- sectors were erased.
@@ -83,64 +74,34 @@ module _ {changes : Changes} {wanted : ℕ → ℕ} {old mid new : BusState} {do
     (so : Lifted changes wanted old mid done)
     (inside : (s : ℕ) → raised_in changes s ≡ true → touched_in changes s ≡ true)
     (leaves : LeavesErases (raised_in changes) changes.kinds changes.size mid new) where
-  erase_leaves : Leaves changes wanted (most_operation * sector_count (raised_in changes))
-      (erasing (may_target (raised_in changes) changes.size) (sector_count (raised_in changes))) old mid new
-  erase_leaves = record {
-    spends = leaves.spends;
-    sends = leaves.sends;
-    may = λ honest can.
-        change_as inside (λ s raised. raised) (λ a plain raised. absurd (true≢false (sym raised ∙ plain)))
-        (leaves.reached (now_honest so honest) (can_erase_all can (so.intermediate honest can)));
-  }
+  erase_then : old.honest ≡ true → CanApply changes wanted old.chip
+      → CanEraseAll (raised_in changes) changes.kinds changes.size mid.chip
+      × (MayChange (raised_in changes) (raised_in changes) blank mid new
+      → MayChange (touched_in changes) (raised_in changes) wanted mid new)
+  erase_then honest can = (
+    can_erase_all can (so.intermediate honest can),
+    change_as inside (λ s raised. raised) (λ a plain raised. absurd (true≢false (sym raised ∙ plain))),
+  )
 
   targets_raised : (s : ℕ) → may_target (raised_in changes) changes.size s ≡ true
       → may_target (touched_in changes) changes.size s ≡ true
   targets_raised s = target_wider _ _ changes.size s inside
 
-  erase_parts : AreParts (sending_these changes (lifting changes)) (erasing (may_target (raised_in changes) changes.size)
-      (sector_count (raised_in changes))) (most_sent changes)
-  erase_parts = record {
-    sectors = λ s targeted. targeted;
-    sectors' = targets_raised;
-    status = λ one two written. written;
-    status' = λ one two written. absurd (true≢false (sym written));
-    erases = omega arith;
-    programs = omega arith;
-    status_writes = omega arith;
-  }
-
-  erase_sum : (n : ℕ) → IsSum (sending_these changes (lifting changes))
-      (erasing (may_target (raised_in changes) changes.size) n) (sending_these changes (and_more (lifting changes) n 0))
-  erase_sum n = record {
-    sectors = λ s targeted. targeted;
-    sectors' = targets_raised;
-    status = λ one two written. written;
-    status' = λ one two written. absurd (true≢false (sym written));
-    erases = refl;
-    programs = refl;
-    status_writes = omega arith;
-  }
-
   pub erases_failed : {error : OperationError} → OperationFails (most_operation * sector_count (raised_in changes)) mid new error
       → NamesTimeoutIn (raised_in changes) error → EndsInError changes wanted old new error
   erases_failed {error} fails names =
-      ends_in_error so erase_leaves erase_parts (omega (arith, raised_few changes inside)) fails
+      ends_in_error so leaves erase_then (grind (arith, targets_raised)) (omega (arith, raised_few changes inside)) fails
       (names_sectors changes (raised_in changes) error inside names)
 
   pub erased : {more : Tally} → DoesErases (raised_in changes) changes.kinds changes.size mid new more
       → Erased changes wanted more.count old new
       (record { count = done.count + more.count; transactions = done.transactions + more.transactions })
   erased {more} does =
-      let leaves : Leaves changes wanted (most_operation * sector_count (raised_in changes))
-      (erasing (may_target (raised_in changes) changes.size) more.count) old mid new = record {
-        spends = erase_leaves.spends;
-        sends = sends_exactly erase_leaves.sends does.exactly;
-        may = erase_leaves.may;
-      } in
-      goes_on so leaves does.tallies (erase_sum more.count) does.exactly (omega arith) refl refl
+      goes_on so leaves erase_then does.exactly does.tallies (grind (arith, targets_raised)) (omega arith) refl refl
       (omega (arith, so.few, does.fewer, does.tallies.few, raised_few changes inside))
       (λ honest can.
-      let is = so.intermediate honest can in intermediate_changed is (does.done (now_honest so honest) (can_erase_all can is)))
+      let is = so.intermediate honest can in
+      intermediate_changed is (does.done (honest_now so.ran honest) (can_erase_all can is)))
 
 -- States `SoFar` for the first three parts: the protection bits were cleared, if that was requested, the raised sectors
 -- were erased, and the touched sectors programmed.
@@ -155,62 +116,34 @@ Programmed changes wanted erases programs old now tally =
 module _ {changes : Changes} {wanted : ℕ → ℕ} (erases : ℕ) {old mid new : BusState} {done : Tally}
     (so : Erased changes wanted erases old mid done)
     (leaves : LeavesPrograms (touched_in changes) (raised_in changes) wanted mid new) where
-  program_leaves : Leaves changes wanted (most_sector * sector_count (touched_in changes))
-      (programming (touched_in changes) (16 * sector_count (touched_in changes))) old mid new
-  program_leaves = record {
-    spends = leaves.spends;
-    sends = leaves.sends;
-    may = λ honest can.
-        change_as (λ s touched. touched) (λ s no. absurd (true≢false (sym no))) (λ a plain touched. refl)
-        (leaves.reached (now_honest so honest) (can_program_all can (so.intermediate honest can)));
-  }
+  program_then : old.honest ≡ true → CanApply changes wanted old.chip
+      → CanProgramAll (touched_in changes) (raised_in changes) wanted mid.chip
+      × (MayChange (touched_in changes) none wanted mid new
+      → MayChange (touched_in changes) (raised_in changes) wanted mid new)
+  program_then honest can = (
+    can_program_all can (so.intermediate honest can),
+    change_as (λ s touched. touched) (λ s no. absurd (true≢false (sym no))) (λ a plain touched. refl),
+  )
 
-  program_parts : erases ≤ sector_count (raised_in changes)
-      → AreParts (sending_these changes (and_more (lifting changes) erases 0))
-      (programming (touched_in changes) (16 * sector_count (touched_in changes))) (most_sent changes)
-  program_parts fits = record {
-    sectors = λ s targeted. targeted;
-    sectors' = λ s touched. target_here (touched_in changes) changes.size s touched;
-    status = λ one two written. written;
-    status' = λ one two written. absurd (true≢false (sym written));
-    erases = omega (arith, fits);
-    programs = omega arith;
-    status_writes = omega arith;
-  }
-
-  program_sum : (n : ℕ) → IsSum (sending_these changes (and_more (lifting changes) erases 0))
-      (programming (touched_in changes) n) (sending_these changes (and_more (and_more (lifting changes) erases 0) 0 n))
-  program_sum n = record {
-    sectors = λ s targeted. targeted;
-    sectors' = λ s touched. target_here (touched_in changes) changes.size s touched;
-    status = λ one two written. written;
-    status' = λ one two written. absurd (true≢false (sym written));
-    erases = refl;
-    programs = refl;
-    status_writes = omega arith;
-  }
+  targets_touched : (s : ℕ) → touched_in changes s ≡ true → may_target (touched_in changes) changes.size s ≡ true
+  targets_touched s = target_here (touched_in changes) changes.size s
 
   pub programs_failed : {error : OperationError} → erases ≤ sector_count (raised_in changes)
       → OperationFails (most_sector * sector_count (touched_in changes)) mid new error
       → NamesTimeoutIn (touched_in changes) error → EndsInError changes wanted old new error
   programs_failed {error} fits fails names =
-      ends_in_error so program_leaves (program_parts fits) (omega arith) fails
+      ends_in_error so leaves program_then (grind (arith, targets_touched)) (omega arith) fails
       (names_sectors changes (touched_in changes) error (λ s is. is) names)
 
   pub programmed : {more : Tally} → DoesPrograms (touched_in changes) (raised_in changes) wanted mid new more
       → Programmed changes wanted erases more.count old new
       (record { count = done.count + more.count; transactions = done.transactions + more.transactions })
   programmed {more} does =
-      let leaves : Leaves changes wanted (most_sector * sector_count (touched_in changes))
-      (programming (touched_in changes) more.count) old mid new = record {
-        spends = program_leaves.spends;
-        sends = sends_exactly program_leaves.sends does.exactly;
-        may = program_leaves.may;
-      } in
-      goes_on so leaves does.tallies (program_sum more.count) does.exactly (omega arith) refl refl
+      goes_on so leaves program_then does.exactly does.tallies (grind (arith, targets_touched)) (omega arith) refl refl
       (omega (arith, so.few, does.fewer, does.tallies.few))
       (λ honest can.
-      let is = so.intermediate honest can in intermediate_changed is (does.done (now_honest so honest) (can_program_all can is)))
+      let is = so.intermediate honest can in
+      intermediate_changed is (does.done (honest_now so.ran honest) (can_program_all can is)))
 
 -- ---- the end
 
@@ -253,22 +186,11 @@ module _ {changes : Changes} {wanted : ℕ → ℕ} {old free mid made : BusStat
         or_right (changes.unlock && is_status_with_code changes.status 0 one two)
         (writes_code changes && is_status_with_code changes.status changes.code one two) (rw (sym is) written)
 
-    last_parts : AreParts (sending_these changes (and_more (and_more (lifting changes) erases.count 0) 0 programs.count))
-        (code_limits changes needed changes.code) (most_sent changes)
-    last_parts = record {
-      sectors = λ s targeted. targeted;
-      sectors' = λ s targeted. absurd (true≢false (sym targeted));
-      status = λ one two written. written;
-      status' = last_asked;
-      erases = omega (arith, parts.erase.fewer);
-      programs = omega (arith, parts.program.fewer);
-      status_writes = rw is (omega arith);
-    }
-
     pub last_failed : {error : OperationError} → OperationFails most_operation made new error → FailsWriting needed error
         → EndsInError changes wanted old new error
     last_failed {error} fails names =
-        ends_in_error third (code_leaves third last_writable leaves) last_parts (omega arith) fails
+        ends_in_error third (code_leaves third last_writable leaves) (λ honest can. ((honest, can), λ may. may))
+        (grind (arith, last_asked, parts.erase.fewer, parts.program.fewer)) (omega arith) fails
         (names_writing changes needed error (λ writes. rw (sym is ∙ writes) (omega arith)) names)
 
     pub does_applied : {last : ℕ} {work : Work} → DoesCode changes.status changes.code needed made new last
@@ -282,27 +204,9 @@ module _ {changes : Changes} {wanted : ℕ → ℕ} {old free mid made : BusStat
         (record { erases = work.erases; programs = work.programs; status_writes = status_writes changes })
         (sector_count (touched_in changes)) (most_applied (sector_count (touched_in changes)))
         old new all =
-        code_written third last_writable leaves does (record {
-          sectors = λ s targeted. targeted;
-          sectors' = λ s targeted. absurd (true≢false (sym targeted));
-          status = λ one two written. written;
-          status' = last_asked;
-          erases = omega (arith, erase_count);
-          programs = omega (arith, program_count);
-          status_writes = rw is (omega arith);
-        })
+        code_written third last_writable leaves does (grind (arith, last_asked))
         (rw is (omega (arith, erase_count, program_count))) sum (omega arith) in (
-          record {
-            spends = spends_ended fourth.ran fourth.few;
-            sends = sends_more _ _ old new (record {
-              sectors = λ s targeted. targeted;
-              status = λ one two written. written;
-              erases = omega (arith, erase_count, parts.erase.fewer);
-              programs = omega (arith, program_count, parts.program.fewer);
-              status_writes = omega arith;
-            }) fourth.ran.sends;
-            reached = fourth.may;
-          },
+          ran_leaves fourth.ran (grind (arith, parts.erase.fewer, parts.program.fewer)) fourth.few fourth.may,
           record {
             erases = erase_count ∙ parts.erase.count;
             fewer_erases = omega (arith, erase_count, parts.erase.fewer);
@@ -325,7 +229,7 @@ module _ {changes : Changes} {wanted : ℕ → ℕ} {old free mid made : BusStat
             programs = λ honest can.
                 let is = second.intermediate honest can in
                 let bytes : mid.chip.bytes ≡ once_erased (raised_in changes) old.chip.bytes = λ i a. is.byte a i in
-                program_count ∙ parts.program.counted (now_honest second honest) (can_program_all can is)
+                program_count ∙ parts.program.counted (honest_now second.ran honest) (can_program_all can is)
                 ∙ ap (λ (x : ℕ → ℕ). count_below 65536 (is_programmed (touched_in changes) x wanted)) bytes;
           },
         )

@@ -4,21 +4,22 @@ use Rattle.std.specs.Prelude.{◌&&◌, if◌then◌else◌}
 use Rattle.std.proofs.lemmas.Bool.{cases_Bool}
 use Rattle.nor_geometry.specs.Below.{count_below}
 use Rattle.nor_geometry.specs.Counts.{sector_count}
+use Rattle.nor_model.specs.Chip.{Chip}
 use Rattle.nor_model.specs.Bus.{BusState}
 use Rattle.nor_driver.specs.declared.waits.OperationError.{OperationError}
 use Rattle.nor_driver.specs.Waits.{OperationFails}
 use Rattle.nor_driver.specs.StatusWrites.{is_status_with_code}
-use Rattle.nor_driver.specs.Limits.{Limits, writing, SendsWithin, SendsExactly}
+use Rattle.nor_driver.specs.Limits.{Limits, writing, SendsExactly, Leaves}
 use Rattle.nor_driver.specs.Operations.{most_operation}
 use Rattle.nor_driver.proofs.Limits.{AreParts, IsSum}
 use Rattle.nor_apply.specs.declared.changes.Changes.{Changes}
 use Rattle.nor_apply.specs.declared.tally.Tally.{Tally}
 use Rattle.nor_apply.specs.Within.{is_writable}
 use Rattle.nor_apply.specs.Change.{MayChange}
-use Rattle.nor_apply.specs.Spending.{Spends, Tallies, NamesTimeoutIn}
+use Rattle.nor_apply.specs.Spending.{Tallies, NamesTimeoutIn}
 use Rattle.nor_apply.specs.Protecting.{LeavesCode, DoesCode, FailsWriting}
 use Rattle.nor_apply.specs.Applying.{touched_in, raised_in, status_writes, sending, most_sent, most_applied, CanApply, LeavesApply, NamesChange}
-use Rattle.nor_apply.proofs.InTurn.{Ran, ran_after, sends_after, spends_after, fails_after}
+use Rattle.nor_apply.proofs.InTurn.{Ran, ran_part, ran_after, honest_now, leaves_after, fails_after}
 use Rattle.nor_apply.proofs.Changing.{change_then}
 use Rattle.nor_apply.proofs.ApplyingSteps.{IsIntermediate, code_change, intermediate_code}
 
@@ -69,16 +70,6 @@ pub record SoFar (changes : Changes) (wanted bytes : ℕ → ℕ) (worn : ℕ �
       → MayChange (touched_in changes) (raised_in changes) wanted old now
   pub intermediate : old.honest ≡ true → CanApply changes wanted old.chip → IsIntermediate bytes worn code old now
 
--- Holds at every exit of one part of the changes, which led from `mid` to `new`, if all changes began at `old`. The
--- part sends only what `limits` allow. On a well-behaved bus at most `most` of its transactions are carried out. If
--- `CanApply` held at the start of all changes, too, the part changed the chip only as `MayChange` allows.
-pub record Leaves (changes : Changes) (wanted : ℕ → ℕ) (most : ℕ) (limits : Limits) (old mid new : BusState) : Type 0
-  where
-    pub spends : Spends most mid new
-    pub sends : SendsWithin limits mid new
-    pub may : old.honest ≡ true → CanApply changes wanted old.chip
-        → MayChange (touched_in changes) (raised_in changes) wanted mid new
-
 -- Holds if the clauses of `apply` for an exit with this error are true: `LeavesApply`, `OperationFails` and
 -- `NamesChange`.
 abbrev pub EndsInError : (changes : Changes) (wanted : ℕ → ℕ) (old new : BusState) → OperationError → Type 0
@@ -89,57 +80,57 @@ EndsInError changes wanted old new error =
 module _ {changes : Changes} {wanted bytes : ℕ → ℕ} {worn : ℕ → Bool} {code : ℕ} {numbers : Numbers}
     {readings spent : ℕ} {old mid : BusState} {done : Tally}
     (so : SoFar changes wanted bytes worn code numbers readings spent old mid done) where
-  pub now_honest : old.honest ≡ true → mid.honest ≡ true
-  now_honest honest = so.ran.nature.honest ∙ honest
-
-  module _ {most : ℕ} {limits : Limits} {new : BusState} (leaves : Leaves changes wanted most limits old mid new) where
-    may_on : old.honest ≡ true → CanApply changes wanted old.chip
-        → MayChange (touched_in changes) (raised_in changes) wanted old new
-    may_on honest can = change_then so.ran.nature.steady (so.may honest can) (leaves.may honest can)
+  -- For the next part. If `CanApply` held at the start of all changes, the part can be carried out (`Can`), and changes the
+  -- chip only as `MayChange` allows.
+  module _ {part : ℕ} {limits : Limits} {Can : Chip → Type 0} {May : BusState → BusState → Type 0} {new : BusState}
+      (leaves : Leaves part limits Can May mid new)
+      (follows : old.honest ≡ true → CanApply changes wanted old.chip → Can mid.chip
+      × (May mid new → MayChange (touched_in changes) (raised_in changes) wanted mid new)) where
+    then_may : old.honest ≡ true → CanApply changes wanted old.chip → Can mid.chip
+        × (May mid new → MayChange (touched_in changes) (raised_in changes) wanted old new)
+    then_may honest can =
+        let next = follows honest can in
+        (next.0, λ may. change_then so.ran.nature.steady (so.may honest can) (next.1 may))
 
     pub ends_in_error : {error : OperationError} → AreParts (sending_these changes numbers) limits (most_sent changes)
-        → spent + most ≤ most_applied (sector_count (touched_in changes)) → OperationFails most mid new error
+        → spent + part ≤ most_applied (sector_count (touched_in changes)) → OperationFails part mid new error
         → NamesChange changes error → EndsInError changes wanted old new error
     ends_in_error parts fits fails names = (
-      record {
-        spends = spends_after so.ran leaves.spends (omega (arith, so.few));
-        sends = sends_after so.ran parts leaves.sends;
-        reached = may_on;
-      },
+      leaves_after so.ran leaves parts (omega (arith, so.few)) then_may,
       fails_after so.ran fails (omega (arith, so.few)),
       names,
     )
 
-    pub goes_on : {bytes' : ℕ → ℕ} {worn' : ℕ → Bool} {code' k r most' : ℕ} {numbers' : Numbers} {more all : Tally}
-        → Tallies k mid new more
-        → IsSum (sending_these changes numbers) limits (sending_these changes numbers')
-        → SendsExactly limits.erases limits.programs limits.status_writes mid new → readings + k ≤ r → all.count ≡ done.count + more.count
+    pub goes_on : {bytes' : ℕ → ℕ} {worn' : ℕ → Bool} {code' e p w k r most' : ℕ} {numbers' : Numbers} {more all : Tally}
+        → SendsExactly e p w mid new → Tallies k mid new more
+        → IsSum (sending_these changes numbers) (record limits { erases = e; programs = p; status_writes = w })
+        (sending_these changes numbers') → readings + k ≤ r → all.count ≡ done.count + more.count
         → all.transactions ≡ done.transactions + more.transactions → all.transactions ≤ most'
         → (old.honest ≡ true → CanApply changes wanted old.chip → IsIntermediate bytes' worn' code' old new)
         → SoFar changes wanted bytes' worn' code' numbers' r most' old new all
-    goes_on {k = k} {more = more} tallies sum exactly reads count transactions few intermediate =
-        let part : Ran limits k mid new more =
-        record { nature = leaves.spends.nature; sends = leaves.sends; exactly = exactly; tallies = tallies } in
-        record {
-          ran = ran_after so.ran sum part reads count transactions;
-          few = few;
-          may = may_on;
-          intermediate = intermediate;
-        }
+    goes_on exactly tallies sum reads count transactions few intermediate = record {
+      ran = ran_after so.ran sum (ran_part leaves exactly tallies) reads count transactions;
+      few = few;
+      may = λ honest can.
+          let next = then_may honest can in next.1 (leaves.reached (honest_now so.ran honest) next.0);
+      intermediate = intermediate;
+    }
 
   -- For a part that is a status write.
   module _ {needed : Bool} {code' : ℕ} {new : BusState}
       (writable : needed ≡ true → CanApply changes wanted old.chip → is_writable old.chip ≡ true)
       (leaves : LeavesCode changes.status code' needed mid new) where
-    pub code_leaves : Leaves changes wanted most_operation (code_limits changes needed code') old mid new
+    pub code_leaves : Leaves most_operation (code_limits changes needed code')
+        (λ chip. (old.honest ≡ true) × CanApply changes wanted old.chip)
+        (MayChange (touched_in changes) (raised_in changes) wanted) mid new
     code_leaves = record {
       spends = record {
         nature = leaves.spends.nature;
         falls = λ honest. let falls = leaves.spends.falls honest in omega (arith, write_most needed);
       };
       sends = leaves.sends;
-      may = λ honest can.
-          code_change can (λ writes. writable writes can) (so.intermediate honest can) (now_honest honest) leaves;
+      reached = λ honest can.
+          code_change can.1 (λ writes. writable writes can.1) (so.intermediate can.0 can.1) honest leaves;
     }
 
     pub code_written : {sent most : ℕ} {numbers' : Numbers} {all : Tally}
@@ -155,10 +146,11 @@ module _ {changes : Changes} {wanted bytes : ℕ → ℕ} {worn : ℕ → Bool} 
         ] in
         let tallies : Tallies 0 mid new (record { count = if needed then 1 else 0; transactions = sent }) =
         grind (arith, does.polled_ready, does.count, idle) in
-        goes_on code_leaves tallies sum does.exactly (omega arith) count transactions
+        goes_on code_leaves (λ honest can. ((honest, can), λ may. may)) does.exactly tallies sum (omega arith) count
+        transactions
         (omega (arith, so.few, does.few, write_most needed))
         (λ honest can.
-        intermediate_code can (λ writes. writable writes can) (so.intermediate honest can) (now_honest honest) leaves does)
+        intermediate_code can (λ writes. writable writes can) (so.intermediate honest can) (honest_now so.ran honest) leaves does)
 
 -- For a status write, `NamesChange` follows from `FailsWriting`, if the changes need a status write whenever this part
 -- sends one.

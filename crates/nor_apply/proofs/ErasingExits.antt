@@ -19,7 +19,6 @@ use Rattle.nor_driver.specs.Limits.{erasing}
 use Rattle.nor_driver.specs.Operations.{most_operation}
 use Rattle.nor_driver.specs.StatusWrites.{fixed_of}
 use Rattle.nor_driver.specs.Erases.{sectors_of, is_sector_in_block, CanErase, MayErase, HasErased, is_sector_named, LeavesErase, Erases}
-use Rattle.nor_driver.proofs.Limits.{IsPartOf, AreParts, IsSum, sends_more}
 use Rattle.nor_plan.specs.Erase.{IsErase, Covers, erased_by}
 use Rattle.nor_plan.specs.Planned.{planned}
 use Rattle.nor_apply.specs.declared.tally.Tally.{Tally}
@@ -27,7 +26,7 @@ use Rattle.nor_apply.specs.Within.{addresses_of}
 use Rattle.nor_apply.specs.Change.{MayChange, blank}
 use Rattle.nor_apply.specs.Spending.{may_target, NamesTimeoutIn}
 use Rattle.nor_apply.specs.Erasing.{CanEraseAll, LeavesErases, DoesErases}
-use Rattle.nor_apply.proofs.InTurn.{Listed, listed_none, listed_failed, listed_more, listed_all, listed_split, listed_next, listed_fewer, spends_ended}
+use Rattle.nor_apply.proofs.InTurn.{ran_leaves, erasing_sum, erasing_parts, erasing_more, honest_now, Listed, listed_none, listed_after, listed_fails, listed_more, listed_all, listed_split, listed_next, listed_fewer}
 use Rattle.nor_apply.proofs.Changing.{can_after, change_then, HasMade, changed_of, made_may, made_none, made_same, made_then}
 use Rattle.nor_apply.proofs.Targeting.{unit_targets}
 
@@ -123,18 +122,6 @@ module _ {kinds : Kinds} {size : ℕ} {set : ℕ → Bool} {units left : List Er
       sym (so.covers.union s)
       ∙ rw (← so.listed.split, list_any-append (erases_sector (size / 4096) s) units left, erased) refl
 
-  -- the limits of `n` erases are part of the limits of one erase per sector of the set, if `n` is at most the number of
-  -- sectors in the set
-  within_count : {n : ℕ} → n ≤ sector_count set
-      → IsPartOf (erasing (may_target set size) n) (erasing (may_target set size) (sector_count set))
-  within_count few = record {
-    sectors = λ s targeted. targeted;
-    status = λ one two written. written;
-    erases = few;
-    programs = omega arith;
-    status_writes = omega arith;
-  }
-
   -- For the exit at which every planned erase was sent.
   module _ (none : left ≡ []) where
     pub does_ended : DoesErases set kinds size old mid tally
@@ -151,11 +138,9 @@ module _ {kinds : Kinds} {size : ℕ} {set : ℕ → Bool} {units left : List Er
         }
 
     pub leaves_ended : LeavesErases set kinds size old mid
-    leaves_ended = record {
-      spends = spends_ended so.listed.ran (omega (arith, does_ended.fewer));
-      sends = sends_more _ _ old mid (within_count does_ended.fewer) so.listed.ran.sends;
-      reached = λ honest can. made_may (λ a. erased_inside (a / 4096)) erased_inside (so.done honest can);
-    }
+    leaves_ended =
+        ran_leaves so.listed.ran (erasing_more does_ended.fewer) (omega (arith, does_ended.fewer))
+        (λ honest can. made_may (λ a. erased_inside (a / 4096)) erased_inside (so.done honest can))
 
   -- For the point at which `unit` is the next erase.
   module _ {unit : Erase} {rest : List Erase} (next : left ≡ unit ∷ rest) where
@@ -194,51 +179,21 @@ module _ {kinds : Kinds} {size : ℕ} {set : ℕ → Bool} {units left : List Er
         let some = of_plan.some in
         grind (arith, nat_tests)
 
-    -- the limits of `n` erases and of the next one add up to those of `n + 1` erases
-    one_more : (n more : ℕ) → more ≡ n + 1
-        → IsSum (erasing (may_target set size) n) (erasing (is_sector_named unit) 1) (erasing (may_target set size) more)
-    one_more n more is = record {
-      sectors = λ s targeted. targeted;
-      sectors' = targets_next;
-      status = λ one two written. written;
-      status' = λ one two written. written;
-      erases = omega (arith, is);
-      programs = refl;
-      status_writes = refl;
-    }
-
-    in_all : AreParts (erasing (may_target set size) tally.count) (erasing (is_sector_named unit) 1)
-        (erasing (may_target set size) (length (planned kinds (size / 4096) set)))
-    in_all =
-        let sum = one_more tally.count (tally.count + 1) refl in
-        record {
-          sectors = sum.sectors;
-          sectors' = sum.sectors';
-          status = sum.status;
-          status' = sum.status';
-          erases = listed_fewer so.listed next;
-          programs = omega arith;
-          status_writes = omega arith;
-        }
-
     module _ {new : BusState} (leaves : LeavesErase unit mid new) where
       pub erases_failed : {error : OperationError} → OperationFails most_operation mid new error → NamesTimeout (4096 * unit.sector) error
           → LeavesErases set kinds size old new × OperationFails (most_operation * sector_count set) old new error
           × NamesTimeoutIn set error
       erases_failed {error} fails names =
-          let exit = listed_failed so.listed next leaves.stirs (most_operation * sector_count set) in_all
-          leaves.falls fails (omega (arith, so.few)) in (
-            record {
-              spends = exit.0;
-              sends = sends_more _ _ old new (within_count so.few) exit.1;
-              reached = λ honest can.
-                  let has = so.done honest can in
-                  change_then so.listed.ran.nature.steady
-                  (made_may (λ a. erased_inside (a / 4096)) erased_inside has)
-                  (erase_change of_plan can has
-                  (leaves.reached (so.listed.ran.nature.honest ∙ honest) (can_erase of_plan can has)));
-            },
-            exit.2,
+          let most : most_operation * length (planned kinds (size / 4096) set) ≤ most_operation * sector_count set =
+          omega (arith, so.few) in (
+            listed_after so.listed next leaves.leaves (erasing_parts targets_next (omega (arith, so.few, listed_fewer so.listed next)))
+                most (λ honest can.
+                let has = so.done honest can in (
+                  can_erase of_plan can has,
+                  λ may. change_then so.listed.ran.nature.steady
+                      (made_may (λ a. erased_inside (a / 4096)) erased_inside has) (erase_change of_plan can has may),
+                )),
+            listed_fails so.listed next fails most,
             names_unit error names,
           )
 
@@ -254,12 +209,12 @@ module _ {kinds : Kinds} {size : ℕ} {set : ℕ → Bool} {units left : List Er
             below = so.below;
             covers = so.covers;
             few = so.few;
-            listed = listed_more so.listed next leaves.stirs (one_more _ _ count) erases.sends erases.ends count
+            listed = listed_more so.listed next leaves.leaves (erasing_sum targets_next (sym count)) erases.sends erases.ends count
                 transactions;
             unsent = λ none. absurd (omega arith);
             done = λ honest can.
                 let has = so.done honest can in
-                let now = so.listed.ran.nature.honest ∙ honest in
+                let now = honest_now so.listed.ran honest in
                 made_then (λ a. joined (a / 4096)) joined (λ a erased. refl) has
                 (erased_unit of_plan can has (erases.done now (can_erase of_plan can has)) (erases.ends.idle now));
           }

@@ -1,19 +1,45 @@
--- Lemmas about successive parts of a change, on every bus: which sectors they target, and how many transactions they
--- take.
-use Rattle.std.proofs.Common.{◌≡◌, ◌≤◌, ◌+◌, ◌*◌, ◌∙◌, ℕ, true, List, [], ◌∷◌, ◌++◌, length, sym, ap, refl, arith}
+-- Lemmas about successive parts of a change, on every bus: which sectors they target, how many transactions they take,
+-- and what holds at each exit.
+use Rattle.std.proofs.Common.{◌≡◌, ◌≤◌, ◌+◌, ◌*◌, ◌∙◌, ℕ, Bool, true, List, [], ◌∷◌, ◌++◌, length, sym, ap, refl, arith}
 use Rattle.std.proofs.lemmas.List.{length-append, length_push, append_assoc, append-nil}
 use Rattle.std.specs.List.{All}
 use Rattle.std.proofs.lemmas.List.Elements.{All-head, All-tail}
+use Rattle.nor_model.specs.Chip.{Chip}
 use Rattle.nor_model.specs.Bus.{BusState, KeepsNature}
 use Rattle.nor_model.proofs.Nature.{nature_refl, nature_then}
 use Rattle.nor_driver.specs.declared.waits.OperationError.{OperationError}
-use Rattle.nor_driver.specs.OnlyReads.{Falls}
 use Rattle.nor_driver.specs.Waits.{OperationFails}
-use Rattle.nor_driver.specs.Limits.{Limits, SendsWithin, SendsExactly, Stirs}
+use Rattle.nor_driver.specs.Limits.{Limits, erasing, programming, SendsWithin, SendsExactly, Leaves}
 use Rattle.nor_driver.specs.Operations.{EndsWaiting, most_operation}
-use Rattle.nor_driver.proofs.Limits.{AreParts, IsSum, sum_parts, sends_none, sends_then, exactly_none, exactly_then}
+use Rattle.nor_driver.proofs.Limits.{IsPartOf, AreParts, IsSum, sum_parts, sends_none, sends_more, sends_then, sends_exactly, exactly_none, exactly_then}
 use Rattle.nor_apply.specs.declared.tally.Tally.{Tally}
-use Rattle.nor_apply.specs.Spending.{Spends, Tallies}
+use Rattle.nor_apply.specs.Spending.{Tallies}
+
+-- ---- limits
+
+-- The limits of `n` and of `m` erases add up to those of `k` erases, if the second sectors are among the first ones.
+pub erasing_sum : {all part : ℕ → Bool} {n m k : ℕ} → ((s : ℕ) → part s ≡ true → all s ≡ true) → n + m ≡ k
+    → IsSum (erasing all n) (erasing part m) (erasing all k)
+erasing_sum inside sum = grind (arith, inside, sum)
+
+pub erasing_parts : {all part : ℕ → Bool} {n m k : ℕ} → ((s : ℕ) → part s ≡ true → all s ≡ true) → n + m ≤ k
+    → AreParts (erasing all n) (erasing part m) (erasing all k)
+erasing_parts inside fits = grind (arith, inside, fits)
+
+pub erasing_more : {sectors : ℕ → Bool} {n k : ℕ} → n ≤ k → IsPartOf (erasing sectors n) (erasing sectors k)
+erasing_more few = grind (arith, few)
+
+-- The same holds for page programs.
+pub programming_sum : {all part : ℕ → Bool} {n m k : ℕ} → ((s : ℕ) → part s ≡ true → all s ≡ true) → n + m ≡ k
+    → IsSum (programming all n) (programming part m) (programming all k)
+programming_sum inside sum = grind (arith, inside, sum)
+
+pub programming_parts : {all part : ℕ → Bool} {n m k : ℕ} → ((s : ℕ) → part s ≡ true → all s ≡ true) → n + m ≤ k
+    → AreParts (programming all n) (programming part m) (programming all k)
+programming_parts inside fits = grind (arith, inside, fits)
+
+pub programming_more : {sectors : ℕ → Bool} {n k : ℕ} → n ≤ k → IsPartOf (programming sectors n) (programming sectors k)
+programming_more few = grind (arith, few)
 
 -- ---- parts that ran
 
@@ -38,24 +64,27 @@ ran_none {limits} state none = record {
   tallies = search arith;
 }
 
--- a single operation that succeeded is a part without reads
-ran_one : {limits : Limits} {sent : ℕ} {old new : BusState} → Stirs limits old new
-    → SendsExactly limits.erases limits.programs limits.status_writes old new
-    → EndsWaiting old new sent → Ran limits 0 old new (record { count = 1; transactions = sent })
-ran_one stirs exactly ends = record {
-  nature = stirs.nature;
-  sends = stirs.sends;
+-- a part that succeeded, with the exact numbers of its operations as its limits
+pub ran_part : {most r e p w : ℕ} {limits : Limits} {Can : Chip → Type 0} {May : BusState → BusState → Type 0}
+    {old new : BusState} {tally : Tally} → Leaves most limits Can May old new → SendsExactly e p w old new
+    → Tallies r old new tally → Ran (record limits { erases = e; programs = p; status_writes = w }) r old new tally
+ran_part leaves exactly tallies = record {
+  nature = leaves.spends.nature;
+  sends = sends_exactly leaves.sends exactly;
   exactly = exactly;
-  tallies = search arith;
+  tallies = tallies;
 }
+
+-- a single operation that succeeded, as `Ran` without reads
+pub ran_one : {e p w sent : ℕ} {limits : Limits} {Can : Chip → Type 0} {May : BusState → BusState → Type 0}
+    {old new : BusState} → Leaves most_operation limits Can May old new → SendsExactly e p w old new
+    → EndsWaiting old new sent → Ran (record limits { erases = e; programs = p; status_writes = w }) 0 old new
+    (record { count = 1; transactions = sent })
+ran_one leaves exactly ends = ran_part leaves exactly (search arith)
 
 -- ---- one after another
 
 module _ {first : Limits} {r : ℕ} {old mid new : BusState} {done : Tally} (ran : Ran first r old mid done) where
-  pub sends_after : {second most : Limits} → AreParts first second most → SendsWithin second mid new
-      → SendsWithin most old new
-  sends_after {second} {most} parts sends = sends_then first second most old mid new parts ran.sends sends
-
   pub ran_after : {second both : Limits} {k readings : ℕ} {more all : Tally} → IsSum first second both
       → Ran second k mid new more → r + k ≤ readings
       → all.count ≡ done.count + more.count → all.transactions ≡ done.transactions + more.transactions
@@ -64,7 +93,7 @@ module _ {first : Limits} {r : ℕ} {old mid new : BusState} {done : Tally} (ran
       let nature = nature_then old mid new after.nature ran.nature in
       record {
         nature = nature;
-        sends = sends_after (sum_parts first second both sum) after.sends;
+        sends = sends_then first second both old mid new (sum_parts first second both sum) ran.sends after.sends;
         exactly = exactly_then sum.erases sum.programs sum.status_writes ran.exactly after.exactly;
         tallies = grind (arith, ran.nature.honest, ran.tallies.sent, after.tallies.sent, ran.tallies.idle, after.tallies.idle);
       }
@@ -72,19 +101,38 @@ module _ {first : Limits} {r : ℕ} {old mid new : BusState} {done : Tally} (ran
 -- ---- exits
 
 module _ {limits : Limits} {r : ℕ} {old mid : BusState} {done : Tally} (ran : Ran limits r old mid done) where
-  pub spends_ended : {all : ℕ} → done.transactions ≤ all → Spends all old mid
-  spends_ended fits = grind (arith, ran.tallies.sent)
+  pub honest_now : old.honest ≡ true → mid.honest ≡ true
+  honest_now honest = ran.nature.honest ∙ honest
 
-  pub spends_after : {most all : ℕ} {new : BusState} → Spends most mid new → done.transactions + most ≤ all
-      → Spends all old new
-  spends_after {new} spends fits =
-      let nature = nature_then old mid new spends.nature ran.nature in
-      grind (arith, nature, ran.nature.honest, ran.tallies.sent, spends.falls)
-
-  pub fails_after : {most all : ℕ} {new : BusState} {error : OperationError} → OperationFails most mid new error
-      → done.transactions + most ≤ all
-      → OperationFails all old new error
+  -- `OperationFails` for these parts and one that returned an error after them
+  pub fails_after : {part most : ℕ} {new : BusState} {error : OperationError} → OperationFails part mid new error
+      → done.transactions + part ≤ most → OperationFails most old new error
   fails_after fails fits = grind (arith, ran.nature.honest, ran.tallies.sent, fails.stopped, fails.ran_out)
+
+  module _ {Can : Chip → Type 0} {May : BusState → BusState → Type 0} where
+    -- `Leaves` for these parts
+    pub ran_leaves : {most : ℕ} {all : Limits} → IsPartOf limits all → done.transactions ≤ most
+        → (old.honest ≡ true → Can old.chip → May old mid) → Leaves most all Can May old mid
+    ran_leaves {all = all} part fits may = record {
+      spends = grind (arith, ran.tallies.sent);
+      sends = sends_more limits all old mid part ran.sends;
+      reached = may;
+    }
+
+    -- `Leaves` for these parts and one after them, at each of its exits
+    pub leaves_after : {part most : ℕ} {second all : Limits} {Can' : Chip → Type 0}
+        {May' : BusState → BusState → Type 0} {new : BusState} → Leaves part second Can' May' mid new
+        → AreParts limits second all → done.transactions + part ≤ most
+        → (old.honest ≡ true → Can old.chip → Can' mid.chip × (May' mid new → May old new))
+        → Leaves most all Can May old new
+    leaves_after {second = second} {all = all} {new = new} leaves parts fits follows =
+        let nature = nature_then old mid new leaves.spends.nature ran.nature in
+        record {
+          spends = grind (arith, nature, ran.nature.honest, ran.tallies.sent, leaves.spends.falls);
+          sends = sends_then limits second all old mid new parts ran.sends leaves.sends;
+          reached = λ honest can.
+              let next = follows honest can in next.1 (leaves.reached (honest_now honest) next.0);
+        }
 
 -- ---- an operation for each of a list
 
@@ -118,25 +166,28 @@ module _ {A : Type 0} {all done left : List A} {limits : ℕ → Limits} {old mi
     pub listed_fewer : tally.count + 1 ≤ length all
     listed_fewer = omega (arith, ap length listed_split, length-append done (x ∷ rest), listed.count)
 
-    module _ {one : Limits} {new : BusState} (stirs : Stirs one mid new) where
-      -- The bounds at an exit at which the next operation returned an error.
-      pub listed_failed : {error : OperationError} (most : ℕ) → AreParts (limits tally.count) one (limits (length all))
-          → (mid.honest ≡ true → Falls most_operation mid new)
-          → OperationFails most_operation mid new error → most_operation * length all ≤ most
-          → Spends most old new × SendsWithin (limits (length all)) old new × OperationFails most old new error
-      listed_failed most parts falls fails fits = (
-        spends_after listed.ran (record { nature = stirs.nature; falls = falls }) (omega (arith, listed_fewer)),
-        sends_after listed.ran parts stirs.sends,
-        fails_after listed.ran fails (omega (arith, listed_fewer)),
-      )
+    -- `OperationFails` if the next operation returned an error
+    pub listed_fails : {most : ℕ} {new : BusState} {error : OperationError}
+        → OperationFails most_operation mid new error → most_operation * length all ≤ most
+        → OperationFails most old new error
+    listed_fails fails fits = fails_after listed.ran fails (omega (arith, listed_fewer))
+
+    module _ {one : Limits} {Can : Chip → Type 0} {May : BusState → BusState → Type 0} {new : BusState}
+        (leaves : Leaves most_operation one Can May mid new) where
+      -- `Leaves` for the next operation, at each of its exits
+      pub listed_after : {most : ℕ} {limits' : Limits} {Can' : Chip → Type 0} {May' : BusState → BusState → Type 0}
+          → AreParts (limits tally.count) one limits' → most_operation * length all ≤ most
+          → (old.honest ≡ true → Can' old.chip → Can mid.chip × (May mid new → May' old new))
+          → Leaves most limits' Can' May' old new
+      listed_after parts fits follows = leaves_after listed.ran leaves parts (omega (arith, listed_fewer)) follows
 
       -- `Listed` for one more element, if the next operation succeeded.
-      pub listed_more : {sent : ℕ} {more : Tally} → IsSum (limits tally.count) one (limits more.count)
-          → SendsExactly one.erases one.programs one.status_writes mid new → EndsWaiting mid new sent
-          → more.count ≡ tally.count + 1
+      pub listed_more : {sent e p w : ℕ} {more : Tally}
+          → IsSum (limits tally.count) (record one { erases = e; programs = p; status_writes = w }) (limits more.count)
+          → SendsExactly e p w mid new → EndsWaiting mid new sent → more.count ≡ tally.count + 1
           → more.transactions ≡ tally.transactions + sent → Listed all (done ++ x ∷ []) rest limits old new more
       listed_more sum exactly ends count transactions = record {
         split = append_assoc done (x ∷ []) rest ∙ listed_split;
-        ran = ran_after listed.ran sum (ran_one stirs exactly ends) (omega arith) count transactions;
+        ran = ran_after listed.ran sum (ran_one leaves exactly ends) (omega arith) count transactions;
         count = omega (arith, count, listed.count, length_push done x);
       }

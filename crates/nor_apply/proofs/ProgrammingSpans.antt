@@ -27,12 +27,11 @@ use Rattle.nor_driver.specs.declared.waits.OperationError.{OperationError}
 use Rattle.nor_driver.specs.Waits.{OperationFails, NamesTimeout}
 use Rattle.nor_driver.specs.Limits.{programming}
 use Rattle.nor_driver.specs.Operations.{most_operation}
-use Rattle.nor_driver.proofs.Limits.{IsPartOf, AreParts, IsSum, sends_more}
 use Rattle.nor_plan.specs.Content.{is_other, is_page_other}
 use Rattle.nor_plan.specs.Span.{page_differs, pages_changed, page_count, spans_of}
 use Rattle.nor_apply.specs.declared.tally.Tally.{Tally}
 use Rattle.nor_apply.specs.Spending.{NamesTimeoutIn}
-use Rattle.nor_apply.proofs.InTurn.{Listed, listed_none, listed_failed, listed_more, listed_all, listed_next, listed_fewer, spends_ended}
+use Rattle.nor_apply.proofs.InTurn.{ran_leaves, programming_sum, programming_parts, programming_more, honest_now, Listed, listed_none, listed_after, listed_fails, listed_more, listed_all, listed_next, listed_fewer}
 use Rattle.nor_apply.proofs.Targeting.{named_in}
 
 -- true at the addresses of these spans of the sector
@@ -253,16 +252,6 @@ spans_none state whole wanted_whole same are all = record {
 
 module _ {sector : ℕ} {old wanted : List ℕ} {spans left : List PageSpan} {first now : BusState} {tally : Tally}
     (so : SpansSoFar sector old wanted spans left first now tally) where
-  -- the limits of 16 page programs include those of fewer
-  sixteen : (n : ℕ) → n ≤ 16 → IsPartOf (programming (only sector) n) (programming (only sector) 16)
-  sixteen n few = record {
-    sectors = λ s targeted. targeted;
-    status = λ one two written. written;
-    erases = omega arith;
-    programs = few;
-    status_writes = omega arith;
-  }
-
   -- For the exit at which every span was programmed.
   module _ (none : left ≡ []) where
     pub does_ended : DoesSpans sector old wanted first now tally
@@ -278,11 +267,9 @@ module _ {sector : ℕ} {old wanted : List ℕ} {spans left : List PageSpan} {fi
         }
 
     pub leaves_ended : LeavesSpans sector old wanted first now
-    leaves_ended = record {
-      spends = spends_ended so.listed.ran (omega (arith, does_ended.fewer));
-      sends = sends_more _ _ first now (sixteen tally.count does_ended.fewer) so.listed.ran.sends;
-      reached = λ honest can. changed_may (does_ended.done honest can);
-    }
+    leaves_ended =
+        ran_leaves so.listed.ran (programming_more does_ended.fewer) (omega (arith, does_ended.fewer))
+        (λ honest can. changed_may (does_ended.done honest can))
 
   -- For the point at which `span` is the next span.
   module _ {span : PageSpan} {rest : List PageSpan} (next : left ≡ span ∷ rest) where
@@ -304,35 +291,6 @@ module _ {sector : ℕ} {old wanted : List ℕ} {spans left : List PageSpan} {fi
         let at = named_in 1 ((4096 * sector + span.first) / 4096) s (omega arith) (omega arith) named in
         only-here (omega arith)
 
-    -- the limits of `n` page programs and of the next one add up to those of `n + 1` page programs
-    one_more : (n more : ℕ) → more ≡ n + 1
-        → IsSum (programming (only sector) n) (programming (is_sector_of (4096 * sector + span.first)) 1)
-        (programming (only sector) more)
-    one_more n more is = record {
-      sectors = λ s targeted. targeted;
-      sectors' = targets_next;
-      status = λ one two written. written;
-      status' = λ one two written. written;
-      erases = refl;
-      programs = omega (arith, is);
-      status_writes = refl;
-    }
-
-    in_all : AreParts (programming (only sector) tally.count)
-        (programming (is_sector_of (4096 * sector + span.first)) 1)
-        (programming (only sector) (length (spans_of old wanted)))
-    in_all =
-        let sum = one_more tally.count (tally.count + 1) refl in
-        record {
-          sectors = sum.sectors;
-          sectors' = sum.sectors';
-          status = sum.status;
-          status' = sum.status';
-          erases = omega arith;
-          programs = listed_fewer so.listed next;
-          status_writes = omega arith;
-        }
-
     -- a timeout names an address in the sector
     names_address : (error : OperationError) → NamesTimeout (4096 * sector + span.first) error → NamesTimeoutIn (only sector) error
     names_address error returned =
@@ -347,17 +305,12 @@ module _ {sector : ℕ} {old wanted : List ℕ} {spans left : List PageSpan} {fi
           × NamesTimeoutIn (only sector) error
       spans_failed {error} fails names =
           let few = pages_most old wanted so.whole in
-          let exit = listed_failed so.listed next leaves.stirs most_pages in_all leaves.falls fails
-          (omega (arith, so.are.count, few)) in (
-            record {
-              spends = exit.0;
-              sends = sends_more _ _ first new (sixteen _ (omega (arith, so.are.count, few))) exit.1;
-              reached = λ honest can.
-                  let filled = so.done honest can in
-                  span_may spanned spans can filled so.listed.ran.nature.steady
-                  (leaves.reached (so.listed.ran.nature.honest ∙ honest) (can_span spanned spans can filled));
-            },
-            exit.2,
+          let most : most_operation * length (spans_of old wanted) ≤ most_pages = omega (arith, so.are.count, few) in (
+            listed_after so.listed next leaves.leaves (programming_parts targets_next (omega (arith, few_spans.0)))
+                most (λ honest can.
+                let filled = so.done honest can in
+                (can_span spanned spans can filled, span_may spanned spans can filled so.listed.ran.nature.steady)),
+            listed_fails so.listed next fails most,
             names_address error names,
           )
 
@@ -369,11 +322,11 @@ module _ {sector : ℕ} {old wanted : List ℕ} {spans left : List PageSpan} {fi
         whole = so.whole;
         wanted_whole = so.wanted_whole;
         are = so.are;
-        listed = listed_more so.listed next leaves.stirs (one_more _ _ count) programs.sends programs.ends count
+        listed = listed_more so.listed next leaves.leaves (programming_sum targets_next (sym count)) programs.sends programs.ends count
             transactions;
         done = λ honest can.
             let filled = so.done honest can in
-            let honest_now = so.listed.ran.nature.honest ∙ honest in
-            span_filled spanned spans can filled (programs.done honest_now (can_span spanned spans can filled))
-            (programs.ends.idle honest_now);
+            let now_honest = honest_now so.listed.ran honest in
+            span_filled spanned spans can filled (programs.done now_honest (can_span spanned spans can filled))
+            (programs.ends.idle now_honest);
       }

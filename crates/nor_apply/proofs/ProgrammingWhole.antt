@@ -14,7 +14,7 @@ use Rattle.nor_driver.specs.declared.waits.OperationError.{OperationError}
 use Rattle.nor_driver.specs.Reads.{IsSectorOf}
 use Rattle.nor_driver.specs.Waits.{OperationFails}
 use Rattle.nor_driver.specs.Limits.{programming}
-use Rattle.nor_driver.proofs.Limits.{IsPartOf, AreParts, IsSum, sum_parts, sends_none, sends_more, exactly_none, sends_exactly}
+use Rattle.nor_driver.proofs.Limits.{sends_none, exactly_none}
 use Rattle.nor_plan.specs.Content.{is_other, is_page_other, is_programmed}
 use Rattle.nor_plan.specs.SectorSet.{none}
 use Rattle.nor_apply.specs.declared.tally.Tally.{Tally}
@@ -22,7 +22,7 @@ use Rattle.nor_apply.specs.Within.{addresses_of}
 use Rattle.nor_apply.specs.Change.{only, byte_of}
 use Rattle.nor_apply.specs.Spending.{NamesTimeoutIn}
 use Rattle.nor_apply.specs.Programming.{CanProgramSpans, LeavesSpans, DoesSpans, CanProgramSector, Loads, LeavesSector, DoesSector, CanProgramAll, LeavesPrograms, DoesPrograms, most_sector}
-use Rattle.nor_apply.proofs.InTurn.{Ran, sends_after, ran_after, spends_after, ran_none, spends_ended, fails_after}
+use Rattle.nor_apply.proofs.InTurn.{programming_sum, programming_parts, programming_more, Ran, ran_part, ran_after, ran_none, ran_leaves, honest_now, leaves_after, fails_after}
 use Rattle.nor_apply.proofs.Alone.{only-here, count_below-next, only-is, shown_byte}
 use Rattle.nor_apply.proofs.Changing.{can_after, change_then, change_as, HasMade, made_of, changed_of, made_may, changed_may, made_none, made_same, made_then}
 
@@ -40,19 +40,6 @@ module _ {sector : ℕ} {erased : Bool} {bytes bytes' : List ℕ} {reads : ℕ} 
         exactly = exactly_none first mid loads.only_reads.sent;
         tallies = grind (arith, ends.reads_once, ends.polled_ready, ends.kept, ends.read);
       }
-
-  -- a read adds nothing to the limits of `n` page programs
-  then_programs : (n : ℕ)
-      → IsSum (programming (only sector) 0) (programming (only sector) n) (programming (only sector) n)
-  then_programs n = record {
-    sectors = λ s targeted. targeted;
-    sectors' = λ s targeted. targeted;
-    status = λ one two written. written;
-    status' = λ one two written. written;
-    erases = refl;
-    programs = omega arith;
-    status_writes = refl;
-  }
 
   module _ {wanted : List ℕ} (blank : (i : ℕ) → i < 4096 → slice_index bytes i ≡ 255) (honest : first.honest ≡ true)
       (can : CanProgramSector sector wanted erased first.chip) where
@@ -88,37 +75,31 @@ module _ {sector : ℕ} {erased : Bool} {bytes bytes' : List ℕ} {reads : ℕ} 
   module _ {wanted : List ℕ} {new : BusState} (blank : (i : ℕ) → i < 4096 → slice_index bytes i ≡ 255)
       (leaves : LeavesSpans sector bytes' wanted mid new) where
     pub sector_leaves : LeavesSector sector wanted erased first new
-    sector_leaves = record {
-      spends = spends_after loads_ran leaves.spends (omega (arith, loads_ran.tallies.few));
-      sends = sends_after loads_ran (sum_parts _ _ _ (then_programs 16)) leaves.sends;
-      reached = λ honest can.
+    sector_leaves =
+        leaves_after loads_ran leaves (programming_parts (λ s is. is) (omega arith))
+        (omega (arith, loads_ran.tallies.few)) (λ honest can. (
+          can_spans blank honest can,
           change_then loads.only_reads.nature.steady
-          (made_may (λ a no. absurd (true≢false (sym no))) (λ s no. no) (has_loaded blank honest can).0)
-          (leaves.reached (loads.only_reads.nature.honest ∙ honest) (can_spans blank honest can));
-    }
+              (made_may (λ a no. absurd (true≢false (sym no))) (λ s no. no) (has_loaded blank honest can).0),
+        ))
 
     pub sector_does : {tally all : Tally} → DoesSpans sector bytes' wanted mid new tally → all.count ≡ tally.count
         → all.transactions ≡ tally.transactions + reads → DoesSector sector wanted erased first new all
     sector_does {tally} {all} does count transactions =
-        let spans : Ran (programming (only sector) tally.count) 0 mid new tally = record {
-          nature = leaves.spends.nature;
-          sends = sends_exactly leaves.sends does.exactly;
-          exactly = does.exactly;
-          tallies = does.tallies;
-        } in
         let ran : Ran (programming (only sector) tally.count) 1 first new all =
-        ran_after loads_ran (then_programs tally.count) spans (omega arith) (omega arith) (omega arith) in
+        ran_after loads_ran (programming_sum (λ s is. is) (omega arith)) (ran_part leaves does.exactly does.tallies)
+        (omega arith) (omega arith) (omega arith) in
         record {
           fewer = omega (arith, does.fewer);
           exactly = rw count ran.exactly;
           tallies = ran.tallies;
           done = λ honest can.
               changed_of (made_then (λ a. refl) (λ s. refl) (λ a is. refl) (has_loaded blank honest can).0
-              (made_of (does.done (loads.only_reads.nature.honest ∙ honest) (can_spans blank honest can))));
+              (made_of (does.done (honest_now loads_ran honest) (can_spans blank honest can))));
           counted = λ honest can.
               let bytes : mid.chip.bytes ≡ first.chip.bytes = λ i a. (has_loaded blank honest can).0.bytes a i in
               let pages = λ (x : ℕ → ℕ) (page : ℕ). is_page_other x (byte_of sector wanted) (16 * sector + page) in
-              count ∙ does.counted (loads.only_reads.nature.honest ∙ honest) (can_spans blank honest can)
+              count ∙ does.counted (honest_now loads_ran honest) (can_spans blank honest can)
               ∙ ap (λ (x : ℕ → ℕ). count_below 16 (pages x)) bytes;
         }
 
@@ -238,49 +219,21 @@ module _ {touched raised : ℕ → Bool} {wanted : ℕ → ℕ} {n : ℕ} {first
             let able = can_after now.chip only_touched can.can done.config done.kept done.idle in
             grind (arith, still_old, only_touched, wanted_byte, can.blank, can.falls, nat_tests)
 
-      -- the limits of `n'` page programs in touched sectors and of `more` page programs in sector `n` add up to those
-      -- of `all` page programs in touched sectors
-      pages_after : (n' more all : ℕ) → all ≡ n' + more
-          → IsSum (programming touched n') (programming (only n) more) (programming touched all)
-      pages_after n' more all is = record {
-        sectors = λ s targeted. targeted;
-        sectors' = only_touched;
-        status = λ one two written. written;
-        status' = λ one two written. written;
-        erases = refl;
-        programs = omega (arith, is);
-        status_writes = refl;
-      }
-
-      in_all : AreParts (programming touched tally.count) (programming (only n) 16)
-          (programming touched (16 * sector_count touched))
-      in_all =
-          let sum = pages_after tally.count 16 (tally.count + 16) refl in
-          record {
-            sectors = sum.sectors;
-            sectors' = sum.sectors';
-            status = sum.status;
-            status' = sum.status';
-            erases = omega arith;
-            programs = omega (arith, so.fewer, room touched n is.below is.is);
-            status_writes = omega arith;
-          }
-
       pub sectors_failed : {error : OperationError} → OperationFails most_sector now new error → NamesTimeoutIn (only n) error
           → LeavesPrograms touched raised wanted first new
           × OperationFails (most_sector * sector_count touched) first new error × NamesTimeoutIn touched error
       sectors_failed {error} fails names =
           let fits : tally.transactions + most_sector ≤ most_sector * sector_count touched =
           omega (arith, so.fewer, room touched n is.below is.is) in (
-            record {
-              spends = spends_after so.ran leaves.spends fits;
-              sends = sends_after so.ran in_all leaves.sends;
-              reached = λ honest can.
-                  let may = leaves.reached (so.ran.nature.honest ∙ honest) (can_sector honest can) in
-                  change_then so.ran.nature.steady
-                  (made_may (λ a here. (and_parts _ _ here).0) (λ s no. no) (so.done honest can))
-                  (change_as only_touched (λ s no. no) (λ a plain here. wanted_byte a here) may);
-            },
+            leaves_after so.ran leaves
+                (programming_parts only_touched (omega (arith, so.fewer, room touched n is.below is.is))) fits
+                (λ honest can. (
+                  can_sector honest can,
+                  λ may.
+                      change_then so.ran.nature.steady
+                      (made_may (λ a here. (and_parts _ _ here).0) (λ s no. no) (so.done honest can))
+                      (change_as only_touched (λ s no. no) (λ a plain here. wanted_byte a here) may),
+                )),
             fails_after so.ran fails fits,
             names_member error names,
           )
@@ -291,20 +244,15 @@ module _ {touched raised : ℕ → Bool} {wanted : ℕ → ℕ} {n : ℕ} {first
           → SectorsSoFar touched raised wanted (n + 1) first new all
       sectors_more {more} does count transactions =
           let one = count_below-with n touched is.is in
-          let sector : Ran (programming (only n) more.count) 1 now new more = record {
-            nature = leaves.spends.nature;
-            sends = sends_exactly leaves.sends does.exactly;
-            exactly = does.exactly;
-            tallies = does.tallies;
-          } in
           record {
-            ran = ran_after so.ran (pages_after _ _ _ count) sector (omega arith) count transactions;
+            ran = ran_after so.ran (programming_sum only_touched (sym count))
+                (ran_part leaves does.exactly does.tallies) (omega arith) count transactions;
             fewer = omega (arith, so.fewer, does.fewer);
             unsent = λ none. absurd (omega arith);
             done = λ honest can.
                 made_then (λ a. before_more touched n is.is (a / 4096)) (λ s. refl) wanted_byte
                 (so.done honest can)
-                (made_of (does.done (so.ran.nature.honest ∙ honest) (can_sector honest can)));
+                (made_of (does.done (honest_now so.ran honest) (can_sector honest can)));
             counted = λ honest can.
                 let here = count_below-same 16 (λ page. is_page_other now.chip.bytes (byte_of n bytes) (16 * n + page))
                 (λ page. is_page_other first.chip.bytes wanted (16 * n + page))
@@ -316,7 +264,7 @@ module _ {touched raised : ℕ → Bool} {wanted : ℕ → ℕ} {n : ℕ} {first
                   so.counted honest can,
                   pages_more touched first.chip.bytes wanted n true is.is,
                   here,
-                  does.counted (so.ran.nature.honest ∙ honest) (can_sector honest can),
+                  does.counted (honest_now so.ran honest) (can_sector honest can),
                 );
           }
 
@@ -342,19 +290,7 @@ module _ {touched raised : ℕ → Bool} {wanted : ℕ → ℕ} {n : ℕ} {first
         counted = λ honest can. so.counted honest can;
       }
 
-  all_pages : (m : ℕ) → m ≤ 16 * sector_count touched
-      → IsPartOf (programming touched m) (programming touched (16 * sector_count touched))
-  all_pages m few = record {
-    sectors = λ s targeted. targeted;
-    status = λ one two written. written;
-    erases = omega arith;
-    programs = few;
-    status_writes = omega arith;
-  }
-
   pub leaves_ended : LeavesPrograms touched raised wanted first now
-  leaves_ended = record {
-    spends = spends_ended so_far.ran (omega (arith, does_ended.fewer, does_ended.tallies.few));
-    sends = sends_more _ _ first now (all_pages tally.count (does_ended.fewer)) so_far.ran.sends;
-    reached = λ honest can. changed_may (does_ended.done honest can);
-  }
+  leaves_ended =
+      ran_leaves so_far.ran (programming_more does_ended.fewer)
+      (omega (arith, does_ended.fewer, does_ended.tallies.few)) (λ honest can. changed_may (does_ended.done honest can))

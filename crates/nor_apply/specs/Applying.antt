@@ -8,7 +8,7 @@ use Rattle.nor_driver.specs.declared.waits.OperationError.{OperationError}
 use Rattle.nor_driver.specs.declared.waits.OperationError.TheVariants.{Stopped, Timeout}
 use Rattle.nor_driver.specs.StatusWrites.{is_status_with_code, with_code}
 use Rattle.nor_driver.specs.Ready.{StaysReady}
-use Rattle.nor_driver.specs.Limits.{Limits, SendsWithin, SendsExactly}
+use Rattle.nor_driver.specs.Limits.{Limits, SendsExactly, Leaves}
 use Rattle.nor_driver.specs.Operations.{most_operation}
 use Rattle.nor_plan.specs.Planned.{planned}
 use Rattle.nor_plan.specs.SectorSet.{has, LiesBelow}
@@ -19,7 +19,7 @@ use Rattle.nor_geometry.specs.Counts.{sector_count}
 use Rattle.nor_plan.specs.Content.{once_erased, is_programmed}
 use Rattle.nor_apply.specs.Within.{is_writable}
 use Rattle.nor_apply.specs.Change.{IsSized, MayChange}
-use Rattle.nor_apply.specs.Spending.{Spends, may_target}
+use Rattle.nor_apply.specs.Spending.{may_target}
 
 -- the sectors that the changes touch, as a Boolean function
 abbrev pub touched_in : Changes → ℕ → Bool
@@ -109,11 +109,10 @@ most_applied touched = touched + most_operation * (17 * touched + 2)
 -- whole chip, also sectors past its end; no more operations are sent than `most_sent` allows. `SendsWithin` says this
 -- exactly. On a well-behaved bus at most `most_applied` transactions are carried out. If `CanApply` held at the start,
 -- too, the chip changes only as `MayChange` allows.
-pub record LeavesApply (changes : Changes) (wanted : ℕ → ℕ) (old new : BusState) : Type 0 where
-  pub spends : Spends (most_applied (sector_count (touched_in changes))) old new
-  pub sends : SendsWithin (most_sent changes) old new
-  pub reached : old.honest ≡ true → CanApply changes wanted old.chip
-      → MayChange (touched_in changes) (raised_in changes) wanted old new
+abbrev pub LeavesApply : Changes → (wanted : ℕ → ℕ) → (old new : BusState) → Type 0
+LeavesApply changes wanted =
+    Leaves (most_applied (sector_count (touched_in changes))) (most_sent changes) (CanApply changes wanted)
+    (MayChange (touched_in changes) (raised_in changes) wanted)
 
 -- Holds if `apply` returned the counts `work`. On every bus it sent exactly these numbers of erases and page programs,
 -- and the status writes that the changes need. If the changes touch no sector and need no status write, it sent no

@@ -2,14 +2,14 @@
 use Rattle.std.specs.Prelude.{◌≡◌, ◌≤◌, ◌*◌, ◌/◌, ℕ, Bool, true, length}
 use Rattle.nor_model.specs.Chip.{Chip}
 use Rattle.nor_model.specs.Bus.{BusState}
-use Rattle.nor_driver.specs.Limits.{erasing, SendsWithin, SendsExactly}
+use Rattle.nor_driver.specs.Limits.{erasing, SendsExactly, Leaves}
 use Rattle.nor_driver.specs.Operations.{most_operation}
 use Rattle.nor_model.specs.declared.config.Kinds.{Kinds}
 use Rattle.nor_plan.specs.Planned.{planned}
 use Rattle.nor_apply.specs.declared.tally.Tally.{Tally}
 use Rattle.nor_geometry.specs.Counts.{sector_count}
 use Rattle.nor_apply.specs.Change.{CanChange, IsSized, MayChange, HasChanged, blank}
-use Rattle.nor_apply.specs.Spending.{Spends, Tallies, may_target}
+use Rattle.nor_apply.specs.Spending.{Tallies, may_target}
 
 -- Holds if the sectors can be changed, and the chip has this size and these erase types.
 pub record CanEraseAll (sectors : ℕ → Bool) (kinds : Kinds) (size : ℕ) (chip : Chip) : Type 0 where
@@ -21,10 +21,10 @@ pub record CanEraseAll (sectors : ℕ → Bool) (kinds : Kinds) (size : ℕ) (ch
 -- exactly). On a well-behaved bus the number of transactions carried out is at most 65,538 times that of the sectors.
 -- If `CanEraseAll` held at the start, too, the chip changes only as `MayChange` allows: the bytes of these sectors may
 -- have any value.
-pub record LeavesErases (sectors : ℕ → Bool) (kinds : Kinds) (size : ℕ) (old new : BusState) : Type 0 where
-  pub spends : Spends (most_operation * sector_count sectors) old new
-  pub sends : SendsWithin (erasing (may_target sectors size) (sector_count sectors)) old new
-  pub reached : old.honest ≡ true → CanEraseAll sectors kinds size old.chip → MayChange sectors sectors blank old new
+abbrev pub LeavesErases : (sectors : ℕ → Bool) → Kinds → (size : ℕ) → (old new : BusState) → Type 0
+LeavesErases sectors kinds size =
+    Leaves (most_operation * sector_count sectors) (erasing (may_target sectors size) (sector_count sectors))
+    (CanEraseAll sectors kinds size) (MayChange sectors sectors blank)
 
 -- Holds after the erases succeeded. On every bus exactly `tally.count` erases were sent, which is the length of the
 -- planned list; if it is 0, the record of modifying commands is as it was. On a well-behaved bus, if `CanEraseAll` held

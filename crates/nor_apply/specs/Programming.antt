@@ -5,14 +5,14 @@ use Rattle.nor_model.specs.Chip.{Chip}
 use Rattle.nor_model.specs.Bus.{BusState}
 use Rattle.nor_driver.specs.OnlyReads.{OnlyReads, HasStopped}
 use Rattle.nor_driver.specs.Reads.{IsSectorOf, HasRead}
-use Rattle.nor_driver.specs.Limits.{programming, SendsWithin, SendsExactly}
+use Rattle.nor_driver.specs.Limits.{programming, SendsExactly, Leaves}
 use Rattle.nor_apply.specs.declared.tally.Tally.{Tally}
 use Rattle.nor_geometry.specs.Below.{count_below}
 use Rattle.nor_geometry.specs.Counts.{sector_count}
 use Rattle.nor_plan.specs.Content.{is_page_other, is_programmed}
 use Rattle.nor_apply.specs.Change.{CanChange, OnlyFalls, MayChange, HasChanged, only, byte_of}
 use Rattle.nor_plan.specs.SectorSet.{none}
-use Rattle.nor_apply.specs.Spending.{Spends, Tallies}
+use Rattle.nor_apply.specs.Spending.{Tallies}
 
 -- ---- the spans of a sector
 
@@ -33,11 +33,10 @@ pub record CanProgramSpans (sector : ℕ) (old wanted : List ℕ) (chip : Chip) 
 -- Holds at every exit of the page programs of a sector. On every bus at most sixteen programs were sent, all of them in
 -- this sector (`SendsWithin` says this exactly). On a well-behaved bus, if `CanProgramSpans` held at the start, the
 -- chip changes only as `MayChange` allows, with no sector erased.
-pub record LeavesSpans (sector : ℕ) (bytes wanted : List ℕ) (old new : BusState) : Type 0 where
-  pub spends : Spends most_pages old new
-  pub sends : SendsWithin (programming (only sector) 16) old new
-  pub reached : old.honest ≡ true → CanProgramSpans sector bytes wanted old.chip
-      → MayChange (only sector) none (byte_of sector wanted) old new
+abbrev pub LeavesSpans : (sector : ℕ) → (bytes wanted : List ℕ) → (old new : BusState) → Type 0
+LeavesSpans sector bytes wanted =
+    Leaves most_pages (programming (only sector) 16) (CanProgramSpans sector bytes wanted)
+    (MayChange (only sector) none (byte_of sector wanted))
 
 -- Holds after the programs of a sector succeeded. On a well-behaved bus, if `CanProgramSpans` held at the start, the
 -- sector has its target bytes, and one program was sent for each page that differed from them.
@@ -85,11 +84,10 @@ pub record Loads (sector : ℕ) (erased : Bool) (bytes bytes' : List ℕ) (outco
 -- Holds at every exit of programming a sector. On every bus at most sixteen programs were sent, all of them in this
 -- sector (`SendsWithin` says this exactly). On a well-behaved bus, if `CanProgramSector` held at the start, the chip
 -- changes only as `MayChange` allows, with no sector erased.
-pub record LeavesSector (sector : ℕ) (wanted : List ℕ) (erased : Bool) (old new : BusState) : Type 0 where
-  pub spends : Spends most_sector old new
-  pub sends : SendsWithin (programming (only sector) 16) old new
-  pub reached : old.honest ≡ true → CanProgramSector sector wanted erased old.chip
-      → MayChange (only sector) none (byte_of sector wanted) old new
+abbrev pub LeavesSector : (sector : ℕ) → (wanted : List ℕ) → (erased : Bool) → (old new : BusState) → Type 0
+LeavesSector sector wanted erased =
+    Leaves most_sector (programming (only sector) 16) (CanProgramSector sector wanted erased)
+    (MayChange (only sector) none (byte_of sector wanted))
 
 -- Holds after programming a sector succeeded. On a well-behaved bus, if `CanProgramSector` held at the start, the
 -- sector has its target bytes, and one program was sent for each page that differed from them.
@@ -115,10 +113,10 @@ pub record CanProgramAll (touched raised : ℕ → Bool) (wanted : ℕ → ℕ) 
 -- sectors, and the programs target only touched sectors (`SendsWithin` says this exactly). On a well-behaved bus, if
 -- `CanProgramAll` held at the start, the chip changes only as `MayChange` allows: if the bus is also steady, each byte
 -- is the old or the target one.
-pub record LeavesPrograms (touched raised : ℕ → Bool) (wanted : ℕ → ℕ) (old new : BusState) : Type 0 where
-  pub spends : Spends (most_sector * sector_count touched) old new
-  pub sends : SendsWithin (programming touched (16 * sector_count touched)) old new
-  pub reached : old.honest ≡ true → CanProgramAll touched raised wanted old.chip → MayChange touched none wanted old new
+abbrev pub LeavesPrograms : (touched raised : ℕ → Bool) → (wanted : ℕ → ℕ) → (old new : BusState) → Type 0
+LeavesPrograms touched raised wanted =
+    Leaves (most_sector * sector_count touched) (programming touched (16 * sector_count touched))
+    (CanProgramAll touched raised wanted) (MayChange touched none wanted)
 
 -- Holds after the programs succeeded. On every bus, if no sector is touched, the record of modifying commands is as it
 -- was. On a well-behaved bus, if `CanProgramAll` held at the start, the touched sectors have the target bytes, and one

@@ -6,9 +6,8 @@ use Rattle.nor_driver.specs.declared.waits.OperationError.{OperationError}
 use Rattle.nor_driver.specs.Waits.{NamesTimeout}
 use Rattle.nor_driver.specs.Ready.{StaysReady}
 use Rattle.nor_driver.specs.StatusWrites.{is_status_with_code, CanWriteStatus, MayWriteStatus, HasWrittenStatus}
-use Rattle.nor_driver.specs.Limits.{writing, SendsWithin, SendsExactly}
+use Rattle.nor_driver.specs.Limits.{writing, SendsWithin, SendsExactly, Spends}
 use Rattle.nor_driver.specs.Operations.{most_operation}
-use Rattle.nor_apply.specs.Spending.{Spends}
 
 -- Holds at every exit of `write_code`. If no status write is needed, nothing was sent. Otherwise on every bus at most
 -- one status write was sent, with these protection bits and the bits of `status` that are never changed (`SendsWithin`

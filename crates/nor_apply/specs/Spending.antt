@@ -1,20 +1,13 @@
 -- Bounds on a part of a session or restore: the number of its transactions, the sectors that it may target, and the
 -- address that its timeout names.
 use Rattle.std.specs.Prelude.{◌≡◌, ◌≤◌, ◌+◌, ◌*◌, ◌/◌, ◌&&◌, ◌||◌, ℕ, Bool, true, nat_le, ⊤}
-use Rattle.nor_model.specs.Bus.{BusState, KeepsNature}
+use Rattle.nor_model.specs.Bus.{BusState}
 use Rattle.nor_driver.specs.declared.waits.OperationError.{OperationError}
 use Rattle.nor_driver.specs.declared.waits.OperationError.TheVariants.{Stopped, Timeout}
-use Rattle.nor_driver.specs.OnlyReads.{Falls}
 use Rattle.nor_driver.specs.Ready.{StaysReady}
 use Rattle.nor_driver.specs.Operations.{most_operation}
 use Rattle.nor_plan.specs.Planned.{holds_run}
 use Rattle.nor_apply.specs.declared.tally.Tally.{Tally}
-
--- Holds at every exit of a part: `KeepsNature` holds on every bus, and on a well-behaved bus at most `most`
--- transactions were carried out.
-pub record Spends (most : ℕ) (old new : BusState) : Type 0 where
-  pub nature : KeepsNature old new
-  pub falls : old.honest ≡ true → Falls most old new
 
 -- True if the erases and programs of these sectors, on a chip of this size, may target the sector `s`. Either `s` is
 -- one of them; or they are the whole chip and `s` is past its end, since the command that erases the chip has no

@@ -17,12 +17,11 @@ use Rattle.nor_driver.specs.declared.units.Erase.{Erase}
 use Rattle.nor_driver.specs.declared.units.EraseBlock.{EraseBlock}
 use Rattle.nor_driver.specs.declared.units.EraseBlock.TheVariants as Units
 use Rattle.nor_driver.specs.Units.{opcode_of, sectors_in, has_block}
-use Rattle.nor_driver.specs.Limits.{limits_of, erasing}
-use Rattle.nor_driver.specs.Operations.{operation_of, MayOperate, HasOperated, LeavesOperation, Operates}
-use Rattle.nor_driver.specs.Erases.{sectors_of, block_length, IsOnChip, takes_erase, is_sector_in_block, is_address_in_block, is_sector_named, MayErase, HasErased, LeavesErase, Erases}
-use Rattle.nor_driver.proofs.Limits.{IsPartOf, stirs_more}
+use Rattle.nor_driver.specs.Limits.{erasing}
+use Rattle.nor_driver.specs.Operations.{operation_of, MayOperate, HasOperated, LeavesCommand, DoesCommand}
+use Rattle.nor_driver.specs.Erases.{sectors_of, block_length, IsOnChip, CanErase, IgnoresErase, takes_erase, is_sector_in_block, is_address_in_block, is_sector_named, MayErase, HasErased, LeavesErase, Erases}
 use Rattle.nor_driver.proofs.Programming.{same_address}
-use Rattle.nor_driver.proofs.Taken.{may_taken, has_taken, may_refused, has_refused}
+use Rattle.nor_driver.proofs.Taken.{IsFor, asked_at, leaves_as, does_as}
 
 -- the bytes that are sent to erase a block: the opcode, and three address bytes except for the whole chip
 abbrev pub erase_bytes : EraseBlock → ℕ → ℕ → ℕ → List ℕ
@@ -128,31 +127,24 @@ module _ (erase : Erase) (x y z : ℕ) (names : 65536 * x + 256 * y + z ≡ 4096
   bare : drop 4 out ≡ []
   bare = rw sent (plain erase.unit x y z)
 
-  is_erasing : IsPartOf (limits_of out) (erasing (is_sector_named erase) 1)
-  is_erasing = rw sent record {
-    sectors = named erase.unit erase.sector x y z names below;
-    status = λ one two is. sym (no_status_in erase.unit x y z one two) ∙ is;
-    erases = rw (one_erase erase.unit x y z).0 (omega arith);
-    programs = rw (one_erase erase.unit x y z).1 (omega arith);
-    status_writes = rw (one_erase erase.unit x y z).2 (omega arith);
-  }
+  erase_asked : IsFor out [] (does erase old new) (erasing (is_sector_named erase) 1) (CanErase erase)
+      (IgnoresErase erase) old.chip
+  erase_asked =
+      let one = one_erase erase.unit x y z in
+      record {
+        sectors = rw sent (named erase.unit erase.sector x y z names below);
+        status = λ a b is. sym (no_status_in erase.unit x y z a b) ∙ rw sent at is;
+        erases = rw (sent, one.0) refl;
+        programs = rw (sent, one.1) refl;
+        status_writes = rw (sent, one.2) refl;
+        bytes = bare;
+        operates = refl;
+        takes = λ can. asked_at (takes_erase old.chip erase) true _ (asked can.on_chip) (rw (can.idle, can.offered, can.free) refl);
+        refuses = λ ignores. asked_at _ false _ (asked ignores.0) ignores.1;
+      }
 
-  pub leaves_erase : LeavesOperation out old new → LeavesErase erase old new
-  leaves_erase leaves = record {
-    stirs = stirs_more (limits_of out) (erasing (is_sector_named erase) 1) old new is_erasing leaves.stirs;
-    falls = leaves.falls;
-    reached = λ honest can. may_erase erase old new (rw bare at (may_taken out _ (takes_erase old.chip erase) old new
-        (asked can.on_chip) honest leaves refl (rw (can.idle, can.offered, can.free) refl)));
-    ignored = λ honest on takes. may_refused out _ _ old new (asked on) honest leaves takes;
-  }
+  pub leaves_erase : LeavesCommand out old new → LeavesErase erase old new
+  leaves_erase leaves = leaves_as erase_asked (λ may can. may_erase erase old new may) leaves
 
-  pub does_erase : (count : ℕ) → Operates out old new count → Erases erase old new count
-  does_erase count does = record {
-    ends = does.ends;
-    sends =
-        let one = one_erase erase.unit x y z in
-        rw (one.0, one.1, one.2) at (rw sent at does.sends);
-    done = λ honest can. has_erased erase old new (rw bare at (has_taken out _ (takes_erase old.chip erase) old new
-        (asked can.on_chip) honest does refl (rw (can.idle, can.offered, can.free) refl)));
-    ignored = λ honest on takes. has_refused out _ _ old new (asked on) honest does takes;
-  }
+  pub does_erase : (count : ℕ) → DoesCommand out old new count → Erases erase old new count
+  does_erase count does = does_as erase_asked (λ has can. has_erased erase old new has) count does

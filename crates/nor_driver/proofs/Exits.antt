@@ -5,29 +5,52 @@ use Rattle.std.proofs.Math.Bool.{or-true}
 use Rattle.nor_model.specs.declared.command.Command.{Command}
 use Rattle.nor_model.specs.Sent.{is_stirred}
 use Rattle.nor_model.specs.Step.{Does, is_operation, done_of}
-use Rattle.nor_model.specs.Bus.{BusState, IsHonestFor, AtStop, Stops, Carries}
+use Rattle.nor_model.specs.Bus.{BusState, KeepsNature, IsHonestFor, AtStop, Stops, Carries}
 use Rattle.nor_model.proofs.Nature.{nature_then}
 use Rattle.nor_driver.proofs.Sends.{Sends}
 use Rattle.nor_driver.specs.declared.waits.Waited.{Waited}
 use Rattle.nor_driver.specs.OnlyReads.{Unchanged, KeepsChip, Falls, OnlyReads}
 use Rattle.nor_driver.specs.Waits.{Waits}
 use Rattle.nor_driver.specs.Reads.{HasRead}
-use Rattle.nor_driver.specs.Limits.{limits_of, Stirs}
-use Rattle.nor_driver.specs.Operations.{operation_of, AsksForOperation, most_operation, MayOperate, LeavesOperation, Operates}
+use Rattle.nor_driver.specs.Limits.{Limits, limits_of, SendsWithin}
+use Rattle.nor_driver.specs.Operations.{operation_of, AsksForOperation, most_operation, is_carried, MayOperate, LeavesCommand, DoesCommand}
 use Rattle.nor_driver.proofs.Limits.{enable_sends, command_sends, command_exactly, still_stirred, sends_same, exactly_same}
 use Rattle.nor_driver.proofs.Cuts.{stays_after, unchanged_then}
 use Rattle.nor_driver.proofs.Torn.{Wore, IsAsBefore, still_or_torn, still_stays, reached, reached_stays, none_begun, enable_stays}
 use Rattle.nor_driver.proofs.Readings.{carried_ignored}
 use Rattle.nor_driver.proofs.Begun.{IsEnabled, enabled, then_done, part_done, operation-ignored, idle-takes, HasBegun, operation-begins, may-before, may-after, may-unsteady, operated, latch-kept}
 
+-- At an exit of an operation, on every bus: `KeepsNature` holds, and `SendsWithin` for these limits. A transaction that
+-- begins with a modifying opcode was sent, in this call or before it.
+record Stirs (limits : Limits) (old new : BusState) : Type 0 where
+  pub nature : KeepsNature old new
+  pub stirred : is_stirred new.sent ≡ true
+  pub sends : SendsWithin limits old new
+
 module _ (out : List ℕ) (asks : AsksForOperation out) (old : BusState) where
-  -- at an exit at which the command was not carried out, `LeavesOperation` follows from `Stirs`, `Falls` and
-  -- `KeepsChip`
+  leaves_by : {new : BusState} → Stirs (limits_of out) old new → (old.honest ≡ true → Falls most_operation old new)
+      → (old.honest ≡ true → is_carried out old.chip ≡ true
+      → MayOperate (operation_of old.chip out) (drop 4 out) old new)
+      → (old.honest ≡ true → is_carried out old.chip ≡ false → KeepsChip old new) → LeavesCommand out old new
+  leaves_by stirs falls reached ignored = record {
+    leaves = record {
+      spends = record { nature = stirs.nature; falls = falls };
+      sends = stirs.sends;
+      reached = reached;
+    };
+    stirred = stirs.stirred;
+    ignored = ignored;
+  }
+
+  -- at an exit at which the command was not carried out, `LeavesCommand` follows from `Stirs`, `Falls` and `KeepsChip`
   not_begun : (new : BusState) → Stirs (limits_of out) old new
       → (old.honest ≡ true → Falls most_operation old new) → (old.honest ≡ true → KeepsChip old new)
-      → LeavesOperation out old new
+      → LeavesCommand out old new
   not_begun new stirs falls stays =
-      search (may-before (operation_of old.chip out) (drop 4 out) old new, idle-takes old.chip out asks, stays)
+      leaves_by stirs falls
+      (λ honest is.
+      may-before (operation_of old.chip out) (drop 4 out) old new (idle-takes old.chip out asks is) (stays honest))
+      (λ honest none. stays honest)
 
   -- every honest bus takes a write enable, and the command
   enable_fits : (bus : BusState) → bus.honest ≡ true → IsHonestFor (6 ∷ []) 0 bus
@@ -39,10 +62,10 @@ module _ (out : List ℕ) (asks : AsksForOperation out) (old : BusState) where
   enabled_stirs : (new : BusState) → Sends (6 ∷ []) old new → is_stirred new.sent ≡ true
   enabled_stirs new sends = sends.sent.stirred ∙ or-true (is_stirred old.sent)
 
-  -- if the bus stops at the write enable, the exit satisfies `LeavesOperation`
+  -- if the bus stops at the write enable, the exit satisfies `LeavesCommand`
   pub leaves-at_enable : (new : BusState) → Sends (6 ∷ []) old new
       → (IsHonestFor (6 ∷ []) 0 old → Stops (6 ∷ []) old new)
-      → LeavesOperation out old new
+      → LeavesCommand out old new
   leaves-at_enable new sends stops =
       let within = enable_sends (limits_of out) old new sends in
       not_begun new record { nature = sends.nature; stirred = enabled_stirs new sends; sends = within }
@@ -116,13 +139,12 @@ module _ (out : List ℕ) (asks : AsksForOperation out) (old : BusState) where
       stays-at_stop none (inr cut) = stays-cut cut.0 cut.1 none
 
     pub leaves-at_command : (new : BusState) → Sends out ready new → (IsHonestFor out 0 ready → Stops out ready new)
-        → LeavesOperation out old new
-    leaves-at_command new sends' stops = record {
-      stirs = stirs-by new sends';
-      falls = λ honest. omega (arith, (enabling honest).count, (stops (command_fits ready (honest-ready honest))).left);
-      reached = λ honest is. may-at_stop honest new is (still_or_torn out ready new (stops (command_fits ready (honest-ready honest))).at_stop);
-      ignored = λ honest none. stays-at_stop honest new none (still_or_torn out ready new (stops (command_fits ready (honest-ready honest))).at_stop);
-    }
+        → LeavesCommand out old new
+    leaves-at_command new sends' stops =
+        let stopped = λ (honest : old.honest ≡ true). stops (command_fits ready (honest-ready honest)) in
+        leaves_by (stirs-by new sends') (λ honest. omega (arith, (enabling honest).count, (stopped honest).left))
+        (λ honest is. may-at_stop honest new is (still_or_torn out ready new (stopped honest).at_stop))
+        (λ honest none. stays-at_stop honest new none (still_or_torn out ready new (stopped honest).at_stop))
 
     module _ (begun : BusState) (second : List ℕ) (none' : length second ≡ 0) (sends' : Sends out ready begun)
         (carries' : IsHonestFor out 0 ready → Carries out second ready begun) where
@@ -151,25 +173,21 @@ module _ (out : List ℕ) (asks : AsksForOperation out) (old : BusState) where
       unchanged honest is =
           unchanged_then old ready begun (enabling honest).unchanged (was-read honest is).rested.unchanged
 
-      pub leaves-at_wait : (new : BusState) → OnlyReads 65536 begun new → LeavesOperation out old new
+      pub leaves-at_wait : (new : BusState) → OnlyReads 65536 begun new → LeavesCommand out old new
       leaves-at_wait new only_reads =
           let nature = nature_then old begun new only_reads.nature stirs.nature in
           let honest_reads = λ (honest : old.honest ≡ true). only_reads.honest_reads (stirs.nature.honest ∙ honest) in
-          record {
-            stirs = record {
-              nature = nature;
-              stirred = ap is_stirred only_reads.sent ∙ stirs.stirred;
-              sends = sends_same (limits_of out) old begun new only_reads.sent stirs.sends;
-            };
-            falls = λ honest. omega (arith, (honest_reads honest).falls, (enabling honest).count, (carried honest).left);
-            reached = λ honest is.
-                may-after _ _ old begun new is stirs.nature.steady (has-begun honest is) (honest_reads honest).stays;
-            ignored = λ honest is.
-                stays_after old begun new stirs.nature.steady (unchanged honest is) (honest_reads honest).stays;
-          }
+          leaves_by record {
+            nature = nature;
+            stirred = ap is_stirred only_reads.sent ∙ stirs.stirred;
+            sends = sends_same (limits_of out) old begun new only_reads.sent stirs.sends;
+          } (λ honest. omega (arith, (honest_reads honest).falls, (enabling honest).count, (carried honest).left))
+          (λ honest is.
+          may-after _ _ old begun new is stirs.nature.steady (has-begun honest is) (honest_reads honest).stays)
+          (λ honest is. stays_after old begun new stirs.nature.steady (unchanged honest is) (honest_reads honest).stays)
 
       pub operates-with : (new : BusState) (waited : Waited) → new.sent ≡ begun.sent → Waits begun new waited
-          → Operates out old new (waited.polls + 2)
+          → DoesCommand out old new (waited.polls + 2)
       operates-with new waited same waits =
           let wait = λ (honest : old.honest ≡ true). waits.done (stirs.nature.honest ∙ honest) in
           record {

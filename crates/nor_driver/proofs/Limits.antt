@@ -5,7 +5,7 @@ use Rattle.std.proofs.Math.Bool.{or-false}
 use Rattle.nor_model.specs.Sent.{none_targeted, is_in_targeted, begins_erase, begins_program, begins_status_write, is_stirred, is_unknown_to_model, erases_of, programs_of, status_writes_of, counted_once}
 use Rattle.nor_model.specs.Bus.{BusState}
 use Rattle.nor_driver.proofs.Sends.{Sends}
-use Rattle.nor_driver.specs.Limits.{Limits, limits_of, SendsWithin, SendsExactly, Stirs}
+use Rattle.nor_driver.specs.Limits.{Limits, limits_of, SendsWithin, SendsExactly}
 
 -- The second limits allow all that the first ones allow.
 pub record IsPartOf (less more : Limits) : Type 0 where
@@ -170,7 +170,3 @@ command_exactly out old ready new enables sends =
 pub still_stirred : (out : List ℕ) (old new : BusState) → is_stirred old.sent ≡ true → Sends out old new
     → is_stirred new.sent ≡ true
 still_stirred out old new is sends = grind (arith, sends.sent.stirred)
-
-pub stirs_more : (less more : Limits) (old new : BusState) → IsPartOf less more → Stirs less old new
-    → Stirs more old new
-stirs_more less more old new part stirs = search (sends_more less more old new part)

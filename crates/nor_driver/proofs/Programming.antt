@@ -1,5 +1,5 @@
 -- The effect of a program follows from the effect of an operation.
-use Rattle.std.proofs.Common.{◌≡◌, ◌<◌, ◌≤◌, ◌+◌, ◌*◌, ◌%◌, ℕ, cond, List, [], ◌∷◌, length, drop, refl, arith}
+use Rattle.std.proofs.Common.{◌≡◌, ◌<◌, ◌≤◌, ◌+◌, ◌*◌, ◌%◌, ℕ, true, false, cond, List, [], ◌∷◌, length, drop, refl, arith}
 use Rattle.std.proofs.Math.Nat.{mod-eq_of_lt}
 use Rattle.std.proofs.Math.Bool.{or-false, and-true}
 use Rattle.nor_model.specs.declared.config.Config.{Config}
@@ -9,11 +9,10 @@ use Rattle.nor_model.specs.Command.{address_of}
 use Rattle.nor_model.specs.Step.{is_idle}
 use Rattle.nor_model.specs.Bus.{BusState}
 use Rattle.nor_model.proofs.PageBytes.{byte_after-program}
-use Rattle.nor_driver.specs.Limits.{limits_of, programming}
-use Rattle.nor_driver.specs.Operations.{operation_of, IsCommandAt, MayOperate, HasOperated, LeavesOperation, Operates}
-use Rattle.nor_driver.specs.Programs.{takes_program, is_sector_of, MayProgram, HasProgrammed, LeavesProgram, Programs}
-use Rattle.nor_driver.proofs.Limits.{IsPartOf, stirs_more}
-use Rattle.nor_driver.proofs.Taken.{may_taken, has_taken, may_refused, has_refused}
+use Rattle.nor_driver.specs.Limits.{programming}
+use Rattle.nor_driver.specs.Operations.{operation_of, IsCommandAt, MayOperate, HasOperated, LeavesCommand, DoesCommand}
+use Rattle.nor_driver.specs.Programs.{CanProgram, IgnoresProgram, takes_program, is_sector_of, MayProgram, HasProgrammed, LeavesProgram, Programs}
+use Rattle.nor_driver.proofs.Taken.{IsFor, asked_at, leaves_as, does_as}
 
 -- an address below the chip's size stays the same if it is taken modulo that size
 pub same_address : (config : Config) (x y z at : ℕ) → 65536 * x + 256 * y + z ≡ at → at < config.size
@@ -48,34 +47,22 @@ module _ (at : ℕ) (sent command : List ℕ) (sends : IsCommandAt 0x02 at sent 
       → operation_of old.chip command ≡ cond (takes_program old.chip at) (Program at) Ignored
   asked below = rw sends.4 (program_command old.chip sends.0 sends.1 sends.2 at sent sends.3 below some)
 
-  bare : drop 4 command ≡ sent
-  bare = rw sends.4 refl
-
-  is_programming : IsPartOf (limits_of command) (programming (is_sector_of at) 1)
-  is_programming = rw sends.4 record {
-    sectors = rw sends.3 (λ s targeted. targeted);
-    status = λ one two is. is;
-    erases = omega arith;
-    programs = omega arith;
-    status_writes = omega arith;
+  program_asked : IsFor command sent (Program at) (programming (is_sector_of at) 1) (CanProgram at (length sent))
+      (IgnoresProgram at) old.chip
+  program_asked = record {
+    sectors = rw (sends.4, sends.3) (λ s targeted. targeted);
+    status = rw sends.4 (λ one two is. is);
+    erases = rw sends.4 refl;
+    programs = rw sends.4 refl;
+    status_writes = rw sends.4 refl;
+    bytes = rw sends.4 refl;
+    operates = refl;
+    takes = λ can. asked_at (takes_program old.chip at) true _ (asked (omega (arith, can.inside))) (rw (can.idle, can.free) refl);
+    refuses = λ ignores. asked_at _ false _ (asked ignores.0) ignores.1;
   }
 
-  pub leaves_program : LeavesOperation command old new → LeavesProgram at sent old new
-  leaves_program leaves = record {
-    stirs = stirs_more (limits_of command) (programming (is_sector_of at) 1) old new is_programming leaves.stirs;
-    falls = leaves.falls;
-    reached = λ honest can. may_program at sent fits old new (rw bare at (may_taken command _
-        (takes_program old.chip at) old new (asked (omega (arith, can.inside))) honest leaves refl
-        (rw (can.idle, can.free) refl)));
-    ignored = λ honest below takes. may_refused command _ _ old new (asked below) honest leaves takes;
-  }
+  pub leaves_program : LeavesCommand command old new → LeavesProgram at sent old new
+  leaves_program leaves = leaves_as program_asked (λ may can. may_program at sent fits old new may) leaves
 
-  pub does_program : (count : ℕ) → Operates command old new count → Programs at sent old new count
-  does_program count does = record {
-    ends = does.ends;
-    sends = rw sends.4 at does.sends;
-    done = λ honest can. has_programmed at sent fits old new (rw bare at (has_taken command _
-        (takes_program old.chip at) old new (asked (omega (arith, can.inside))) honest does refl
-        (rw (can.idle, can.free) refl)));
-    ignored = λ honest below takes. has_refused command _ _ old new (asked below) honest does takes;
-  }
+  pub does_program : (count : ℕ) → DoesCommand command old new count → Programs at sent old new count
+  does_program count does = does_as program_asked (λ has can. has_programmed at sent fits old new has) count does

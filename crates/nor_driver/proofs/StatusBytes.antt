@@ -1,6 +1,6 @@
 -- The effect of a status write that keeps the bits that flashnor never changes. It follows from the effect of an
 -- operation.
-use Rattle.std.proofs.Common.{◌≡◌, ◌<◌, ◌+◌, ◌*◌, ◌/◌, ◌%◌, ◌∙◌, ℕ, Bool, true, cond, List, [], ◌∷◌, length, slice_index, ap, sym, refl, arith}
+use Rattle.std.proofs.Common.{◌≡◌, ◌<◌, ◌+◌, ◌*◌, ◌/◌, ◌%◌, ◌∙◌, ℕ, Bool, true, false, cond, List, [], ◌∷◌, length, slice_index, ap, sym, refl, arith}
 use Rattle.std.specs.Prelude.{◌==◌, bit_and, bit_or}
 use Rattle.std.specs.List.{list_all, range_with_len}
 use Rattle.std.proofs.lemmas.Bool.{eqb-true}
@@ -16,11 +16,11 @@ use Rattle.nor_model.specs.Status.{bytes_of, bytes_with_code}
 use Rattle.nor_model.specs.Step.{is_idle}
 use Rattle.nor_model.specs.Bus.{BusState}
 use Rattle.nor_model.specs.Sent.{writes_status}
-use Rattle.nor_driver.specs.Limits.{limits_of, writing}
-use Rattle.nor_driver.specs.Operations.{operation_of, MayOperate, HasOperated, LeavesOperation, Operates}
-use Rattle.nor_driver.specs.StatusWrites.{fixed_of, with_code, is_status_with_code, takes_status, MayWriteStatus, HasWrittenStatus, LeavesStatusWrite, WritesStatus}
-use Rattle.nor_driver.proofs.Limits.{IsPartOf, stirs_more, in_none}
-use Rattle.nor_driver.proofs.Taken.{may_taken, has_taken, may_refused, has_refused}
+use Rattle.nor_driver.specs.Limits.{writing}
+use Rattle.nor_driver.specs.Operations.{operation_of, MayOperate, HasOperated, LeavesCommand, DoesCommand}
+use Rattle.nor_driver.specs.StatusWrites.{fixed_of, with_code, is_status_with_code, CanWriteStatus, IgnoresStatus, takes_status, MayWriteStatus, HasWrittenStatus, LeavesStatusWrite, WritesStatus}
+use Rattle.nor_driver.proofs.Limits.{in_none}
+use Rattle.nor_driver.proofs.Taken.{IsFor, asked_at, leaves_as, does_as}
 
 -- the non-volatile bits of status 2, which were `kept`, after a status write whose second byte is `sent`
 abbrev written : ℕ → ℕ → ℕ
@@ -91,31 +91,22 @@ module _ (status : Status) (code : ℕ) (below : code < 64) where
       asked_as : operation_of old.chip out ≡ cond (takes_status old.chip) (WriteStatus one two) Ignored
       asked_as = rw sent (asked old.chip)
 
-      is_writing : IsPartOf (limits_of out) (writing (is_status_with_code status code) 1)
-      is_writing = rw sent record {
+      status_asked : IsFor out [] (WriteStatus one two) (writing (is_status_with_code status code) 1)
+          (CanWriteStatus status) IgnoresStatus old.chip
+      status_asked = record {
         sectors = λ s is. absurd (in_none s is);
-        status = λ a b is. is_code a b is;
-        erases = omega arith;
-        programs = omega arith;
-        status_writes = omega arith;
+        status = rw sent (λ a b is. is_code a b is);
+        erases = refl;
+        programs = refl;
+        status_writes = refl;
+        bytes = refl;
+        operates = refl;
+        takes = λ can. asked_at (takes_status old.chip) true _ asked_as (rw (can.idle, can.open_to) refl);
+        refuses = λ ignores. asked_at _ false _ asked_as ignores;
       }
 
-      pub leaves_status : LeavesOperation out old new → LeavesStatusWrite status code old new
-      leaves_status leaves = record {
-        stirs = stirs_more (limits_of out) (writing (is_status_with_code status code) 1) old new is_writing leaves.stirs;
-        falls = leaves.falls;
-        reached = λ honest can. may_write can.fixed
-            (may_taken out _ (takes_status old.chip) old new asked_as honest leaves refl
-            (rw (can.idle, can.open_to) refl));
-        ignored = λ honest takes. may_refused out _ _ old new asked_as honest leaves takes;
-      }
+      pub leaves_status : LeavesCommand out old new → LeavesStatusWrite status code old new
+      leaves_status leaves = leaves_as status_asked (λ may can. may_write can.fixed may) leaves
 
-      pub does_status : (count : ℕ) → Operates out old new count → WritesStatus status code old new count
-      does_status count does = record {
-        ends = does.ends;
-        sends = does.sends;
-        done = λ honest can. has_written can.fixed
-            (has_taken out _ (takes_status old.chip) old new asked_as honest does refl
-            (rw (can.idle, can.open_to) refl));
-        ignored = λ honest takes. has_refused out _ _ old new asked_as honest does takes;
-      }
+      pub does_status : (count : ℕ) → DoesCommand out old new count → WritesStatus status code old new count
+      does_status count does = does_as status_asked (λ has can. has_written can.fixed has) count does

@@ -1,35 +1,58 @@
--- An operation that the chip carries out if one test holds, and otherwise ignores: its effect in both cases, on an
--- honest bus.
-use Rattle.std.proofs.Common.{◌≡◌, ◌∙◌, ℕ, Bool, true, false, cond, List, drop, ap, subst}
+-- An operation that the chip carries out under one condition, and ignores under another: its effect in both cases.
+use Rattle.std.proofs.Common.{◌≡◌, ◌∙◌, ℕ, Bool, true, false, cond, List, drop, ap, subst, arith}
 use Rattle.nor_model.specs.declared.command.Command.{Command}
 use Rattle.nor_model.specs.declared.command.Command.TheVariants.{Ignored}
+use Rattle.nor_model.specs.Chip.{Chip}
 use Rattle.nor_model.specs.Step.{is_operation}
 use Rattle.nor_model.specs.Bus.{BusState}
-use Rattle.nor_driver.specs.OnlyReads.{KeepsChip}
-use Rattle.nor_driver.specs.Operations.{operation_of, MayOperate, HasOperated, HasIgnored, LeavesOperation, Operates}
+use Rattle.nor_driver.specs.Limits.{Limits, limits_of}
+use Rattle.nor_driver.specs.Operations.{operation_of, MayOperate, HasOperated, LeavesOperation, Operates, LeavesCommand, DoesCommand}
+use Rattle.nor_driver.proofs.Limits.{sends_more}
 
-module _ (out : List ℕ) (command : Command) (takes : Bool) (old new : BusState)
-    (asked : operation_of old.chip out ≡ cond takes command Ignored) (honest : old.honest ≡ true) where
-  taken : takes ≡ true → operation_of old.chip out ≡ command
-  taken is = asked ∙ ap (λ (b : Bool). cond b command Ignored) is
+-- Holds if the bytes `out`, with the data `sent` at their end, ask this chip for the operation `command` if `Can` holds,
+-- and for nothing if `Ignores` does. They send no more than the limits allow, and exactly their numbers of operations.
+pub record IsFor (out sent : List ℕ) (command : Command) (limits : Limits) (Can Ignores : Chip → Type 0)
+    (chip : Chip) : Type 0 where
+  pub sectors : (s : ℕ) → (limits_of out).sectors s ≡ true → limits.sectors s ≡ true
+  pub status : (one two : ℕ) → (limits_of out).status one two ≡ true → limits.status one two ≡ true
+  pub erases : (limits_of out).erases ≡ limits.erases
+  pub programs : (limits_of out).programs ≡ limits.programs
+  pub status_writes : (limits_of out).status_writes ≡ limits.status_writes
+  pub bytes : drop 4 out ≡ sent
+  pub operates : is_operation command ≡ true
+  pub takes : Can chip → operation_of chip out ≡ command
+  pub refuses : Ignores chip → operation_of chip out ≡ Ignored
 
-  refused : takes ≡ false → is_operation (operation_of old.chip out) ≡ false
-  refused is = ap is_operation (asked ∙ ap (λ (b : Bool). cond b command Ignored) is)
+-- a command that is carried out if a test holds, and is otherwise ignored, at one value of the test
+pub asked_at : (test value : Bool) (command : Command) {asked : Command} → asked ≡ cond test command Ignored
+    → test ≡ value → asked ≡ cond value command Ignored
+asked_at test value command asks is = asks ∙ ap (λ (b : Bool). cond b command Ignored) is
 
-  pub may_taken : LeavesOperation out old new → is_operation command ≡ true → takes ≡ true
-      → MayOperate command (drop 4 out) old new
-  may_taken leaves operates is =
-      subst (λ (k : Command). MayOperate k (drop 4 out) old new) (taken is)
-      (leaves.reached honest (ap is_operation (taken is) ∙ operates))
+module _ {out sent : List ℕ} {command : Command} {limits : Limits} {Can Ignores : Chip → Type 0} {old new : BusState}
+    (asks : IsFor out sent command limits Can Ignores old.chip) {Effect : BusState → BusState → Type 0} where
+  pub leaves_as : (MayOperate command sent old new → Can old.chip → Effect old new) → LeavesCommand out old new
+      → LeavesOperation limits Can Ignores Effect old new
+  leaves_as effect leaves = record {
+    leaves = record {
+      spends = leaves.leaves.spends;
+      sends = sends_more (limits_of out) limits old new (grind (arith, asks.sectors, asks.status)) leaves.leaves.sends;
+      reached = λ honest can.
+          let is = asks.takes can in
+          effect (rw asks.bytes at (subst (λ (k : Command). MayOperate k (drop 4 out) old new) is
+          (leaves.leaves.reached honest (ap is_operation is ∙ asks.operates)))) can;
+    };
+    stirred = leaves.stirred;
+    ignored = λ honest none. leaves.ignored honest (ap is_operation (asks.refuses none));
+  }
 
-  pub has_taken : {count : ℕ} → Operates out old new count → is_operation command ≡ true → takes ≡ true
-      → HasOperated command (drop 4 out) old new
-  has_taken does operates is =
-      subst (λ (k : Command). HasOperated k (drop 4 out) old new) (taken is)
-      (does.done honest (ap is_operation (taken is) ∙ operates))
-
-  pub may_refused : LeavesOperation out old new → takes ≡ false → KeepsChip old new
-  may_refused leaves is = leaves.ignored honest (refused is)
-
-  pub has_refused : {count : ℕ} → Operates out old new count → takes ≡ false → HasIgnored old new
-  has_refused does is = does.ignored honest (refused is)
+  pub does_as : (HasOperated command sent old new → Can old.chip → Effect old new) → (count : ℕ)
+      → DoesCommand out old new count → Operates limits Can Ignores Effect old new count
+  does_as effect count does = record {
+    ends = does.ends;
+    sends = rw (asks.erases, asks.programs, asks.status_writes) at does.sends;
+    done = λ honest can.
+        let is = asks.takes can in
+        effect (rw asks.bytes at (subst (λ (k : Command). HasOperated k (drop 4 out) old new) is
+        (does.done honest (ap is_operation is ∙ asks.operates)))) can;
+    ignored = λ honest none. does.ignored honest (ap is_operation (asks.refuses none));
+  }

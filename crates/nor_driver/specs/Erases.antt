@@ -8,9 +8,8 @@ use Rattle.nor_model.specs.Sent.{is_in_targeted, block_targeted}
 use Rattle.nor_model.specs.Bus.{BusState}
 use Rattle.nor_driver.specs.declared.units.Erase.{Erase}
 use Rattle.nor_driver.specs.Units.{sectors_in, has_block, is_aligned, erases_sector}
-use Rattle.nor_driver.specs.OnlyReads.{KeepsChip, Falls}
-use Rattle.nor_driver.specs.Limits.{erasing, Stirs, SendsExactly}
-use Rattle.nor_driver.specs.Operations.{ChangesOnly, EndsWaiting, HasIgnored, most_operation}
+use Rattle.nor_driver.specs.Limits.{erasing}
+use Rattle.nor_driver.specs.Operations.{ChangesOnly, LeavesOperation, Operates}
 
 -- the number of the chip's sectors
 abbrev pub sectors_of : Chip → ℕ
@@ -71,20 +70,17 @@ pub record HasErased (erase : Erase) (old new : BusState) : Type 0 where
   pub worn : (s : ℕ) → new.worn s ≡ (old.worn s || is_sector_in_block erase old.chip s)
   pub latch : new.chip.latch ≡ false
 
--- The effect of an erase at every exit: `Stirs` on every bus, and `Falls` on an honest one. On an honest bus, if
--- `CanErase` holds, the chip can carry the erase out, and `MayErase` holds. On an honest bus, if the block lies on the
--- chip and `takes_erase` is false, the chip would ignore the erase, and `KeepsChip` holds.
-pub record LeavesErase (erase : Erase) (old new : BusState) : Type 0 where
-  pub stirs : Stirs (erasing (is_sector_named erase) 1) old new
-  pub falls : old.honest ≡ true → Falls most_operation old new
-  pub reached : old.honest ≡ true → CanErase erase old.chip → MayErase erase old new
-  pub ignored : old.honest ≡ true → IsOnChip erase old.chip → takes_erase old.chip erase ≡ false → KeepsChip old new
+-- The chip would ignore this erase of a block that lies on it.
+abbrev pub IgnoresErase : Erase → Chip → Type 0
+IgnoresErase erase chip = IsOnChip erase chip × (takes_erase chip erase ≡ false)
 
--- The effect of an erase that succeeded, after `sent` transactions: on every bus `EndsWaiting` and `SendsExactly` hold,
--- for one erase. On an honest bus, if `CanErase` holds, the chip took the erase, and `HasErased` holds. On an honest
--- bus, if the block lies on the chip and `takes_erase` is false, the chip ignored the erase, and `HasIgnored` holds.
-pub record Erases (erase : Erase) (old new : BusState) (sent : ℕ) : Type 0 where
-  pub ends : EndsWaiting old new sent
-  pub sends : SendsExactly 1 0 0 old new
-  pub done : old.honest ≡ true → CanErase erase old.chip → HasErased erase old new
-  pub ignored : old.honest ≡ true → IsOnChip erase old.chip → takes_erase old.chip erase ≡ false → HasIgnored old new
+-- The effect of an erase at every exit, on every bus with the limits of one erase. On an honest bus `MayErase` holds if
+-- `CanErase` held at the start, and `KeepsChip` if `IgnoresErase` did.
+abbrev pub LeavesErase : Erase → (old new : BusState) → Type 0
+LeavesErase erase =
+    LeavesOperation (erasing (is_sector_named erase) 1) (CanErase erase) (IgnoresErase erase) (MayErase erase)
+
+-- The effect of an erase that succeeded, on every bus with one erase sent. On an honest bus `HasErased` holds if
+-- `CanErase` held at the start, and `HasIgnored` if `IgnoresErase` did.
+abbrev pub Erases : Erase → (old new : BusState) → (sent : ℕ) → Type 0
+Erases erase = Operates (erasing (is_sector_named erase) 1) (CanErase erase) (IgnoresErase erase) (HasErased erase)

@@ -1,7 +1,9 @@
--- Limits on the erases, page programs and status writes that a call sends, on every bus.
+-- The effect of a call at every exit, and limits on the erases, page programs and status writes that it sends.
 use Rattle.std.specs.Prelude.{◌≡◌, ◌≤◌, ◌+◌, ◌⊎◌, ℕ, Bool, true, false, List, if◌then◌else◌}
-use Rattle.nor_model.specs.Sent.{targets, begins_erase, begins_program, begins_status_write, writes_status, is_targeted, has_written, has_unknown, is_stirred, erases_of, programs_of, status_writes_of}
+use Rattle.nor_model.specs.Chip.{Chip}
+use Rattle.nor_model.specs.Sent.{targets, begins_erase, begins_program, begins_status_write, writes_status, is_targeted, has_written, has_unknown, erases_of, programs_of, status_writes_of}
 use Rattle.nor_model.specs.Bus.{BusState, KeepsNature}
+use Rattle.nor_driver.specs.OnlyReads.{Falls}
 
 -- Limits on modifying commands: the sectors that erases and page programs may target, the two bytes that a status write
 -- may have, and the greatest numbers of erases, page programs and status writes. Write enables are not limited.
@@ -63,9 +65,17 @@ pub record SendsExactly (erases programs status_writes : ℕ) (old new : BusStat
   pub programmed : programs_of new.sent ≡ programs_of old.sent + programs
   pub wrote_status : status_writes_of new.sent ≡ status_writes_of old.sent + status_writes
 
--- At every exit of an operation, on every bus: `KeepsNature` holds, and `SendsWithin` for these limits. The bus has
--- been asked to send at least one transaction that begins with a modifying opcode, in this call or before it.
-pub record Stirs (limits : Limits) (old new : BusState) : Type 0 where
+-- At every exit of a call: `KeepsNature` holds on every bus, and on an honest bus at most `most` transactions were
+-- carried out.
+pub record Spends (most : ℕ) (old new : BusState) : Type 0 where
   pub nature : KeepsNature old new
-  pub stirred : is_stirred new.sent ≡ true
+  pub falls : old.honest ≡ true → Falls most old new
+
+-- At every exit of a call: on every bus the modifying commands that it sent are within `limits`. On an honest bus at
+-- most `most` transactions were carried out, and if `Can` held for the chip at the start, `May` holds for the states
+-- before and after the call.
+pub record Leaves (most : ℕ) (limits : Limits) (Can : Chip → Type 0) (May : BusState → BusState → Type 0)
+    (old new : BusState) : Type 0 where
+  pub spends : Spends most old new
   pub sends : SendsWithin limits old new
+  pub reached : old.honest ≡ true → Can old.chip → May old new

@@ -6,11 +6,11 @@ use Rattle.nor_model.specs.declared.command.Command.TheVariants.{WriteStatus, Pr
 use Rattle.nor_model.specs.Chip.{Chip, IsSame}
 use Rattle.nor_model.specs.Power.{is_in_work}
 use Rattle.nor_model.specs.Command.{command_of}
-use Rattle.nor_model.specs.Sent.{begins_erase, begins_program, begins_status_write, is_unknown_to_model}
+use Rattle.nor_model.specs.Sent.{is_stirred, is_unknown_to_model}
 use Rattle.nor_model.specs.Step.{is_idle, is_operation, done_of, byte_after, kept_after, running_after, wears}
 use Rattle.nor_model.specs.Bus.{BusState}
-use Rattle.nor_driver.specs.OnlyReads.{KeepsChip, Falls}
-use Rattle.nor_driver.specs.Limits.{limits_of, Stirs, SendsExactly}
+use Rattle.nor_driver.specs.OnlyReads.{KeepsChip}
+use Rattle.nor_driver.specs.Limits.{Limits, limits_of, SendsExactly, Leaves}
 
 -- the greatest number of transactions of an operation: write enable, its command and 65,536 polls
 abbrev pub most_operation : ℕ
@@ -92,23 +92,39 @@ pub record HasOperated (command : Command) (sent : List ℕ) (old new : BusState
   pub worn : (s : ℕ) → new.worn s ≡ (old.worn s || wears command s)
   pub latch : new.chip.latch ≡ false
 
--- The state that an operation leaves at every exit: `Stirs` on every bus. On an honest bus at most 65,538 transactions
--- were carried out; `MayOperate` holds if the chip can carry the operation out, and `KeepsChip` if it would ignore the
--- operation.
-pub record LeavesOperation (out : List ℕ) (old new : BusState) : Type 0 where
-  pub stirs : Stirs (limits_of out) old new
-  pub falls : old.honest ≡ true → Falls most_operation old new
-  pub reached : old.honest ≡ true → is_operation (operation_of old.chip out) ≡ true
-      → MayOperate (operation_of old.chip out) (drop 4 out) old new
-  pub ignored : old.honest ≡ true → is_operation (operation_of old.chip out) ≡ false → KeepsChip old new
+-- The effect of an operation at every exit: `Leaves` holds for these limits and 65,538 transactions. The bus has been
+-- asked to send at least one transaction that begins with a modifying opcode, in this call or before it. On an honest
+-- bus, if `Ignores` held for the chip at the start, the chip would ignore the operation, and `KeepsChip` holds.
+pub record LeavesOperation (limits : Limits) (Can Ignores : Chip → Type 0) (May : BusState → BusState → Type 0)
+    (old new : BusState) : Type 0 where
+  pub leaves : Leaves most_operation limits Can May old new
+  pub stirred : is_stirred new.sent ≡ true
+  pub ignored : old.honest ≡ true → Ignores old.chip → KeepsChip old new
 
--- The state that an operation leaves if it succeeds, after `sent` transactions, on every bus (`EndsWaiting`,
--- `SendsExactly`). On an honest bus `HasOperated` holds if the chip carries the operation out, and `HasIgnored` if it
--- ignores the operation.
-pub record Operates (out : List ℕ) (old new : BusState) (sent : ℕ) : Type 0 where
+-- The effect of an operation that succeeded, after `sent` transactions: on every bus `EndsWaiting` holds, and
+-- `SendsExactly` for the numbers of these limits. On an honest bus, if `Can` held for the chip at the start, the chip
+-- took the operation, and `Has` holds; if `Ignores` held, the chip ignored the operation, and `HasIgnored` holds.
+pub record Operates (limits : Limits) (Can Ignores : Chip → Type 0) (Has : BusState → BusState → Type 0)
+    (old new : BusState) (sent : ℕ) : Type 0 where
   pub ends : EndsWaiting old new sent
-  pub sends : SendsExactly (if begins_erase out then 1 else 0) (if begins_program out then 1 else 0)
-      (if begins_status_write out then 1 else 0) old new
-  pub done : old.honest ≡ true → is_operation (operation_of old.chip out) ≡ true
-      → HasOperated (operation_of old.chip out) (drop 4 out) old new
-  pub ignored : old.honest ≡ true → is_operation (operation_of old.chip out) ≡ false → HasIgnored old new
+  pub sends : SendsExactly limits.erases limits.programs limits.status_writes old new
+  pub done : old.honest ≡ true → Can old.chip → Has old new
+  pub ignored : old.honest ≡ true → Ignores old.chip → HasIgnored old new
+
+-- true if the chip carries out an operation when `out` follows a write enable
+abbrev pub is_carried : List ℕ → Chip → Bool
+is_carried out chip = is_operation (operation_of chip out)
+
+-- The effect at every exit of the operation whose command consists of the bytes `out`: on an honest bus `MayOperate`
+-- holds if the chip carries the operation out.
+abbrev pub LeavesCommand : List ℕ → (old new : BusState) → Type 0
+LeavesCommand out =
+    LeavesOperation (limits_of out) (λ chip. is_carried out chip ≡ true) (λ chip. is_carried out chip ≡ false)
+    (λ old new. MayOperate (operation_of old.chip out) (drop 4 out) old new)
+
+-- The effect of the operation whose command consists of the bytes `out`, after it succeeded: on an honest bus
+-- `HasOperated` holds if the chip carries the operation out.
+abbrev pub DoesCommand : List ℕ → (old new : BusState) → (sent : ℕ) → Type 0
+DoesCommand out =
+    Operates (limits_of out) (λ chip. is_carried out chip ≡ true) (λ chip. is_carried out chip ≡ false)
+    (λ old new. HasOperated (operation_of old.chip out) (drop 4 out) old new)

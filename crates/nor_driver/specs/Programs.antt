@@ -6,9 +6,8 @@ use Rattle.nor_model.specs.Guard.{is_protected}
 use Rattle.nor_model.specs.Step.{is_idle}
 use Rattle.nor_model.specs.Sent.{is_in_targeted, block_targeted}
 use Rattle.nor_model.specs.Bus.{BusState}
-use Rattle.nor_driver.specs.OnlyReads.{KeepsChip, Falls}
-use Rattle.nor_driver.specs.Limits.{programming, Stirs, SendsExactly}
-use Rattle.nor_driver.specs.Operations.{ChangesOnly, EndsWaiting, HasIgnored, most_operation}
+use Rattle.nor_driver.specs.Limits.{programming}
+use Rattle.nor_driver.specs.Operations.{ChangesOnly, LeavesOperation, Operates}
 
 -- The chip is idle, the range of `len` bytes from `at` lies on it, and the first address of that range isn't protected.
 pub record CanProgram (at len : ℕ) (chip : Chip) : Type 0 where
@@ -54,21 +53,20 @@ pub record HasProgrammed (at : ℕ) (sent : List ℕ) (old new : BusState) : Typ
   pub worn : (s : ℕ) → new.worn s ≡ old.worn s
   pub latch : new.chip.latch ≡ false
 
--- The effect of a program at every exit: `Stirs` on every bus, and `Falls` on an honest one. On an honest bus, if
--- `CanProgram` holds, the chip can carry the program out, and `MayProgram` holds. On an honest bus, if `at` is on the
--- chip and `takes_program` is false, the chip would ignore the program, and `KeepsChip` holds.
-pub record LeavesProgram (at : ℕ) (sent : List ℕ) (old new : BusState) : Type 0 where
-  pub stirs : Stirs (programming (is_sector_of at) 1) old new
-  pub falls : old.honest ≡ true → Falls most_operation old new
-  pub reached : old.honest ≡ true → CanProgram at (length sent) old.chip → MayProgram at sent old new
-  pub ignored : old.honest ≡ true → at < old.chip.config.size → takes_program old.chip at ≡ false → KeepsChip old new
+-- The chip would ignore a program at this address, which is on the chip.
+abbrev pub IgnoresProgram : (at : ℕ) → Chip → Type 0
+IgnoresProgram at chip = (at < chip.config.size) × (takes_program chip at ≡ false)
 
--- The effect of a program that succeeded, after `sent` transactions: on every bus `EndsWaiting` and `SendsExactly`
--- hold, for one page program. On an honest bus, if `CanProgram` holds, the chip took the program, and `HasProgrammed`
--- holds. On an honest bus, if `at` is on the chip and `takes_program` is false, the chip ignored the program, and
--- `HasIgnored` holds.
-pub record Programs (at : ℕ) (bytes : List ℕ) (old new : BusState) (sent : ℕ) : Type 0 where
-  pub ends : EndsWaiting old new sent
-  pub sends : SendsExactly 0 1 0 old new
-  pub done : old.honest ≡ true → CanProgram at (length bytes) old.chip → HasProgrammed at bytes old new
-  pub ignored : old.honest ≡ true → at < old.chip.config.size → takes_program old.chip at ≡ false → HasIgnored old new
+-- The effect of a program at every exit, on every bus with the limits of one page program. On an honest bus
+-- `MayProgram` holds if `CanProgram` held at the start, and `KeepsChip` if `IgnoresProgram` did.
+abbrev pub LeavesProgram : (at : ℕ) → (sent : List ℕ) → (old new : BusState) → Type 0
+LeavesProgram at sent =
+    LeavesOperation (programming (is_sector_of at) 1) (CanProgram at (length sent)) (IgnoresProgram at)
+    (MayProgram at sent)
+
+-- The effect of a program that succeeded, on every bus with one page program sent. On an honest bus `HasProgrammed`
+-- holds if `CanProgram` held at the start, and `HasIgnored` if `IgnoresProgram` did.
+abbrev pub Programs : (at : ℕ) → (bytes : List ℕ) → (old new : BusState) → (sent : ℕ) → Type 0
+Programs at bytes =
+    Operates (programming (is_sector_of at) 1) (CanProgram at (length bytes)) (IgnoresProgram at)
+    (HasProgrammed at bytes)

@@ -7,9 +7,8 @@ use Rattle.nor_model.specs.Status.{bytes_of}
 use Rattle.nor_model.specs.Chip.{Chip, KeptBits, is_locked, kept_in}
 use Rattle.nor_model.specs.Step.{is_idle}
 use Rattle.nor_model.specs.Bus.{BusState}
-use Rattle.nor_driver.specs.OnlyReads.{KeepsChip, Falls}
-use Rattle.nor_driver.specs.Limits.{writing, Stirs, SendsExactly}
-use Rattle.nor_driver.specs.Operations.{EndsWaiting, HasIgnored, most_operation}
+use Rattle.nor_driver.specs.Limits.{writing}
+use Rattle.nor_driver.specs.Operations.{LeavesOperation, Operates}
 
 -- the bits that flashnor never changes, which are all non-volatile bits except the protection bits: SRP0 (first
 -- number); SRP1, QE, the reserved bit and LB1 to LB3 (second number)
@@ -55,21 +54,20 @@ pub record HasWrittenStatus (code : ℕ) (old new : BusState) : Type 0 where
   pub worn : (s : ℕ) → new.worn s ≡ old.worn s
   pub latch : new.chip.latch ≡ false
 
--- The effect of a status write at every exit: `Stirs` on every bus, and `Falls` on an honest one. On an honest bus, if
--- `CanWriteStatus` holds, the chip can carry the write out, and `MayWriteStatus` holds. On an honest bus, if
--- `takes_status` is false, the chip would ignore the write, and `KeepsChip` holds.
-pub record LeavesStatusWrite (status : Status) (code : ℕ) (old new : BusState) : Type 0 where
-  pub stirs : Stirs (writing (is_status_with_code status code) 1) old new
-  pub falls : old.honest ≡ true → Falls most_operation old new
-  pub reached : old.honest ≡ true → CanWriteStatus status old.chip → MayWriteStatus code old new
-  pub ignored : old.honest ≡ true → takes_status old.chip ≡ false → KeepsChip old new
+-- The chip would ignore a status write.
+abbrev pub IgnoresStatus : Chip → Type 0
+IgnoresStatus chip = takes_status chip ≡ false
 
--- The effect of a status write that succeeded, after `sent` transactions: on every bus `EndsWaiting` and `SendsExactly`
--- hold, for one status write. On an honest bus, if `CanWriteStatus` holds, the chip took the write, and
--- `HasWrittenStatus` holds. On an honest bus, if `takes_status` is false, the chip ignored the write, and `HasIgnored`
--- holds.
-pub record WritesStatus (status : Status) (code : ℕ) (old new : BusState) (sent : ℕ) : Type 0 where
-  pub ends : EndsWaiting old new sent
-  pub sends : SendsExactly 0 0 1 old new
-  pub done : old.honest ≡ true → CanWriteStatus status old.chip → HasWrittenStatus code old new
-  pub ignored : old.honest ≡ true → takes_status old.chip ≡ false → HasIgnored old new
+-- The effect of a status write at every exit, on every bus with the limits of one status write. On an honest bus
+-- `MayWriteStatus` holds if `CanWriteStatus` held at the start, and `KeepsChip` if `IgnoresStatus` did.
+abbrev pub LeavesStatusWrite : Status → (code : ℕ) → (old new : BusState) → Type 0
+LeavesStatusWrite status code =
+    LeavesOperation (writing (is_status_with_code status code) 1) (CanWriteStatus status) IgnoresStatus
+    (MayWriteStatus code)
+
+-- The effect of a status write that succeeded, on every bus with one status write sent. On an honest bus
+-- `HasWrittenStatus` holds if `CanWriteStatus` held at the start, and `HasIgnored` if `IgnoresStatus` did.
+abbrev pub WritesStatus : Status → (code : ℕ) → (old new : BusState) → (sent : ℕ) → Type 0
+WritesStatus status code =
+    Operates (writing (is_status_with_code status code) 1) (CanWriteStatus status) IgnoresStatus
+    (HasWrittenStatus code)

@@ -2,7 +2,7 @@
 
 ghost use Rattle.std.specs.Prelude.{◌≡◌, ◌<◌, ◌≤◌, ◌+◌, ◌*◌, ◌%◌, ◌^◌, true, length, IfOk, IfErr};
 ghost use Rattle.nor_driver.specs.Waits.{OperationFails, NamesTimeout};
-ghost use Rattle.nor_driver.specs.Operations.{BytesNameAddress, IsCommandAt, AsksForOperation, LeavesOperation, Operates, most_operation};
+ghost use Rattle.nor_driver.specs.Operations.{BytesNameAddress, IsCommandAt, AsksForOperation, LeavesCommand, DoesCommand, most_operation};
 ghost use Rattle.nor_driver.specs.Programs.{LeavesProgram, Programs};
 ghost use Rattle.nor_driver.specs.Units.{is_aligned};
 ghost use Rattle.nor_driver.specs.Erases.{LeavesErase, Erases};
@@ -89,8 +89,8 @@ pub fn write_status<B: Bus>(bus: &mut B, status: Status, code: u8) -> Result<u32
 // number of transactions. A timeout contains `address`.
 fn operation<B: Bus>(bus: &mut B, command: &[u8], address: u32) -> Result<u32, OperationError>
     requires { AsksForOperation command.now }
-    ensures leaves { LeavesOperation command.now (B.state bus.old) (B.state bus.new) }
-    ensures does { IfOk result (Operates command.now (B.state bus.old) (B.state bus.new)) }
+    ensures leaves { LeavesCommand command.now (B.state bus.old) (B.state bus.new) }
+    ensures does { IfOk result (DoesCommand command.now (B.state bus.old) (B.state bus.new)) }
     ensures fails { IfErr result (OperationFails most_operation (B.state bus.old) (B.state bus.new)) }
     ensures names { IfErr result (NamesTimeout address) }
 {

@@ -17,7 +17,7 @@ use Rattle.nor_plan.specs.SectorSet.{has}
 use Rattle.nor_probe.specs.Found.{IsPart}
 use Rattle.nor_apply.specs.declared.changes.Changes.{Changes}
 use Rattle.nor_apply.specs.declared.changes.Work.{Work}
-use Rattle.nor_apply.specs.Spending.{Spends}
+use Rattle.nor_driver.specs.Limits.{Spends}
 use Rattle.nor_apply.specs.Applying.{status_writes}
 use Rattle.nor_apply.proofs.ProgrammingWhole.{room}
 use Rattle.nor_scan.specs.declared.identity.Identity.{Identity}

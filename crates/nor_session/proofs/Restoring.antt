@@ -13,7 +13,7 @@ use Rattle.nor_apply.specs.declared.changes.Changes.{Changes}
 use Rattle.nor_apply.specs.declared.changes.Work.{Work}
 use Rattle.nor_geometry.specs.Counts.{sector_count}
 use Rattle.nor_plan.specs.Content.{once_erased, is_touched, is_raised}
-use Rattle.nor_apply.specs.Spending.{Spends}
+use Rattle.nor_driver.specs.Limits.{Spends}
 use Rattle.nor_session.specs.Checking.{CanCheck}
 use Rattle.nor_apply.specs.Applying.{touched_in, raised_in, status_writes}
 use Rattle.nor_driver.specs.StatusWrites.{fixed_of}

@@ -5,7 +5,7 @@ use Rattle.nor_model.specs.History.{EndsBusy, EndsReading}
 use Rattle.nor_model.specs.Bus.{BusState}
 use Rattle.nor_driver.specs.Ready.{StaysReady}
 use Rattle.nor_driver.specs.OnlyReads.{Rested, HasStopped}
-use Rattle.nor_driver.specs.Limits.{SendsWithin, SendsExactly}
+use Rattle.nor_driver.specs.Limits.{SendsExactly, Leaves}
 use Rattle.nor_driver.specs.Operations.{most_operation}
 use Rattle.nor_geometry.specs.Below.{count_below}
 use Rattle.nor_plan.specs.Planned.{fewest_erases}
@@ -15,7 +15,6 @@ use Rattle.nor_geometry.specs.Counts.{sector_count}
 use Rattle.nor_plan.specs.Content.{once_erased, is_programmed}
 use Rattle.nor_apply.specs.Change.{MayChange}
 use Rattle.nor_session.specs.Checking.{CanCheck, IsFirstMismatch}
-use Rattle.nor_apply.specs.Spending.{Spends}
 use Rattle.nor_apply.specs.Applying.{touched_in, raised_in, status_writes, most_sent, most_applied, CanApply, HasApplied}
 use Rattle.nor_request.specs.declared.refusal.Refusal.{Refusal}
 use Rattle.nor_request.specs.declared.refusal.Refusal.TheVariants.{Stopped, Timeout, Mismatch}
@@ -73,11 +72,10 @@ HasBytes sectors wanted chip = (a : ℕ) → sectors (a / 4096) ≡ true → chi
 -- `most_sent` (`SendsWithin`). That limits the sectors targeted for the first time, the bytes that a status write has
 -- for the first time, and the numbers of erases, page programs and status writes. On a well-behaved bus the number of
 -- transactions is bounded, and if `CanApply` held at the start, the chip changes only as `MayChange` allows.
-pub record LeavesChange (changes : Changes) (wanted : ℕ → ℕ) (old new : BusState) : Type 0 where
-  pub spends : Spends (most_changed changes) old new
-  pub sends : SendsWithin (most_sent changes) old new
-  pub reached : old.honest ≡ true → CanApply changes wanted old.chip
-      → MayChange (touched_in changes) (raised_in changes) wanted old new
+abbrev pub LeavesChange : Changes → (wanted : ℕ → ℕ) → (old new : BusState) → Type 0
+LeavesChange changes wanted =
+    Leaves (most_changed changes) (most_sent changes) (CanApply changes wanted)
+    (MayChange (touched_in changes) (raised_in changes) wanted)
 
 -- Holds after the changes and their check succeeded, with the counts of `work`. If there was nothing to change, no
 -- modifying command was sent. On a well-behaved bus, if `CanApply` held at the start, all changes were made

@@ -15,7 +15,7 @@ use Rattle.nor_journal.specs.Saved.{is_saved, saved_byte}
 use Rattle.nor_probe.specs.declared.probes.ProbeFault.TheVariants as Probes
 use Rattle.nor_probe.specs.Known.{shown_as}
 use Rattle.nor_plan.specs.Content.{is_touched, is_raised}
-use Rattle.nor_apply.specs.Spending.{Spends}
+use Rattle.nor_driver.specs.Limits.{Spends}
 use Rattle.nor_request.specs.declared.report.Report.{Report}
 use Rattle.nor_request.specs.declared.refusal.Refusal.{Refusal}
 use Rattle.nor_request.specs.declared.refusal.Refusal.TheVariants.{NoChip, UnknownChip, StatusLocked, Stopped, OtherChip, OtherUnit, StatusDiffers}

@@ -16,7 +16,7 @@ use Rattle.nor_journal.specs.Text.{Content}
 use Rattle.nor_journal.specs.Vault.{VaultState, CountsRefusal}
 use Rattle.nor_journal.specs.Saved.{JournalSaves, IsJournalPrefix, is_saved}
 use Rattle.nor_apply.specs.Change.{MayChange}
-use Rattle.nor_apply.specs.Spending.{Spends}
+use Rattle.nor_driver.specs.Limits.{Spends}
 use Rattle.nor_request.specs.declared.request.Request.{Request}
 use Rattle.nor_request.specs.declared.report.Report.{Report}
 use Rattle.nor_request.specs.declared.request.What.{What}

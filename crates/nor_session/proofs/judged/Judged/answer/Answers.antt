@@ -4,7 +4,7 @@ use Rattle.std.proofs.lemmas.Result.{err_from_is_err_and}
 use Rattle.nor_driver.specs.OnlyReads.{OnlyReads}
 use Rattle.nor_driver.proofs.RestsInTurn.{only_reads_after}
 use Rattle.nor_request.specs.Request.{scanned_sectors}
-use Rattle.nor_apply.specs.Spending.{Spends}
+use Rattle.nor_driver.specs.Limits.{Spends}
 use Rattle.nor_session.specs.Bounds.{most_reads, most_of}
 use Rattle.nor_session.specs.Session.{most_status_writes}
 use Rattle.nor_scan.specs.Verdict.{NeedsStatusWrite}
