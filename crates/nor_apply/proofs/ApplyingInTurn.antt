@@ -125,10 +125,10 @@ module _ {changes : Changes} {wanted bytes : ℕ → ℕ} {worn : ℕ → Bool} 
         (MayChange (touched_in changes) (raised_in changes) wanted) mid new
     code_leaves = record {
       spends = record {
-        nature = leaves.spends.nature;
-        falls = λ honest. let falls = leaves.spends.falls honest in omega (arith, write_most needed);
+        nature = leaves.leaves.spends.nature;
+        falls = λ honest. let falls = leaves.leaves.spends.falls honest in omega (arith, write_most needed);
       };
-      sends = leaves.sends;
+      sends = leaves.leaves.sends;
       reached = λ honest can.
           code_change can.1 (λ writes. writable writes can.1) (so.intermediate can.0 can.1) honest leaves;
     }

@@ -84,7 +84,7 @@ module _ {changes : Changes} {wanted : ℕ → ℕ} {old : BusState} (can : CanA
     code_change = elim (cases_Bool needed) [
       | inl writes ↦
           status_change (writable_same old.chip mid.chip is.config fixed ∙ writable writes)
-          (leaves.reached writes honest (can_write writes))
+          (leaves.leaves.reached honest (writes, can_write writes))
       | inr spared ↦
           rw (leaves.unsent spared) (same_change (search) is.idle (λ s. refl))
     ]
@@ -97,7 +97,7 @@ module _ {changes : Changes} {wanted : ℕ → ℕ} {old : BusState} (can : CanA
           let has = does.done writes honest (can_write writes) in
           let again : with_code new_code mid.chip.kept ≡ with_code new_code old.chip.kept =
           rw is.kept (coded_again code new_code old.chip.kept) in
-          let kept = has.written ∙ again in
+          let kept = has.kept ∙ again in
           rw writes (grind (arith, has.bytes, is.byte, has.worn, is.wear, kept, does.idle))
     ]
 

@@ -6,7 +6,7 @@ use Rattle.nor_driver.specs.declared.waits.OperationError.{OperationError}
 use Rattle.nor_driver.specs.Waits.{NamesTimeout}
 use Rattle.nor_driver.specs.Ready.{StaysReady}
 use Rattle.nor_driver.specs.StatusWrites.{is_status_with_code, CanWriteStatus, MayWriteStatus, HasWrittenStatus}
-use Rattle.nor_driver.specs.Limits.{writing, SendsWithin, SendsExactly, Spends}
+use Rattle.nor_driver.specs.Limits.{writing, SendsExactly, Leaves}
 use Rattle.nor_driver.specs.Operations.{most_operation}
 
 -- Holds at every exit of `write_code`. If no status write is needed, nothing was sent. Otherwise on every bus at most
@@ -14,11 +14,10 @@ use Rattle.nor_driver.specs.Operations.{most_operation}
 -- says this exactly). On a well-behaved bus, if `CanWriteStatus` held at the start, the chip changes only as
 -- `MayWriteStatus` allows.
 pub record LeavesCode (status : Status) (code : ℕ) (needed : Bool) (old new : BusState) : Type 0 where
-  pub spends : Spends (if needed then most_operation else 0) old new
-  pub sends : SendsWithin
-      (writing (λ one two. needed && is_status_with_code status code one two) (if needed then 1 else 0)) old new
+  pub leaves : Leaves (if needed then most_operation else 0)
+      (writing (λ one two. needed && is_status_with_code status code one two) (if needed then 1 else 0))
+      (λ chip. (needed ≡ true) × CanWriteStatus status chip) (MayWriteStatus code) old new
   pub unsent : needed ≡ false → new ≡ old
-  pub reached : needed ≡ true → old.honest ≡ true → CanWriteStatus status old.chip → MayWriteStatus code old new
 
 -- Holds after `write_code` succeeded. On every bus exactly one status write was sent if it is needed, and otherwise
 -- none. If it is needed, on a well-behaved bus the chip is idle, and if `CanWriteStatus` held at the start, the chip

@@ -9,7 +9,7 @@ use Rattle.nor_model.specs.Bus.{BusState}
 use Rattle.nor_driver.specs.declared.units.Erase.{Erase}
 use Rattle.nor_driver.specs.Units.{sectors_in, has_block, is_aligned, erases_sector}
 use Rattle.nor_driver.specs.Limits.{erasing}
-use Rattle.nor_driver.specs.Operations.{ChangesOnly, LeavesOperation, Operates}
+use Rattle.nor_driver.specs.Operations.{ChangesOnly, HasEnded, LeavesOperation, Operates}
 
 -- the number of the chip's sectors
 abbrev pub sectors_of : Chip → ℕ
@@ -61,14 +61,12 @@ pub record MayErase (erase : Erase) (old new : BusState) : Type 0 where
   pub runs : new.chip.busy ≢ 0 → new.chip.running ≡ Runs.Erase (4096 * erase.sector) (block_length old.chip erase)
   pub worn : (s : ℕ) → is_sector_in_block erase old.chip s ≡ false → new.worn s ≡ old.worn s
 
--- On an honest bus, the block was erased and the write enable latch is clear. All other bytes, the non-volatile bits
--- and the record of other erased sectors are as they were.
-pub record HasErased (erase : Erase) (old new : BusState) : Type 0 where
-  pub config : new.chip.config ≡ old.chip.config
-  pub bytes : (a : ℕ) → new.chip.bytes a ≡ (if is_address_in_block erase old.chip a then 255 else old.chip.bytes a)
-  pub kept : new.chip.kept ≡ old.chip.kept
-  pub worn : (s : ℕ) → new.worn s ≡ (old.worn s || is_sector_in_block erase old.chip s)
-  pub latch : new.chip.latch ≡ false
+-- On an honest bus, the block was erased. All other bytes, the non-volatile bits and the record of other erased sectors
+-- are as they were.
+abbrev pub HasErased : Erase → (old new : BusState) → Type 0
+HasErased erase old =
+    HasEnded (λ a. if is_address_in_block erase old.chip a then 255 else old.chip.bytes a) old.chip.kept
+    (λ s. old.worn s || is_sector_in_block erase old.chip s) old
 
 -- The chip would ignore this erase of a block that lies on it.
 abbrev pub IgnoresErase : Erase → Chip → Type 0

@@ -3,7 +3,7 @@ use Rattle.std.specs.Prelude.{◌≡◌, ◌≢◌, ◌≤◌, ◌+◌, ◌*◌,
 use Rattle.nor_model.specs.declared.config.Config.{Config}
 use Rattle.nor_model.specs.declared.command.Command.{Command}
 use Rattle.nor_model.specs.declared.command.Command.TheVariants.{WriteStatus, Program, Erase, Ignored}
-use Rattle.nor_model.specs.Chip.{Chip, IsSame}
+use Rattle.nor_model.specs.Chip.{Chip, KeptBits, IsSame}
 use Rattle.nor_model.specs.Power.{is_in_work}
 use Rattle.nor_model.specs.Command.{command_of}
 use Rattle.nor_model.specs.Sent.{is_stirred, is_unknown_to_model}
@@ -83,14 +83,20 @@ pub record MayOperate (command : Command) (sent : List ℕ) (old new : BusState)
   pub runs : new.chip.busy ≢ 0 → new.chip.running ≡ running_after old.chip command
   pub worn : (s : ℕ) → wears command s ≡ false → new.worn s ≡ old.worn s
 
--- On an honest bus, an operation that an idle chip carried out has ended, with its whole effect on bytes, non-volatile
--- bits and erased sectors. The write enable latch is clear.
-pub record HasOperated (command : Command) (sent : List ℕ) (old new : BusState) : Type 0 where
+-- On an honest bus, an operation has ended: the chip has the bytes `content` and the non-volatile bits `bits`, and the
+-- sectors of `erased` are recorded as erased. The configuration is as it was, and the write enable latch is clear.
+pub record HasEnded (content : ℕ → ℕ) (bits : KeptBits) (erased : ℕ → Bool) (old new : BusState) : Type 0 where
   pub config : new.chip.config ≡ old.chip.config
-  pub bytes : (a : ℕ) → new.chip.bytes a ≡ byte_after old.chip command sent a
-  pub kept : new.chip.kept ≡ kept_after old.chip command
-  pub worn : (s : ℕ) → new.worn s ≡ (old.worn s || wears command s)
+  pub bytes : (a : ℕ) → new.chip.bytes a ≡ content a
+  pub kept : new.chip.kept ≡ bits
+  pub worn : (s : ℕ) → new.worn s ≡ erased s
   pub latch : new.chip.latch ≡ false
+
+-- On an honest bus, an operation that an idle chip carried out has ended, with its whole effect on bytes, non-volatile
+-- bits and erased sectors.
+abbrev pub HasOperated : Command → (sent : List ℕ) → (old new : BusState) → Type 0
+HasOperated command sent old =
+    HasEnded (byte_after old.chip command sent) (kept_after old.chip command) (λ s. old.worn s || wears command s) old
 
 -- The effect of an operation at every exit: `Leaves` holds for these limits and 65,538 transactions. The bus has been
 -- asked to send at least one transaction that begins with a modifying opcode, in this call or before it. On an honest

@@ -7,7 +7,7 @@ use Rattle.nor_model.specs.Step.{is_idle}
 use Rattle.nor_model.specs.Sent.{is_in_targeted, block_targeted}
 use Rattle.nor_model.specs.Bus.{BusState}
 use Rattle.nor_driver.specs.Limits.{programming}
-use Rattle.nor_driver.specs.Operations.{ChangesOnly, LeavesOperation, Operates}
+use Rattle.nor_driver.specs.Operations.{ChangesOnly, HasEnded, LeavesOperation, Operates}
 
 -- The chip is idle, the range of `len` bytes from `at` lies on it, and the first address of that range isn't protected.
 pub record CanProgram (at len : ℕ) (chip : Chip) : Type 0 where
@@ -44,14 +44,10 @@ pub record MayProgram (at : ℕ) (sent : List ℕ) (old new : BusState) : Type 0
   pub runs : new.chip.busy ≢ 0 → new.chip.running ≡ Runs.Program (at / 256)
   pub worn : (s : ℕ) → new.worn s ≡ old.worn s
 
--- On an honest bus, the bytes were programmed and the write enable latch is clear. All other bytes, the non-volatile
--- bits and the erased sectors are as they were.
-pub record HasProgrammed (at : ℕ) (sent : List ℕ) (old new : BusState) : Type 0 where
-  pub config : new.chip.config ≡ old.chip.config
-  pub bytes : (a : ℕ) → new.chip.bytes a ≡ programmed at sent old.chip.bytes a
-  pub kept : new.chip.kept ≡ old.chip.kept
-  pub worn : (s : ℕ) → new.worn s ≡ old.worn s
-  pub latch : new.chip.latch ≡ false
+-- On an honest bus, the bytes were programmed. All other bytes, the non-volatile bits and the erased sectors are as they
+-- were.
+abbrev pub HasProgrammed : (at : ℕ) → (sent : List ℕ) → (old new : BusState) → Type 0
+HasProgrammed at sent old = HasEnded (programmed at sent old.chip.bytes) old.chip.kept old.worn old
 
 -- The chip would ignore a program at this address, which is on the chip.
 abbrev pub IgnoresProgram : (at : ℕ) → Chip → Type 0

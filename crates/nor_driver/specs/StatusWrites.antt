@@ -8,7 +8,7 @@ use Rattle.nor_model.specs.Chip.{Chip, KeptBits, is_locked, kept_in}
 use Rattle.nor_model.specs.Step.{is_idle}
 use Rattle.nor_model.specs.Bus.{BusState}
 use Rattle.nor_driver.specs.Limits.{writing}
-use Rattle.nor_driver.specs.Operations.{LeavesOperation, Operates}
+use Rattle.nor_driver.specs.Operations.{HasEnded, LeavesOperation, Operates}
 
 -- the bits that flashnor never changes, which are all non-volatile bits except the protection bits: SRP0 (first
 -- number); SRP1, QE, the reserved bit and LB1 to LB3 (second number)
@@ -45,14 +45,10 @@ pub record MayWriteStatus (code : ℕ) (old new : BusState) : Type 0 where
   pub runs : new.chip.busy ≢ 0 → new.chip.running ≡ Runs.StatusWrite old.chip.kept.one old.chip.kept.two
   pub worn : (s : ℕ) → new.worn s ≡ old.worn s
 
--- On an honest bus, the protection bits were written and the write enable latch is clear. The other non-volatile bits,
--- the bytes and the erased sectors are as they were.
-pub record HasWrittenStatus (code : ℕ) (old new : BusState) : Type 0 where
-  pub config : new.chip.config ≡ old.chip.config
-  pub bytes : (a : ℕ) → new.chip.bytes a ≡ old.chip.bytes a
-  pub written : new.chip.kept ≡ with_code code old.chip.kept
-  pub worn : (s : ℕ) → new.worn s ≡ old.worn s
-  pub latch : new.chip.latch ≡ false
+-- On an honest bus, the protection bits were written. The other non-volatile bits, the bytes and the erased sectors are
+-- as they were.
+abbrev pub HasWrittenStatus : (code : ℕ) → (old new : BusState) → Type 0
+HasWrittenStatus code old = HasEnded old.chip.bytes (with_code code old.chip.kept) old.worn old
 
 -- The chip would ignore a status write.
 abbrev pub IgnoresStatus : Chip → Type 0
