@@ -1,7 +1,7 @@
 -- The exits of `apply`, part by part: the unlock, the erases, the programs and the last status write.
 use Rattle.std.proofs.Common.{ℕ, ◌≡◌, ◌<◌, ◌≤◌, ◌+◌, ◌*◌, ◌/◌, ◌∙◌, Bool, true, false, refl, sym, ap, arith, true≢false}
 use Rattle.std.specs.Prelude.{◌&&◌, ◌||◌, if◌then◌else◌}
-use Rattle.std.proofs.lemmas.Bool.{or_left, or_right}
+use Rattle.std.proofs.lemmas.Bool.{or_right}
 use Rattle.nor_geometry.specs.Below.{count_below}
 use Rattle.nor_geometry.specs.Counts.{sector_count}
 use Rattle.nor_geometry.proofs.Counting.{count_below-most}
@@ -21,12 +21,12 @@ use Rattle.nor_apply.specs.Protecting.{LeavesCode, DoesCode, FailsWriting}
 use Rattle.nor_apply.specs.Change.{MayChange, blank}
 use Rattle.nor_apply.specs.Erasing.{CanEraseAll, LeavesErases, DoesErases}
 use Rattle.nor_apply.specs.Programming.{CanProgramAll, LeavesPrograms, DoesPrograms, most_sector}
-use Rattle.nor_apply.specs.Applying.{touched_in, raised_in, writes_code, status_writes, is_status_asked, most_sent, most_applied, CanApply, LeavesApply, DoesApply, NamesChange}
+use Rattle.nor_apply.specs.Applying.{touched_in, raised_in, writes_code, status_writes, is_status_asked, most_applied, CanApply, LeavesApply, DoesApply, NamesChange}
 use Rattle.nor_apply.proofs.InTurn.{ran_none, ran_leaves, honest_now}
 use Rattle.nor_apply.proofs.Targeting.{target_here, target_wider}
 use Rattle.nor_apply.proofs.Changing.{change_as, same_change}
 use Rattle.nor_apply.proofs.ApplyingSteps.{code_read, code_once, intermediate_first, intermediate_changed, can_erase_all, can_program_all, applied}
-use Rattle.nor_apply.proofs.ApplyingInTurn.{raised_few, code_limits, Numbers, sending_these, SoFar, EndsInError, ends_in_error, goes_on, code_leaves, code_written, names_writing, names_sectors}
+use Rattle.nor_apply.proofs.ApplyingInTurn.{raised_few, Numbers, SoFar, EndsInError, ends_in_error, goes_on, code_leaves, code_written, names_writing, names_sectors}
 
 -- ---- the four parts
 
@@ -59,7 +59,8 @@ lifted changes {old} wanted leaves does =
       may = λ honest can. same_change (search) can.idle (λ s. refl);
       intermediate = λ honest can. intermediate_first can;
     } in
-    code_written nothing (λ lifts can. can.writable (rw lifts refl)) leaves does (grind arith) (omega arith) (omega arith) (omega arith)
+    code_written nothing (λ lifts can. can.writable (rw lifts refl)) leaves does (grind arith) (omega arith) (omega arith)
+    (omega arith)
 
 -- States `SoFar` for the first two parts: the protection bits were cleared, if that was requested, and the raised
 -- sectors were erased.

@@ -14,7 +14,7 @@ use Rattle.nor_driver.specs.StatusWrites.{fixed_of, with_code, CanWriteStatus}
 use Rattle.nor_apply.specs.declared.changes.Changes.{Changes}
 use Rattle.nor_plan.specs.Content.{once_erased}
 use Rattle.nor_apply.specs.Within.{is_writable}
-use Rattle.nor_apply.specs.Change.{CanChange, MayChange, HasChanged}
+use Rattle.nor_apply.specs.Change.{CanChange, MayChange, HasMade}
 use Rattle.nor_plan.specs.SectorSet.{none}
 use Rattle.nor_apply.specs.Protecting.{LeavesCode, DoesCode}
 use Rattle.nor_apply.specs.Erasing.{CanEraseAll}
@@ -41,11 +41,11 @@ pub record IsIntermediate (bytes : ℕ → ℕ) (worn : ℕ → Bool) (code : �
   pub idle : new.chip.busy ≡ 0
   pub latch : new.chip.latch ≡ true → old.chip.latch ≡ true
 
--- After erases or programs the state has the target bytes of that part in its sectors, and its erased sectors in
+-- After erases or programs the state has the target bytes of that part at its addresses, and its erased sectors in
 -- addition.
-pub intermediate_changed : {t e worn : ℕ → Bool} {w bytes : ℕ → ℕ} {code : ℕ} {old mid new : BusState}
-    → IsIntermediate bytes worn code old mid → HasChanged t w e mid new
-    → IsIntermediate (λ a. if t (a / 4096) then w a else bytes a) (λ s. worn s || e s) code old new
+pub intermediate_changed : {p e worn : ℕ → Bool} {w bytes : ℕ → ℕ} {code : ℕ} {old mid new : BusState}
+    → IsIntermediate bytes worn code old mid → HasMade p w e mid new
+    → IsIntermediate (λ a. if p a then w a else bytes a) (λ s. worn s || e s) code old new
 intermediate_changed is has = grind (arith, is.byte, has.bytes, is.wear, has.worn)
 
 and_byte : (w : ℕ) → w < 256 → bit_and w 255 ≡ w

@@ -8,7 +8,7 @@ use Rattle.nor_model.specs.Bus.{BusState}
 use Rattle.nor_model.proofs.ProtectedBlocks.{is_protected-same}
 use Rattle.nor_driver.specs.StatusWrites.{MayWriteStatus, fixed_of}
 use Rattle.nor_apply.specs.Within.{is_writable, IsWithin, addresses_of}
-use Rattle.nor_apply.specs.Change.{CanChange, MayChange, HasChanged}
+use Rattle.nor_apply.specs.Change.{CanChange, MayChange, HasMade, HasChanged}
 use Rattle.nor_apply.proofs.Kept.{fixed_coded, writable_same}
 
 -- ---- within
@@ -102,25 +102,6 @@ status_change {code = code} {old = old} writable wrote =
 
 -- ---- the end
 
--- Holds if these addresses have the target bytes, and the sectors of `erased` were erased. All else is as it was, the
--- chip is idle, and its write enable latch is set only if it was set before.
-pub record HasMade (addresses : ℕ → Bool) (wanted : ℕ → ℕ) (erased : ℕ → Bool) (old new : BusState) : Type 0 where
-  pub config : new.chip.config ≡ old.chip.config
-  pub bytes : (a : ℕ) → new.chip.bytes a ≡ (if addresses a then wanted a else old.chip.bytes a)
-  pub kept : new.chip.kept ≡ old.chip.kept
-  pub worn : (s : ℕ) → new.worn s ≡ (old.worn s || erased s)
-  pub idle : new.chip.busy ≡ 0
-  pub latch : new.chip.latch ≡ true → old.chip.latch ≡ true
-
--- `HasChanged` for sectors is `HasMade` for all addresses in them.
-pub made_of : {t e : ℕ → Bool} {w : ℕ → ℕ} {old new : BusState} → HasChanged t w e old new
-    → HasMade (addresses_of t) w e old new
-made_of has = assumption
-
-pub changed_of : {t e : ℕ → Bool} {w : ℕ → ℕ} {old new : BusState} → HasMade (addresses_of t) w e old new
-    → HasChanged t w e old new
-changed_of has = assumption
-
 -- a byte that is either the old or the target one, as a test decides, is one of these two
 pub either_byte : (b : Bool) {x old wanted : ℕ} → x ≡ (if b then wanted else old) → (x ≡ old) ⊎ (x ≡ wanted)
 either_byte b is = grind arith
@@ -131,7 +112,7 @@ made_may {old} {new} inside raised has =
     grind (arith, inside, raised, has.bytes, has.worn, or-false, ap fixed_of has.kept)
 
 pub changed_may : {t e : ℕ → Bool} {w : ℕ → ℕ} {old new : BusState} → HasChanged t w e old new → MayChange t e w old new
-changed_may has = made_may (λ a is. is) (λ s is. is) (made_of has)
+changed_may has = made_may (λ a is. is) (λ s is. is) has
 
 pub made_none : {p e : ℕ → Bool} {w : ℕ → ℕ} (state : BusState) → ((a : ℕ) → p a ≡ false) → ((s : ℕ) → e s ≡ false)
     → state.chip.busy ≡ 0 → HasMade p w e state state

@@ -23,11 +23,11 @@ use Rattle.nor_plan.specs.Erase.{IsErase, Covers, erased_by}
 use Rattle.nor_plan.specs.Planned.{planned}
 use Rattle.nor_apply.specs.declared.tally.Tally.{Tally}
 use Rattle.nor_apply.specs.Within.{addresses_of}
-use Rattle.nor_apply.specs.Change.{MayChange, blank}
+use Rattle.nor_apply.specs.Change.{MayChange, HasMade, blank}
 use Rattle.nor_apply.specs.Spending.{may_target, NamesTimeoutIn}
 use Rattle.nor_apply.specs.Erasing.{CanEraseAll, LeavesErases, DoesErases}
 use Rattle.nor_apply.proofs.InTurn.{ran_leaves, erasing_sum, erasing_parts, erasing_more, honest_now, Listed, listed_none, listed_after, listed_fails, listed_more, listed_all, listed_split, listed_next, listed_fewer}
-use Rattle.nor_apply.proofs.Changing.{can_after, change_then, HasMade, changed_of, made_may, made_none, made_same, made_then}
+use Rattle.nor_apply.proofs.Changing.{can_after, change_then, made_may, made_none, made_same, made_then}
 use Rattle.nor_apply.proofs.Targeting.{unit_targets}
 
 -- Holds for an erase of the plan on a chip of `total` sectors: it is one that the chip offers (`IsErase`), erases at
@@ -134,7 +134,7 @@ module _ {kinds : Kinds} {size : ℕ} {set : ℕ → Bool} {units left : List Er
           fewer = omega (arith, so.few, so.listed.count, ap length all);
           exactly = so.listed.ran.exactly;
           tallies = so.listed.ran.tallies;
-          done = λ honest can. changed_of (made_same (λ a. same (a / 4096)) same (so.done honest can));
+          done = λ honest can. made_same (λ a. same (a / 4096)) same (so.done honest can);
         }
 
     pub leaves_ended : LeavesErases set kinds size old mid
@@ -186,8 +186,9 @@ module _ {kinds : Kinds} {size : ℕ} {set : ℕ → Bool} {units left : List Er
       erases_failed {error} fails names =
           let most : most_operation * length (planned kinds (size / 4096) set) ≤ most_operation * sector_count set =
           omega (arith, so.few) in (
-            listed_after so.listed next leaves.leaves (erasing_parts targets_next (omega (arith, so.few, listed_fewer so.listed next)))
-                most (λ honest can.
+            listed_after so.listed next leaves.leaves
+                (erasing_parts targets_next (omega (arith, so.few, listed_fewer so.listed next))) most
+                (λ honest can.
                 let has = so.done honest can in (
                   can_erase of_plan can has,
                   λ may. change_then so.listed.ran.nature.steady
@@ -209,8 +210,8 @@ module _ {kinds : Kinds} {size : ℕ} {set : ℕ → Bool} {units left : List Er
             below = so.below;
             covers = so.covers;
             few = so.few;
-            listed = listed_more so.listed next leaves.leaves (erasing_sum targets_next (sym count)) erases.sends erases.ends count
-                transactions;
+            listed = listed_more so.listed next leaves.leaves (erasing_sum targets_next (sym count)) erases.sends
+                erases.ends count transactions;
             unsent = λ none. absurd (omega arith);
             done = λ honest can.
                 let has = so.done honest can in

@@ -15,10 +15,10 @@ use Rattle.nor_driver.specs.StatusWrites.{fixed_of}
 use Rattle.nor_plan.specs.declared.page.PageSpan.{PageSpan}
 use Rattle.nor_plan.specs.SpanFacts.{IsSpan, AreSpans, is_within_span, spanned_by}
 use Rattle.nor_plan.specs.SectorSet.{none}
-use Rattle.nor_apply.specs.Change.{MayChange, HasChanged, only, byte_of}
+use Rattle.nor_apply.specs.Change.{MayChange, HasMade, HasChanged, only, byte_of}
 use Rattle.nor_apply.specs.Programming.{CanProgramSpans, LeavesSpans, DoesSpans, most_pages}
 use Rattle.nor_apply.proofs.Alone.{only-here, only-is, old_byte}
-use Rattle.nor_apply.proofs.Changing.{can_after, change_then, HasMade, either_byte, made_may, made_then, changed_may, made_none}
+use Rattle.nor_apply.proofs.Changing.{can_after, change_then, either_byte, made_may, made_then, changed_may, made_none}
 use Rattle.std.specs.List.{list_any, range_with_len}
 use Rattle.nor_geometry.specs.Below.{any_below, count_below}
 use Rattle.nor_geometry.proofs.Counting.{any_below-zero, any_below-more, any_below-same, count_below-zero, count_below-more, count_below-most, count_below-same}
@@ -306,8 +306,9 @@ module _ {sector : ℕ} {old wanted : List ℕ} {spans left : List PageSpan} {fi
       spans_failed {error} fails names =
           let few = pages_most old wanted so.whole in
           let most : most_operation * length (spans_of old wanted) ≤ most_pages = omega (arith, so.are.count, few) in (
-            listed_after so.listed next leaves.leaves (programming_parts targets_next (omega (arith, few_spans.0)))
-                most (λ honest can.
+            listed_after so.listed next leaves.leaves
+                (programming_parts targets_next (omega (arith, few_spans.0))) most
+                (λ honest can.
                 let filled = so.done honest can in
                 (can_span spanned spans can filled, span_may spanned spans can filled so.listed.ran.nature.steady)),
             listed_fails so.listed next fails most,
@@ -322,8 +323,8 @@ module _ {sector : ℕ} {old wanted : List ℕ} {spans left : List PageSpan} {fi
         whole = so.whole;
         wanted_whole = so.wanted_whole;
         are = so.are;
-        listed = listed_more so.listed next leaves.leaves (programming_sum targets_next (sym count)) programs.sends programs.ends count
-            transactions;
+        listed = listed_more so.listed next leaves.leaves (programming_sum targets_next (sym count)) programs.sends
+            programs.ends count transactions;
         done = λ honest can.
             let filled = so.done honest can in
             let now_honest = honest_now so.listed.ran honest in

@@ -19,12 +19,12 @@ use Rattle.nor_plan.specs.Content.{is_other, is_page_other, is_programmed}
 use Rattle.nor_plan.specs.SectorSet.{none}
 use Rattle.nor_apply.specs.declared.tally.Tally.{Tally}
 use Rattle.nor_apply.specs.Within.{addresses_of}
-use Rattle.nor_apply.specs.Change.{only, byte_of}
+use Rattle.nor_apply.specs.Change.{HasMade, only, byte_of}
 use Rattle.nor_apply.specs.Spending.{NamesTimeoutIn}
 use Rattle.nor_apply.specs.Programming.{CanProgramSpans, LeavesSpans, DoesSpans, CanProgramSector, Loads, LeavesSector, DoesSector, CanProgramAll, LeavesPrograms, DoesPrograms, most_sector}
 use Rattle.nor_apply.proofs.InTurn.{programming_sum, programming_parts, programming_more, Ran, ran_part, ran_after, ran_none, ran_leaves, honest_now, leaves_after, fails_after}
 use Rattle.nor_apply.proofs.Alone.{only-here, count_below-next, only-is, shown_byte}
-use Rattle.nor_apply.proofs.Changing.{can_after, change_then, change_as, HasMade, made_of, changed_of, made_may, changed_may, made_none, made_same, made_then}
+use Rattle.nor_apply.proofs.Changing.{can_after, change_then, change_as, made_may, changed_may, made_none, made_same, made_then}
 
 -- ---- a sector that is read, or known to be blank, and then programmed
 
@@ -94,8 +94,8 @@ module _ {sector : ℕ} {erased : Bool} {bytes bytes' : List ℕ} {reads : ℕ} 
           exactly = rw count ran.exactly;
           tallies = ran.tallies;
           done = λ honest can.
-              changed_of (made_then (λ a. refl) (λ s. refl) (λ a is. refl) (has_loaded blank honest can).0
-              (made_of (does.done (honest_now loads_ran honest) (can_spans blank honest can))));
+              made_then (λ a. refl) (λ s. refl) (λ a is. refl) (has_loaded blank honest can).0
+              (does.done (honest_now loads_ran honest) (can_spans blank honest can));
           counted = λ honest can.
               let bytes : mid.chip.bytes ≡ first.chip.bytes = λ i a. (has_loaded blank honest can).0.bytes a i in
               let pages = λ (x : ℕ → ℕ) (page : ℕ). is_page_other x (byte_of sector wanted) (16 * sector + page) in
@@ -252,7 +252,7 @@ module _ {touched raised : ℕ → Bool} {wanted : ℕ → ℕ} {n : ℕ} {first
             done = λ honest can.
                 made_then (λ a. before_more touched n is.is (a / 4096)) (λ s. refl) wanted_byte
                 (so.done honest can)
-                (made_of (does.done (honest_now so.ran honest) (can_sector honest can)));
+                (does.done (honest_now so.ran honest) (can_sector honest can));
             counted = λ honest can.
                 let here = count_below-same 16 (λ page. is_page_other now.chip.bytes (byte_of n bytes) (16 * n + page))
                 (λ page. is_page_other first.chip.bytes wanted (16 * n + page))
@@ -286,7 +286,7 @@ module _ {touched raised : ℕ → Bool} {wanted : ℕ → ℕ} {n : ℕ} {first
               | inl is ↦ rw (is, lt-ltb s 4096 (omega (arith, can.can.inside s is))) refl
               | inr free ↦ rw free refl
             ] in
-            changed_of (made_same (λ a. all (a / 4096)) (λ s. refl) (so.done honest can));
+            made_same (λ a. all (a / 4096)) (λ s. refl) (so.done honest can);
         counted = λ honest can. so.counted honest can;
       }
 

@@ -32,16 +32,20 @@ pub record MayChange (touched raised : ℕ → Bool) (wanted : ℕ → ℕ) (old
       → (new.chip.bytes a ≡ old.chip.bytes a) ⊎ (new.chip.bytes a ≡ wanted a)
   pub worn : (s : ℕ) → raised s ≡ false → new.worn s ≡ old.worn s
 
--- Holds after a change succeeded. The sectors have the target bytes, and those of `erased` were erased. All other bytes
--- and the non-volatile bits are as they were, the chip is idle, and its write enable latch is set only if it was set
--- before.
-pub record HasChanged (sectors : ℕ → Bool) (wanted : ℕ → ℕ) (erased : ℕ → Bool) (old new : BusState) : Type 0 where
+-- Holds after a change succeeded. The addresses have the target bytes, and the sectors of `erased` were erased. All
+-- other bytes and the non-volatile bits are as they were, the chip is idle, and its write enable latch is set only if
+-- it was set before.
+pub record HasMade (addresses : ℕ → Bool) (wanted : ℕ → ℕ) (erased : ℕ → Bool) (old new : BusState) : Type 0 where
   pub config : new.chip.config ≡ old.chip.config
-  pub bytes : (a : ℕ) → new.chip.bytes a ≡ (if sectors (a / 4096) then wanted a else old.chip.bytes a)
+  pub bytes : (a : ℕ) → new.chip.bytes a ≡ (if addresses a then wanted a else old.chip.bytes a)
   pub kept : new.chip.kept ≡ old.chip.kept
   pub worn : (s : ℕ) → new.worn s ≡ (old.worn s || erased s)
   pub idle : new.chip.busy ≡ 0
   pub latch : new.chip.latch ≡ true → old.chip.latch ≡ true
+
+-- Holds after a change of all addresses in these sectors succeeded.
+abbrev pub HasChanged : (sectors : ℕ → Bool) → (wanted : ℕ → ℕ) → (erased : ℕ → Bool) → (old new : BusState) → Type 0
+HasChanged sectors = HasMade (addresses_of sectors)
 
 -- FFh, the byte at every address after an erase
 abbrev pub blank : ℕ → ℕ

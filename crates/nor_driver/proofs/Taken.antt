@@ -1,5 +1,5 @@
 -- An operation that the chip carries out under one condition, and ignores under another: its effect in both cases.
-use Rattle.std.proofs.Common.{◌≡◌, ◌∙◌, ℕ, Bool, true, false, cond, List, drop, ap, subst, arith}
+use Rattle.std.proofs.Common.{◌≡◌, ◌∙◌, ℕ, Bool, true, cond, List, drop, ap, subst, arith}
 use Rattle.nor_model.specs.declared.command.Command.{Command}
 use Rattle.nor_model.specs.declared.command.Command.TheVariants.{Ignored}
 use Rattle.nor_model.specs.Chip.{Chip}
