@@ -190,7 +190,7 @@ APPENDICES = {
         "changes more than promised. The headline doesn't depend on it.",
         {
             "OnlyReads": "nor_driver/specs/OnlyReads.antt",
-            "Spends": "nor_apply/specs/Spending.antt",
+            "Spends": "nor_driver/specs/Limits.antt",
             "IsReported": "nor_session/specs/Made.antt",
             "IsWithinBound": "nor_session/specs/Session.antt",
         },
@@ -262,7 +262,7 @@ SUBJECTS = {
     "A loss of power": "nor_model: specs/Power",
     "The bus, and its stops":
         "nor_model: specs/Bus src/bus specs/Exchange specs/History src/history specs/Sent specs/PolledReady",
-    "Reading, and counting transactions": "nor_driver: specs/OnlyReads nor_apply: specs/Spending",
+    "Reading, and counting transactions": "nor_driver: specs/OnlyReads specs/Limits",
     "IDs and status bits": "nor_model: src/status nor_driver: specs/Reads specs/StatusWrites",
     "SFDP": "nor_probe: src/sfdp specs/Sfdp",
     "Genuine chips": "nor_probe: src/table specs/Table src/probes specs/Known specs/Found specs/Replied",
@@ -271,8 +271,7 @@ SUBJECTS = {
     "The faults of a journal": "nor_journal: specs/Fault",
     "Refusals": "nor_request: src/refusal specs/Refusal specs/Errors",
     "A chip that can be restored": "nor_apply: specs/Within nor_session: specs/Headline",
-    "The most transactions":
-        "nor_driver: specs/Operations specs/Limits nor_scan: specs/Identity nor_session: specs/Bounds",
+    "The most transactions": "nor_driver: specs/Operations nor_scan: specs/Identity nor_session: specs/Bounds",
     "The fewest erases": "nor_driver: src/units specs/Units nor_plan: specs/Erase specs/Planned",
     "Requests":
         "nor_geometry: specs/Below nor_layout: src/ranges specs/Ranges specs/Sectors nor_request: src/request specs/Request",
