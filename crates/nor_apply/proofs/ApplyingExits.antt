@@ -59,8 +59,8 @@ lifted changes {old} wanted leaves does =
       may = λ honest can. same_change (search) can.idle (λ s. refl);
       intermediate = λ honest can. intermediate_first can;
     } in
-    code_written nothing (λ lifts can. can.writable (rw lifts refl)) leaves does (grind arith) (omega arith) (omega arith)
-    (omega arith)
+    code_written nothing (λ lifts can. can.writable (rw lifts refl)) leaves does (grind arith) (omega arith)
+    (omega arith) (omega arith)
 
 -- States `SoFar` for the first two parts: the protection bits were cleared, if that was requested, and the raised
 -- sectors were erased.

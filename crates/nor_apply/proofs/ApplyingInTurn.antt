@@ -80,8 +80,8 @@ EndsInError changes wanted old new error =
 module _ {changes : Changes} {wanted bytes : ℕ → ℕ} {worn : ℕ → Bool} {code : ℕ} {numbers : Numbers}
     {readings spent : ℕ} {old mid : BusState} {done : Tally}
     (so : SoFar changes wanted bytes worn code numbers readings spent old mid done) where
-  -- For the next part. If `CanApply` held at the start of all changes, the part can be carried out (`Can`), and changes the
-  -- chip only as `MayChange` allows.
+  -- For the next part. If `CanApply` held at the start of all changes, the part can be carried out (`Can`), and changes
+  -- the chip only as `MayChange` allows.
   module _ {part : ℕ} {limits : Limits} {Can : Chip → Type 0} {May : BusState → BusState → Type 0} {new : BusState}
       (leaves : Leaves part limits Can May mid new)
       (follows : old.honest ≡ true → CanApply changes wanted old.chip → Can mid.chip
@@ -101,7 +101,8 @@ module _ {changes : Changes} {wanted bytes : ℕ → ℕ} {worn : ℕ → Bool} 
       names,
     )
 
-    pub goes_on : {bytes' : ℕ → ℕ} {worn' : ℕ → Bool} {code' e p w k r most' : ℕ} {numbers' : Numbers} {more all : Tally}
+    pub goes_on : {bytes' : ℕ → ℕ} {worn' : ℕ → Bool} {code' e p w k r most' : ℕ} {numbers' : Numbers}
+        {more all : Tally}
         → SendsExactly e p w mid new → Tallies k mid new more
         → IsSum (sending_these changes numbers) (record limits { erases = e; programs = p; status_writes = w })
         (sending_these changes numbers') → readings + k ≤ r → all.count ≡ done.count + more.count

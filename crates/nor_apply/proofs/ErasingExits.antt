@@ -16,9 +16,9 @@ use Rattle.nor_driver.specs.declared.waits.OperationError.{OperationError}
 use Rattle.nor_driver.specs.Units.{sectors_in, erases_sector}
 use Rattle.nor_driver.specs.Waits.{OperationFails, NamesTimeout}
 use Rattle.nor_driver.specs.Limits.{erasing}
-use Rattle.nor_driver.specs.Operations.{most_operation}
+use Rattle.nor_driver.specs.Operations.{most_operation, LeavesOperation, Operates}
 use Rattle.nor_driver.specs.StatusWrites.{fixed_of}
-use Rattle.nor_driver.specs.Erases.{sectors_of, is_sector_in_block, CanErase, MayErase, HasErased, is_sector_named, LeavesErase, Erases}
+use Rattle.nor_driver.specs.Erases.{sectors_of, is_sector_in_block, CanErase, MayErase, HasErased, is_sector_named, block_erase}
 use Rattle.nor_plan.specs.Erase.{IsErase, Covers, erased_by}
 use Rattle.nor_plan.specs.Planned.{planned}
 use Rattle.nor_apply.specs.declared.tally.Tally.{Tally}
@@ -179,7 +179,7 @@ module _ {kinds : Kinds} {size : ℕ} {set : ℕ → Bool} {units left : List Er
         let some = of_plan.some in
         grind (arith, nat_tests)
 
-    module _ {new : BusState} (leaves : LeavesErase unit mid new) where
+    module _ {new : BusState} (leaves : LeavesOperation (block_erase unit) mid new) where
       pub erases_failed : {error : OperationError} → OperationFails most_operation mid new error → NamesTimeout (4096 * unit.sector) error
           → LeavesErases set kinds size old new × OperationFails (most_operation * sector_count set) old new error
           × NamesTimeoutIn set error
@@ -198,8 +198,8 @@ module _ {kinds : Kinds} {size : ℕ} {set : ℕ → Bool} {units left : List Er
             names_unit error names,
           )
 
-      pub erases_more : {more : Tally} {sent : ℕ} → Erases unit mid new sent → more.count ≡ tally.count + 1
-          → more.transactions ≡ tally.transactions + sent
+      pub erases_more : {more : Tally} {sent : ℕ} → Operates (block_erase unit) mid new sent
+          → more.count ≡ tally.count + 1 → more.transactions ≡ tally.transactions + sent
           → ErasesSoFar kinds size set (units ++ unit ∷ []) rest old new more
       erases_more erases count transactions =
           let joined : (s : ℕ) → erased_by (size / 4096) (units ++ unit ∷ []) s

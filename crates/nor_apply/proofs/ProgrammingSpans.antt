@@ -9,7 +9,7 @@ use Rattle.std.proofs.lemmas.Bool.Decides.{nat_tests}
 use Rattle.std.proofs.lemmas.Bool.{cases_Bool, and_parts, leb-true, ltb-true}
 use Rattle.std.proofs.Math.Bool.{or-false, and-or_distrib_right, or_assoc}
 use Rattle.nor_model.specs.Bus.{BusState}
-use Rattle.nor_driver.specs.Programs.{CanProgram, MayProgram, HasProgrammed, programmed, is_in_page, LeavesProgram, Programs, is_sector_of}
+use Rattle.nor_driver.specs.Programs.{CanProgram, MayProgram, HasProgrammed, programmed, is_in_page, is_sector_of, page_program}
 use Rattle.nor_driver.specs.Reads.{IsSectorOf}
 use Rattle.nor_driver.specs.StatusWrites.{fixed_of}
 use Rattle.nor_plan.specs.declared.page.PageSpan.{PageSpan}
@@ -26,7 +26,7 @@ use Rattle.nor_geometry.proofs.CountedRanges.{count_by-range}
 use Rattle.nor_driver.specs.declared.waits.OperationError.{OperationError}
 use Rattle.nor_driver.specs.Waits.{OperationFails, NamesTimeout}
 use Rattle.nor_driver.specs.Limits.{programming}
-use Rattle.nor_driver.specs.Operations.{most_operation}
+use Rattle.nor_driver.specs.Operations.{most_operation, LeavesOperation, Operates}
 use Rattle.nor_plan.specs.Content.{is_other, is_page_other}
 use Rattle.nor_plan.specs.Span.{page_differs, pages_changed, page_count, spans_of}
 use Rattle.nor_apply.specs.declared.tally.Tally.{Tally}
@@ -298,7 +298,8 @@ module _ {sector : ℕ} {old wanted : List ℕ} {spans left : List PageSpan} {fi
         let order = spanned.is.order in
         grind (arith, nat_tests)
 
-    module _ {new : BusState} (leaves : LeavesProgram (4096 * sector + span.first) (part wanted span) now new) where
+    module _ {new : BusState}
+        (leaves : LeavesOperation (page_program (4096 * sector + span.first) (part wanted span)) now new) where
       pub spans_failed : {error : OperationError} → OperationFails most_operation now new error
           → NamesTimeout (4096 * sector + span.first) error
           → LeavesSpans sector old wanted first new × OperationFails most_pages first new error
@@ -316,7 +317,7 @@ module _ {sector : ℕ} {old wanted : List ℕ} {spans left : List PageSpan} {fi
           )
 
       pub spans_more : {more : Tally} {sent : ℕ}
-          → Programs (4096 * sector + span.first) (part wanted span) now new sent
+          → Operates (page_program (4096 * sector + span.first) (part wanted span)) now new sent
           → more.count ≡ tally.count + 1 → more.transactions ≡ tally.transactions + sent
           → SpansSoFar sector old wanted (spans ++ span ∷ []) rest first new more
       spans_more programs count transactions = record {

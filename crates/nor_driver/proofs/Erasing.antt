@@ -17,9 +17,8 @@ use Rattle.nor_driver.specs.declared.units.Erase.{Erase}
 use Rattle.nor_driver.specs.declared.units.EraseBlock.{EraseBlock}
 use Rattle.nor_driver.specs.declared.units.EraseBlock.TheVariants as Units
 use Rattle.nor_driver.specs.Units.{opcode_of, sectors_in, has_block}
-use Rattle.nor_driver.specs.Limits.{erasing}
-use Rattle.nor_driver.specs.Operations.{operation_of, MayOperate, HasOperated, LeavesCommand, DoesCommand}
-use Rattle.nor_driver.specs.Erases.{sectors_of, block_length, IsOnChip, CanErase, IgnoresErase, takes_erase, is_sector_in_block, is_address_in_block, is_sector_named, MayErase, HasErased, LeavesErase, Erases}
+use Rattle.nor_driver.specs.Operations.{operation_of, MayOperate, HasOperated, LeavesOperation, Operates, command_operation}
+use Rattle.nor_driver.specs.Erases.{sectors_of, block_length, IsOnChip, takes_erase, is_sector_in_block, is_address_in_block, is_sector_named, MayErase, HasErased, block_erase}
 use Rattle.nor_driver.proofs.Programming.{same_address}
 use Rattle.nor_driver.proofs.Taken.{IsFor, asked_at, leaves_as, does_as}
 
@@ -127,8 +126,7 @@ module _ (erase : Erase) (x y z : ℕ) (names : 65536 * x + 256 * y + z ≡ 4096
   bare : drop 4 out ≡ []
   bare = rw sent (plain erase.unit x y z)
 
-  erase_asked : IsFor out [] (does erase old new) (erasing (is_sector_named erase) 1) (CanErase erase)
-      (IgnoresErase erase) old.chip
+  erase_asked : IsFor out [] (does erase old new) (block_erase erase) old.chip
   erase_asked =
       let one = one_erase erase.unit x y z in
       record {
@@ -139,12 +137,15 @@ module _ (erase : Erase) (x y z : ℕ) (names : 65536 * x + 256 * y + z ≡ 4096
         status_writes = rw (sent, one.2) refl;
         bytes = bare;
         operates = refl;
-        takes = λ can. asked_at (takes_erase old.chip erase) true _ (asked can.on_chip) (rw (can.idle, can.offered, can.free) refl);
+        takes = λ can.
+            let takes : takes_erase old.chip erase ≡ true = rw (can.idle, can.offered, can.free) refl in
+            asked_at _ true _ (asked can.on_chip) takes;
         refuses = λ ignores. asked_at _ false _ (asked ignores.0) ignores.1;
       }
 
-  pub leaves_erase : LeavesCommand out old new → LeavesErase erase old new
+  pub leaves_erase : LeavesOperation (command_operation out) old new → LeavesOperation (block_erase erase) old new
   leaves_erase leaves = leaves_as erase_asked (λ may can. may_erase erase old new may) leaves
 
-  pub does_erase : (count : ℕ) → DoesCommand out old new count → Erases erase old new count
+  pub does_erase : (count : ℕ) → Operates (command_operation out) old new count
+      → Operates (block_erase erase) old new count
   does_erase count does = does_as erase_asked (λ has can. has_erased erase old new has) count does

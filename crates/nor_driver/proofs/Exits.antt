@@ -13,7 +13,7 @@ use Rattle.nor_driver.specs.OnlyReads.{Unchanged, KeepsChip, Falls, OnlyReads}
 use Rattle.nor_driver.specs.Waits.{Waits}
 use Rattle.nor_driver.specs.Reads.{HasRead}
 use Rattle.nor_driver.specs.Limits.{Limits, limits_of, SendsWithin}
-use Rattle.nor_driver.specs.Operations.{operation_of, AsksForOperation, most_operation, is_carried, MayOperate, LeavesCommand, DoesCommand}
+use Rattle.nor_driver.specs.Operations.{operation_of, AsksForOperation, most_operation, MayOperate, LeavesOperation, Operates, command_operation}
 use Rattle.nor_driver.proofs.Limits.{enable_sends, command_sends, command_exactly, still_stirred, sends_same, exactly_same}
 use Rattle.nor_driver.proofs.Cuts.{stays_after, unchanged_then}
 use Rattle.nor_driver.proofs.Torn.{Wore, IsAsBefore, still_or_torn, still_stays, reached, reached_stays, none_begun, enable_stays}
@@ -29,23 +29,16 @@ record Stirs (limits : Limits) (old new : BusState) : Type 0 where
 
 module _ (out : List ℕ) (asks : AsksForOperation out) (old : BusState) where
   leaves_by : {new : BusState} → Stirs (limits_of out) old new → (old.honest ≡ true → Falls most_operation old new)
-      → (old.honest ≡ true → is_carried out old.chip ≡ true
+      → (old.honest ≡ true → is_operation (operation_of old.chip out) ≡ true
       → MayOperate (operation_of old.chip out) (drop 4 out) old new)
-      → (old.honest ≡ true → is_carried out old.chip ≡ false → KeepsChip old new) → LeavesCommand out old new
-  leaves_by stirs falls reached ignored = record {
-    leaves = record {
-      spends = record { nature = stirs.nature; falls = falls };
-      sends = stirs.sends;
-      reached = reached;
-    };
-    stirred = stirs.stirred;
-    ignored = ignored;
-  }
+      → (old.honest ≡ true → is_operation (operation_of old.chip out) ≡ false → KeepsChip old new)
+      → LeavesOperation (command_operation out) old new
+  leaves_by stirs falls reached ignored = assumption
 
-  -- at an exit at which the command was not carried out, `LeavesCommand` follows from `Stirs`, `Falls` and `KeepsChip`
+  -- if the command was not carried out, `LeavesOperation` follows from `Stirs`, `Falls` and `KeepsChip`
   not_begun : (new : BusState) → Stirs (limits_of out) old new
       → (old.honest ≡ true → Falls most_operation old new) → (old.honest ≡ true → KeepsChip old new)
-      → LeavesCommand out old new
+      → LeavesOperation (command_operation out) old new
   not_begun new stirs falls stays =
       leaves_by stirs falls
       (λ honest is.
@@ -62,10 +55,10 @@ module _ (out : List ℕ) (asks : AsksForOperation out) (old : BusState) where
   enabled_stirs : (new : BusState) → Sends (6 ∷ []) old new → is_stirred new.sent ≡ true
   enabled_stirs new sends = sends.sent.stirred ∙ or-true (is_stirred old.sent)
 
-  -- if the bus stops at the write enable, the exit satisfies `LeavesCommand`
+  -- if the bus stops at the write enable, the exit satisfies `LeavesOperation`
   pub leaves-at_enable : (new : BusState) → Sends (6 ∷ []) old new
       → (IsHonestFor (6 ∷ []) 0 old → Stops (6 ∷ []) old new)
-      → LeavesCommand out old new
+      → LeavesOperation (command_operation out) old new
   leaves-at_enable new sends stops =
       let within = enable_sends (limits_of out) old new sends in
       not_begun new record { nature = sends.nature; stirred = enabled_stirs new sends; sends = within }
@@ -139,7 +132,7 @@ module _ (out : List ℕ) (asks : AsksForOperation out) (old : BusState) where
       stays-at_stop none (inr cut) = stays-cut cut.0 cut.1 none
 
     pub leaves-at_command : (new : BusState) → Sends out ready new → (IsHonestFor out 0 ready → Stops out ready new)
-        → LeavesCommand out old new
+        → LeavesOperation (command_operation out) old new
     leaves-at_command new sends' stops =
         let stopped = λ (honest : old.honest ≡ true). stops (command_fits ready (honest-ready honest)) in
         leaves_by (stirs-by new sends') (λ honest. omega (arith, (enabling honest).count, (stopped honest).left))
@@ -173,7 +166,8 @@ module _ (out : List ℕ) (asks : AsksForOperation out) (old : BusState) where
       unchanged honest is =
           unchanged_then old ready begun (enabling honest).unchanged (was-read honest is).rested.unchanged
 
-      pub leaves-at_wait : (new : BusState) → OnlyReads 65536 begun new → LeavesCommand out old new
+      pub leaves-at_wait : (new : BusState) → OnlyReads 65536 begun new
+          → LeavesOperation (command_operation out) old new
       leaves-at_wait new only_reads =
           let nature = nature_then old begun new only_reads.nature stirs.nature in
           let honest_reads = λ (honest : old.honest ≡ true). only_reads.honest_reads (stirs.nature.honest ∙ honest) in
@@ -187,7 +181,7 @@ module _ (out : List ℕ) (asks : AsksForOperation out) (old : BusState) where
           (λ honest is. stays_after old begun new stirs.nature.steady (unchanged honest is) (honest_reads honest).stays)
 
       pub operates-with : (new : BusState) (waited : Waited) → new.sent ≡ begun.sent → Waits begun new waited
-          → DoesCommand out old new (waited.polls + 2)
+          → Operates (command_operation out) old new (waited.polls + 2)
       operates-with new waited same waits =
           let wait = λ (honest : old.honest ≡ true). waits.done (stirs.nature.honest ∙ honest) in
           record {

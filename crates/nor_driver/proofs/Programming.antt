@@ -9,9 +9,8 @@ use Rattle.nor_model.specs.Command.{address_of}
 use Rattle.nor_model.specs.Step.{is_idle}
 use Rattle.nor_model.specs.Bus.{BusState}
 use Rattle.nor_model.proofs.PageBytes.{byte_after-program}
-use Rattle.nor_driver.specs.Limits.{programming}
-use Rattle.nor_driver.specs.Operations.{operation_of, IsCommandAt, MayOperate, HasOperated, LeavesCommand, DoesCommand}
-use Rattle.nor_driver.specs.Programs.{CanProgram, IgnoresProgram, takes_program, is_sector_of, MayProgram, HasProgrammed, LeavesProgram, Programs}
+use Rattle.nor_driver.specs.Operations.{operation_of, IsCommandAt, MayOperate, HasOperated, LeavesOperation, Operates, command_operation}
+use Rattle.nor_driver.specs.Programs.{takes_program, MayProgram, HasProgrammed, page_program}
 use Rattle.nor_driver.proofs.Taken.{IsFor, asked_at, leaves_as, does_as}
 
 -- an address below the chip's size stays the same if it is taken modulo that size
@@ -47,8 +46,7 @@ module _ (at : ℕ) (sent command : List ℕ) (sends : IsCommandAt 0x02 at sent 
       → operation_of old.chip command ≡ cond (takes_program old.chip at) (Program at) Ignored
   asked below = rw sends.4 (program_command old.chip sends.0 sends.1 sends.2 at sent sends.3 below some)
 
-  program_asked : IsFor command sent (Program at) (programming (is_sector_of at) 1) (CanProgram at (length sent))
-      (IgnoresProgram at) old.chip
+  program_asked : IsFor command sent (Program at) (page_program at sent) old.chip
   program_asked = record {
     sectors = rw (sends.4, sends.3) (λ s targeted. targeted);
     status = rw sends.4 (λ one two is. is);
@@ -57,12 +55,16 @@ module _ (at : ℕ) (sent command : List ℕ) (sends : IsCommandAt 0x02 at sent 
     status_writes = rw sends.4 refl;
     bytes = rw sends.4 refl;
     operates = refl;
-    takes = λ can. asked_at (takes_program old.chip at) true _ (asked (omega (arith, can.inside))) (rw (can.idle, can.free) refl);
+    takes = λ can.
+        let takes : takes_program old.chip at ≡ true = rw (can.idle, can.free) refl in
+        asked_at _ true _ (asked (omega (arith, can.inside))) takes;
     refuses = λ ignores. asked_at _ false _ (asked ignores.0) ignores.1;
   }
 
-  pub leaves_program : LeavesCommand command old new → LeavesProgram at sent old new
+  pub leaves_program : LeavesOperation (command_operation command) old new
+      → LeavesOperation (page_program at sent) old new
   leaves_program leaves = leaves_as program_asked (λ may can. may_program at sent fits old new may) leaves
 
-  pub does_program : (count : ℕ) → DoesCommand command old new count → Programs at sent old new count
+  pub does_program : (count : ℕ) → Operates (command_operation command) old new count
+      → Operates (page_program at sent) old new count
   does_program count does = does_as program_asked (λ has can. has_programmed at sent fits old new has) count does

@@ -16,9 +16,8 @@ use Rattle.nor_model.specs.Status.{bytes_of, bytes_with_code}
 use Rattle.nor_model.specs.Step.{is_idle}
 use Rattle.nor_model.specs.Bus.{BusState}
 use Rattle.nor_model.specs.Sent.{writes_status}
-use Rattle.nor_driver.specs.Limits.{writing}
-use Rattle.nor_driver.specs.Operations.{operation_of, MayOperate, HasOperated, LeavesCommand, DoesCommand}
-use Rattle.nor_driver.specs.StatusWrites.{fixed_of, with_code, is_status_with_code, CanWriteStatus, IgnoresStatus, takes_status, MayWriteStatus, HasWrittenStatus, LeavesStatusWrite, WritesStatus}
+use Rattle.nor_driver.specs.Operations.{operation_of, MayOperate, HasOperated, LeavesOperation, Operates, command_operation}
+use Rattle.nor_driver.specs.StatusWrites.{fixed_of, with_code, is_status_with_code, takes_status, MayWriteStatus, HasWrittenStatus, status_write}
 use Rattle.nor_driver.proofs.Limits.{in_none}
 use Rattle.nor_driver.proofs.Taken.{IsFor, asked_at, leaves_as, does_as}
 
@@ -91,8 +90,7 @@ module _ (status : Status) (code : ℕ) (below : code < 64) where
       asked_as : operation_of old.chip out ≡ cond (takes_status old.chip) (WriteStatus one two) Ignored
       asked_as = rw sent (asked old.chip)
 
-      status_asked : IsFor out [] (WriteStatus one two) (writing (is_status_with_code status code) 1)
-          (CanWriteStatus status) IgnoresStatus old.chip
+      status_asked : IsFor out [] (WriteStatus one two) (status_write status code) old.chip
       status_asked = record {
         sectors = λ s is. absurd (in_none s is);
         status = rw sent (λ a b is. is_code a b is);
@@ -105,8 +103,10 @@ module _ (status : Status) (code : ℕ) (below : code < 64) where
         refuses = λ ignores. asked_at _ false _ asked_as ignores;
       }
 
-      pub leaves_status : LeavesCommand out old new → LeavesStatusWrite status code old new
+      pub leaves_status : LeavesOperation (command_operation out) old new
+          → LeavesOperation (status_write status code) old new
       leaves_status leaves = leaves_as status_asked (λ may can. may_write can.fixed may) leaves
 
-      pub does_status : (count : ℕ) → DoesCommand out old new count → WritesStatus status code old new count
+      pub does_status : (count : ℕ) → Operates (command_operation out) old new count
+          → Operates (status_write status code) old new count
       does_status count does = does_as status_asked (λ has can. has_written can.fixed has) count does

@@ -9,7 +9,7 @@ use Rattle.nor_model.specs.Bus.{BusState}
 use Rattle.nor_driver.specs.declared.units.Erase.{Erase}
 use Rattle.nor_driver.specs.Units.{sectors_in, has_block, is_aligned, erases_sector}
 use Rattle.nor_driver.specs.Limits.{erasing}
-use Rattle.nor_driver.specs.Operations.{ChangesOnly, HasEnded, LeavesOperation, Operates}
+use Rattle.nor_driver.specs.Operations.{ChangesOnly, HasEnded, ChipOperation}
 
 -- the number of the chip's sectors
 abbrev pub sectors_of : Chip → ℕ
@@ -68,17 +68,12 @@ HasErased erase old =
     HasEnded (λ a. if is_address_in_block erase old.chip a then 255 else old.chip.bytes a) old.chip.kept
     (λ s. old.worn s || is_sector_in_block erase old.chip s) old
 
--- The chip would ignore this erase of a block that lies on it.
-abbrev pub IgnoresErase : Erase → Chip → Type 0
-IgnoresErase erase chip = IsOnChip erase chip × (takes_erase chip erase ≡ false)
-
--- The effect of an erase at every exit, on every bus with the limits of one erase. On an honest bus `MayErase` holds if
--- `CanErase` held at the start, and `KeepsChip` if `IgnoresErase` did.
-abbrev pub LeavesErase : Erase → (old new : BusState) → Type 0
-LeavesErase erase =
-    LeavesOperation (erasing (is_sector_named erase) 1) (CanErase erase) (IgnoresErase erase) (MayErase erase)
-
--- The effect of an erase that succeeded, on every bus with one erase sent. On an honest bus `HasErased` holds if
--- `CanErase` held at the start, and `HasIgnored` if `IgnoresErase` did.
-abbrev pub Erases : Erase → (old new : BusState) → (sent : ℕ) → Type 0
-Erases erase = Operates (erasing (is_sector_named erase) 1) (CanErase erase) (IgnoresErase erase) (HasErased erase)
+-- The erase of this block. A chip on which the block lies ignores it if `takes_erase` is false.
+abbrev pub block_erase : Erase → ChipOperation
+block_erase erase = record {
+  limits = erasing (is_sector_named erase) 1;
+  can = CanErase erase;
+  ignores = λ chip. IsOnChip erase chip × (takes_erase chip erase ≡ false);
+  may = MayErase erase;
+  has = HasErased erase;
+}

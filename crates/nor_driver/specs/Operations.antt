@@ -98,39 +98,38 @@ abbrev pub HasOperated : Command → (sent : List ℕ) → (old new : BusState) 
 HasOperated command sent old =
     HasEnded (byte_after old.chip command sent) (kept_after old.chip command) (λ s. old.worn s || wears command s) old
 
--- The effect of an operation at every exit: `Leaves` holds for these limits and 65,538 transactions. The bus has been
--- asked to send at least one transaction that begins with a modifying opcode, in this call or before it. On an honest
--- bus, if `Ignores` held for the chip at the start, the chip would ignore the operation, and `KeepsChip` holds.
-pub record LeavesOperation (limits : Limits) (Can Ignores : Chip → Type 0) (May : BusState → BusState → Type 0)
-    (old new : BusState) : Type 0 where
-  pub leaves : Leaves most_operation limits Can May old new
+-- An operation: its limits, the chips that carry it out (`can`) and those that ignore it (`ignores`), and its effect on
+-- an honest bus whose chip carries it out, at every exit (`may`) and after it succeeded (`has`).
+pub record ChipOperation : Type 1 where
+  pub limits : Limits
+  pub can : Chip → Type 0
+  pub ignores : Chip → Type 0
+  pub may : (old new : BusState) → Type 0
+  pub has : (old new : BusState) → Type 0
+
+-- The effect of an operation at every exit: `Leaves` holds with at most 65,538 transactions. The bus has been asked to
+-- send at least one transaction that begins with a modifying opcode, in this call or before it. On an honest bus, if
+-- the chip would ignore the operation, `KeepsChip` holds.
+pub record LeavesOperation (operation : ChipOperation) (old new : BusState) : Type 0 where
+  pub leaves : Leaves most_operation operation.limits operation.can operation.may old new
   pub stirred : is_stirred new.sent ≡ true
-  pub ignored : old.honest ≡ true → Ignores old.chip → KeepsChip old new
+  pub ignored : old.honest ≡ true → operation.ignores old.chip → KeepsChip old new
 
 -- The effect of an operation that succeeded, after `sent` transactions: on every bus `EndsWaiting` holds, and
--- `SendsExactly` for the numbers of these limits. On an honest bus, if `Can` held for the chip at the start, the chip
--- took the operation, and `Has` holds; if `Ignores` held, the chip ignored the operation, and `HasIgnored` holds.
-pub record Operates (limits : Limits) (Can Ignores : Chip → Type 0) (Has : BusState → BusState → Type 0)
-    (old new : BusState) (sent : ℕ) : Type 0 where
+-- `SendsExactly` for the numbers of the limits. On an honest bus `has` holds if the chip can carry the operation out,
+-- and `HasIgnored` if it ignores the operation.
+pub record Operates (operation : ChipOperation) (old new : BusState) (sent : ℕ) : Type 0 where
   pub ends : EndsWaiting old new sent
-  pub sends : SendsExactly limits.erases limits.programs limits.status_writes old new
-  pub done : old.honest ≡ true → Can old.chip → Has old new
-  pub ignored : old.honest ≡ true → Ignores old.chip → HasIgnored old new
+  pub sends : SendsExactly operation.limits.erases operation.limits.programs operation.limits.status_writes old new
+  pub done : old.honest ≡ true → operation.can old.chip → operation.has old new
+  pub ignored : old.honest ≡ true → operation.ignores old.chip → HasIgnored old new
 
--- true if the chip carries out an operation when `out` follows a write enable
-abbrev pub is_carried : List ℕ → Chip → Bool
-is_carried out chip = is_operation (operation_of chip out)
-
--- The effect at every exit of the operation whose command consists of the bytes `out`: on an honest bus `MayOperate`
--- holds if the chip carries the operation out.
-abbrev pub LeavesCommand : List ℕ → (old new : BusState) → Type 0
-LeavesCommand out =
-    LeavesOperation (limits_of out) (λ chip. is_carried out chip ≡ true) (λ chip. is_carried out chip ≡ false)
-    (λ old new. MayOperate (operation_of old.chip out) (drop 4 out) old new)
-
--- The effect of the operation whose command consists of the bytes `out`, after it succeeded: on an honest bus
--- `HasOperated` holds if the chip carries the operation out.
-abbrev pub DoesCommand : List ℕ → (old new : BusState) → (sent : ℕ) → Type 0
-DoesCommand out =
-    Operates (limits_of out) (λ chip. is_carried out chip ≡ true) (λ chip. is_carried out chip ≡ false)
-    (λ old new. HasOperated (operation_of old.chip out) (drop 4 out) old new)
+-- the operation whose command consists of the bytes `out`
+abbrev pub command_operation : (out : List ℕ) → ChipOperation
+command_operation out = record {
+  limits = limits_of out;
+  can = λ chip. is_operation (operation_of chip out) ≡ true;
+  ignores = λ chip. is_operation (operation_of chip out) ≡ false;
+  may = λ old new. MayOperate (operation_of old.chip out) (drop 4 out) old new;
+  has = λ old new. HasOperated (operation_of old.chip out) (drop 4 out) old new;
+}

@@ -7,7 +7,7 @@ use Rattle.nor_model.specs.Step.{is_idle}
 use Rattle.nor_model.specs.Sent.{is_in_targeted, block_targeted}
 use Rattle.nor_model.specs.Bus.{BusState}
 use Rattle.nor_driver.specs.Limits.{programming}
-use Rattle.nor_driver.specs.Operations.{ChangesOnly, HasEnded, LeavesOperation, Operates}
+use Rattle.nor_driver.specs.Operations.{ChangesOnly, HasEnded, ChipOperation}
 
 -- The chip is idle, the range of `len` bytes from `at` lies on it, and the first address of that range isn't protected.
 pub record CanProgram (at len : ℕ) (chip : Chip) : Type 0 where
@@ -44,25 +44,18 @@ pub record MayProgram (at : ℕ) (sent : List ℕ) (old new : BusState) : Type 0
   pub runs : new.chip.busy ≢ 0 → new.chip.running ≡ Runs.Program (at / 256)
   pub worn : (s : ℕ) → new.worn s ≡ old.worn s
 
--- On an honest bus, the bytes were programmed. All other bytes, the non-volatile bits and the erased sectors are as they
--- were.
+-- On an honest bus, the bytes were programmed. All other bytes, the non-volatile bits and the erased sectors are as
+-- they were.
 abbrev pub HasProgrammed : (at : ℕ) → (sent : List ℕ) → (old new : BusState) → Type 0
 HasProgrammed at sent old = HasEnded (programmed at sent old.chip.bytes) old.chip.kept old.worn old
 
--- The chip would ignore a program at this address, which is on the chip.
-abbrev pub IgnoresProgram : (at : ℕ) → Chip → Type 0
-IgnoresProgram at chip = (at < chip.config.size) × (takes_program chip at ≡ false)
-
--- The effect of a program at every exit, on every bus with the limits of one page program. On an honest bus
--- `MayProgram` holds if `CanProgram` held at the start, and `KeepsChip` if `IgnoresProgram` did.
-abbrev pub LeavesProgram : (at : ℕ) → (sent : List ℕ) → (old new : BusState) → Type 0
-LeavesProgram at sent =
-    LeavesOperation (programming (is_sector_of at) 1) (CanProgram at (length sent)) (IgnoresProgram at)
-    (MayProgram at sent)
-
--- The effect of a program that succeeded, on every bus with one page program sent. On an honest bus `HasProgrammed`
--- holds if `CanProgram` held at the start, and `HasIgnored` if `IgnoresProgram` did.
-abbrev pub Programs : (at : ℕ) → (bytes : List ℕ) → (old new : BusState) → (sent : ℕ) → Type 0
-Programs at bytes =
-    Operates (programming (is_sector_of at) 1) (CanProgram at (length bytes)) (IgnoresProgram at)
-    (HasProgrammed at bytes)
+-- The page program of `sent` at the address `at`. A chip on which the address lies ignores it if `takes_program` is
+-- false.
+abbrev pub page_program : (at : ℕ) → (sent : List ℕ) → ChipOperation
+page_program at sent = record {
+  limits = programming (is_sector_of at) 1;
+  can = CanProgram at (length sent);
+  ignores = λ chip. (at < chip.config.size) × (takes_program chip at ≡ false);
+  may = MayProgram at sent;
+  has = HasProgrammed at sent;
+}

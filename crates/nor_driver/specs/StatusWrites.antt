@@ -8,7 +8,7 @@ use Rattle.nor_model.specs.Chip.{Chip, KeptBits, is_locked, kept_in}
 use Rattle.nor_model.specs.Step.{is_idle}
 use Rattle.nor_model.specs.Bus.{BusState}
 use Rattle.nor_driver.specs.Limits.{writing}
-use Rattle.nor_driver.specs.Operations.{HasEnded, LeavesOperation, Operates}
+use Rattle.nor_driver.specs.Operations.{HasEnded, ChipOperation}
 
 -- the bits that flashnor never changes, which are all non-volatile bits except the protection bits: SRP0 (first
 -- number); SRP1, QE, the reserved bit and LB1 to LB3 (second number)
@@ -50,20 +50,13 @@ pub record MayWriteStatus (code : ℕ) (old new : BusState) : Type 0 where
 abbrev pub HasWrittenStatus : (code : ℕ) → (old new : BusState) → Type 0
 HasWrittenStatus code old = HasEnded old.chip.bytes (with_code code old.chip.kept) old.worn old
 
--- The chip would ignore a status write.
-abbrev pub IgnoresStatus : Chip → Type 0
-IgnoresStatus chip = takes_status chip ≡ false
-
--- The effect of a status write at every exit, on every bus with the limits of one status write. On an honest bus
--- `MayWriteStatus` holds if `CanWriteStatus` held at the start, and `KeepsChip` if `IgnoresStatus` did.
-abbrev pub LeavesStatusWrite : Status → (code : ℕ) → (old new : BusState) → Type 0
-LeavesStatusWrite status code =
-    LeavesOperation (writing (is_status_with_code status code) 1) (CanWriteStatus status) IgnoresStatus
-    (MayWriteStatus code)
-
--- The effect of a status write that succeeded, on every bus with one status write sent. On an honest bus
--- `HasWrittenStatus` holds if `CanWriteStatus` held at the start, and `HasIgnored` if `IgnoresStatus` did.
-abbrev pub WritesStatus : Status → (code : ℕ) → (old new : BusState) → (sent : ℕ) → Type 0
-WritesStatus status code =
-    Operates (writing (is_status_with_code status code) 1) (CanWriteStatus status) IgnoresStatus
-    (HasWrittenStatus code)
+-- The status write with the protection bits of `code`, and the other bits as in `status`. A chip ignores it if
+-- `takes_status` is false.
+abbrev pub status_write : Status → (code : ℕ) → ChipOperation
+status_write status code = record {
+  limits = writing (is_status_with_code status code) 1;
+  can = CanWriteStatus status;
+  ignores = λ chip. takes_status chip ≡ false;
+  may = MayWriteStatus code;
+  has = HasWrittenStatus code;
+}

@@ -2,11 +2,11 @@
 
 ghost use Rattle.std.specs.Prelude.{◌≡◌, ◌<◌, ◌≤◌, ◌+◌, ◌*◌, ◌%◌, ◌^◌, true, length, IfOk, IfErr};
 ghost use Rattle.nor_driver.specs.Waits.{OperationFails, NamesTimeout};
-ghost use Rattle.nor_driver.specs.Operations.{BytesNameAddress, IsCommandAt, AsksForOperation, LeavesCommand, DoesCommand, most_operation};
-ghost use Rattle.nor_driver.specs.Programs.{LeavesProgram, Programs};
+ghost use Rattle.nor_driver.specs.Operations.{BytesNameAddress, IsCommandAt, AsksForOperation, LeavesOperation, Operates, command_operation, most_operation};
+ghost use Rattle.nor_driver.specs.Programs.{page_program};
 ghost use Rattle.nor_driver.specs.Units.{is_aligned};
-ghost use Rattle.nor_driver.specs.Erases.{LeavesErase, Erases};
-ghost use Rattle.nor_driver.specs.StatusWrites.{LeavesStatusWrite, WritesStatus};
+ghost use Rattle.nor_driver.specs.Erases.{block_erase};
+ghost use Rattle.nor_driver.specs.StatusWrites.{status_write};
 
 use crate::{Erase, EraseBlock, OperationError, wait};
 use arrayvec::ArrayVec;
@@ -31,8 +31,8 @@ pub fn program_page<B: Bus>(bus: &mut B, address: u32, bytes: &[u8]) -> Result<u
     requires reachable { address < 2 ^ 24 }
     requires some { 0 < length bytes.now }
     requires in_page { address % 256 + length bytes.now ≤ 256 }
-    ensures leaves { LeavesProgram address bytes.now (B.state bus.old) (B.state bus.new) }
-    ensures does { IfOk result (Programs address bytes.now (B.state bus.old) (B.state bus.new)) }
+    ensures leaves { LeavesOperation (page_program address bytes.now) (B.state bus.old) (B.state bus.new) }
+    ensures does { IfOk result (Operates (page_program address bytes.now) (B.state bus.old) (B.state bus.new)) }
     ensures fails { IfErr result (OperationFails most_operation (B.state bus.old) (B.state bus.new)) }
     ensures names { IfErr result (NamesTimeout address) }
 {
@@ -51,8 +51,8 @@ pub fn program_page<B: Bus>(bus: &mut B, address: u32, bytes: &[u8]) -> Result<u
 pub fn erase<B: Bus>(bus: &mut B, erase: Erase) -> Result<u32, OperationError>
     requires reachable { erase.sector < 4096 }
     requires aligned { is_aligned erase.unit erase.sector ≡ true }
-    ensures leaves { LeavesErase erase (B.state bus.old) (B.state bus.new) }
-    ensures does { IfOk result (Erases erase (B.state bus.old) (B.state bus.new)) }
+    ensures leaves { LeavesOperation (block_erase erase) (B.state bus.old) (B.state bus.new) }
+    ensures does { IfOk result (Operates (block_erase erase) (B.state bus.old) (B.state bus.new)) }
     ensures fails { IfErr result (OperationFails most_operation (B.state bus.old) (B.state bus.new)) }
     ensures names { IfErr result (NamesTimeout (4096 * erase.sector)) }
 {
@@ -76,8 +76,8 @@ pub fn erase<B: Bus>(bus: &mut B, erase: Erase) -> Result<u32, OperationError>
 /// bus there is no timeout. (W25Q64FV datasheet, Write Status Register.)
 pub fn write_status<B: Bus>(bus: &mut B, status: Status, code: u8) -> Result<u32, OperationError>
     requires { code < 64 }
-    ensures leaves { LeavesStatusWrite status code (B.state bus.old) (B.state bus.new) }
-    ensures does { IfOk result (WritesStatus status code (B.state bus.old) (B.state bus.new)) }
+    ensures leaves { LeavesOperation (status_write status code) (B.state bus.old) (B.state bus.new) }
+    ensures does { IfOk result (Operates (status_write status code) (B.state bus.old) (B.state bus.new)) }
     ensures fails { IfErr result (OperationFails most_operation (B.state bus.old) (B.state bus.new)) }
     ensures names { IfErr result (NamesTimeout 0) }
 {
@@ -89,8 +89,8 @@ pub fn write_status<B: Bus>(bus: &mut B, status: Status, code: u8) -> Result<u32
 // number of transactions. A timeout contains `address`.
 fn operation<B: Bus>(bus: &mut B, command: &[u8], address: u32) -> Result<u32, OperationError>
     requires { AsksForOperation command.now }
-    ensures leaves { LeavesCommand command.now (B.state bus.old) (B.state bus.new) }
-    ensures does { IfOk result (DoesCommand command.now (B.state bus.old) (B.state bus.new)) }
+    ensures leaves { LeavesOperation (command_operation command.now) (B.state bus.old) (B.state bus.new) }
+    ensures does { IfOk result (Operates (command_operation command.now) (B.state bus.old) (B.state bus.new)) }
     ensures fails { IfErr result (OperationFails most_operation (B.state bus.old) (B.state bus.new)) }
     ensures names { IfErr result (NamesTimeout address) }
 {
