@@ -132,9 +132,7 @@ module _ (erase : Erase) (x y z : ℕ) (names : 65536 * x + 256 * y + z ≡ 4096
       record {
         sectors = rw sent (named erase.unit erase.sector x y z names below);
         status = λ a b is. sym (no_status_in erase.unit x y z a b) ∙ rw sent at is;
-        erases = rw (sent, one.0) refl;
-        programs = rw (sent, one.1) refl;
-        status_writes = rw (sent, one.2) refl;
+        numbers = rw (sent, one.0, one.1, one.2) (refl, refl, refl);
         bytes = bare;
         operates = refl;
         takes = λ can.

@@ -50,9 +50,7 @@ module _ (at : ℕ) (sent command : List ℕ) (sends : IsCommandAt 0x02 at sent 
   program_asked = record {
     sectors = rw (sends.4, sends.3) (λ s targeted. targeted);
     status = rw sends.4 (λ one two is. is);
-    erases = rw sends.4 refl;
-    programs = rw sends.4 refl;
-    status_writes = rw sends.4 refl;
+    numbers = rw sends.4 (refl, refl, refl);
     bytes = rw sends.4 refl;
     operates = refl;
     takes = λ can.

@@ -94,9 +94,7 @@ module _ (status : Status) (code : ℕ) (below : code < 64) where
       status_asked = record {
         sectors = λ s is. absurd (in_none s is);
         status = rw sent (λ a b is. is_code a b is);
-        erases = refl;
-        programs = refl;
-        status_writes = refl;
+        numbers = (refl, refl, refl);
         bytes = refl;
         operates = refl;
         takes = λ can. asked_at (takes_status old.chip) true _ asked_as (rw (can.idle, can.open_to) refl);

@@ -15,9 +15,9 @@ use Rattle.nor_driver.proofs.Limits.{sends_more}
 pub record IsFor (out sent : List ℕ) (command : Command) (operation : ChipOperation) (chip : Chip) : Type 0 where
   pub sectors : (s : ℕ) → (limits_of out).sectors s ≡ true → operation.limits.sectors s ≡ true
   pub status : (one two : ℕ) → (limits_of out).status one two ≡ true → operation.limits.status one two ≡ true
-  pub erases : (limits_of out).erases ≡ operation.limits.erases
-  pub programs : (limits_of out).programs ≡ operation.limits.programs
-  pub status_writes : (limits_of out).status_writes ≡ operation.limits.status_writes
+  pub numbers : ((limits_of out).erases ≡ operation.limits.erases)
+      × ((limits_of out).programs ≡ operation.limits.programs)
+      × ((limits_of out).status_writes ≡ operation.limits.status_writes)
   pub bytes : drop 4 out ≡ sent
   pub operates : is_operation command ≡ true
   pub takes : operation.can chip → operation_of chip out ≡ command
@@ -50,7 +50,7 @@ module _ {out sent : List ℕ} {command : Command} {operation : ChipOperation} {
       → Operates (command_operation out) old new count → Operates operation old new count
   does_as effect count does = record {
     ends = does.ends;
-    sends = rw (asks.erases, asks.programs, asks.status_writes) at does.sends;
+    sends = rw (asks.numbers.0, asks.numbers.1, asks.numbers.2) at does.sends;
     done = λ honest can.
         let is = asks.takes can in
         effect (rw asks.bytes at (subst (λ (k : Command). HasOperated k (drop 4 out) old new) is
