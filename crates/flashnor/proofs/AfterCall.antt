@@ -1,15 +1,11 @@
 -- The effect of a call on the chip and its journal, and the contents of other files that it read.
-use Rattle.std.proofs.Common.{◌≡◌, ◌∙◌, ℕ, List, Option, None, Some}
-use Rattle.std.proofs.Common.{Result, inl, inr}
-use Rattle.std.proofs.Common.{sym, true}
+use Rattle.std.proofs.Common.{◌≡◌, ℕ, List, Option, None, Some, arith, Result, true}
 use Rattle.std.specs.Borrow.{Bor}
-use Rattle.std.proofs.lemmas.Bool.{cases_Bool}
 use Rattle.nor_model.specs.Bus.{BusState}
 use Rattle.nor_probe.specs.declared.table.ChipName.{ChipName}
 use Rattle.nor_files.specs.Files.{FilesState, KeepsFile, View, is_lawful}
 use Rattle.nor_journal.specs.Vault.{VaultState}
 use Rattle.nor_request.specs.declared.refusal.Refusal.{Refusal}
-use Rattle.nor_request.specs.declared.request.Request.{Request}
 use Rattle.nor_words.specs.Text.{Text}
 use Rattle.nor_layout.specs.declared.ranges.Span.{Span}
 use Rattle.nor_words.specs.declared.job.Regions.{Regions}
@@ -17,53 +13,30 @@ use Rattle.nor_words.specs.declared.job.Wanted.{Wanted}
 use Rattle.nor_words.specs.declared.job.Wanted.TheVariants as wanted
 use Rattle.nor_words.specs.declared.programmer.Emulated.{Emulated}
 use Rattle.nor_words.specs.declared.job.JournalUse.{JournalUse}
-use Rattle.nor_words.specs.declared.job.JournalUse.TheVariants as uses
 use Rattle.nor_words.specs.declared.job.Task.{Task}
 use Rattle.nor_words.specs.declared.job.Task.TheVariants as task
 use Rattle.nor_words.specs.declared.programmer.Programmer.{Programmer}
-use Rattle.flashnor.specs.Changes.{HasMadeChange, IsKeptIn}
-use Rattle.nor_lines.specs.Stored.{IsKeptFile}
+use Rattle.flashnor.specs.Changes.{IsKeptIn}
+use Rattle.nor_lines.specs.Stored.{IsKeptFile, AreTwo}
 use Rattle.nor_lines.specs.Requests.{AreRangesOf}
 use Rattle.flashnor.specs.Requests.{IsBufferOf}
-use Rattle.nor_lines.specs.Tasks.{image_of, layout_of, named_by}
+use Rattle.nor_lines.specs.Tasks.{image_of, layout_of, named_by, journal_of}
 use Rattle.flashnor.specs.Run.{DoesJob, IsViewBut}
-use Rattle.nor_lines.specs.Stored.{AreTwo}
-use Rattle.flashnor.specs.Tasks.{keeps_journal, writes_back}
-use Rattle.nor_lines.specs.Tasks.{journal_of}
+use Rattle.flashnor.specs.Tasks.{writes_back}
 use Rattle.nor_lines.specs.declared.answers.Answer.{Answer}
 use Rattle.flashnor.proofs.Stays.{StayApart, not_that}
-use Rattle.nor_lines.proofs.Lent.{lawful_after}
-use Rattle.flashnor.proofs.Stays.{durable_after}
 use Rattle.flashnor.proofs.Traced.{reads_before}
 
 -- ---- the chip and the journal after the call
 
 pub kept_after : {file : Text} {vault : VaultState} {s2 s3 : FilesState} → KeepsFile file s2 s3 → IsKeptFile file vault s2
     → IsKeptFile file vault s3
-kept_after stays kept = record {
-  telling = kept.telling;
-  seen = stays.seen ∙ kept.seen;
-  durable = λ is. durable_after stays (kept.durable is);
-}
-
--- A change that isn't a rehearsal leaves the chip's configuration as it was.
-setup_kept : {request : Request} {image : List ℕ} {old new : BusState} {after : FilesState}
-    {outcome : Result Answer Refusal} (before : View) (kept : JournalUse) → keeps_journal kept ≡ true
-    → HasMadeChange request image kept old new before after outcome → new.chip.config ≡ old.chip.config
-setup_kept before (uses.Journal file) keeps made =
-    elim (cases_Bool made.vault'.sealed) [
-      | inl sealed ↦ (made.done.undo sealed).changes.within.config
-      | inr open' ↦ (made.done.same open').config
-    ]
-setup_kept before (uses.Rehearse stops) keeps made = absurd cc
+kept_after stays kept = grind arith
 
 pub setup_done : (done : Task) (amid : View) (after : FilesState) (programmer : Programmer) (named : Option ChipName)
     (old new : BusState) (outcome : Result Answer Refusal) → writes_back done ≡ true
     → DoesJob amid after programmer named done old new outcome → new.chip.config ≡ old.chip.config
-setup_done (task.Change change) amid after programmer named old new outcome puts does =
-    setup_kept amid change.journal_use puts does.changed
-setup_done (task.Restore journal) amid after programmer named old new outcome puts does = does.restored.config
-setup_done _ amid after programmer named old new outcome puts does = absurd cc
+setup_done done amid after programmer named old new outcome puts does = grind arith
 
 -- The result of a call still holds after the chip's files are written, because the journal's file is none of them.
 module _ (programmer : Programmer) (s2 s3 : FilesState) (nature : s3.view.nature ≡ s2.view.nature)
@@ -72,11 +45,7 @@ module _ (programmer : Programmer) (s2 s3 : FilesState) (nature : s3.view.nature
       → AreTwo s2.view.nature programmer.image (journal_of kept)
       → AreTwo s2.view.nature programmer.status (journal_of kept) → IsKeptIn kept vault vault' s2
       → IsKeptIn kept vault vault' s3
-  kept_in_after (uses.Journal file) vault vault' one other before = λ lawful.
-      let was' = lawful_after (sym nature) lawful in
-      kept_after (last was' file.now (not_that s2.view.nature programmer.image file one)
-      (not_that s2.view.nature programmer.status file other)) (before was')
-  kept_in_after (uses.Rehearse stops) vault vault' one other before = before
+  kept_in_after kept vault vault' one other before = grind arith
 
   pub does_after : (done : Task) (amid : View) (named : Option ChipName) (old new : BusState)
       (outcome : Result Answer Refusal) → writes_back done ≡ true

@@ -1,12 +1,10 @@
 -- A file of the chip that is moved aside between two runs, and what a run reads of the files that are left.
-use Rattle.std.proofs.Common.{◌≡◌, ◌+◌, ◌∙◌, ℕ, Option, None, Some}
-use Rattle.std.proofs.Common.{◌⊎◌, IfSome, IsSomeAnd, ap, arith, inl, inr, length, option_map, refl}
-use Rattle.std.proofs.Common.{sym, take}
+use Rattle.std.proofs.Common.{◌≡◌, ◌+◌, ℕ, Option, None, Some}
+use Rattle.std.proofs.Common.{◌⊎◌, IfSome, IsSomeAnd, arith, inl, inr, length, option_map, refl, sym, take}
 use Rattle.std.specs.Borrow.{Bor}
 use Rattle.std.proofs.lemmas.List.{length-take, take_all}
 use Rattle.nor_model.specs.Bus.{BusState}
 use Rattle.nor_model.specs.Chip.{Chip}
-use Rattle.nor_driver.specs.StatusWrites.{fixed_of}
 use Rattle.nor_files.specs.Files.{AreAtRest, FilesState, Found, Name, View}
 use Rattle.nor_journal.specs.Text.{Content as Journal}
 use Rattle.nor_session.specs.Headline.{CanRestore}
@@ -32,13 +30,11 @@ left_seen files rest may_stay (Some name) len found is whole was =
 
 whole_of : (found : Found) (n m : ℕ) → n ≡ m → IsSomeAnd found (λ all. length all ≡ n)
     → IfSome found (λ all. length all ≡ m)
-whole_of None n m same many = absurd many
-whole_of (Some all) n m same many = many ∙ same
+whole_of found n m same many = grind arith
 
 pub none_found : (view : View) (name : Option (Bor Text)) (len : ℕ) (found : Found) → IsFileFound view name len found
     → name ≡ None → found ≡ None
-none_found view None len found is none = is
-none_found view (Some name) len found is none = absurd cc
+none_found view name len found is none = grind arith
 
 -- ---- a file that is moved aside
 
@@ -83,14 +79,4 @@ pub mixed_can_restore : (journal : Journal) (first : Chip) (state later : BusSta
     → ((a : ℕ) → (later.chip.bytes a ≡ state.chip.bytes a) ⊎ (later.chip.bytes a ≡ first.bytes a))
     → (later.chip.kept ≡ state.chip.kept) ⊎ (later.chip.kept ≡ first.kept) → later.chip.busy ≡ 0
     → CanRestore journal first later
-mixed_can_restore journal first state later can config bytes kept idle = record {
-  known = can.known;
-  saves = can.saves;
-  within = record {
-    config = config;
-    bytes = λ a out. elim (bytes a) [ inl is ↦ is ∙ can.within.bytes a out | inr is ↦ is ];
-    fixed = elim kept [ inl is ↦ ap fixed_of is ∙ can.within.fixed | inr is ↦ ap fixed_of is ];
-    kept = λ shut. elim kept [ inl is ↦ is ∙ can.within.kept shut | inr is ↦ is ];
-    runs = λ power busy. absurd (busy idle);
-  };
-}
+mixed_can_restore journal first state later can config bytes kept idle = grind arith

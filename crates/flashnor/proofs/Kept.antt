@@ -1,13 +1,11 @@
 -- The files after a run that changes a chip: at every exit, and after success.
 use Rattle.std.proofs.Common.{◌≡◌, ◌<◌, ◌/◌, ◌%◌, ◌∙◌, ◌∷◌, [], ℕ, Bool, List, Option, None, Some}
-use Rattle.std.proofs.Common.{Result, Ok, IfSome, ap, arith, inl, inr, length, refl, replicate}
-use Rattle.std.proofs.Common.{subst, sym, true}
+use Rattle.std.proofs.Common.{Result, Ok, IfSome, ap, arith, inl, inr, length, refl, replicate, subst, sym, true}
 use Rattle.std.specs.Borrow.{Bor}
 use Rattle.std.proofs.lemmas.Bool.{cases_lt}
 use Rattle.std.proofs.lemmas.List.{get_or_past}
 use Rattle.nor_model.specs.Bus.{BusState}
-use Rattle.nor_model.specs.Chip.{KeptBits}
-use Rattle.nor_model.specs.Chip.{status_of}
+use Rattle.nor_model.specs.Chip.{KeptBits, status_of}
 use Rattle.nor_model.proofs.Kept.{kept_in-status_of}
 use Rattle.nor_model.specs.declared.config.Config.{Config}
 use Rattle.nor_probe.specs.declared.table.ChipName.{ChipName}
@@ -25,7 +23,7 @@ use Rattle.nor_words.specs.declared.job.JournalUse.TheVariants as uses
 use Rattle.nor_words.specs.declared.job.Task.{Task}
 use Rattle.nor_words.specs.declared.job.Task.TheVariants as task
 use Rattle.flashnor.specs.Changes.{HasMadeChange}
-use Rattle.nor_lines.specs.Stored.{IsKeptFile}
+use Rattle.nor_lines.specs.Stored.{IsKeptFile, AreTwo, IsNot}
 use Rattle.flashnor.specs.Chips.{AreWrittenBack, IsContentOf, OpensChip}
 use Rattle.flashnor.specs.Endings.{all_written}
 use Rattle.flashnor.specs.Holding.{AreAmid, AreHeld, AreReady, IsReadyIfNamed, MakesDurable, FillsMissing, was}
@@ -33,21 +31,18 @@ use Rattle.flashnor.specs.Left.{IsNoFileOf, IsOpenedFrom, IsRestorableFrom, Leav
 use Rattle.nor_lines.specs.Requests.{AreRangesOf, request_for}
 use Rattle.flashnor.specs.Requests.{IsBufferOf}
 use Rattle.flashnor.specs.Roles.{FilesHaveOneRole}
-use Rattle.nor_lines.specs.Tasks.{image_of, layout_of, named_by}
+use Rattle.nor_lines.specs.Tasks.{image_of, layout_of, named_by, journal_of, made_by}
 use Rattle.flashnor.specs.Run.{DoesJob, HoldsChange, HoldsTask, IsViewBut, KeepsChange, KeepsFiles}
-use Rattle.nor_lines.specs.Stored.{AreTwo, IsNot}
 use Rattle.flashnor.specs.Tasks.{keeps_journal, writes_back}
-use Rattle.nor_lines.specs.Tasks.{journal_of, made_by}
 use Rattle.nor_lines.specs.declared.answers.Answer.{Answer}
 use Rattle.flashnor.specs.declared.holding.Held.{Held}
 use Rattle.flashnor.specs.declared.holding.Unwritten.{Unwritten}
 use Rattle.flashnor.proofs.Before.{image_made, status_made}
-use Rattle.flashnor.proofs.Stays.{StayApart, known_after, known_at_rest, not_after, not_that, rest_on}
+use Rattle.flashnor.proofs.Stays.{StayApart, known_at_rest, not_that, rest_on}
 use Rattle.nor_lines.proofs.Lent.{lawful_after, stays_on}
-use Rattle.flashnor.proofs.Stays.{durable_after}
 use Rattle.flashnor.proofs.Traced.{missing_before, reads_before}
 use Rattle.flashnor.proofs.AfterCall.{buffer_before, kept_after, ranges_before}
-use Rattle.flashnor.proofs.Reopened.{as_long, as_many, found_either, of_gone, of_none, opened_many, opened_size}
+use Rattle.flashnor.proofs.Reopened.{as_long, found_either, of_gone, of_none, opened_many, opened_size}
 
 -- ---- the chip's files
 
@@ -65,7 +60,7 @@ module _ (job : ChipJob) (held : Held) (s0 s1 s2 : FilesState) (bus bus' : BusSt
   first = record { content = held.content; read = read; bus = bus; opens = opens }
 
   status_many : length held.content.status ≡ 2
-  status_many = as_many s0.view job.programmer.status 2 _ _ read.status refl
+  status_many = grind arith
 
   -- If the contents that were read of a file of the chip are durable (`MakesDurable`), the file is ready to be written
   -- with as many bytes (`IsReadyIfNamed`). Its name must be apart from the trace's and from that of the file that the
@@ -74,15 +69,7 @@ module _ (job : ChipJob) (held : Held) (s0 s1 s2 : FilesState) (bus bus' : BusSt
       → AreTwo s0.view.nature name job.programmer.trace → AreTwo s0.view.nature name (made_by job.task)
       → MakesDurable name (was there had) s1 → length had ≡ length put
       → IsReadyIfNamed name there had put s2
-  ready None there had put traced other durable many = tt
-  ready (Some name) there had put traced other durable many =
-      let stays = stay at_rest.lawful name.now (not_after job.programmer.trace name.now nature1 traced)
-      (not_after (made_by job.task) name.now nature1 other) in
-      record {
-        known = known_after nature2 stays (known_at_rest at_rest name.now);
-        durable = durable_after stays durable;
-        as_many = many;
-      }
+  ready name there had put traced other durable many = grind arith
 
   -- both files of the chip are ready to be written with the chip after the call
   pub ready_both : AreReady job.programmer held.image_there held.status_there held.content.bytes.items
@@ -103,7 +90,7 @@ module _ (job : ChipJob) (held : Held) (s0 s1 s2 : FilesState) (bus bus' : BusSt
       (is_amid : AreAmid job.programmer held.image_there held.status_there held.content.bytes.items
       held.content.status bus'.chip s3) where
     put_len : length is_amid.put ≡ bus.chip.config.size
-    put_len = is_amid.are.len ∙ ap (λ (c : Config). c.size) setup
+    put_len = grind arith
 
     image_whole : LeavesAsLong job.programmer.image s0 s3
     image_whole =
@@ -158,14 +145,11 @@ module _ (job : ChipJob) (held : Held) (s0 s1 s2 : FilesState) (bus bus' : BusSt
 
     call_stays : (made : Option (Bor Text)) → StayApart job.programmer.trace made s1 s2 → (name : Text)
         → IsNot s0.view.nature job.programmer.trace name → IsNot s0.view.nature made name → KeepsFile name s1 s2
-    call_stays made stay' name traced other =
-        stay' name (not_after job.programmer.trace name nature1 traced) (not_after made name nature1 other)
+    call_stays made stay' name traced other = grind arith
 
     last_stays : (name : Text) → IsNot s0.view.nature job.programmer.image name
         → IsNot s0.view.nature job.programmer.status name → KeepsFile name s2 s3
-    last_stays name image status =
-        last (lawful_after nature2 at_rest.lawful) name (not_after job.programmer.image name (nature2 ∙ nature1) image)
-        (not_after job.programmer.status name (nature2 ∙ nature1) status)
+    last_stays name image status = grind arith
 
     file_stays : (file : Bor Text) → AreTwo s0.view.nature job.programmer.image (Some file)
         → AreTwo s0.view.nature job.programmer.status (Some file) → KeepsFile file.now s2 s3
@@ -176,9 +160,7 @@ module _ (job : ChipJob) (held : Held) (s0 s1 s2 : FilesState) (bus bus' : BusSt
     -- a file stays if its name is apart from those of the programmer's files and of the file that the task creates
     others_stay : (made : Option (Bor Text)) → StayApart job.programmer.trace made s1 s2 → (name : Text)
         → IsNoFileOf s0.view.nature job.programmer name → IsNot s0.view.nature made name → KeepsFile name s0 s3
-    others_stay made stay' name none other =
-        stays_on (are_held.stay name)
-        (stays_on (call_stays made stay' name none.trace other) (last_stays name none.image none.status))
+    others_stay made stay' name none other = grind arith
 
     -- After a change that sealed its vault, the journal in its file can restore the original chip, and is durable.
     restorable_kept : {request : Request} {image : List ℕ} {outcome : Result Answer Refusal} (file : Bor Text)

@@ -14,5 +14,4 @@ pub mod Printed
 pub mod Made
 pub mod Holds
 pub mod WrittenBack
-pub mod Present
 pub mod OneRole

@@ -1,17 +1,14 @@
 -- The text that several writes print.
-use Rattle.std.proofs.Common.{◌≡◌, ◌∙◌, ℕ, Bool, List, Option, None, Some, Result, Ok, Err, IfSome, arith, false, refl}
+use Rattle.std.proofs.Common.{◌≡◌, ◌∙◌, ℕ, Bool, List, Option, None, Some, Result, Err, IfSome, arith, false, refl}
 use Rattle.std.proofs.Common.{sym, true}
 use Rattle.std.specs.Fmt.{option_append}
 use Rattle.std.specs.Io.KnownBytes.{Appends}
-use Rattle.nor_words.specs.declared.words.UsageFault.TheVariants as usage
 use Rattle.nor_lines.proofs.Printed.{appends_then}
-use Rattle.flashnor.specs.Endings.{EndsBadly, EndsWell, HasPrinted, lines_printed}
+use Rattle.flashnor.specs.Endings.{EndsBadly, EndsWell, HasPrinted}
 use Rattle.nor_lines.specs.Printing.{IsAnswered, PrintsAnswer}
-use Rattle.flashnor.specs.FaultLines.{lines_of_unwritten}
 use Rattle.nor_lines.specs.declared.answers.Answer.{Answer}
 use Rattle.flashnor.specs.declared.holding.Unwritten.{Unwritten}
 use Rattle.nor_lines.specs.declared.messages.Fault.{Fault}
-use Rattle.nor_lines.specs.declared.messages.Fault.TheVariants as end
 use Rattle.flashnor.specs.declared.printing.Ending.{Ending}
 
 -- The print of a line, and after it that of other lines, append both, if the first line is known.
@@ -20,24 +17,11 @@ pub appends_both : (line : Option (List ℕ)) (a b c : Option (List ℕ)) (other
 appends_both None a b c others one two = tt
 appends_both (Some first) a b c others one two = appends_then a b c first others one two
 
-appends_unwritten : (outcome : Result Answer Fault) (unwritten : Unwritten) (err err' : Option (List ℕ)) → IsAnswered outcome
-    → Appends err err' (lines_of_unwritten unwritten) → IfSome (lines_printed outcome unwritten) (Appends err err')
-appends_unwritten (Ok found) unwritten err err' answered reported = reported
-appends_unwritten (Err (end.Usage (usage.Words error))) unwritten err err' answered reported = tt
-appends_unwritten _ unwritten err err' answered reported = absurd answered
-
 -- `HasPrinted` holds after a run with an answer or help
 pub printed_well : (outcome : Result Answer Fault) (unwritten : Unwritten) (out out' err err' : Option (List ℕ)) (ending : Ending)
     (is_printed : Bool) → IsAnswered outcome → (is_printed ≡ true → PrintsAnswer outcome out out')
     → EndsWell is_printed unwritten err err' ending → HasPrinted outcome unwritten out out' err err' ending
-printed_well outcome unwritten out out' err err' ending is_printed answered prints ends = record {
-  few = ends.few;
-  exact = (λ none. let both = ends.exact.0 none in (ends.printed ∙ both.0, both.1), λ both. ends.exact.1 (sym ends.printed ∙ both.0, both.1));
-  printed = λ is. prints (sym ends.printed ∙ is);
-  reported = λ is. appends_unwritten outcome unwritten err err' answered (ends.reported is);
-  no_output = λ none. absurd (none answered);
-  silent = λ _ all. ends.silent all;
-}
+printed_well outcome unwritten out out' err err' ending is_printed answered prints ends = grind arith
 
 -- `HasPrinted` holds after a run with a fault that is not help
 pub printed_badly : (fault : Fault) (unwritten : Unwritten) (out err err' : Option (List ℕ)) (ending : Ending)

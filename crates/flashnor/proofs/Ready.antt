@@ -1,9 +1,8 @@
 -- A ready bus to the emulated chip is modelled, and an identification that succeeds on it finds that chip.
-use Rattle.std.proofs.Common.{◌≡◌, ◌∙◌, ◌<◌, ℕ, Option, None, Some, Ok, arith, inr, is_none, refl, subst, sym, true}
+use Rattle.std.proofs.Common.{◌≡◌, ◌∙◌, ◌<◌, ℕ, Option, None, Ok, arith, inr, is_none, subst, sym, true}
 use Rattle.nor_model.specs.Bus.{Allows, BusState}
-use Rattle.nor_model.specs.Chip.{Chip, IsSame}
+use Rattle.nor_model.specs.Chip.{IsSame}
 use Rattle.nor_driver.specs.OnlyReads.{IsSteadyOrIdle, OnlyReads}
-use Rattle.nor_driver.proofs.ReadsInTurn.{only_reads_more, only_reads_none as only_reads_zero}
 use Rattle.nor_probe.specs.Known.{IsModelled, shown_as}
 use Rattle.nor_probe.specs.Found.{Finds, IsWanted, ProbeErrors, part_in, most_probe}
 use Rattle.nor_probe.specs.declared.probes.Found.{Found}
@@ -13,7 +12,7 @@ use Rattle.nor_probe.specs.declared.table.ChipName.{ChipName}
 use Rattle.nor_probe.specs.declared.table.Part.{Part}
 use Rattle.nor_request.specs.Refusal.{of_probe}
 use Rattle.nor_words.specs.declared.programmer.Programmer.{Programmer}
-use Rattle.flashnor.specs.Changes.{HasGivenName, Passes}
+use Rattle.flashnor.specs.Changes.{Passes}
 use Rattle.flashnor.specs.Chips.{IsReady, HoldsFiles, OpensChip, allowance_of}
 use Rattle.flashnor.specs.declared.chips.Content.{Content}
 use Rattle.flashnor.specs.Found.{IsEmulatedFound, emulated_part}
@@ -65,51 +64,22 @@ refuses_ready programmer named old new _ ready errors =
 pub opens_held : (programmer : Programmer) (content : Content) (allowed : ℕ) (first last : BusState)
     → HoldsFiles programmer content first → allowed ≡ allowance_of programmer
     → Allows allowed (record first { steady = is_none programmer.power }) last → OpensChip programmer content last
-opens_held programmer content allowed first last held allowance allows = record {
-  ready = record {
-    config = rw allows.chip held.config;
-    idle = rw allows.chip held.idle;
-    left = allows.left held.honest ∙ allowance;
-    honest = allows.nature.honest ∙ held.honest;
-    steady = allows.nature.steady;
-    unsent = rw allows.sent held.unsent;
-  };
-  holds = rw allows.chip
-      (record { bytes = held.bytes; kept = held.kept; latch = held.latch });
-}
+opens_held programmer content allowed first last held allowance allows = grind arith
 
 -- ---- identification before a restore
 
 pub same_after_reads : (most : ℕ) (old new : BusState) → OnlyReads most old new → old.honest ≡ true → IsSteadyOrIdle old
     → IsSame old.chip new.chip
-same_after_reads most old new only_reads honest steady_or_idle = ((only_reads.honest_reads honest).stays.steady_or_idle steady_or_idle)
-
-given_name : (named : Option ChipName) (chip : Chip) (part : Part) → shown_as chip.config ≡ Ok part
-    → IsWanted named part.name → HasGivenName named chip
-given_name None chip part shown name = tt
-given_name (Some text) chip part shown name = record { part = part; shown = shown; wanted = name }
+same_after_reads most old new only_reads honest steady_or_idle = grind arith
 
 pub passes_probe : (named : Option ChipName) (old new : BusState) (found : Found)
     → IsModelled old → new.honest ≡ old.honest → IsWanted named found.name → Finds old new found
     → Passes named old new
-passes_probe named old new found modelled honest name finds = record {
-  same = finds.rested.unchanged.same;
-  modelled = record {
-    honest = honest ∙ modelled.honest;
-    genuine = rw finds.rested.unchanged.same.config modelled.genuine;
-  };
-  steady_or_idle = inr finds.idle;
-  name = given_name named old.chip (part_in found) finds.part name;
-}
+passes_probe named old new found modelled honest name finds = grind arith
 
 pub passes_none : (bus : BusState) → IsModelled bus → IsSteadyOrIdle bus → Passes None bus bus
-passes_none bus modelled steady_or_idle = record {
-  same = record { config = refl; bytes = λ a. refl; kept = refl };
-  modelled = modelled;
-  steady_or_idle = steady_or_idle;
-  name = tt;
-}
+passes_none bus modelled steady_or_idle = grind arith
 
 -- `OnlyReads` holds for a call that sent nothing
 pub only_reads_none : (most : ℕ) (bus : BusState) → OnlyReads most bus bus
-only_reads_none most bus = only_reads_more 0 most bus bus (omega arith) (only_reads_zero bus)
+only_reads_none most bus = grind arith

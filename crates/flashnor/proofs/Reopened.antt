@@ -1,18 +1,15 @@
 -- The chip that a later run opens, from any contents of its files that a host crash may leave.
-use Rattle.std.proofs.Common.{◌≡◌, ◌∙◌, ℕ, Bool, List, Option, None, Some}
-use Rattle.std.proofs.Common.{◌⊎◌, IfSome, ap, arith, false, inl, inr, length, refl}
-use Rattle.std.proofs.Common.{slice_index, sym, true, unwrap_or}
+use Rattle.std.proofs.Common.{◌≡◌, ◌∙◌, ℕ, Bool, List, Option, None, ◌⊎◌, IfSome, arith, false, length}
+use Rattle.std.proofs.Common.{slice_index, sym, unwrap_or}
 use Rattle.std.specs.Borrow.{Bor}
 use Rattle.std.proofs.lemmas.List.{length-replicate}
-use Rattle.std.proofs.lemmas.Option.{same_Some}
 use Rattle.nor_files.specs.Files.{AllStay, FilesState, Found, View}
 use Rattle.nor_words.specs.Text.{Text}
 use Rattle.nor_words.specs.declared.programmer.Programmer.{Programmer}
 use Rattle.flashnor.specs.Found.{emulated_part}
-use Rattle.flashnor.specs.Holding.{IsAmid, LeavesAmid, MakesDurable, was}
+use Rattle.flashnor.specs.Holding.{LeavesAmid, MakesDurable, was}
 use Rattle.flashnor.specs.Left.{LeavesAsLong, MayFind, Opened}
 use Rattle.nor_lines.specs.Stored.{AreOfFile}
-use Rattle.flashnor.proofs.Shown.{size_with}
 
 -- ---- files of the right length
 
@@ -22,18 +19,16 @@ of_none view name len missing bytes none are = grind arith
 
 pub of_gone : {view : View} {name : Option (Bor Text)} {len : ℕ} {missing bytes : List ℕ}
     → (are : AreOfFile view name len missing bytes) → are.found ≡ None → bytes ≡ missing
-of_gone {missing = missing} are gone = are.same ∙ ap (λ (found : Found). unwrap_or found missing) gone
+of_gone = grind arith
 
 pub as_many : (view : View) (name : Option (Bor Text)) (len : ℕ) (missing bytes : List ℕ)
     → AreOfFile view name len missing bytes → length missing ≡ len → length bytes ≡ len
-as_many view name len missing bytes are many = ap length are.same
-    ∙ (elim are.found as (λ f. IfSome f (λ all. length all ≡ len) → length (unwrap_or f missing) ≡ len)
-    [ None ↦ λ _. many | Some all ↦ λ whole. whole ]) are.whole
+as_many view name len missing bytes are many = grind arith
 
 -- the size of an opened chip, and the number of bytes in its contents
 module _ {programmer : Programmer} {files : FilesState} (first : Opened programmer files) where
   pub opened_size : first.bus.chip.config.size ≡ (emulated_part programmer.chip).size
-  opened_size = size_with programmer.chip programmer.unique first.bus.chip.config first.opens.ready.config
+  opened_size = grind arith
 
   pub opened_many : length first.content.bytes.items ≡ first.bus.chip.config.size
   opened_many =
@@ -45,15 +40,6 @@ module _ {programmer : Programmer} {files : FilesState} (first : Opened programm
 abbrev pub IsEither : (had bytes has : List ℕ) → Type 0
 IsEither had bytes has = (i : ℕ) → (slice_index has i ≡ slice_index had i) ⊎ (slice_index has i ≡ slice_index bytes i)
 
-left_either : (had bytes missing : List ℕ) (there : Bool) (left : Found) → (there ≡ false → had ≡ missing)
-    → IsAmid there had bytes left → IfSome left (λ has. length has ≡ length bytes)
-    → IsEither had bytes (unwrap_or left missing)
-left_either had bytes missing true left stood amid whole i = let (has, is, mix) = amid in rw is (mix.each i)
-left_either had bytes missing false left stood amid whole i = elim amid [
-  | inl gone ↦ inl (rw (gone, stood refl) refl)
-  | inr made ↦ inr (rw made.1 (ap (λ (l : List ℕ). slice_index l i) (made.2 (rw made.1 at whole))))
-]
-
 -- Each byte of what a later run may find of a file of the chip is the old or the new one (`IsEither`). For a file that
 -- was moved aside it is the old one: the old bytes are what stands for a missing file. `over` in Kept.antt needs this
 -- for the image and for the status file.
@@ -61,23 +47,11 @@ pub found_either : (had bytes missing : List ℕ) (named : Option (Bor Text)) (t
     (was' left : Found) → (there ≡ false → had ≡ missing) → (named ≡ None → had ≡ missing)
     → (was' ≡ None → had ≡ missing) → LeavesAmid named there had bytes files → MayFind named was' left files
     → IfSome left (λ has. length has ≡ length bytes) → IsEither had bytes (unwrap_or left missing)
-found_either had bytes missing None there files was' left stood unnamed moved amid can whole i =
-    inl (rw (can, unnamed refl) refl)
-found_either had bytes missing (Some name) there files was' left stood unnamed moved amid can whole i = elim can [
-  | inl may ↦ left_either had bytes missing there left stood (amid left may) whole i
-  | inr aside ↦ inl (rw (aside.1, moved aside.0) refl)
-]
+found_either had bytes missing named there files was' left stood unnamed moved amid can whole i = grind arith
 
 -- A file of the chip that existed keeps its length. It is overwritten in place with as many bytes as it had, and a mix
 -- of the old and the new bytes has that length.
 pub as_long : (name : Option (Bor Text)) (there : Bool) (had put : List ℕ) (s0 s1 s3 : FilesState) → AllStay s0 s1
     → MakesDurable name (was there had) s1 → length had ≡ length put → LeavesAmid name there had put s3
     → LeavesAsLong name s0 s3
-as_long None there had put s0 s1 s3 stay durable many amid = tt
-as_long (Some name) true had put s0 s1 s3 stay durable many amid = λ all seen left can.
-    let (has, is, mix) = amid left can in
-    let same : all ≡ had = same_Some all had (sym seen ∙ sym (stay name.now).seen ∙ durable.seen) in
-    rw is (omega (arith, mix.shortest, mix.longest, many, ap length same))
-as_long (Some name) false had put s0 s1 s3 stay durable many amid = λ all seen left can.
-    let both : None ≡ Some all = sym durable.seen ∙ (stay name.now).seen ∙ seen in
-    absurd cc
+as_long name there had put s0 s1 s3 stay durable many amid = grind arith

@@ -1,5 +1,5 @@
 -- The configuration of the emulated chips, with any unique ID, and the chip type that they show.
-use Rattle.std.proofs.Common.{◌≡◌, ◌∙◌, List, ℕ, Option, None, Some, Ok, replicate, sym}
+use Rattle.std.proofs.Common.{◌≡◌, ◌∙◌, List, ℕ, Option, Ok, sym, arith}
 use Rattle.nor_model.specs.declared.config.Config.{Config}
 use Rattle.nor_probe.specs.Known.{IsKnown, shown_as}
 use Rattle.nor_probe.proofs.Emulated.{emulated_known, emulated_shown, renumbered_known, renumbered_shown}
@@ -11,8 +11,7 @@ use Rattle.nor_words.specs.declared.programmer.Emulated.{Emulated}
 -- A configuration with a given unique ID is that of the emulated chip, except for the unique ID.
 made_with : (chip : Emulated) (number : Option (List ℕ)) (config : Config) → IsConfigWith chip number config
     → (unique : List ℕ) × IsConfigOfEmulated chip (record config { unique = unique })
-made_with chip None config is = (config.unique, is)
-made_with chip (Some number) config is = (replicate 8 0, is.0)
+made_with chip number config is = grind arith
 
 module _ (chip : Emulated) (number : Option (List ℕ)) (config : Config) (is : IsConfigWith chip number config) where
   made : (unique : List ℕ) × IsConfigOfEmulated chip (record config { unique = unique })

@@ -1,5 +1,5 @@
 -- The call of a job after its trace was created, in terms of the files before the trace was created.
-use Rattle.std.proofs.Common.{◌≡◌, ◌∙◌, ℕ, Option, None, Some, IsSomeAnd, ap, arith, inl, inr, option_map, sym, take, true}
+use Rattle.std.proofs.Common.{◌≡◌, ℕ, Option, Some, IsSomeAnd, arith, inl, inr, true}
 use Rattle.std.specs.Borrow.{Bor}
 use Rattle.nor_files.specs.Calls.{ReadsFile}
 use Rattle.nor_files.specs.Files.{FilesState, Found, KnownStay, Name, OthersStay, KeepsFile, View, is_lawful}
@@ -9,53 +9,34 @@ use Rattle.nor_lines.specs.Files.{IsMaking}
 use Rattle.flashnor.specs.Run.{FailsTraced, IsViewBut}
 use Rattle.nor_lines.specs.declared.messages.Fault.{Fault}
 use Rattle.nor_lines.specs.Stored.{IsMissing, IsNot, MakesNothing}
-use Rattle.flashnor.proofs.Stays.{apart_swapped, known_after, not_after}
-use Rattle.nor_lines.proofs.Lent.{lawful_after}
 
 pub view_but : (trace : Option (Bor Text)) (name : Bor Text) (old mid : FilesState) → trace ≡ Some name
     → mid.view.nature ≡ old.view.nature → (is_lawful old.view ≡ true → OthersStay name.now old mid)
     → IsViewBut trace old.view mid.view
-view_but trace name old mid is nature others = record {
-  nature = nature;
-  stays = λ any not known. let stays = others known.lawful any (rw is at not) in (stays.out, stays.seen);
-}
+view_but trace name old mid is nature others = grind arith
 
 pub view_apart : (trace : Option (Bor Text)) (old mid : FilesState) → mid.view.nature ≡ old.view.nature
     → (is_lawful old.view ≡ true → (name : Name) → IsNot old.view.nature trace name → KeepsFile name old mid)
     → IsViewBut trace old.view mid.view
-view_apart trace old mid nature others = record {
-  nature = nature;
-  stays = λ any not known. let stays = others known.lawful any not in (stays.out, stays.seen);
-}
+view_apart trace old mid nature others = grind arith
 
 -- If a first step keeps all known files, and a second one each known file whose name is apart from the trace's, both
 -- together keep each known file whose name is apart from the trace's.
 pub view_before : (trace : Option (Bor Text)) (old mid : FilesState) (amid : View) → mid.view.nature ≡ old.view.nature
     → KnownStay old mid → IsViewBut trace mid.view amid → IsViewBut trace old.view amid
-view_before trace old mid amid nature stay but = record {
-  nature = but.nature ∙ nature;
-  stays = λ name not known.
-      let stays = stay name known in
-      let same = but.stays name (not_after trace name nature not) (known_after nature stays known) in
-      (same.0 ∙ stays.out, same.1 ∙ stays.seen);
-}
+view_before trace old mid amid nature stay but = grind arith
 
 -- A read after the trace was created returns what a read before would have returned, if the file's name is apart from
 -- the trace's.
 pub reads_before : (trace : Option (Bor Text)) (file : Text) (most : ℕ) (found : Found) (old amid : View)
     → IsNot old.nature trace file
     → IsViewBut trace old amid → ReadsFile file most found amid → ReadsFile file most found old
-reads_before trace file most found old amid not but reads = λ known.
-    let same = but.stays file not known in
-    reads (record { lawful = lawful_after but.nature known.lawful; in_store = same.0 ∙ known.in_store })
-    ∙ ap (option_map (take most)) same.1
+reads_before trace file most found old amid not but reads = grind arith
 
 -- A file that is missing after the trace was created was missing before, if its name is apart from the trace's.
 pub missing_before : (trace : Option (Bor Text)) (file : Bor Text) (old amid : View) → IsNot old.nature trace file.now
     → IsViewBut trace old amid → IsMissing (Some file) amid → IsMissing (Some file) old
-missing_before trace file old amid not but gone = λ known.
-    let same = but.stays file.now not known in
-    sym same.1 ∙ gone (record { lawful = lawful_after but.nature known.lawful; in_store = same.0 ∙ known.in_store })
+missing_before trace file old amid not but gone = grind arith
 
 -- If the journal's name is apart from the trace's, creating the trace leaves the journal's file as it was. Then
 -- `MakesNothing`, claimed for the files after the trace was created, also holds for the files before.
@@ -63,10 +44,7 @@ pub makes_nothing_before : (name : Bor Text) (journal : Option (Bor Text)) (old 
     → mid.view.nature ≡ old.view.nature → IsNot old.view.nature journal name.now
     → (is_lawful old.view ≡ true → OthersStay name.now old mid) → MakesNothing journal mid new
     → MakesNothing journal old new
-makes_nothing_before name None old mid new nature not others made = tt
-makes_nothing_before name (Some file) old mid new nature not others made = λ known left may.
-    let stays = others known.lawful file.now (apart_swapped old.view.nature file.now name.now not) in
-    elim (made (known_after nature stays known) left may) [ inl was ↦ inl (stays.leaves left was) | inr empty ↦ inr (sym stays.seen ∙ empty.0, empty.1) ]
+makes_nothing_before name journal old mid new nature not others made = grind arith
 
 -- ---- faults
 

@@ -9,11 +9,10 @@ use Rattle.std.proofs.Math.Bool.{Bool-set}
 use Rattle.std.proofs.lemmas.Bool.{cases_lt}
 use Rattle.std.proofs.lemmas.List.{append-nil, get_or_past, take-append-drop}
 use Rattle.nor_model.specs.Bus.{BusState}
-use Rattle.nor_model.specs.Chip.{Chip, IsSame, KeptBits, kept_in}
+use Rattle.nor_model.specs.Chip.{Chip, IsSame, KeptBits, kept_in, status_of}
 use Rattle.nor_model.specs.Makers.{HasParts}
 use Rattle.nor_chip.specs.Sim.{sim_state}
 use Rattle.nor_model.specs.Size.{is_chip_size}
-use Rattle.nor_model.specs.Chip.{status_of}
 use Rattle.nor_model.proofs.Kept.{kept_in-status_of}
 use Rattle.nor_model.specs.declared.config.Config.{Config}
 use Rattle.nor_model.specs.declared.config.Kinds.{Kinds}
@@ -37,7 +36,7 @@ use Rattle.flashnor.specs.Undone.{HaveOneChip, LeavesOriginal, NameOne, Restores
 use Rattle.nor_lines.specs.declared.answers.Answer.{Answer}
 use Rattle.flashnor.specs.declared.holding.Unwritten.{Unwritten}
 use Rattle.nor_lines.specs.declared.messages.Fault.{Fault}
-use Rattle.flashnor.proofs.Reopened.{of_gone, opened_many, opened_size}
+use Rattle.flashnor.proofs.Reopened.{opened_many, opened_size}
 use Rattle.flashnor.proofs.Stays.{known_at_rest, not_that}
 use Rattle.nor_lines.proofs.Lent.{lawful_after}
 use Rattle.flashnor.proofs.Traced.{reads_before}
@@ -74,32 +73,19 @@ same_with chip (Some number) one other a b =
 -- of one may also find them under the name of the other (`MayFind`).
 found_one : (one other : Option (Bor Text)) (was left : Found) (files : FilesState) → NameOne one other
     → MayFind other was left files → MayFind one was left files
-found_one None None was left files same can = can
-found_one (Some one) (Some other) was left files same can = rw (← same) can
-found_one None (Some other) was left files same can = absurd same
-found_one (Some one) None was left files same can = absurd same
-
-turned : (one other : Option (Bor Text)) → NameOne one other → NameOne other one
-turned one other same = grind arith
+found_one one other was left files same can = grind arith
 
 -- if a host crash may leave of a file only what it could leave before, a run may find of it only what it could find
 -- before
 less_of : (one other : Option (Bor Text)) (was left : Found) (old new : FilesState) → NameOne one other
     → LeavesNoMoreOf other old new → MayFind one was left new → MayFind one was left old
-less_of None None was left old new same less can = can
-less_of (Some one) (Some other) was left old new same less can = elim can [
-  | inl may ↦ inl (rw (← same) (less left (rw same may)))
-  | inr aside ↦ inr aside
-]
-less_of None (Some other) was left old new same less can = absurd same
-less_of (Some one) None was left old new same less can = absurd same
+less_of one other was left old new same less can = grind arith
 
 -- ---- the task
 
 restores : (file : Text) (done : Task) → Restores file done
     → (journal : Bor Text) × (done ≡ task.Restore journal) × (journal.now ≡ file)
-restores file (task.Restore journal) is = (journal, refl, is)
-restores file _ is = absurd is
+restores file done is = grind arith
 
 -- ---- the journal
 
@@ -134,12 +120,10 @@ module _ (programmer : Programmer) (file : Text) (start : FilesState) (first : O
   -- if no image was found at first, the original chip has the bytes that stand for a missing image
   first_byte : first.read.bytes.found ≡ None → (a : ℕ)
       → slice_index (replicate first.bus.chip.config.size 255) a ≡ first.bus.chip.bytes a
-  first_byte none a =
-      rw (opened_size first) (sym (first.opens.holds.bytes a
-      ∙ ap (λ (l : List ℕ). slice_index l a) (of_gone first.read.bytes none)))
+  first_byte none a = grind arith
 
   first_kept : first.read.status.found ≡ None → kept_in (0 ∷ 0 ∷ []) ≡ first.bus.chip.kept
-  first_kept none = sym (first.opens.holds.kept ∙ ap kept_in (of_gone first.read.status none))
+  first_kept none = grind arith
 
   module _ (mid : FilesState) (rest : AreAtRest mid) (may_stay : (name : Name) → mid.may_leave name (mid.view.seen name))
       (restorable : IsRestorableFrom file first mid) where
@@ -193,7 +177,7 @@ module _ (programmer : Programmer) (file : Text) (start : FilesState) (first : O
       setup = one_setup found
 
       size_of : first.bus.chip.config.size ≡ (emulated_part other.chip).size
-      size_of = sym (ap (λ (c : Config). c.size) setup) ∙ opened_size found
+      size_of = grind arith
 
       abbrev Kept : Option (Bor Text) → (was given left : Found) → (len : ℕ) → Type 0
       Kept name was given left len = (of : Found) × MayFind name given of new × IfSome of (λ all. length all ≡ len)
@@ -277,12 +261,7 @@ module _ (programmer : Programmer) (file : Text) (start : FilesState) (first : O
     durable : (name given : Option (Bor Text)) (was : Found) (bytes : List ℕ) (left : Found) → (given ≡ None → was ≡ None)
         → NameOne given name → ArePut name bytes None new → MayFind given was left new
         → ((was ≡ None) × (left ≡ None)) ⊎ (left ≡ Some bytes)
-    durable name None was bytes left none one has can = inl (none refl, can)
-    durable (Some name) (Some given) was bytes left none one has can = elim can [
-      | inl may ↦ inr ((has lawful).leaves left (rw one may))
-      | inr aside ↦ inl aside
-    ]
-    durable None (Some given) was bytes left none one has can = absurd one
+    durable name given was bytes left none one has can = grind arith
 
     byte_of : (left : Found) (a : ℕ) → ((first.read.bytes.found ≡ None) × (left ≡ None)) ⊎ (left ≡ Some put.bytes)
         → slice_index (unwrap_or left (replicate first.bus.chip.config.size 255)) a ≡ first.bus.chip.bytes a

@@ -1,9 +1,8 @@
 -- Both files of the chip, written one after the other, and the names of those that could not be written.
-use Rattle.std.proofs.Common.{◌≡◌, ◌∙◌, ℕ, Bool, List, Option, None, Some, IfSome, arith, refl, true}
+use Rattle.std.proofs.Common.{◌≡◌, ◌∙◌, ℕ, Bool, List, Option, None, Some, IfSome, arith, true}
 use Rattle.std.specs.Borrow.{Bor}
-use Rattle.nor_model.specs.Chip.{Chip}
+use Rattle.nor_model.specs.Chip.{Chip, status_of}
 use Rattle.nor_chip.specs.Start.{AreChipBytes}
-use Rattle.nor_model.specs.Chip.{status_of}
 use Rattle.nor_files.specs.Files.{FilesState, Name, KeepsFile, View, is_lawful}
 use Rattle.nor_files.specs.Files.Failure.{Unwritten}
 use Rattle.nor_words.specs.Text.{Text}
@@ -11,8 +10,6 @@ use Rattle.nor_words.specs.declared.programmer.Programmer.{Programmer}
 use Rattle.flashnor.specs.Chips.{AreWrittenBack}
 use Rattle.flashnor.specs.Holding.{AreAmid, AreReady, IsReadyIfNamed, LeavesAmid, MakesDurable}
 use Rattle.nor_lines.specs.Stored.{ArePut, AreTwo, Happens, IsNot, IsReportedOf}
-use Rattle.flashnor.proofs.Stays.{known_after, not_after, not_that, durable_after}
-use Rattle.nor_lines.proofs.Lent.{lawful_after}
 
 -- Holds if, provided that the files obey their contract, each file is as it was whose name is apart from the given one,
 -- if one is given.
@@ -33,38 +30,20 @@ PutsBack name there bytes failed old new = record {
 
 -- ---- the other file stays
 
-ready_still : (one other : Option (Bor Text)) (there : Bool) (had bytes : List ℕ) (a b : FilesState)
-    → AreTwo a.view.nature one other → b.view.nature ≡ a.view.nature → OthersOf one a b
-    → IsReadyIfNamed other there had bytes a
-    → IsReadyIfNamed other there had bytes b
-ready_still one None there had bytes a b two same others ready = tt
-ready_still one (Some name) there had bytes a b two same others ready =
-    let stays = others ready.known.lawful name.now (not_that a.view.nature one name two) in
-    record {
-      known = known_after same stays ready.known;
-      durable = durable_after stays ready.durable;
-      as_many = ready.as_many;
-    }
-
 -- A write to the other file keeps two promises about this file: `MakesDurable` and `LeavesAmid`.
 other_write_keeps : (there : Bool) (had bytes : List ℕ) (a b c : FilesState) (one other : Option (Bor Text))
     → AreTwo a.view.nature one other → b.view.nature ≡ a.view.nature → OthersOf other b c
     → IsReadyIfNamed one there had bytes a
     → (MakesDurable one (Some bytes) b → MakesDurable one (Some bytes) c)
     × (LeavesAmid one there had bytes b → LeavesAmid one there had bytes c)
-other_write_keeps there had bytes a b c None other two same others ready = (λ _. tt, λ _. tt)
-other_write_keeps there had bytes a b c (Some name) other two same others ready =
-    let stays = others (lawful_after same ready.known.lawful) name.now (not_after other name.now same two) in
-    (durable_after stays, λ amid left can. amid left (stays.leaves left can))
+other_write_keeps there had bytes a b c one other two same others ready = grind arith
 
 -- ---- the names that are returned
 
 are_put : (name : Option (Bor Text)) (bytes : List ℕ) (failed : Option (Bor Text)) (old new : FilesState)
     → new.view.nature ≡ old.view.nature → IfSome failed (λ of. (name ≡ Some of) × Happens old.view (Unwritten of.now))
     → (failed ≡ None → MakesDurable name (Some bytes) new) → ArePut name bytes failed new
-are_put None bytes None old new same fails put = tt
-are_put (Some name) bytes None old new same fails put = λ _. put refl
-are_put name bytes (Some of) old new same fails put = (fails.0, rw same fails.1)
+are_put name bytes failed old new same fails put = grind arith
 
 pub reported : (name failed : Option (Bor Text)) (view : View)
     → IfSome failed (λ is. (name ≡ Some is) × Happens view (Unwritten is.now)) → IsReportedOf name failed view
@@ -87,9 +66,7 @@ module _ {programmer : Programmer} {image_there status_there : Bool} {had bits :
   second = rw is at second'
 
   ready_status : IsReadyIfNamed programmer.status status_there bits (status_of chip) b
-  ready_status =
-      ready_still programmer.image programmer.status status_there bits (status_of chip) a b two first.nature first.others
-      ready.status
+  ready_status = grind arith
 
   pub both_put : AreWrittenBack programmer chip image status c
   both_put = record {

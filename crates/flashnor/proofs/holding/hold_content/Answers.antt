@@ -1,4 +1,4 @@
-use Rattle.std.proofs.Common.{option_map, rules}
+use Rattle.std.proofs.Common.{option_map, rules, arith}
 use Rattle.flashnor.proofs.Holds.{faults_before, found_before}
 use Rattle.flashnor.proofs.Stays.{known_stay_on}
 use Rattle.flashnor.proofs.holding.hold_content.Goals as goal
@@ -28,5 +28,4 @@ returns-clause-ok g c =
     }
 
 pub returns-clause-stay : goal.returns-clause-stay
-returns-clause-stay g c =
-    known_stay_on c.in_ok-image.ensures.nature c.in_ok-image.ensures.stay c.in_ok-status.ensures.stay
+returns-clause-stay g c = grind arith

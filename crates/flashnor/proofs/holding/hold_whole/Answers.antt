@@ -1,3 +1,4 @@
+use Rattle.std.proofs.Common.{arith}
 use Rattle.flashnor.proofs.Holds.{missing_durable}
 use Rattle.flashnor.proofs.Stays.{known_after, known_at_rest, rest_on}
 use Rattle.nor_lines.proofs.Lent.{stays_on}
@@ -27,14 +28,10 @@ returns-in_ok-read_held-in-Ok-true-clause-no_more g c = λ rest name.
 
 pub returns-in_ok-read_held-in-Ok-true-clause-stay :
     goal.returns-in_ok-read_held-in-Ok-true-clause-stay
-returns-in_ok-read_held-in-Ok-true-clause-stay g c = λ name known.
-    let one = (c.in-Ok-true.ensures.holds known.lawful).stay name in
-    stays_on one (c.in_ok-read_held-in-Ok-true.ensures.stay name (known_after c.in-Ok-true.ensures.nature one known))
+returns-in_ok-read_held-in-Ok-true-clause-stay g c = grind arith
 
 pub returns-in-Ok-clause-stay : goal.returns-in-Ok-clause-stay
-returns-in-Ok-clause-stay g c = λ name known.
-    let one = (c.in-Ok-false.ensures.holds known.lawful).stay name in
-    stays_on one (c.in-Ok.ensures.stay name (known_after c.in-Ok-false.ensures.nature one known))
+returns-in-Ok-clause-stay g c = grind arith
 
 pub returns-in-Ok-clause-held : goal.returns-in-Ok-clause-held
 returns-in-Ok-clause-held g c = λ rest.

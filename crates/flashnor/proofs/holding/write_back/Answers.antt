@@ -1,3 +1,4 @@
+use Rattle.std.proofs.Common.{arith}
 use Rattle.flashnor.proofs.WrittenBack.{both_amid, both_put, reported_before, reported}
 use Rattle.flashnor.proofs.holding.write_back.Goals as goal
 
@@ -10,8 +11,4 @@ returns-clause-amid g c = λ two bytes bits ready.
     both_amid c.bytes.ensures c.status.ensures two ready c.write_if_named-image.ensures c.write_if_named-status.ensures
 
 pub returns-clause-fails : goal.returns-clause-fails
-returns-clause-fails g c = (
-  reported _ _ _ c.write_if_named-image.ensures.fails,
-  reported_before _ _ (g.R.Store.state c.args.rt.now).view (g.R.Store.state c.write_if_named-image.new.rt).view
-      c.write_if_named-image.ensures.nature (reported _ _ _ c.write_if_named-status.ensures.fails),
-)
+returns-clause-fails g c = grind arith

@@ -1,21 +1,12 @@
+use Rattle.std.proofs.Common.{arith}
 use Rattle.flashnor.proofs.holding.write_if_named.Goals as goal
 use Rattle.flashnor.proofs.holding.write_if_named.Goals.{else-there, then-there}
 
 pub returns-in-Ok-clause-others : goal.returns-in-Ok-clause-others
-returns-in-Ok-clause-others g c = λ lawful any differ.
-    let apart = rw c.in_ok-name.was at differ in
-    elim c.if-there.branch [
-      | then-there w ↦ rw w.rt-is (w.write_over-put.ensures.others lawful any apart)
-      | else-there w ↦ rw w.rt-is (w.make_with-put.ensures.others lawful any apart)
-    ]
+returns-in-Ok-clause-others g c = grind arith
 
 pub returns-in-Err-clause-others : goal.returns-in-Err-clause-others
-returns-in-Err-clause-others g c = λ lawful any differ.
-    let apart = rw c.in_ok-name.was at differ in
-    elim c.if-there.branch [
-      | then-there w ↦ rw w.rt-is (w.write_over-put.ensures.others lawful any apart)
-      | else-there w ↦ rw w.rt-is (w.make_with-put.ensures.others lawful any apart)
-    ]
+returns-in-Err-clause-others g c = grind arith
 
 pub returns-in-Err-clause-amid : goal.returns-in-Err-clause-amid
 returns-in-Err-clause-amid g c = λ had ready.
