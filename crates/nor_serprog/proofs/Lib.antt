@@ -1,5 +1,8 @@
 pub mod Pauses
 pub mod SameReply
 pub mod Exchanges
+pub mod Replied
+pub mod Skipped
+pub mod Synchronized
 pub mod Stops
 pub mod Held

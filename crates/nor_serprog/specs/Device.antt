@@ -1,4 +1,5 @@
--- A programmer and its chip, and an honest port to the programmer. (serprog protocol version 1, flashrom's
+-- A programmer and its chip, and an honest port to the programmer: the effect of whole frames. Firmware.antt has the
+-- replies to the commands other than O_SPIOP. (serprog protocol version 1, flashrom's
 -- Documentation/serprog-protocol.txt: "Command And Answer Sequence", and the note on O_SPIOP.)
 use Rattle.std.specs.Prelude.{◌≡◌, ◌<◌, ◌≤◌, ◌+◌, ◌++◌, ◌⊎◌, ◌||◌, ℕ, Bool, false, List, [], ◌∷◌, length, take, slice_index, ⊤}
 use Rattle.nor_model.specs.Chip.{Chip}
@@ -8,12 +9,15 @@ use Rattle.nor_model.specs.Step.{Step, done_of, wears}
 use Rattle.nor_serprog.specs.declared.command.Command.{Command}
 use Rattle.nor_serprog.specs.declared.command.Command.TheVariants.{Operate}
 use Rattle.nor_serprog.specs.Frame.{IsFrame, out_in, replies_in}
+use Rattle.nor_serprog.specs.Firmware.{Firmware, HaveReplies, frames_of, replies_of, unknown_firmware}
 
 -- The state of a programmer and its chip.
 pub record Device : Type 0 where
   pub chip : Chip
   -- the sectors that the chip erased
   pub worn : ℕ → Bool
+  -- what the programmer replies to queries and settings
+  pub firmware : Firmware
   -- the bytes that the programmer received of a command that is not complete yet
   pub begun : List ℕ
   -- the bytes of replies that the host has not received yet
@@ -65,11 +69,27 @@ pub record CompletesOperation (bytes : List ℕ) (old : Device) : Type 0 where
   pub whole : IsFrame (old.begun ++ bytes)
   pub opcode : slice_index (old.begun ++ bytes) 0 ≡ 0x13
 
--- All bytes were sent, with one call. If they complete a frame of O_SPIOP, it is carried out. The effect of other bytes
--- is not specified here.
+-- While no command is begun, the bytes are the frames of these commands, and the reply to each of them is specified.
+pub record AsksFor (commands : List Command) (bytes : List ℕ) (old : Device) : Type 0 where
+  pub begun : old.begun ≡ []
+  pub frames : bytes ≡ frames_of commands
+  pub replies : HaveReplies old.firmware commands
+
+-- The programmer replied to these commands. The chip was not selected.
+pub record RepliesTo (commands : List Command) (old new : Device) : Type 0 where
+  pub pending : new.pending ≡ old.pending ++ replies_of old.firmware commands
+  pub begun : new.begun ≡ []
+  pub chip : new.chip ≡ old.chip
+  pub worn : new.worn ≡ old.worn
+
+-- All bytes were sent, with one call. If they complete a frame of O_SPIOP, it is carried out. If they are whole frames of
+-- other commands whose replies are specified, these are the replies. The effect of other bytes is not specified here.
 pub record IsSent (bytes : List ℕ) (old new : PortState) : Type 0 where
   pub left : old.left ≡ new.left + 1
+  pub firmware : new.device.firmware ≡ old.device.firmware
   pub done : CompletesOperation bytes old.device → OperatesFrame (old.device.begun ++ bytes) old.device new.device
+  pub replies : (commands : List Command) → AsksFor commands bytes old.device
+      → RepliesTo commands old.device new.device
 
 -- This frame of O_SPIOP is within the limits of every honest port: no reply is pending, and the frame sends at most 260
 -- bytes (a page program) and requests at most 4,096 (a sector).
@@ -78,10 +98,24 @@ pub record IsWithinLimits (frame : List ℕ) (device : Device) : Type 0 where
   pub sends : length (out_in frame) ≤ 260
   pub reads : replies_in frame ≤ 4096
 
+-- These commands are within the limits of every honest port: no reply is pending, and their frames have at most 260
+-- bytes, and the replies to them at most 4,096.
+pub record AreShort (commands : List Command) (device : Device) : Type 0 where
+  pub none_pending : device.pending ≡ []
+  pub sends : length (frames_of commands) ≤ 260
+  pub reads : length (replies_of device.firmware commands) ≤ 4096
+
 -- The port failed while these bytes were sent, after any number of them, and no further call succeeds. If they would
 -- complete a frame of O_SPIOP within the limits, no call was left. If they would complete any frame of O_SPIOP, its
--- transaction was cut (`IsCut`): a programmer may begin it before the frame is complete.
+-- transaction was cut (`IsCut`): a programmer may begin it before the frame is complete. If they are whole frames of
+-- other commands, the chip was not selected, but may have lost its power; if these are within the limits, no call was
+-- left.
 pub record IsCutOff (bytes : List ℕ) (old new : PortState) : Type 0 where
+  pub firmware : new.device.firmware ≡ old.device.firmware
+  pub unanswered : (commands : List Command) → AsksFor commands bytes old.device → AreShort commands old.device
+      → old.left ≡ 0
+  pub power : (commands : List Command) → AsksFor commands bytes old.device
+      → MayLoseDevicePower old.device new.device
   pub none_left : CompletesOperation bytes old.device → IsWithinLimits (old.device.begun ++ bytes) old.device
       → old.left ≡ 0
   pub left : new.left ≡ 0
@@ -94,10 +128,12 @@ pub record IsReceived (bytes : List ℕ) (old new : PortState) : Type 0 where
   pub begun : new.device.begun ≡ old.device.begun
   pub chip : new.device.chip ≡ old.device.chip
   pub worn : new.device.worn ≡ old.device.worn
+  pub firmware : new.device.firmware ≡ old.device.firmware
 
 -- The port failed while this number of bytes was to be received, and no further call succeeds. If at least this number
 -- was pending, no call was left. The chip may have lost its power.
 pub record IsSilent (count : ℕ) (old new : PortState) : Type 0 where
+  pub firmware : new.device.firmware ≡ old.device.firmware
   pub none_left : count ≤ length old.device.pending → old.left ≡ 0
   pub left : new.left ≡ 0
   pub power : MayLoseDevicePower old.device new.device
@@ -109,6 +145,7 @@ pub record TakesAnswer (reply : List ℕ) (old new : PortState) : Type 0 where
   pub begun : new.device.begun ≡ old.device.begun
   pub chip : new.device.chip ≡ old.device.chip
   pub worn : new.device.worn ≡ old.device.worn
+  pub firmware : new.device.firmware ≡ old.device.firmware
 
 -- The pending bytes begin with ACK.
 pub record AnswerBegins (port : PortState) : Type 0 where
@@ -149,6 +186,7 @@ unknown_port = record {
   device = record {
     chip = unknown_chip;
     worn = λ s. false;
+    firmware = unknown_firmware;
     begun = [];
     pending = [];
   };

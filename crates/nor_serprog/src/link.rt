@@ -1,9 +1,11 @@
 //! Exchanges with a programmer: a frame, and the reply to it.
-ghost use Rattle.std.specs.Prelude.{◌≡◌, ◌≤◌, ◌+◌, ◌⊎◌, true, false, length, ◌↔◌, IsOk, IfOk, OnOk, OnErr};
-ghost use Rattle.nor_serprog.specs.Device.{IsIdle, IsSent, IsCutOff, IfOperates, Exchanged, Interrupted};
-ghost use Rattle.nor_serprog.specs.Device.{AnswerBegins, TakesAnswer, MissesAnswer};
-ghost use Rattle.nor_serprog.specs.Frame.{FitsFrame, IsFrame, ReadsAs};
+ghost use Rattle.std.specs.Prelude.{◌≡◌, ◌≤◌, ◌+◌, ◌++◌, ◌⊎◌, ◌∷◌, [], true, false, length, drop, ◌↔◌, IsOk, IfOk, OnOk, OnErr, IfErr};
+ghost use Rattle.nor_serprog.specs.Device.{IsIdle, IsSent, IsCutOff, IsReceived, IsSilent, IfOperates, Exchanged, Interrupted};
+ghost use Rattle.nor_serprog.specs.Device.{AnswerBegins, TakesAnswer, MissesAnswer, MayLoseDevicePower};
+ghost use Rattle.nor_serprog.specs.Firmware.{HasReply, nak};
+ghost use Rattle.nor_serprog.specs.Frame.{frame_of, FitsFrame, IsFrame, ReadsAs};
 ghost use Rattle.nor_serprog.specs.Link.{port_of, sync_of, is_in_step, is_cut};
+ghost use Rattle.nor_serprog.specs.Replies.{AwaitsCommand, Answered, IsPortFailure, IsRefused, IsPending, AsksUnlessFew};
 
 use crate::{Answer, Command, Frame, Port};
 use thiserror::Error;
@@ -124,6 +126,9 @@ impl<P: Port + Drop> Link<P> {
         ensures interrupted { (P.state (port_of self.old)).honest ≡ true → IsIdle (P.state (port_of self.old)).device
             → OnErr result ((self.new ≡ self.old) ⊎ IfOperates command.entry (λ out replies.
             Interrupted out replies (length reply.old) (P.state (port_of self.old)) (P.state (port_of self.new)))) }
+        ensures answered { AwaitsCommand (P.state (port_of self.old)) → is_in_step self.old ≡ true
+            → HasReply (P.state (port_of self.old)).device.firmware command.entry → Answered command.entry
+            (length reply.old) reply.new result (P.state (port_of self.old)) (P.state (port_of self.new)) }
         ensures unread { (P.state (port_of self.old)).honest ≡ true → OnErr result (reply.new ≡ reply.old) }
     {
         match self.sync {
@@ -158,6 +163,9 @@ impl<P: Port + Drop> Link<P> {
         ensures interrupted { (P.state (port_of self.old)).honest ≡ true → IsIdle (P.state (port_of self.old)).device
             → OnErr result ((self.new ≡ self.old) ⊎ IfOperates command.entry (λ out replies.
             Interrupted out replies (length reply.old) (P.state (port_of self.old)) (P.state (port_of self.new)))) }
+        ensures answered { AwaitsCommand (P.state (port_of self.old))
+            → HasReply (P.state (port_of self.old)).device.firmware command.entry → Answered command.entry
+            (length reply.old) reply.new result (P.state (port_of self.old)) (P.state (port_of self.new)) }
         ensures unread { (P.state (port_of self.old)).honest ≡ true → OnErr result (reply.new ≡ reply.old) }
     {
         let frame = encode(command)?;
@@ -214,6 +222,8 @@ impl<P: Port + Drop> Link<P> {
             → (P.state (port_of self.new)).left ≤ (P.state (port_of self.old)).left }
         ensures calls { (P.state (port_of self.old)).honest ≡ true
             → OnOk result (3 ≤ (P.state (port_of self.old)).left) }
+        ensures synchronized { AwaitsCommand (P.state (port_of self.old)) → is_cut self.old ≡ false
+            → AsksUnlessFew 29 result (P.state (port_of self.old)) (P.state (port_of self.new)) }
         ensures silent { is_cut self.old ≡ true → self.new ≡ self.old }
         ensures was_whole { OnOk result (is_cut self.old ≡ false) }
         ensures ok { OnOk result (is_in_step self.new ≡ true) }
@@ -236,6 +246,7 @@ impl<P: Port + Drop> Link<P> {
 
 fn encode<C>(command: Command<'_>) -> Result<Frame, Failure<C>>
     ensures fits { IsOk result ↔ FitsFrame command.entry }
+    ensures exact { IfOk result (λ frame. frame.items ≡ frame_of command.entry) }
     ensures whole { IfOk result (λ frame. IsFrame frame.items) }
     ensures reads { IfOk result (λ frame. ReadsAs frame.items command.entry) }
 {
@@ -248,6 +259,7 @@ fn send<P: Port>(port: &mut P, frame: &Frame) -> Result<(), Failure<P::Cause>>
         → OnOk result (IsSent frame.now.items (P.state port.old) (P.state port.new)) }
     ensures cut_off { (P.state port.old).honest ≡ true
         → OnErr result (IsCutOff frame.now.items (P.state port.old) (P.state port.new)) }
+    ensures cause { IfErr result IsPortFailure }
 {
     port.send(frame).map_err(Failure::Port)
 }
@@ -258,6 +270,10 @@ fn send_all<P: Port>(port: &mut P, bytes: &[u8]) -> Result<(), Failure<P::Cause>
     ensures fewer { (P.state port.old).honest ≡ true → (P.state port.new).left ≤ (P.state port.old).left }
     ensures calls { (P.state port.old).honest ≡ true
         → OnOk result ((P.state port.old).left ≡ (P.state port.new).left + 1) }
+    ensures sent { (P.state port.old).honest ≡ true
+        → OnOk result (IsSent bytes.now (P.state port.old) (P.state port.new)) }
+    ensures cut_off { (P.state port.old).honest ≡ true
+        → OnErr result (IsCutOff bytes.now (P.state port.old) (P.state port.new)) }
 {
     port.send(bytes).map_err(Failure::Port)
 }
@@ -273,6 +289,11 @@ fn receive_answer<P: Port>(
         → OnOk result (TakesAnswer reply.new (P.state port.old) (P.state port.new)) }
     ensures missed { (P.state port.old).honest ≡ true → AnswerBegins (P.state port.old)
         → OnErr result (MissesAnswer (length reply.old) (P.state port.old) (P.state port.new)) }
+    ensures power { (P.state port.old).honest ≡ true
+        → OnErr result (MayLoseDevicePower (P.state port.old).device (P.state port.new).device) }
+    ensures cause { (P.state port.old).honest ≡ true → AnswerBegins (P.state port.old) → IfErr result IsPortFailure }
+    ensures refused { (P.state port.old).honest ≡ true → (P.state port.old).device.pending ≡ nak
+        → OnOk result ⊥ × IfErr result (IsRefused opcode 1 (P.state port.old).left) }
     ensures unread { (P.state port.old).honest ≡ true → OnErr result (reply.new ≡ reply.old) }
 {
     let mut first = [0];
@@ -299,11 +320,13 @@ fn skip_past<P: Port>(port: &mut P, wanted: &[u8]) -> Result<(), Failure<P::Caus
     ensures fewer { (P.state port.old).honest ≡ true → (P.state port.new).left ≤ (P.state port.old).left }
     ensures calls { (P.state port.old).honest ≡ true
         → OnOk result ((P.state port.new).left + 1 ≤ (P.state port.old).left) }
+    ensures skips { IsPending wanted.now (P.state port.old)
+        → AsksUnlessFew (length wanted.now) result (P.state port.old) (P.state port.new) }
 {
     let mut last = [0; ROW_ANSWERS_LEN];
-    for _ in 0..MOST_STALE {
-        last.rotate_left(1);
-        receive_one(port, &mut last[ROW_ANSWERS_LEN - 1..])?;
+    for received in 0..MOST_STALE {
+        let byte = receive_one(port)?;
+        shift_in(&mut last, byte);
         if last.ends_with(wanted) {
             return Ok(());
         }
@@ -311,11 +334,25 @@ fn skip_past<P: Port>(port: &mut P, wanted: &[u8]) -> Result<(), Failure<P::Caus
     Err(Failure::NoSync)
 }
 
-fn receive_one<P: Port>(port: &mut P, byte: &mut [u8]) -> Result<(), Failure<P::Cause>>
+// Drops the first byte, and appends this one.
+fn shift_in(last: &mut [u8; ROW_ANSWERS_LEN], byte: u8)
+    ensures { last.new ≡ drop 1 last.old ++ byte ∷ [] }
+{
+    last.rotate_left(1);
+    last[ROW_ANSWERS_LEN - 1] = byte;
+}
+
+fn receive_one<P: Port>(port: &mut P) -> Result<u8, Failure<P::Cause>>
     ensures nature { (P.state port.new).honest ≡ (P.state port.old).honest }
     ensures fewer { (P.state port.old).honest ≡ true → (P.state port.new).left ≤ (P.state port.old).left }
     ensures calls { (P.state port.old).honest ≡ true
         → OnOk result ((P.state port.old).left ≡ (P.state port.new).left + 1) }
+    ensures received { (P.state port.old).honest ≡ true
+        → IfOk result (λ byte. IsReceived (byte ∷ []) (P.state port.old) (P.state port.new)) }
+    ensures silent { (P.state port.old).honest ≡ true
+        → OnErr result (IsSilent 1 (P.state port.old) (P.state port.new)) }
 {
-    port.receive(byte).map_err(Failure::Port)
+    let mut byte = [0];
+    port.receive(&mut byte).map_err(Failure::Port)?;
+    Ok(byte[0])
 }

@@ -1,37 +1,33 @@
-use Rattle.std.proofs.Common.{◌∙◌, arith}
-use Rattle.nor_serprog.proofs.Exchanges.{uses_none, uses_then}
+use Rattle.std.proofs.Common.{◌≡◌, ◌+◌, ◌∙◌, length, arith, sym}
+use Rattle.std.proofs.lemmas.Bool.{false≢true}
+use Rattle.nor_serprog.proofs.Exchanges.{uses_then}
+use Rattle.nor_serprog.proofs.Skipped.{received_more, all_received, ends_if_all, skipped}
 use Rattle.nor_serprog.proofs.link.skip_past.Goals as goal
 
-pub loop-init : goal.loop-init
-loop-init g c = uses_none _
+pub returns-then-ends_with-clause-skips : goal.returns-then-ends_with-clause-skips
+returns-then-ends_with-clause-skips g c p =
+    let s = c.loop-received.invariant.skips p in
+    let r = received_more c.args.wanted.now c.loop-received.last c.shift_in.new.last c.loop-received.received _
+    (g.P.Port.state c.args.port.now) (g.P.Port.state c.loop-received.port) (g.P.Port.state c.receive_one.new.port) s.0 s.1
+    (c.in_ok-byte.ensures.received s.1.honest) c.receive_one.ensures.nature c.shift_in.ensures in
+    let all = all_received c.args.wanted.now c.shift_in.new.last _ _ _ _ p (omega (arith, s.0)) r c.ends_with.ensures.value
+    c.if-ends_with.true in
+    record {
+      done = skipped c.args.wanted.now c.shift_in.new.last _ _ _ r all;
+      few_left = tt;
+      power = tt;
+    }
 
-pub loop-preserved : goal.loop-preserved
-loop-preserved g c = uses_then c.loop.invariant c.receive_one.ensures.nature c.receive_one.ensures.fewer
-
-pub returns-in_err-receive_one-clause-nature : goal.returns-in_err-receive_one-clause-nature
-returns-in_err-receive_one-clause-nature g c = c.receive_one.ensures.nature ∙ c.loop.invariant.honest
-
-pub returns-in_err-receive_one-clause-fewer : goal.returns-in_err-receive_one-clause-fewer
-returns-in_err-receive_one-clause-fewer g c =
-    (uses_then {new = g.P.Port.state c.receive_one.new.port} c.loop.invariant c.receive_one.ensures.nature
-    c.receive_one.ensures.fewer).fewer
-
-pub returns-then-ends_with-clause-nature : goal.returns-then-ends_with-clause-nature
-returns-then-ends_with-clause-nature g c = c.receive_one.ensures.nature ∙ c.loop.invariant.honest
-
-pub returns-then-ends_with-clause-fewer : goal.returns-then-ends_with-clause-fewer
-returns-then-ends_with-clause-fewer g c =
-    (uses_then {new = g.P.Port.state c.receive_one.new.port} c.loop.invariant c.receive_one.ensures.nature
-    c.receive_one.ensures.fewer).fewer
-
-pub returns-then-ends_with-clause-calls : goal.returns-then-ends_with-clause-calls
-returns-then-ends_with-clause-calls g c = λ honest.
-    let fewer = c.loop.invariant.fewer honest in
-    let call = c.in_ok-receive_one.ensures.calls (c.loop.invariant.honest ∙ honest) in
-    omega arith
-
-pub returns-clause-nature : goal.returns-clause-nature
-returns-clause-nature g c = c.loop.invariant.honest
-
-pub returns-clause-fewer : goal.returns-clause-fewer
-returns-clause-fewer g c = c.loop.invariant.fewer
+pub loop-received-preserved : goal.loop-received-preserved
+loop-received-preserved g c = record {
+  uses = uses_then c.loop-received.invariant.uses c.receive_one.ensures.nature c.receive_one.ensures.fewer;
+  skips = λ p.
+      let s = c.loop-received.invariant.skips p in
+      let r = received_more c.args.wanted.now c.loop-received.last c.shift_in.new.last c.loop-received.received _
+      (g.P.Port.state c.args.port.now) (g.P.Port.state c.loop-received.port) (g.P.Port.state c.receive_one.new.port) s.0 s.1
+      (c.in_ok-byte.ensures.received s.1.honest) c.receive_one.ensures.nature c.shift_in.ensures in
+      let more : c.loop-received.received + 1 ≡ length c.args.wanted.now → ⊥ =
+      λ all. false≢true (sym c.if-ends_with.false
+      ∙ ends_if_all c.args.wanted.now c.shift_in.new.last _ _ _ _ p r all c.ends_with.ensures.value) in
+      (omega (arith, s.0, more), r);
+}

@@ -1,0 +1,149 @@
+-- A link is synchronized over an honest port to an idle programmer.
+use Rattle.std.proofs.Common.{◌≡◌, ◌≢◌, ◌∙◌, ◌+◌, ◌<◌, ◌≤◌, ◌++◌, ℕ, List, [], ◌∷◌, length, refl, ap, arith}
+use Rattle.std.specs.Prelude.{slice_index, Err}
+use Rattle.nor_serprog.specs.declared.command.Command.{Command}
+use Rattle.nor_serprog.specs.declared.command.Command.TheVariants.{Nop, SyncNop}
+use Rattle.nor_serprog.specs.Firmware.{Firmware, frames_of, replies_of, HaveReplies}
+use Rattle.nor_serprog.specs.Device.{PortState, IsSent, IsCutOff, AsksFor, AreShort}
+use Rattle.nor_serprog.specs.Replies.{AwaitsCommand, OnlyAsks, AsksUnlessFew, IsPending}
+use Rattle.nor_serprog.proofs.Replied.{power_then}
+
+-- The commands of `ROW`.
+abbrev pub row : List Command
+row =
+    SyncNop ∷ SyncNop ∷ Nop ∷ SyncNop ∷ Nop ∷ Nop ∷ SyncNop ∷ SyncNop ∷ SyncNop ∷ Nop ∷ Nop ∷ Nop ∷ SyncNop ∷ Nop
+    ∷ SyncNop ∷ SyncNop ∷ []
+
+-- These bytes are the frames of commands that each programmer has, and these are the replies to them, which a link can
+-- search for.
+pub record IsRow (commands : List Command) (bytes answers : List ℕ) : Type 0 where
+  pub frames : bytes ≡ frames_of commands
+  pub has : (firmware : Firmware) → HaveReplies firmware commands
+  pub answers_are : (firmware : Firmware) → replies_of firmware commands ≡ answers
+  pub short : length (frames_of commands) ≤ 260
+  pub some : 0 < length answers
+  pub few : length answers ≤ 25
+  pub first : slice_index answers 0 ≢ 0
+
+pub sync_row : IsRow (SyncNop ∷ []) (0x10 ∷ []) (0x15 ∷ 0x06 ∷ [])
+sync_row = record {
+  frames = refl;
+  has = λ firmware. (tt, tt);
+  answers_are = λ firmware. refl;
+  short = omega arith;
+  some = omega arith;
+  few = omega arith;
+  first = λ zero. omega arith;
+}
+
+pub whole_row : IsRow row
+    (0x10 ∷ 0x10 ∷ 0x00 ∷ 0x10 ∷ 0x00 ∷ 0x00 ∷ 0x10 ∷ 0x10 ∷ 0x10 ∷ 0x00 ∷ 0x00 ∷ 0x00 ∷ 0x10 ∷ 0x00 ∷ 0x10 ∷ 0x10 ∷ [])
+    (0x15 ∷ 0x06 ∷ 0x15 ∷ 0x06 ∷ 0x06 ∷ 0x15 ∷ 0x06 ∷ 0x06 ∷ 0x06 ∷ 0x15 ∷ 0x06 ∷ 0x15 ∷ 0x06 ∷ 0x15 ∷ 0x06 ∷ 0x06
+    ∷ 0x06 ∷ 0x06 ∷ 0x15 ∷ 0x06 ∷ 0x06 ∷ 0x15 ∷ 0x06 ∷ 0x15 ∷ 0x06 ∷ [])
+whole_row = record {
+  frames = refl;
+  has = λ firmware.
+      (tt, (tt, (tt, (tt, (tt, (tt, (tt, (tt, (tt, (tt, (tt, (tt, (tt, (tt, (tt, (tt, tt))))))))))))))));
+  answers_are = λ firmware. refl;
+  short = omega arith;
+  some = omega arith;
+  few = omega arith;
+  first = λ zero. omega arith;
+}
+
+asks_row : (commands : List Command) (bytes answers : List ℕ) (old : PortState) → IsRow commands bytes answers
+    → AwaitsCommand old → AsksFor commands bytes old.device
+asks_row commands bytes answers old is awaits = record {
+  begun = awaits.idle.begun;
+  frames = is.frames;
+  replies = is.has old.device.firmware;
+}
+
+-- A row was sent, and the replies to it are pending.
+pub pending_row : (commands : List Command) (bytes answers : List ℕ) (old new : PortState)
+    → IsRow commands bytes answers → AwaitsCommand old → new.honest ≡ old.honest → IsSent bytes old new
+    → IsPending answers new
+pending_row commands bytes answers old new is awaits nature s =
+    let r = s.replies commands (asks_row commands bytes answers old is awaits) in
+    record {
+      honest = nature ∙ awaits.honest;
+      begun = r.begun;
+      pending = r.pending
+          ∙ ap (λ (p : List ℕ). p ++ replies_of old.device.firmware commands) awaits.idle.pending
+          ∙ is.answers_are old.device.firmware;
+      some = is.some;
+      few = is.few;
+      first = is.first;
+    }
+
+-- The replies to a row that was sent were received.
+pub row_done : (commands : List Command) (bytes answers : List ℕ) (calls : ℕ) (old sent new : PortState)
+    → IsRow commands bytes answers → AwaitsCommand old → IsSent bytes old sent → OnlyAsks calls sent new
+    → OnlyAsks (calls + 1) old new
+row_done commands bytes answers calls old sent new is awaits s asks =
+    let r = s.replies commands (asks_row commands bytes answers old is awaits) in
+    record {
+      left = omega (arith, s.left, asks.left);
+      awaits = asks.awaits;
+      chip = asks.chip ∙ r.chip;
+      worn = asks.worn ∙ r.worn;
+      firmware = asks.firmware ∙ s.firmware;
+    }
+
+-- Calls that left the chip as it was, and further ones.
+pub asks_then : (first second : ℕ) (old mid new : PortState) → OnlyAsks first old mid → OnlyAsks second mid new
+    → OnlyAsks (first + second) old new
+asks_then first second old mid new asks more = record {
+  left = omega (arith, asks.left, more.left);
+  awaits = more.awaits;
+  chip = more.chip ∙ asks.chip;
+  worn = more.worn ∙ asks.worn;
+  firmware = more.firmware ∙ asks.firmware;
+}
+
+-- The port failed when a row was to be sent.
+pub row_cut : {T E : Type 0} (commands : List Command) (bytes answers : List ℕ) (calls : ℕ) (error : E)
+    (old new : PortState) → IsRow commands bytes answers → AwaitsCommand old → IsCutOff bytes old new
+    → 0 < calls → AsksUnlessFew {T = T} calls (Err error) old new
+row_cut commands bytes answers calls error old new is awaits cut some =
+    let asks = asks_row commands bytes answers old is awaits in
+    let short : AreShort commands old.device = record {
+      none_pending = awaits.idle.pending;
+      sends = is.short;
+      reads = omega (arith, ap length (is.answers_are old.device.firmware), is.few);
+    } in
+    record {
+      done = tt;
+      few_left = omega (arith, cut.unanswered commands asks short, some);
+      power = cut.power commands asks;
+    }
+
+-- The port failed when the replies to a row were to be received.
+pub row_missed : {T E : Type 0} (commands : List Command) (bytes answers : List ℕ) (calls : ℕ) (error : E)
+    (old sent new : PortState) → IsRow commands bytes answers → AwaitsCommand old → IsSent bytes old sent
+    → AsksUnlessFew {T = T} calls (Err error) sent new → AsksUnlessFew {T = T} (calls + 1) (Err error) old new
+row_missed commands bytes answers calls error old sent new is awaits s missed =
+    let r = s.replies commands (asks_row commands bytes answers old is awaits) in
+    record {
+      done = tt;
+      few_left = omega (arith, s.left, missed.few_left);
+      power = power_then old.device sent.device new.device r.chip r.worn missed.power;
+    }
+
+-- A failure after calls that left the chip as it was.
+pub few_then : {T E : Type 0} (first second : ℕ) (error : E) (old mid new : PortState) → OnlyAsks first old mid
+    → AsksUnlessFew {T = T} second (Err error) mid new → AsksUnlessFew {T = T} (first + second) (Err error) old new
+few_then first second error old mid new asks few = record {
+  done = tt;
+  few_left = omega (arith, asks.left, few.few_left);
+  power = power_then old.device mid.device new.device asks.chip asks.worn few.power;
+}
+
+-- More calls are too few, too.
+pub few_of_more : {T E : Type 0} (calls more : ℕ) (error : E) (old new : PortState) → calls ≤ more
+    → AsksUnlessFew {T = T} calls (Err error) old new → AsksUnlessFew {T = T} more (Err error) old new
+few_of_more calls more error old new within few = record {
+  done = tt;
+  few_left = omega (arith, within, few.few_left);
+  power = few.power;
+}

@@ -1,0 +1,135 @@
+-- What a programmer is, and its replies to the commands other than O_SPIOP. (serprog protocol version 1, flashrom's
+-- Documentation/serprog-protocol.txt: the table of commands and its notes.)
+use Rattle.std.specs.Prelude.{◌≡◌, ◌<◌, ◌/◌, ◌%◌, ◌^◌, ◌++◌, ◌==◌, ℕ, Bool, true, false, List, [], ◌∷◌, Option, None, Some, IfSome, length, replicate, slice_index, if◌then◌else◌, ⊤}
+use Rattle.std.proofs.Common.{refl, arith}
+use Rattle.nor_serprog.specs.declared.command.Command.{Command}
+use Rattle.nor_serprog.specs.declared.command.Command.TheVariants.{Nop, QueryInterface, QueryCommands, QueryName, QuerySerialBuffer, QueryBuses, QueryLongestWrite, SyncNop, QueryLongestRead, SetBuses, Operate, SetFrequency, SetPins, SelectChip}
+use Rattle.nor_serprog.specs.Frame.{frame_of, three_of, four_of}
+
+-- What a programmer replies to the queries, and which settings it accepts. Nothing that is sent changes it.
+pub record Firmware : Type 0 where
+  -- the version of the protocol (Q_IFACE)
+  pub version : ℕ
+  -- the map of the commands that the programmer has (Q_CMDMAP)
+  pub commands : List ℕ
+  -- the name (Q_PGMNAME)
+  pub name : List ℕ
+  -- the size of the serial buffer (Q_SERBUF)
+  pub buffer : ℕ
+  -- the flags of the types of bus: 1 parallel, 2 LPC, 4 FWH, 8 SPI (Q_BUSTYPE)
+  pub buses : ℕ
+  -- the greatest numbers of bytes that an O_SPIOP may send and may read; 0 means 2^24 (Q_WRNMAXLEN, Q_RDNMAXLEN)
+  pub longest_write : ℕ
+  pub longest_read : ℕ
+  -- whether the programmer accepts these flags (S_BUSTYPE), this state of the pin drivers (S_PIN_STATE), and this
+  -- number of a chip select (S_SPI_CS)
+  pub takes_buses : (flags : ℕ) → Bool
+  pub takes_pins : (enabled : Bool) → Bool
+  pub takes_select : (number : ℕ) → Bool
+  -- the clock in hertz that the programmer sets if this one is requested, or `None` if it refuses (S_SPI_FREQ)
+  pub clock : (hertz : ℕ) → Option ℕ
+  -- the numbers of bytes that the protocol gives to each of these
+  pub version_fits : version < 65536
+  pub commands_len : length commands ≡ 32
+  pub name_len : length name ≡ 16
+  pub buffer_fits : buffer < 65536
+  pub buses_fit : buses < 256
+  pub write_fits : longest_write < 16777216
+  pub read_fits : longest_read < 16777216
+  pub clock_fits : (hertz : ℕ) → IfSome (clock hertz) (λ set. set < 4294967296)
+
+-- True if this map has the command with this opcode: command `n` is bit `n % 8` of byte `n / 8`.
+abbrev pub is_in_map : (commands : List ℕ) → (opcode : ℕ) → Bool
+is_in_map commands opcode = slice_index commands (opcode / 8) / 2 ^ (opcode % 8) % 2 == 1
+
+-- True if the programmer has the command with this opcode.
+abbrev pub has : Firmware → (opcode : ℕ) → Bool
+has firmware opcode = is_in_map firmware.commands opcode
+
+-- A 16-bit number as two bytes, the lowest first.
+abbrev pub two_of : ℕ → List ℕ
+two_of n = n % 256 ∷ n / 256 % 256 ∷ []
+
+-- The reply NAK.
+abbrev pub nak : List ℕ
+nak = 0x15 ∷ []
+
+-- The reply to a query with this opcode: ACK and these bytes, or NAK if the programmer lacks the query.
+abbrev pub queried : Firmware → (opcode : ℕ) → (bytes : List ℕ) → List ℕ
+queried firmware opcode bytes = if has firmware opcode then 0x06 ∷ bytes else nak
+
+-- The reply to a setting: ACK or NAK.
+abbrev pub taken : Bool → List ℕ
+taken accepts = if accepts then 0x06 ∷ [] else nak
+
+-- The reply to S_SPI_FREQ: ACK and the clock that was set, or NAK.
+abbrev pub clocked : Option ℕ → List ℕ
+clocked (Some set) = 0x06 ∷ four_of set
+clocked None = nak
+
+-- The reply of the programmer to a whole frame of a command. Each programmer has NOP, Q_IFACE, Q_CMDMAP and SYNCNOP.
+-- The reply to O_SPIOP is not this one (`OperatesFrame` of Device.antt).
+abbrev pub reply_of : Firmware → Command → List ℕ
+reply_of firmware Nop = 0x06 ∷ []
+reply_of firmware QueryInterface = 0x06 ∷ two_of firmware.version
+reply_of firmware QueryCommands = 0x06 ∷ firmware.commands
+reply_of firmware QueryName = queried firmware 0x03 firmware.name
+reply_of firmware QuerySerialBuffer = queried firmware 0x04 (two_of firmware.buffer)
+reply_of firmware QueryBuses = queried firmware 0x05 (firmware.buses ∷ [])
+reply_of firmware QueryLongestWrite = queried firmware 0x08 (three_of firmware.longest_write)
+reply_of firmware SyncNop = 0x15 ∷ 0x06 ∷ []
+reply_of firmware QueryLongestRead = queried firmware 0x11 (three_of firmware.longest_read)
+reply_of firmware (SetBuses flags) = taken (firmware.takes_buses flags)
+reply_of firmware (SetFrequency hertz) = clocked (firmware.clock hertz)
+reply_of firmware (SetPins enabled) = taken (firmware.takes_pins enabled)
+reply_of firmware (SelectChip number) = taken (firmware.takes_select number)
+reply_of firmware (Operate out replies) = []
+
+-- Holds if `reply_of` specifies the reply to this command: it is not O_SPIOP, and a command that has arguments is in the
+-- map. A programmer that lacks a command can't know the number of its arguments, and takes them for commands.
+abbrev pub HasReply : Firmware → Command → Type 0
+HasReply firmware (SetBuses flags) = has firmware 0x12 ≡ true
+HasReply firmware (SetFrequency hertz) = has firmware 0x14 ≡ true
+HasReply firmware (SetPins enabled) = has firmware 0x15 ≡ true
+HasReply firmware (SelectChip number) = has firmware 0x16 ≡ true
+HasReply firmware (Operate out replies) = ⊥
+HasReply firmware _ = ⊤
+
+-- The frames of these commands, one after another.
+abbrev pub frames_of : List Command → List ℕ
+frames_of [] = []
+frames_of (command ∷ rest) = frame_of command ++ frames_of rest
+
+-- The replies to these commands, one after another.
+abbrev pub replies_of : Firmware → List Command → List ℕ
+replies_of firmware [] = []
+replies_of firmware (command ∷ rest) = reply_of firmware command ++ replies_of firmware rest
+
+-- Holds if `reply_of` specifies the reply to each of these commands.
+abbrev pub HaveReplies : Firmware → List Command → Type 0
+HaveReplies firmware [] = ⊤
+HaveReplies firmware (command ∷ rest) = HasReply firmware command × HaveReplies firmware rest
+
+-- The firmware of a programmer about which nothing is known. It is arbitrary.
+abbrev pub unknown_firmware : Firmware
+unknown_firmware = record {
+  version = 0;
+  commands = replicate 32 0;
+  name = replicate 16 0;
+  buffer = 0;
+  buses = 0;
+  longest_write = 0;
+  longest_read = 0;
+  takes_buses = λ flags. false;
+  takes_pins = λ enabled. false;
+  takes_select = λ number. false;
+  clock = λ hertz. None;
+  version_fits = omega arith;
+  commands_len = refl;
+  name_len = refl;
+  buffer_fits = omega arith;
+  buses_fit = omega arith;
+  write_fits = omega arith;
+  read_fits = omega arith;
+  clock_fits = λ hertz. tt;
+}

@@ -1,0 +1,68 @@
+-- What a link does with the replies to commands other than O_SPIOP.
+use Rattle.std.specs.Prelude.{◌≡◌, ◌≢◌, ◌<◌, ◌≤◌, ◌+◌, ◌⊎◌, ℕ, true, List, [], ◌∷◌, length, slice_index, Result, OnOk, OnErr, IfErr, ⊤}
+use Rattle.nor_serprog.specs.declared.command.Command.{Command}
+use Rattle.nor_serprog.specs.declared.link.Failure.{Failure}
+use Rattle.nor_serprog.specs.declared.link.Failure.TheVariants.{Port, Refused}
+use Rattle.nor_serprog.specs.Frame.{frame_of}
+use Rattle.nor_serprog.specs.Firmware.{reply_of, nak}
+use Rattle.nor_serprog.specs.Device.{PortState, IsIdle, MayLoseDevicePower}
+
+-- The port is honest, and its programmer waits for a command.
+pub record AwaitsCommand (port : PortState) : Type 0 where
+  pub honest : port.honest ≡ true
+  pub idle : IsIdle port.device
+
+-- At most this number of calls was made, and the programmer waits for a command again. The chip was not selected.
+pub record OnlyAsks (calls : ℕ) (old new : PortState) : Type 0 where
+  pub left : old.left ≤ new.left + calls
+  pub awaits : AwaitsCommand new
+  pub chip : new.device.chip ≡ old.device.chip
+  pub worn : new.device.worn ≡ old.device.worn
+  pub firmware : new.device.firmware ≡ old.device.firmware
+
+-- Success, after at most this number of calls (`OnlyAsks`); or a failure of the port, because fewer were left. After a
+-- failure the chip is as it was, or has lost its power.
+pub record AsksUnlessFew {T E : Type 0} (calls : ℕ) (result : Result T E) (old new : PortState) : Type 0 where
+  pub done : OnOk result (OnlyAsks calls old new)
+  pub few_left : OnErr result (old.left < calls)
+  pub power : OnErr result (MayLoseDevicePower old.device new.device)
+
+-- The port is honest, no command is begun, and these bytes are pending, at most 25. The first is not 0.
+pub record IsPending (bytes : List ℕ) (port : PortState) : Type 0 where
+  pub honest : port.honest ≡ true
+  pub begun : port.device.begun ≡ []
+  pub pending : port.device.pending ≡ bytes
+  pub some : 0 < length bytes
+  pub few : length bytes ≤ 25
+  pub first : slice_index bytes 0 ≢ 0
+
+-- Holds if the port failed.
+abbrev pub IsPortFailure : {C : Type 0} → Failure C → Type 0
+IsPortFailure (Port cause) = ⊤
+IsPortFailure _ = ⊥
+
+-- Holds if the programmer replied NAK to a command with this opcode.
+abbrev pub IsRefusal : {C : Type 0} → (opcode : ℕ) → Failure C → Type 0
+IsRefusal opcode (Refused refused) = refused ≡ opcode
+IsRefusal opcode _ = ⊥
+
+-- Holds after NAK: the command with this opcode was refused, or the port failed because fewer than `calls` calls were
+-- left.
+abbrev pub IsRefused : {C : Type 0} → (opcode calls left : ℕ) → Failure C → Type 0
+IsRefused opcode calls left failure = IsRefusal opcode failure ⊎ (IsPortFailure failure × (left < calls))
+
+-- The result of an exchange that requests `count` reply bytes, over an honest port to an idle programmer, for a command
+-- other than O_SPIOP whose reply is specified.
+pub record Answered {C : Type 0} (command : Command) (count : ℕ) (reply : List ℕ) (result : Result Unit (Failure C))
+    (old new : PortState) : Type 0 where
+  -- if the programmer replies ACK and `count` bytes: success with these bytes, and the programmer is idle; or the port
+  -- failed because fewer than three calls were left
+  pub acked : (bytes : List ℕ) → reply_of old.device.firmware command ≡ 0x06 ∷ bytes → count ≡ length bytes
+      → OnOk result ((reply ≡ bytes) × OnlyAsks 3 old new)
+      × IfErr result (λ failure. IsPortFailure failure × (old.left < 3))
+  -- if the programmer replies NAK: `Refused` with the opcode of the command; or the port failed because fewer than two
+  -- calls were left
+  pub refused : reply_of old.device.firmware command ≡ nak
+      → OnOk result ⊥ × IfErr result (IsRefused (slice_index (frame_of command) 0) 2 old.left)
+  -- after any error the chip is as it was, or has lost its power
+  pub power : OnErr result (MayLoseDevicePower old.device new.device)
