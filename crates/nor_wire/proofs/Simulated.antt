@@ -6,7 +6,7 @@ use Rattle.nor_model.specs.Chip.{Chip}
 use Rattle.nor_model.specs.Step.{Step, done_of, wears}
 use Rattle.nor_model.specs.Bus.{BusState, Allows, AtStop}
 use Rattle.nor_serprog.specs.Device.{IsCut}
-use Rattle.nor_wire.specs.SimPort.{device_over}
+use Rattle.nor_wire.specs.SimPort.{device_over, simulated_firmware}
 
 pub empty : (items : List ℕ) → (length items == 0) ≡ true → items ≡ []
 empty [] none = refl
@@ -36,7 +36,7 @@ cut out old mid new pending allows stop =
     record {
       count = stop.count;
       read = stop.read;
-      reached = record { chip = stop.reached; worn = new.worn; begun = []; pending = [] };
+      reached = record { chip = stop.reached; worn = new.worn; firmware = simulated_firmware; begun = []; pending = [] };
       steps = record {
         step = subst P allows.chip stop.step;
         worn = worn_then 0 (take stop.count out) (length stop.read) old mid new.worn allows stop.worn;

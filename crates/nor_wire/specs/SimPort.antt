@@ -1,8 +1,10 @@
 -- The simulated port, as contracts see it.
-use Rattle.std.specs.Prelude.{ℕ, true, List, []}
+use Rattle.std.specs.Prelude.{◌==◌, ◌||◌, ℕ, true, false, List, [], ◌∷◌, None, replicate, if◌then◌else◌}
+use Rattle.std.proofs.Common.{refl, arith}
 use Rattle.nor_model.specs.Bus.{BusState}
 use Rattle.nor_chip.specs.declared.sim.SimBus.{SimBus}
 use Rattle.nor_serprog.specs.Device.{Device, PortState}
+use Rattle.nor_serprog.specs.Firmware.{Firmware, nak}
 use Rattle.nor_wire.specs.declared.sim_port.SimPort.{SimPort}
 
 -- The chip of a simulated port, as a simulated bus.
@@ -13,12 +15,47 @@ simulated_chip port = port.chip
 abbrev pub left_of : SimPort → ℕ
 left_of port = port.left
 
+-- The firmware of the simulated programmer: version 1 and SPI, without a name or limits. It has the commands 00h, 01h,
+-- 02h, 10h, 12h and 13h, and accepts each type of bus.
+abbrev pub simulated_firmware : Firmware
+simulated_firmware = record {
+  version = 1;
+  commands = 0x07 ∷ 0 ∷ 0x0D ∷ replicate 29 0;
+  name = replicate 16 0;
+  buffer = 0;
+  buses = 8;
+  longest_write = 0;
+  longest_read = 0;
+  takes_buses = λ flags. true;
+  takes_pins = λ enabled. false;
+  takes_select = λ number. false;
+  clock = λ hertz. None;
+  version_fits = omega arith;
+  commands_len = refl;
+  name_len = refl;
+  buffer_fits = omega arith;
+  buses_fit = omega arith;
+  write_fits = omega arith;
+  read_fits = omega arith;
+  clock_fits = λ hertz. tt;
+}
+
+-- The reply of the simulated programmer to a frame that begins with this opcode, except O_SPIOP.
+abbrev pub simulated_reply : (opcode : ℕ) → List ℕ
+simulated_reply opcode =
+    if opcode == 0x00 || opcode == 0x12 then 0x06 ∷ []
+    else if opcode == 0x01 then 0x06 ∷ 1 ∷ 0 ∷ []
+    else if opcode == 0x02 then 0x06 ∷ 0x07 ∷ 0 ∷ 0x0D ∷ replicate 29 0
+    else if opcode == 0x10 then 0x15 ∷ 0x06 ∷ []
+    else nak
+
 -- A programmer in front of the chip of this bus, with these bytes pending. The programmer keeps no part of a frame from
 -- one call of the port to the next, so `begun` is empty.
 abbrev pub device_over : BusState → (pending : List ℕ) → Device
 device_over bus pending = record {
   chip = bus.chip;
   worn = bus.worn;
+  firmware = simulated_firmware;
   begun = [];
   pending = pending;
 }

@@ -1,8 +1,11 @@
 //! A simulated port: a programmer in memory, in front of a simulated chip.
-ghost use Rattle.std.specs.Prelude.{◌≡◌, ◌≤◌, ◌∷◌, true, false, [], ℕ, List, length, slice_index, OnOk, OnErr};
+ghost use Rattle.std.specs.Prelude.{◌≡◌, ◌≤◌, ◌+◌, ◌++◌, ◌∷◌, true, false, [], ℕ, List, length, slice_index, OnOk, OnErr};
 ghost use Rattle.nor_serprog.specs.Device.{IsIdle, IsSent, IsCutOff, IsCut, StepsOnce};
+ghost use Rattle.nor_serprog.specs.Firmware.{HaveReplies, frames_of, replies_of};
 ghost use Rattle.nor_serprog.specs.Frame.{IsFrame, out_in, replies_in};
-ghost use Rattle.nor_wire.specs.SimPort.{simulated_chip, left_of, device_over, port_over};
+ghost use Rattle.nor_serprog.specs.declared.command.Command.{Command};
+ghost use Rattle.nor_wire.specs.SimPort.{simulated_chip, simulated_firmware, simulated_reply, left_of};
+ghost use Rattle.nor_wire.specs.SimPort.{device_over, port_over};
 
 use arrayvec::ArrayVec;
 use nor_chip::{Bus, Meter, SimBus};
@@ -93,6 +96,7 @@ impl SimPort {
     // returned. Stops the chip at the transaction (`cut`) and returns `Cut` if no call is left, if a reply is pending,
     // or if the frame requests more than 4,096 bytes.
     fn operate(&mut self, frame: &[u8]) -> Result<(), SimFailure>
+        requires { slice_index frame.now 0 ≡ 0x13 }
         ensures sent { OnOk result (IsSent frame.now (⟦<SimPort as Port>⟧.state self.old)
             (⟦<SimPort as Port>⟧.state self.new)) }
         ensures cut_off { OnErr result (IsCutOff frame.now (⟦<SimPort as Port>⟧.state self.old)
@@ -130,7 +134,10 @@ impl Port for SimPort {
         if is_operation(bytes) {
             return self.operate(bytes);
         }
-        if self.left == 0 || !reply_to_each(&mut self.pending, bytes) {
+        if self.left == 0 {
+            return Err(SimFailure::Cut);
+        }
+        if !reply_to_each(&mut self.pending, bytes) {
             self.left = 0;
             return Err(SimFailure::Cut);
         }
@@ -156,7 +163,8 @@ impl Port for SimPort {
 
 // True if these bytes are one whole frame of O_SPIOP.
 fn is_operation(bytes: &[u8]) -> bool
-    ensures { result ≡ false → ¬ (IsFrame bytes.now × (slice_index bytes.now 0 ≡ 0x13)) }
+    ensures opcode { result ≡ true → slice_index bytes.now 0 ≡ 0x13 }
+    ensures other { result ≡ false → ¬ (IsFrame bytes.now × (slice_index bytes.now 0 ≡ 0x13)) }
 {
     bytes.first() == Some(&O_SPIOP) && frame_len(bytes) == Some(bytes.len())
 }
@@ -216,9 +224,16 @@ fn cut(chip: &mut SimBus, out: &[u8])
 
 // Appends the reply to each of these frames (`reply_to`) to `pending`. Bytes after the last whole frame are ignored.
 // Returns false if the replies do not fit.
-fn reply_to_each(pending: &mut ArrayVec<u8, MOST_PENDING>, frames: &[u8]) -> bool {
+fn reply_to_each(pending: &mut ArrayVec<u8, MOST_PENDING>, frames: &[u8]) -> bool
+    ensures replies { (commands : List Command) → frames.now ≡ frames_of commands
+        → HaveReplies simulated_firmware commands → result ≡ true
+        → pending.new.items ≡ pending.old.items ++ replies_of simulated_firmware commands }
+    ensures fits { (commands : List Command) → frames.now ≡ frames_of commands
+        → HaveReplies simulated_firmware commands
+        → length pending.old.items + length (replies_of simulated_firmware commands) ≤ 4097 → result ≡ true }
+{
     let mut rest = frames;
-    for _ in 0..frames.len() {
+    for done in 0..frames.len() {
         let len = frame_len(rest).unwrap_or(usize::MAX);
         let Some((frame, later)) = rest.split_at_checked(len) else {
             return true;
@@ -233,12 +248,14 @@ fn reply_to_each(pending: &mut ArrayVec<u8, MOST_PENDING>, frames: &[u8]) -> boo
 
 // Returns the reply to one frame (serprog protocol, flashrom's Documentation/serprog-protocol.txt). An O_SPIOP that is
 // sent together with other frames is refused.
-fn reply_to(frame: &[u8]) -> &'static [u8] {
-    match frame {
-        [0x00 | 0x12, ..] => &[ACK],
-        [0x01] => &[ACK, 1, 0],
-        [0x02] => &COMMANDS,
-        [0x10] => &[NAK, ACK],
+fn reply_to(frame: &[u8]) -> &'static [u8]
+    ensures { result.now ≡ simulated_reply (slice_index frame.now 0) }
+{
+    match byte_at(frame, 0) {
+        0x00 | 0x12 => &[ACK],
+        0x01 => &[ACK, 1, 0],
+        0x02 => &COMMANDS,
+        0x10 => &[NAK, ACK],
         _ => &[NAK],
     }
 }

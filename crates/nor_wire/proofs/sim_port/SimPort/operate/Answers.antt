@@ -1,4 +1,5 @@
 use Rattle.std.proofs.Common.{◌≡◌, ◌∙◌, ◌++◌, ◌∷◌, rules, refl, sym, ap, List, [], ℕ}
+use Rattle.nor_wire.proofs.Replying.{no_operation}
 use Rattle.nor_wire.proofs.Simulated.{empty}
 use Rattle.nor_wire.proofs.sim_port.SimPort.operate.Goals as goal
 
@@ -9,6 +10,9 @@ returns-clause-sent c =
     empty c.args.self.now.pending.items (sym c.is_empty.ensures ∙ c.if-is_empty.true) in
     record {
       left = search rules;
+      firmware = refl;
+      replies = λ commands asks.
+          absurd (no_operation commands c.args.frame.now asks.frames asks.replies c.requires);
       done = λ whole. record {
         answer = c.transact.new.reply;
         len = search rules;
@@ -18,3 +22,14 @@ returns-clause-sent c =
             ∙ sym (ap (λ (before : List ℕ). before ++ 0x06 ∷ c.transact.new.reply) none);
       };
     }
+
+pub returns-in_default-clause-cut_off : goal.returns-in_default-clause-cut_off
+returns-in_default-clause-cut_off c = record {
+  firmware = refl;
+  unanswered = λ commands asks short.
+      absurd (no_operation commands c.args.frame.now asks.frames asks.replies c.requires);
+  power = λ commands asks. absurd (no_operation commands c.args.frame.now asks.frames asks.replies c.requires);
+  none_left = search rules;
+  left = search rules;
+  cut = search rules;
+}

@@ -1,0 +1,234 @@
+-- The simulated programmer replies to frames one after another, as its firmware says.
+use Rattle.std.proofs.Common.{◌≡◌, ◌∙◌, ◌+◌, ◌<◌, ◌≤◌, true, ◌++◌, ℕ, Bool, true, false, List, [], ◌∷◌, length, take, drop, refl, sym, subst, ap, arith, append_assoc, length-append}
+use Rattle.std.specs.Prelude.{◌==◌, ◌||◌, if◌then◌else◌, slice_index, Option, None, Some, unwrap_or, Result, Ok, Err, OnOk, IsOk}
+use Rattle.std.specs.Result.{is_err}
+use Rattle.std.specs.List.{IsSplitAt}
+use Rattle.std.proofs.lemmas.Bool.{false≢true}
+use Rattle.std.proofs.lemmas.List.{append-nil, take-append-le}
+use Rattle.std.proofs.Math.Seq.{take-length, drop-append_seam}
+use Rattle.nor_serprog.specs.declared.command.Command.{Command}
+use Rattle.nor_serprog.specs.declared.command.Command.TheVariants.{SetBuses, Operate, SetFrequency, SetPins, SelectChip, Nop, QueryInterface, QueryCommands, QueryName, QuerySerialBuffer, QueryBuses, QueryLongestWrite, SyncNop, QueryLongestRead}
+use Rattle.nor_serprog.specs.Frame.{frame_of, frame_len, long_len, argument_count}
+use Rattle.nor_serprog.specs.Firmware.{HasReply, HaveReplies, reply_of, replies_of, frames_of}
+use Rattle.nor_wire.specs.SimPort.{simulated_firmware, simulated_reply}
+
+-- The reply to a frame is the one of the firmware.
+reply_is : (command : Command) → HasReply simulated_firmware command
+    → simulated_reply (slice_index (frame_of command) 0) ≡ reply_of simulated_firmware command
+reply_is (Operate out replies) has = absurd has
+reply_is (SetFrequency hertz) has = absurd (false≢true has)
+reply_is (SetPins enabled) has = absurd (false≢true has)
+reply_is (SelectChip number) has = absurd (false≢true has)
+reply_is (SetBuses flags) has = refl
+reply_is _ has = refl
+
+len_is : (command : Command) → HasReply simulated_firmware command → (more : List ℕ)
+    → frame_len (frame_of command ++ more) ≡ Some (length (frame_of command))
+len_is (Operate out replies) has more = absurd has
+len_is (SetFrequency hertz) has more = absurd (false≢true has)
+len_is (SetPins enabled) has more = absurd (false≢true has)
+len_is (SelectChip number) has more = absurd (false≢true has)
+len_is (SetBuses flags) has more = refl
+len_is _ has more = refl
+
+frame_some : (command : Command) → HasReply simulated_firmware command → 0 < length (frame_of command)
+frame_some (Operate out replies) has = absurd has
+frame_some (SetFrequency hertz) has = absurd (false≢true has)
+frame_some (SetPins enabled) has = absurd (false≢true has)
+frame_some (SelectChip number) has = absurd (false≢true has)
+frame_some (SetBuses flags) has = omega arith
+frame_some _ has = omega arith
+
+first_is : (command : Command) → HasReply simulated_firmware command → (more : List ℕ)
+    → slice_index (frame_of command ++ more) 0 ≡ 0x13 → ⊥
+first_is (Operate out replies) has more first = absurd has
+first_is (SetFrequency hertz) has more first = absurd (false≢true has)
+first_is (SetPins enabled) has more first = absurd (false≢true has)
+first_is (SelectChip number) has more first = absurd (false≢true has)
+first_is (SetBuses flags) has more first = omega (arith, first)
+first_is _ has more first = omega (arith, first)
+
+-- Frames of these commands do not begin with O_SPIOP.
+pub no_operation : (commands : List Command) (frames : List ℕ) → frames ≡ frames_of commands
+    → HaveReplies simulated_firmware commands → slice_index frames 0 ≡ 0x13 → ⊥
+no_operation [] frames same have first =
+    let zero : slice_index frames 0 ≡ 0 = ap (λ (f : List ℕ). slice_index f 0) same in omega (arith, zero, first)
+no_operation (command ∷ rest) frames same have first =
+    first_is command have.0 (frames_of rest) (sym (ap (λ (f : List ℕ). slice_index f 0) same) ∙ first)
+
+-- A frame has at least one byte.
+long_some : (rest : List ℕ) → 0 < unwrap_or (long_len rest) 18446744073709551615
+long_some (a ∷ b ∷ c ∷ rest) = omega arith
+long_some _ = omega arith
+
+either_some : (test : Bool) (first second : Option ℕ) → 0 < unwrap_or first 18446744073709551615
+    → 0 < unwrap_or second 18446744073709551615
+    → 0 < unwrap_or (if test then first else second) 18446744073709551615
+either_some true first second some some' = some
+either_some false first second some some' = some'
+
+pub len_some : (rest : List ℕ) → 0 < unwrap_or (frame_len rest) 18446744073709551615
+len_some [] = omega arith
+len_some (opcode ∷ rest) =
+    either_some (opcode == 0x13 || opcode == 0x0D) (long_len rest) (Some (1 + argument_count opcode)) (long_some rest)
+    (omega arith)
+
+-- The frames of `later` are left, and the replies to the earlier commands are among `now`.
+pub record Remains (rest before now : List ℕ) (commands : List Command) : Type 0 where
+  pub later : List Command
+  pub frames : rest ≡ frames_of later
+  pub have : HaveReplies simulated_firmware later
+  pub replies : now ++ replies_of simulated_firmware later ≡ before ++ replies_of simulated_firmware commands
+
+pub record Answers (frames rest before now : List ℕ) (done : ℕ) : Type 0 where
+  pub shorter : length rest + done ≤ length frames
+  pub remains : (commands : List Command) → frames ≡ frames_of commands
+      → HaveReplies simulated_firmware commands → Remains rest before now commands
+
+pub answers_none : (frames before : List ℕ) → Answers frames frames before before 0
+answers_none frames before = record {
+  shorter = omega arith;
+  remains = λ commands same have. record { later = commands; frames = same; have = have; replies = refl };
+}
+
+-- The next frame is that of the next command.
+pub record IsNext (rest frame rest' : List ℕ) (command : Command) (later : List Command) : Type 0 where
+  pub frame_is : frame ≡ frame_of command
+  pub rest_is : rest' ≡ frames_of later
+
+next : (rest frame rest' : List ℕ) (len : ℕ) (command : Command) (later : List Command)
+    → rest ≡ frames_of (command ∷ later) → HasReply simulated_firmware command
+    → len ≡ unwrap_or (frame_len rest) 18446744073709551615 → IsSplitAt rest len frame rest'
+    → IsNext rest frame rest' command later
+next rest frame rest' len command later same has is split =
+    let f = frame_of command in
+    let known : frame_len rest ≡ Some (length f) = ap frame_len same ∙ len_is command has (frames_of later) in
+    let len_of : len ≡ length f = is ∙ ap (λ (o : Option ℕ). unwrap_or o 18446744073709551615) known in
+    record {
+      frame_is = split.1 ∙ ap (λ (n : ℕ). take n rest) len_of ∙ ap (λ (r : List ℕ). take (length f) r) same
+          ∙ take-append-le (length f) f (frames_of later) (omega arith) ∙ take-length f;
+      rest_is = split.2 ∙ ap (λ (n : ℕ). drop n rest) len_of ∙ ap (λ (r : List ℕ). drop (length f) r) same
+          ∙ drop-append_seam f (frames_of later);
+    }
+
+nothing_left : (rest frame rest' : List ℕ) (len : ℕ) → rest ≡ []
+    → len ≡ unwrap_or (frame_len rest) 18446744073709551615 → IsSplitAt rest len frame rest' → ⊥
+nothing_left rest frame rest' len same is split =
+    let huge : len ≡ 18446744073709551615 =
+    is ∙ ap (λ (r : List ℕ). unwrap_or (frame_len r) 18446744073709551615) same in
+    omega (arith, huge, split.0, ap length same)
+
+-- One more frame was answered.
+pub remains_then : (rest frame rest' before now now' : List ℕ) (len : ℕ) (commands later : List Command)
+    → len ≡ unwrap_or (frame_len rest) 18446744073709551615 → IsSplitAt rest len frame rest'
+    → now' ≡ now ++ simulated_reply (slice_index frame 0) → rest ≡ frames_of later
+    → HaveReplies simulated_firmware later
+    → now ++ replies_of simulated_firmware later ≡ before ++ replies_of simulated_firmware commands
+    → Remains rest' before now' commands
+remains_then rest frame rest' before now now' len commands [] is split more frames have replies =
+    absurd (nothing_left rest frame rest' len frames is split)
+remains_then rest frame rest' before now now' len commands (command ∷ later) is split more frames have replies =
+    let n = next rest frame rest' len command later frames have.0 is split in
+    let reply = reply_of simulated_firmware command in
+    let same : simulated_reply (slice_index frame 0) ≡ reply =
+    ap (λ (f : List ℕ). simulated_reply (slice_index f 0)) n.frame_is ∙ reply_is command have.0 in
+    record {
+      later = later;
+      frames = n.rest_is;
+      have = have.1;
+      replies = ap (λ (l : List ℕ). l ++ replies_of simulated_firmware later) (more ∙ ap (λ (r : List ℕ). now ++ r) same)
+          ∙ append_assoc now reply (replies_of simulated_firmware later) ∙ replies;
+    }
+
+pub answers_then : (frames rest frame rest' before now now' : List ℕ) (len done : ℕ)
+    → len ≡ unwrap_or (frame_len rest) 18446744073709551615 → IsSplitAt rest len frame rest'
+    → now' ≡ now ++ simulated_reply (slice_index frame 0) → Answers frames rest before now done
+    → Answers frames rest' before now' (done + 1)
+answers_then frames rest frame rest' before now now' len done is split more a = record {
+  shorter = omega (arith, a.shorter, split.4, len_some rest, is);
+  remains = λ commands same have.
+      let r = a.remains commands same have in
+      remains_then rest frame rest' before now now' len commands r.later is split more r.frames r.have r.replies;
+}
+
+-- Nothing is left: all commands were answered.
+ended : (rest before now : List ℕ) (commands later : List Command) → length rest ≤ 0 → rest ≡ frames_of later
+    → HaveReplies simulated_firmware later
+    → now ++ replies_of simulated_firmware later ≡ before ++ replies_of simulated_firmware commands
+    → now ≡ before ++ replies_of simulated_firmware commands
+ended rest before now commands [] none frames have replies = sym (append-nil now) ∙ replies
+ended rest before now commands (command ∷ later) none frames have replies =
+    absurd (omega (
+      arith,
+      none,
+      ap length frames,
+      length-append (frame_of command) (frames_of later),
+      frame_some command have.0,
+    ))
+
+pub all_answered : (frames rest before now : List ℕ) (done : ℕ) (commands : List Command) → length frames ≤ done
+    → Answers frames rest before now done → frames ≡ frames_of commands
+    → HaveReplies simulated_firmware commands → now ≡ before ++ replies_of simulated_firmware commands
+all_answered frames rest before now done commands all a same have =
+    let r = a.remains commands same have in
+    ended rest before now commands r.later (omega (arith, a.shorter, all)) r.frames r.have r.replies
+
+-- No whole frame is left: all commands were answered.
+no_frame : (rest before now : List ℕ) (len : ℕ) (commands later : List Command)
+    → len ≡ unwrap_or (frame_len rest) 18446744073709551615 → length rest < len → rest ≡ frames_of later
+    → HaveReplies simulated_firmware later
+    → now ++ replies_of simulated_firmware later ≡ before ++ replies_of simulated_firmware commands
+    → now ≡ before ++ replies_of simulated_firmware commands
+no_frame rest before now len commands [] is short frames have replies = sym (append-nil now) ∙ replies
+no_frame rest before now len commands (command ∷ later) is short frames have replies =
+    let known : frame_len rest ≡ Some (length (frame_of command)) =
+    ap frame_len frames ∙ len_is command have.0 (frames_of later) in
+    let len_of : len ≡ length (frame_of command) =
+    is ∙ ap (λ (o : Option ℕ). unwrap_or o 18446744073709551615) known in
+    absurd (omega (arith, short, len_of, ap length frames, length-append (frame_of command) (frames_of later)))
+
+pub none_whole : (frames rest before now : List ℕ) (len done : ℕ) (commands : List Command)
+    → len ≡ unwrap_or (frame_len rest) 18446744073709551615 → length rest < len
+    → Answers frames rest before now done → frames ≡ frames_of commands → HaveReplies simulated_firmware commands
+    → now ≡ before ++ replies_of simulated_firmware commands
+none_whole frames rest before now len done commands is short a same have =
+    let r = a.remains commands same have in
+    no_frame rest before now len commands r.later is short r.frames r.have r.replies
+
+-- If the replies to all commands fit, so does the next one.
+next_fits : (rest frame rest' before now : List ℕ) (len : ℕ) (commands later : List Command)
+    → len ≡ unwrap_or (frame_len rest) 18446744073709551615 → IsSplitAt rest len frame rest'
+    → length before + length (replies_of simulated_firmware commands) ≤ 4097 → rest ≡ frames_of later
+    → HaveReplies simulated_firmware later
+    → now ++ replies_of simulated_firmware later ≡ before ++ replies_of simulated_firmware commands
+    → length now + length (simulated_reply (slice_index frame 0)) ≤ 4097
+next_fits rest frame rest' before now len commands [] is split fits frames have replies =
+    absurd (nothing_left rest frame rest' len frames is split)
+next_fits rest frame rest' before now len commands (command ∷ later) is split fits frames have replies =
+    let n = next rest frame rest' len command later frames have.0 is split in
+    let reply = reply_of simulated_firmware command in
+    let same : simulated_reply (slice_index frame 0) ≡ reply =
+    ap (λ (f : List ℕ). simulated_reply (slice_index f 0)) n.frame_is ∙ reply_is command have.0 in
+    let all = ap length replies in
+    let left = length-append now (reply ++ replies_of simulated_firmware later) in
+    let both = length-append reply (replies_of simulated_firmware later) in
+    let right = length-append before (replies_of simulated_firmware commands) in
+    omega (arith, ap length same, all, left, both, right, fits)
+
+pub reply_fits : (frames rest frame rest' before now : List ℕ) (len done : ℕ) (commands : List Command)
+    → len ≡ unwrap_or (frame_len rest) 18446744073709551615 → IsSplitAt rest len frame rest'
+    → length before + length (replies_of simulated_firmware commands) ≤ 4097
+    → Answers frames rest before now done → frames ≡ frames_of commands → HaveReplies simulated_firmware commands
+    → length now + length (simulated_reply (slice_index frame 0)) ≤ 4097
+reply_fits frames rest frame rest' before now len done commands is split fits a same have =
+    let r = a.remains commands same have in
+    next_fits rest frame rest' before now len commands r.later is split fits r.frames r.have r.replies
+
+-- What the test of a result says.
+pub err_not_ok : {T E : Type 0} (result : Result T E) → IsOk result → true ≡ is_err result → ⊥
+err_not_ok (Ok value) ok is = false≢true (sym is)
+err_not_ok (Err error) ok is = false≢true ok
+
+pub if_ok : {T E : Type 0} (result : Result T E) (P : Type 0) → OnOk result P → false ≡ is_err result → P
+if_ok (Ok value) P ok is = ok
+if_ok (Err error) P ok is = absurd (false≢true is)
