@@ -7,8 +7,11 @@ use Rattle.std.proofs.lemmas.Bool.{cases_eq}
 use Rattle.std.proofs.lemmas.Bool.Decides.{Decides-eqb}
 use Rattle.std.proofs.lemmas.List.{drop-drop, drop-append-le, get_or-drop, get_or_append_left, get_or-append_right, get_or-replicate}
 use Rattle.std.proofs.Math.Seq.{take-suc, drop-cons, take-length, drop-length}
-use Rattle.nor_serprog.specs.Device.{PortState, IsReceived}
-use Rattle.nor_serprog.specs.Replies.{OnlyAsks, IsPending}
+use Rattle.nor_serprog.specs.Device.{PortState, IsReceived, IsSilent}
+use Rattle.std.specs.Prelude.{Err}
+use Rattle.nor_serprog.specs.declared.link.Failure.{Failure}
+use Rattle.nor_serprog.proofs.Replied.{power_then}
+use Rattle.nor_serprog.specs.Replies.{AsksUnlessFew, IsPortFailure, OnlyAsks, IsPending}
 use Rattle.nor_serprog.proofs.Exchanges.{UsesCalls, uses_none}
 
 -- The last 25 bytes that were received, after zeros, if `received` were received.
@@ -149,3 +152,16 @@ skipped wanted last count old now s all = record {
   worn = s.worn;
   firmware = s.firmware;
 }
+
+-- The port failed before the last byte was received.
+pub skips_err : {C : Type 0} (wanted last : List ℕ) (count : ℕ) (failure : Failure C) (old now new : PortState)
+    → count < length wanted → HasSkipped wanted last count old now → IsSilent 1 now new → IsPortFailure failure
+    → AsksUnlessFew (length wanted) (Err failure) old new
+skips_err wanted last count failure old now new some_left s silent failed =
+    let some : 1 ≤ length now.device.pending =
+    omega (arith, ap length s.pending, length-drop count wanted, some_left) in
+    record {
+      done = tt;
+      few_left = (failed, omega (arith, s.left, silent.none_left some, some_left));
+      power = power_then old.device now.device new.device s.chip s.worn silent.power;
+    }

@@ -5,7 +5,8 @@ use Rattle.nor_serprog.specs.declared.command.Command.{Command}
 use Rattle.nor_serprog.specs.declared.command.Command.TheVariants.{Nop, SyncNop}
 use Rattle.nor_serprog.specs.Firmware.{Firmware, frames_of, replies_of, HaveReplies}
 use Rattle.nor_serprog.specs.Device.{PortState, IsSent, IsCutOff, AsksFor, AreShort}
-use Rattle.nor_serprog.specs.Replies.{AwaitsCommand, OnlyAsks, AsksUnlessFew, IsPending}
+use Rattle.nor_serprog.specs.declared.link.Failure.{Failure}
+use Rattle.nor_serprog.specs.Replies.{IsPortFailure, AwaitsCommand, OnlyAsks, AsksUnlessFew, IsPending}
 use Rattle.nor_serprog.proofs.Replied.{power_then}
 
 -- The commands of `ROW`.
@@ -102,10 +103,10 @@ asks_then first second old mid new asks more = record {
 }
 
 -- The port failed when a row was to be sent.
-pub row_cut : {T E : Type 0} (commands : List Command) (bytes answers : List ℕ) (calls : ℕ) (error : E)
+pub row_cut : {C : Type 0} (commands : List Command) (bytes answers : List ℕ) (calls : ℕ) (failure : Failure C)
     (old new : PortState) → IsRow commands bytes answers → AwaitsCommand old → IsCutOff bytes old new
-    → 0 < calls → AsksUnlessFew {T = T} calls (Err error) old new
-row_cut commands bytes answers calls error old new is awaits cut some =
+    → IsPortFailure failure → 0 < calls → AsksUnlessFew calls (Err failure) old new
+row_cut commands bytes answers calls failure old new is awaits cut failed some =
     let asks = asks_row commands bytes answers old is awaits in
     let short : AreShort commands old.device = record {
       none_pending = awaits.idle.pending;
@@ -114,36 +115,36 @@ row_cut commands bytes answers calls error old new is awaits cut some =
     } in
     record {
       done = tt;
-      few_left = omega (arith, cut.unanswered commands asks short, some);
+      few_left = (failed, omega (arith, cut.unanswered commands asks short, some));
       power = cut.power commands asks;
     }
 
 -- The port failed when the replies to a row were to be received.
-pub row_missed : {T E : Type 0} (commands : List Command) (bytes answers : List ℕ) (calls : ℕ) (error : E)
+pub row_missed : {C : Type 0} (commands : List Command) (bytes answers : List ℕ) (calls : ℕ) (failure : Failure C)
     (old sent new : PortState) → IsRow commands bytes answers → AwaitsCommand old → IsSent bytes old sent
-    → AsksUnlessFew {T = T} calls (Err error) sent new → AsksUnlessFew {T = T} (calls + 1) (Err error) old new
-row_missed commands bytes answers calls error old sent new is awaits s missed =
+    → AsksUnlessFew calls (Err failure) sent new → AsksUnlessFew (calls + 1) (Err failure) old new
+row_missed commands bytes answers calls failure old sent new is awaits s missed =
     let r = s.replies commands (asks_row commands bytes answers old is awaits) in
     record {
       done = tt;
-      few_left = omega (arith, s.left, missed.few_left);
+      few_left = (missed.few_left.0, omega (arith, s.left, missed.few_left.1));
       power = power_then old.device sent.device new.device r.chip r.worn missed.power;
     }
 
 -- A failure after calls that left the chip as it was.
-pub few_then : {T E : Type 0} (first second : ℕ) (error : E) (old mid new : PortState) → OnlyAsks first old mid
-    → AsksUnlessFew {T = T} second (Err error) mid new → AsksUnlessFew {T = T} (first + second) (Err error) old new
-few_then first second error old mid new asks few = record {
+pub few_then : {C : Type 0} (first second : ℕ) (failure : Failure C) (old mid new : PortState) → OnlyAsks first old mid
+    → AsksUnlessFew second (Err failure) mid new → AsksUnlessFew (first + second) (Err failure) old new
+few_then first second failure old mid new asks few = record {
   done = tt;
-  few_left = omega (arith, asks.left, few.few_left);
+  few_left = (few.few_left.0, omega (arith, asks.left, few.few_left.1));
   power = power_then old.device mid.device new.device asks.chip asks.worn few.power;
 }
 
 -- More calls are too few, too.
-pub few_of_more : {T E : Type 0} (calls more : ℕ) (error : E) (old new : PortState) → calls ≤ more
-    → AsksUnlessFew {T = T} calls (Err error) old new → AsksUnlessFew {T = T} more (Err error) old new
-few_of_more calls more error old new within few = record {
+pub few_of_more : {C : Type 0} (calls more : ℕ) (failure : Failure C) (old new : PortState) → calls ≤ more
+    → AsksUnlessFew calls (Err failure) old new → AsksUnlessFew more (Err failure) old new
+few_of_more calls more failure old new within few = record {
   done = tt;
-  few_left = omega (arith, within, few.few_left);
+  few_left = (few.few_left.0, omega (arith, within, few.few_left.1));
   power = few.power;
 }

@@ -1,6 +1,6 @@
 -- The limits of a programmer and what it has, as it reported them when it was identified.
-use Rattle.std.specs.Prelude.{ℕ, Bool}
-use Rattle.nor_serprog.specs.declared.handshake.Programmer.{Programmer}
+use Rattle.std.specs.Prelude.{ℕ, Bool, List, Option}
+use Rattle.nor_serprog.specs.declared.programmer.Programmer.{Programmer}
 
 -- The greatest number of bytes that a transaction may send.
 abbrev pub writes_most : Programmer → ℕ
@@ -13,3 +13,15 @@ reads_most programmer = programmer.longest_read
 -- True if the programmer has the command S_SPI_CS.
 abbrev pub has_chip_selects : Programmer → Bool
 has_chip_selects programmer = programmer.selects
+
+-- The name of the programmer.
+abbrev pub name_of : Programmer → List ℕ
+name_of programmer = programmer.name
+
+-- The size of the serial buffer.
+abbrev pub buffer_of : Programmer → ℕ
+buffer_of programmer = programmer.serial_buffer
+
+-- The clock in hertz that the programmer set, if one was requested.
+abbrev pub frequency_of : Programmer → Option ℕ
+frequency_of programmer = programmer.frequency

@@ -20,13 +20,6 @@ pub record OnlyAsks (calls : ℕ) (old new : PortState) : Type 0 where
   pub worn : new.device.worn ≡ old.device.worn
   pub firmware : new.device.firmware ≡ old.device.firmware
 
--- Success, after at most this number of calls (`OnlyAsks`); or a failure of the port, because fewer were left. After a
--- failure the chip is as it was, or has lost its power.
-pub record AsksUnlessFew {T E : Type 0} (calls : ℕ) (result : Result T E) (old new : PortState) : Type 0 where
-  pub done : OnOk result (OnlyAsks calls old new)
-  pub few_left : OnErr result (old.left < calls)
-  pub power : OnErr result (MayLoseDevicePower old.device new.device)
-
 -- The port is honest, no command is begun, and these bytes are pending, at most 25. The first is not 0.
 pub record IsPending (bytes : List ℕ) (port : PortState) : Type 0 where
   pub honest : port.honest ≡ true
@@ -40,6 +33,13 @@ pub record IsPending (bytes : List ℕ) (port : PortState) : Type 0 where
 abbrev pub IsPortFailure : {C : Type 0} → Failure C → Type 0
 IsPortFailure (Port cause) = ⊤
 IsPortFailure _ = ⊥
+
+-- Success, after at most this number of calls (`OnlyAsks`); or a failure of the port, because fewer were left. After a
+-- failure the chip is as it was, or has lost its power.
+pub record AsksUnlessFew {C : Type 0} (calls : ℕ) (result : Result Unit (Failure C)) (old new : PortState) : Type 0 where
+  pub done : OnOk result (OnlyAsks calls old new)
+  pub few_left : IfErr result (λ failure. IsPortFailure failure × (old.left < calls))
+  pub power : OnErr result (MayLoseDevicePower old.device new.device)
 
 -- Holds if the programmer replied NAK to a command with this opcode.
 abbrev pub IsRefusal : {C : Type 0} → (opcode : ℕ) → Failure C → Type 0

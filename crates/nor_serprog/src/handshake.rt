@@ -1,9 +1,15 @@
 //! The handshake that precedes the first transaction: identifies a programmer, and prepares it for SPI.
-ghost use Rattle.std.specs.Prelude.{◌≡◌, ◌≤◌, true, false, OnOk, IsErr};
-ghost use Rattle.nor_serprog.specs.Link.{is_in_step};
+ghost use Rattle.std.specs.Prelude.{◌≡◌, ◌<◌, ◌≤◌, ℕ, Bool, true, false, List, length, slice_index, None, Some, OnOk, IfOk, IsErr};
+ghost use Rattle.std.specs.Prelude.{option_and_then, replicate, if◌then◌else◌, ◌||◌, ◌&&◌, ◌==◌, not, bit_and, ⊤};
+ghost use Rattle.nor_serprog.specs.Firmware.{Firmware, HasReply, has, is_in_map, reply_of, queried, taken};
+ghost use Rattle.nor_serprog.specs.Frame.{frame_of, three_of};
+ghost use Rattle.nor_serprog.specs.Link.{port_of, is_in_step, is_cut};
+ghost use Rattle.nor_serprog.specs.Replies.{AwaitsCommand};
+ghost use Rattle.nor_serprog.specs.Identify.{Asked, Concludes, IsReady, IsProgrammerOf, identify_fault, select_fault};
+ghost use Rattle.nor_serprog.specs.Identify.{version_fault, operation_fault, buses_fault, write_fault, read_fault};
+ghost use Rattle.nor_serprog.specs.Identify.{buffer_fault, clock_fault, refused, buses_of, write_limit, read_limit, limit_in};
 
-use crate::{Command, Failure, LONGEST_OUT, Link, Port};
-use thiserror::Error;
+use crate::{Command, HandshakeFault, LONGEST_OUT, Link, Port, Programmer};
 
 /// The number of bytes that a transaction must be able to read: a sector.
 pub const LONGEST_REPLY: u32 = 4096;
@@ -21,55 +27,12 @@ const S_BUSTYPE: u8 = 0x12;
 
 const O_SPIOP: u8 = 0x13;
 
+const S_PIN_STATE: u8 = 0x15;
+
 const S_SPI_CS: u8 = 0x16;
 
-/// Why a programmer cannot be used. `C` is the cause of the port.
-#[derive(Debug, Drop, Error)]
-#[error_bound(C: std::fmt::Display)]
-pub enum HandshakeFault<C> {
-    /// An exchange failed.
-    #[error("{0}")]
-    Failure(Failure<C>),
-    /// The programmer speaks another version of the protocol.
-    #[error("the programmer speaks version {0} of serprog, and only version 1 is known")]
-    Version(u16),
-    /// The programmer lacks the command with this opcode. For `identify` that is O_SPIOP (13h), or S_SPI_FREQ (14h) if
-    /// a clock was requested; for `select_chip` it is S_SPI_CS (16h).
-    #[error("the programmer lacks command {0:02X}h, which is needed here")]
-    Lacks(u8),
-    /// The programmer doesn't support SPI, or supports other types of bus too and has no command that selects one. The
-    /// value is the flags that it returned: 1 parallel, 2 LPC, 4 FWH, 8 SPI.
-    #[error("the programmer cannot be set to SPI: its types of bus are {0:02X}h")]
-    NotSpi(u8),
-    /// An O_SPIOP may send at most this many bytes, and a page program needs 260.
-    #[error("the programmer sends at most {0} bytes in a transaction, and a page program needs 260")]
-    WriteLimit(u32),
-    /// An O_SPIOP may read at most this many bytes, and reading a sector needs 4,096.
-    #[error("the programmer reads at most {0} bytes in a transaction, and a sector needs 4096")]
-    ReadLimit(u32),
-    /// The programmer lacks Q_WRNMAXLEN, so its serial buffer limits the length of a frame. The buffer has this many
-    /// bytes, and the longest frame has 267.
-    #[error("the serial buffer of the programmer has {0} bytes, and a page program needs 267")]
-    SmallBuffer(u16),
-}
-
-/// The replies of a programmer to its identification.
-#[derive(Clone, Copy, Debug, PartialEq, Eq)]
-pub struct Programmer {
-    name: [u8; 16],
-    longest_write: u32,
-    longest_read: u32,
-    serial_buffer: u16,
-    frequency: Option<u32>,
-    // The programmer has the command S_SPI_CS.
-    selects: bool,
-    // A transaction may send a page program, and read a sector.
-    ghost writes: { 260 ≤ longest_write },
-    ghost reads: { 4096 ≤ longest_read },
-}
-
 impl Programmer {
-    ghost use Rattle.nor_serprog.specs.Programmer.{has_chip_selects, reads_most, writes_most};
+    ghost use Rattle.nor_serprog.specs.Programmer.{has_chip_selects};
 
     /// Identifies the programmer on a new link, and prepares it for SPI transactions. It sends no transaction, so the
     /// chip is not selected.
@@ -88,27 +51,31 @@ impl Programmer {
     ///
     /// A step whose command the programmer's map lacks is skipped. It is an error, however, if `hertz` is given and the
     /// map lacks S_SPI_FREQ. (serprog protocol, flashrom's Documentation/serprog-protocol.txt.)
+    ///
+    /// Over an honest port to a programmer that waits for a command, the programmer's firmware determines the result,
+    /// unless the port fails because fewer than 59 calls were left. The programmer then waits for a command again, and
+    /// its chip is as it was. The link must not be cut off for that.
     pub fn identify<P: Port + Drop>(
         link: &mut Link<P>,
         hertz: Option<u32>,
     ) -> Result<Programmer, HandshakeFault<P::Cause>>
-        ensures { OnOk result (is_in_step link.new ≡ true) }
+        ensures in_step { OnOk result (is_in_step link.new ≡ true) }
+        ensures identifies { AwaitsCommand (P.state (port_of link.old)) → is_cut link.old ≡ false
+            → Concludes 59 (identify_fault (P.state (port_of link.old)).device.firmware hertz)
+            (IsProgrammerOf (P.state (port_of link.old)).device.firmware hertz) result
+            (P.state (port_of link.old)) (P.state (port_of link.new)) }
     {
         synchronize(link)?;
+        require_version(link)?;
         let commands = query_commands(link)?;
-        select_spi(link, &commands)?;
-        let longest_write = query_limit(link, &commands, Command::QueryLongestWrite, 0x08)?;
-        if longest_write < LONGEST_OUT as u32 {
-            return Err(HandshakeFault::WriteLimit(longest_write));
-        }
-        let longest_read = query_limit(link, &commands, Command::QueryLongestRead, 0x11)?;
-        if longest_read < LONGEST_REPLY {
-            return Err(HandshakeFault::ReadLimit(longest_read));
-        }
+        require_spi(link, &commands)?;
+        set(link, &commands, Command::SetBuses(SPI), S_BUSTYPE)?;
+        let longest_write = query_write_limit(link, &commands)?;
+        let longest_read = query_read_limit(link, &commands)?;
         let serial_buffer = query_buffer(link, &commands)?;
         let name = query_name(link, &commands)?;
         let frequency = set_frequency(link, &commands, hertz)?;
-        enable_pins(link, &commands)?;
+        set(link, &commands, Command::SetPins(true), S_PIN_STATE)?;
         Ok(Programmer {
             name,
             longest_write,
@@ -133,58 +100,38 @@ impl Programmer {
         ensures unsent { has_chip_selects self.now ≡ false → link.new ≡ link.old }
         ensures lacks { has_chip_selects self.now ≡ false → IsErr result }
         ensures ok { OnOk result (is_in_step link.new ≡ true) }
+        ensures selects { (firmware : Firmware) → IsReady P.state firmware link.old
+            → has_chip_selects self.now ≡ has firmware 0x16
+            → Concludes 3 (select_fault firmware number) (λ _. ⊤) result
+            (P.state (port_of link.old)) (P.state (port_of link.new)) }
     {
         if !self.selects {
             return Err(HandshakeFault::Lacks(S_SPI_CS));
         }
         ask(link, Command::SelectChip(number), &mut [])
     }
-
-    /// Returns the name of the programmer, 16 bytes padded with zeros. It is all zeros if the programmer has none.
-    pub fn name(&self) -> [u8; 16] {
-        self.name
-    }
-
-    /// Returns the greatest number of bytes that a transaction may send, which is at least 260.
-    pub fn longest_write(&self) -> u32
-        ensures value { result ≡ writes_most self.now }
-        ensures enough { 260 ≤ result }
-    {
-        self.longest_write
-    }
-
-    /// Returns the greatest number of bytes that a transaction may read, which is at least 4,096.
-    pub fn longest_read(&self) -> u32
-        ensures value { result ≡ reads_most self.now }
-        ensures enough { 4096 ≤ result }
-    {
-        self.longest_read
-    }
-
-    /// Returns the size of the serial buffer in bytes, or 0 if the programmer lacks the query (Q_SERBUF). That number
-    /// of bytes may be sent before their replies are read.
-    pub fn serial_buffer(&self) -> u16 {
-        self.serial_buffer
-    }
-
-    /// Returns the clock in hertz that the programmer set, or `None` if no clock was requested.
-    pub fn frequency(&self) -> Option<u32> {
-        self.frequency
-    }
 }
 
 /// The commands that a programmer has: command `n` is bit `n % 8` of byte `n / 8`.
 type Map = [u8; 32];
 
-fn offers(commands: &Map, opcode: u8) -> bool {
+// Returns whether the map has the command with this opcode.
+fn offers(commands: &Map, opcode: u8) -> bool
+    ensures { result ≡ is_in_map commands.now opcode }
+{
     let byte = commands.get(usize::from(opcode / 8)).copied().unwrap_or(0);
     byte >> (opcode % 8) & 1 == 1
 }
 
 fn synchronize<P: Port + Drop>(link: &mut Link<P>) -> Result<(), HandshakeFault<P::Cause>>
-    ensures { OnOk result (is_in_step link.new ≡ true) }
+    ensures in_step { OnOk result (is_in_step link.new ≡ true) }
+    ensures concludes { AwaitsCommand (P.state (port_of link.old)) → is_cut link.old ≡ false
+        → Concludes 29 None (λ _. ⊤) result (P.state (port_of link.old)) (P.state (port_of link.new)) }
 {
-    link.synchronize().map_err(HandshakeFault::Failure)
+    match link.synchronize() {
+        Ok(()) => Ok(()),
+        Err(failure) => Err(HandshakeFault::Failure(failure)),
+    }
 }
 
 // Makes one exchange of the handshake.
@@ -193,15 +140,65 @@ fn ask<P: Port + Drop>(
     command: Command<'_>,
     reply: &mut [u8],
 ) -> Result<(), HandshakeFault<P::Cause>>
-    ensures { OnOk result (is_in_step link.new ≡ true) }
+    ensures in_step { OnOk result (is_in_step link.new ≡ true) }
+    ensures asked { (firmware : Firmware) → IsReady P.state firmware link.old → HasReply firmware command.entry
+        → Asked firmware command.entry (length reply.old) reply.new result
+        (P.state (port_of link.old)) (P.state (port_of link.new)) }
 {
-    link.exchange(command, reply)
-        .map_err(HandshakeFault::Failure)
+    match link.exchange(command, reply) {
+        Ok(()) => Ok(()),
+        Err(failure) => Err(HandshakeFault::Failure(failure)),
+    }
 }
 
-// Returns the map of commands. Returns `Version` or `Lacks` if the programmer doesn't speak version 1 or lacks O_SPIOP.
-fn query_commands<P: Port + Drop>(link: &mut Link<P>) -> Result<Map, HandshakeFault<P::Cause>>
-    ensures { is_in_step link.old ≡ true → OnOk result (is_in_step link.new ≡ true) }
+// Returns the reply to a query, or `None` if the programmer lacks the query, which has this opcode.
+fn query<P: Port + Drop, const LEN: usize>(
+    link: &mut Link<P>,
+    commands: &Map,
+    query: Command<'_>,
+    opcode: u8,
+) -> Result<Option<[u8; LEN]>, HandshakeFault<P::Cause>>
+    ensures in_step { is_in_step link.old ≡ true → OnOk result (is_in_step link.new ≡ true) }
+    ensures concludes { (firmware : Firmware) (bytes : List ℕ) → IsReady P.state firmware link.old
+        → commands.now ≡ firmware.commands → HasReply firmware query.entry
+        → reply_of firmware query.entry ≡ queried firmware opcode bytes → length bytes ≡ LEN
+        → Concludes 3 None (λ reply. reply ≡ (if has firmware opcode then Some bytes else None)) result
+        (P.state (port_of link.old)) (P.state (port_of link.new)) }
+{
+    if !offers(commands, opcode) {
+        return Ok(None);
+    }
+    let mut reply = [0; LEN];
+    ask(link, query, &mut reply)?;
+    Ok(Some(reply))
+}
+
+// Makes a setting. Sends nothing if the programmer lacks the command of the setting, which has this opcode.
+fn set<P: Port + Drop>(
+    link: &mut Link<P>,
+    commands: &Map,
+    setting: Command<'_>,
+    opcode: u8,
+) -> Result<(), HandshakeFault<P::Cause>>
+    ensures in_step { is_in_step link.old ≡ true → OnOk result (is_in_step link.new ≡ true) }
+    ensures concludes { (firmware : Firmware) (accepts : Bool) → IsReady P.state firmware link.old
+        → commands.now ≡ firmware.commands → (has firmware opcode ≡ true → HasReply firmware setting.entry)
+        → reply_of firmware setting.entry ≡ taken accepts → slice_index (frame_of setting.entry) 0 ≡ opcode
+        → Concludes 3 (refused opcode (has firmware opcode) accepts) (λ _. ⊤) result
+        (P.state (port_of link.old)) (P.state (port_of link.new)) }
+{
+    if !offers(commands, opcode) {
+        return Ok(());
+    }
+    ask(link, setting, &mut [])
+}
+
+// Returns `Version` if the programmer doesn't speak version 1.
+fn require_version<P: Port + Drop>(link: &mut Link<P>) -> Result<(), HandshakeFault<P::Cause>>
+    ensures in_step { is_in_step link.old ≡ true → OnOk result (is_in_step link.new ≡ true) }
+    ensures concludes { (firmware : Firmware) → IsReady P.state firmware link.old
+        → Concludes 3 (version_fault firmware) (λ _. ⊤) result
+        (P.state (port_of link.old)) (P.state (port_of link.new)) }
 {
     let mut version = [0; 2];
     ask(link, Command::QueryInterface, &mut version)?;
@@ -209,6 +206,16 @@ fn query_commands<P: Port + Drop>(link: &mut Link<P>) -> Result<Map, HandshakeFa
     if version != 1 {
         return Err(HandshakeFault::Version(version));
     }
+    Ok(())
+}
+
+// Returns the map of commands, or `Lacks` if the programmer lacks O_SPIOP.
+fn query_commands<P: Port + Drop>(link: &mut Link<P>) -> Result<Map, HandshakeFault<P::Cause>>
+    ensures in_step { is_in_step link.old ≡ true → OnOk result (is_in_step link.new ≡ true) }
+    ensures concludes { (firmware : Firmware) → IsReady P.state firmware link.old
+        → Concludes 3 (operation_fault firmware) (λ commands. commands ≡ firmware.commands) result
+        (P.state (port_of link.old)) (P.state (port_of link.new)) }
+{
     let mut commands = [0; 32];
     ask(link, Command::QueryCommands, &mut commands)?;
     if !offers(&commands, O_SPIOP) {
@@ -217,46 +224,96 @@ fn query_commands<P: Port + Drop>(link: &mut Link<P>) -> Result<Map, HandshakeFa
     Ok(commands)
 }
 
-fn select_spi<P: Port + Drop>(
+// Returns `NotSpi` if the programmer can't be set to SPI.
+fn require_spi<P: Port + Drop>(
     link: &mut Link<P>,
     commands: &Map,
 ) -> Result<(), HandshakeFault<P::Cause>>
-    ensures { is_in_step link.old ≡ true → OnOk result (is_in_step link.new ≡ true) }
+    ensures in_step { is_in_step link.old ≡ true → OnOk result (is_in_step link.new ≡ true) }
+    ensures concludes { (firmware : Firmware) → IsReady P.state firmware link.old
+        → commands.now ≡ firmware.commands → Concludes 3 (buses_fault firmware) (λ _. ⊤) result
+        (P.state (port_of link.old)) (P.state (port_of link.new)) }
 {
-    let mut buses = [SPI];
-    if offers(commands, 0x05) {
-        ask(link, Command::QueryBuses, &mut buses)?;
-    }
-    let [buses] = buses;
-    let selects = offers(commands, S_BUSTYPE);
-    if buses & SPI == 0 || buses != SPI && !selects {
+    let buses = query_buses(link, commands)?;
+    if !can_select_spi(buses, offers(commands, S_BUSTYPE)) {
         return Err(HandshakeFault::NotSpi(buses));
-    }
-    if selects {
-        ask(link, Command::SetBuses(SPI), &mut [])?;
     }
     Ok(())
 }
 
-// Returns a limit of the programmer. The limit is 2^24 if the programmer lacks the query with this opcode, or returns
-// 0.
-fn query_limit<P: Port + Drop>(
+// Returns the flags of the types of bus, or SPI if the programmer lacks the query.
+fn query_buses<P: Port + Drop>(
     link: &mut Link<P>,
     commands: &Map,
-    query: Command<'_>,
-    opcode: u8,
-) -> Result<u32, HandshakeFault<P::Cause>>
-    ensures { is_in_step link.old ≡ true → OnOk result (is_in_step link.new ≡ true) }
+) -> Result<u8, HandshakeFault<P::Cause>>
+    ensures in_step { is_in_step link.old ≡ true → OnOk result (is_in_step link.new ≡ true) }
+    ensures concludes { (firmware : Firmware) → IsReady P.state firmware link.old
+        → commands.now ≡ firmware.commands → Concludes 3 None (λ buses. buses ≡ buses_of firmware) result
+        (P.state (port_of link.old)) (P.state (port_of link.new)) }
 {
-    if !offers(commands, opcode) {
-        return Ok(NO_LIMIT);
+    let reply: Option<[u8; 1]> = query(link, commands, Command::QueryBuses, 0x05)?;
+    match reply {
+        Some(bytes) => Ok(bytes[0]),
+        None => Ok(SPI),
     }
-    let mut limit = [0; 3];
-    ask(link, query, &mut limit)?;
-    let [low, middle, high] = limit;
+}
+
+// Returns whether a programmer with these types of bus can be set to SPI. `selects`: it has S_BUSTYPE.
+fn can_select_spi(buses: u8, selects: bool) -> bool
+    ensures { result ≡ (not (bit_and buses 8 == 0) && (buses == 8 || selects)) }
+{
+    buses & SPI != 0 && (buses == SPI || selects)
+}
+
+fn query_write_limit<P: Port + Drop>(
+    link: &mut Link<P>,
+    commands: &Map,
+) -> Result<u32, HandshakeFault<P::Cause>>
+    ensures enough { IfOk result (λ limit. 260 ≤ limit) }
+    ensures in_step { is_in_step link.old ≡ true → OnOk result (is_in_step link.new ≡ true) }
+    ensures concludes { (firmware : Firmware) → IsReady P.state firmware link.old
+        → commands.now ≡ firmware.commands
+        → Concludes 3 (write_fault firmware) (λ limit. limit ≡ write_limit firmware) result
+        (P.state (port_of link.old)) (P.state (port_of link.new)) }
+{
+    let limit = limit_of(query(link, commands, Command::QueryLongestWrite, 0x08)?);
+    if limit < LONGEST_OUT as u32 {
+        return Err(HandshakeFault::WriteLimit(limit));
+    }
+    Ok(limit)
+}
+
+fn query_read_limit<P: Port + Drop>(
+    link: &mut Link<P>,
+    commands: &Map,
+) -> Result<u32, HandshakeFault<P::Cause>>
+    ensures enough { IfOk result (λ limit. 4096 ≤ limit) }
+    ensures in_step { is_in_step link.old ≡ true → OnOk result (is_in_step link.new ≡ true) }
+    ensures concludes { (firmware : Firmware) → IsReady P.state firmware link.old
+        → commands.now ≡ firmware.commands
+        → Concludes 3 (read_fault firmware) (λ limit. limit ≡ read_limit firmware) result
+        (P.state (port_of link.old)) (P.state (port_of link.new)) }
+{
+    let limit = limit_of(query(link, commands, Command::QueryLongestRead, 0x11)?);
+    if limit < LONGEST_REPLY {
+        return Err(HandshakeFault::ReadLimit(limit));
+    }
+    Ok(limit)
+}
+
+// Returns a limit from the reply to its query. The limit is 2^24 if the programmer lacks the query, or returned 0.
+fn limit_of(reply: Option<[u8; 3]>) -> u32
+    ensures { (offered : Bool) (limit : ℕ) → limit < 16777216
+        → reply ≡ (if offered then Some (three_of limit) else None) → result ≡ limit_in offered limit }
+{
+    let bytes = match reply {
+        Some(bytes) => bytes,
+        None => return NO_LIMIT,
+    };
+    let [low, middle, high] = bytes;
     match u32::from_le_bytes([low, middle, high, 0]) {
-        0 => Ok(NO_LIMIT),
-        limit => Ok(limit),
+        0 => NO_LIMIT,
+        limit => limit,
     }
 }
 
@@ -267,15 +324,20 @@ fn query_buffer<P: Port + Drop>(
     link: &mut Link<P>,
     commands: &Map,
 ) -> Result<u16, HandshakeFault<P::Cause>>
-    ensures { is_in_step link.old ≡ true → OnOk result (is_in_step link.new ≡ true) }
+    ensures in_step { is_in_step link.old ≡ true → OnOk result (is_in_step link.new ≡ true) }
+    ensures concludes { (firmware : Firmware) → IsReady P.state firmware link.old
+        → commands.now ≡ firmware.commands → Concludes 3 (buffer_fault firmware)
+        (λ size. size ≡ (if has firmware 0x04 then firmware.buffer else 0)) result
+        (P.state (port_of link.old)) (P.state (port_of link.new)) }
 {
-    if !offers(commands, 0x04) {
-        return Ok(0);
+    let size = match query(link, commands, Command::QuerySerialBuffer, 0x04)? {
+        Some(size) => u16::from_le_bytes(size),
+        None => return Ok(0),
+    };
+    if offers(commands, 0x08) {
+        return Ok(size);
     }
-    let mut size = [0; 2];
-    ask(link, Command::QuerySerialBuffer, &mut size)?;
-    let size = u16::from_le_bytes(size);
-    if size < LONGEST_FRAME && !offers(commands, 0x08) {
+    if size < LONGEST_FRAME {
         return Err(HandshakeFault::SmallBuffer(size));
     }
     Ok(size)
@@ -285,13 +347,14 @@ fn query_name<P: Port + Drop>(
     link: &mut Link<P>,
     commands: &Map,
 ) -> Result<[u8; 16], HandshakeFault<P::Cause>>
-    ensures { is_in_step link.old ≡ true → OnOk result (is_in_step link.new ≡ true) }
+    ensures in_step { is_in_step link.old ≡ true → OnOk result (is_in_step link.new ≡ true) }
+    ensures concludes { (firmware : Firmware) → IsReady P.state firmware link.old
+        → commands.now ≡ firmware.commands → Concludes 3 None
+        (λ name. name ≡ (if has firmware 0x03 then firmware.name else replicate 16 0)) result
+        (P.state (port_of link.old)) (P.state (port_of link.new)) }
 {
-    let mut name = [0; 16];
-    if offers(commands, 0x03) {
-        ask(link, Command::QueryName, &mut name)?;
-    }
-    Ok(name)
+    let name = query(link, commands, Command::QueryName, 0x03)?;
+    Ok(name.unwrap_or([0; 16]))
 }
 
 fn set_frequency<P: Port + Drop>(
@@ -299,7 +362,11 @@ fn set_frequency<P: Port + Drop>(
     commands: &Map,
     hertz: Option<u32>,
 ) -> Result<Option<u32>, HandshakeFault<P::Cause>>
-    ensures { is_in_step link.old ≡ true → OnOk result (is_in_step link.new ≡ true) }
+    ensures in_step { is_in_step link.old ≡ true → OnOk result (is_in_step link.new ≡ true) }
+    ensures concludes { (firmware : Firmware) → IsReady P.state firmware link.old
+        → commands.now ≡ firmware.commands → Concludes 3 (clock_fault firmware hertz)
+        (λ set. set ≡ option_and_then firmware.clock hertz) result
+        (P.state (port_of link.old)) (P.state (port_of link.new)) }
 {
     let hertz = match hertz {
         Some(hertz) => hertz,
@@ -311,16 +378,4 @@ fn set_frequency<P: Port + Drop>(
     let mut set = [0; 4];
     ask(link, Command::SetFrequency(hertz), &mut set)?;
     Ok(Some(u32::from_le_bytes(set)))
-}
-
-fn enable_pins<P: Port + Drop>(
-    link: &mut Link<P>,
-    commands: &Map,
-) -> Result<(), HandshakeFault<P::Cause>>
-    ensures { is_in_step link.old ≡ true → OnOk result (is_in_step link.new ≡ true) }
-{
-    if offers(commands, 0x15) {
-        ask(link, Command::SetPins(true), &mut [])?;
-    }
-    Ok(())
 }

@@ -5,6 +5,7 @@
 //! - `port.rt`: the contract of a port to a programmer
 //! - `link.rt`: exchanges of a frame and its reply, and synchronization
 //! - `handshake.rt`: identifies a programmer and prepares it for SPI
+//! - `programmer.rt`: what a programmer replied when it was identified, or why it cannot be used
 //! - `bus.rt`: the bus; one transaction is one O_SPIOP
 //! - `batch.rt`: frames that are sent together
 //! - `batching.rt`: a bus that sends modifying commands together with the next transaction
@@ -22,14 +23,15 @@ mod handshake;
 mod link;
 mod paced;
 mod port;
+mod programmer;
 mod twice;
 
 pub use ahead::ReadAhead;
 pub use batching::BatchingBus;
 pub use bus::SerprogBus;
 pub use command::{Answer, Command, Frame, LONGEST_OUT, TooLong, frame_len};
-pub use handshake::{HandshakeFault, Programmer};
 pub use link::{Failure, Link, Sync};
 pub use paced::Paced;
 pub use port::Port;
+pub use programmer::{HandshakeFault, Programmer};
 pub use twice::ReadTwice;

@@ -274,6 +274,7 @@ fn send_all<P: Port>(port: &mut P, bytes: &[u8]) -> Result<(), Failure<P::Cause>
         → OnOk result (IsSent bytes.now (P.state port.old) (P.state port.new)) }
     ensures cut_off { (P.state port.old).honest ≡ true
         → OnErr result (IsCutOff bytes.now (P.state port.old) (P.state port.new)) }
+    ensures cause { IfErr result IsPortFailure }
 {
     port.send(bytes).map_err(Failure::Port)
 }
@@ -351,6 +352,7 @@ fn receive_one<P: Port>(port: &mut P) -> Result<u8, Failure<P::Cause>>
         → IfOk result (λ byte. IsReceived (byte ∷ []) (P.state port.old) (P.state port.new)) }
     ensures silent { (P.state port.old).honest ≡ true
         → OnErr result (IsSilent 1 (P.state port.old) (P.state port.new)) }
+    ensures cause { IfErr result IsPortFailure }
 {
     let mut byte = [0];
     port.receive(&mut byte).map_err(Failure::Port)?;

@@ -9,7 +9,7 @@ returns-in_err-send_all-clause-synchronized g c awaits whole =
     let p = err_from_is_err_and c.from_residual.result c.from_residual.ensures.1 in
     rw (p.1, p.2)
     (row_cut (SyncNop ∷ []) _ _ 29 _ (g.P.Port.state c.args.self.now.port) (g.P.Port.state c.send_all.new.port)
-    sync_row awaits (c.in_err-send_all.ensures.cut_off awaits.honest) (omega arith))
+    sync_row awaits (c.in_err-send_all.ensures.cut_off awaits.honest) c.in_err-send_all.ensures.cause (omega arith))
 
 pub returns-in_err-skip_past-clause-synchronized : goal.returns-in_err-skip_past-clause-synchronized
 returns-in_err-skip_past-clause-synchronized g c awaits whole =
@@ -36,7 +36,7 @@ returns-in_err-send_all-2-clause-synchronized g c awaits whole =
     rw (p.1, p.2)
     (few_then 3 26 _ old mid new first
     (row_cut row _ _ 26 _ mid new whole_row first.awaits (c.in_err-send_all-2.ensures.cut_off first.awaits.honest)
-    (omega arith)))
+    c.in_err-send_all-2.ensures.cause (omega arith)))
 
 pub returns-in_err-skip_past-2-clause-synchronized : goal.returns-in_err-skip_past-2-clause-synchronized
 returns-in_err-skip_past-2-clause-synchronized g c awaits whole =

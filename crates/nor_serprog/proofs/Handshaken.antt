@@ -1,0 +1,345 @@
+-- The steps of a handshake over an honest port.
+use Rattle.std.proofs.Common.{◌≡◌, ◌∙◌, ◌+◌, ◌<◌, ◌≤◌, ◌≢◌, inl, inr, true, false, ℕ, Bool, List, [], ◌∷◌, refl, sym, subst, ap, arith}
+use Rattle.std.specs.Prelude.{nat_lt, bit_and, not, ◌&&◌, ◌||◌, ◌==◌, IfSome, unwrap_or, option_and_then, slice_index, if◌then◌else◌, Option, None, Some, Result, Ok, Err, ⊤}
+use Rattle.std.specs.Option.{option_or}
+use Rattle.nor_serprog.specs.declared.command.Command.{Command}
+use Rattle.nor_serprog.specs.declared.command.Command.TheVariants.{SetFrequency}
+use Rattle.std.specs.Int.{w16, w32, from_le_bytes}
+use Rattle.std.proofs.lemmas.Nat.{from_le_bytes-to_le_bytes_2, from_le_bytes-to_le_bytes_4}
+use Rattle.nor_serprog.specs.declared.programmer.HandshakeFault.{HandshakeFault}
+use Rattle.nor_serprog.specs.declared.programmer.HandshakeFault.TheVariants as Faults
+use Rattle.nor_serprog.specs.declared.link.Failure.TheVariants.{Refused}
+use Rattle.nor_serprog.specs.declared.link.Link.{Link}
+use Rattle.nor_serprog.specs.Device.{PortState}
+use Rattle.std.proofs.lemmas.Bool.{cases_Bool}
+use Rattle.std.proofs.lemmas.Bool.Decides.{Decides-ltb, Decides-eqb}
+use Rattle.nor_serprog.specs.Firmware.{Firmware, has, is_in_map, queried, reply_of, taken, clocked, two_of, nak}
+use Rattle.nor_serprog.specs.Frame.{frame_of, four_of}
+use Rattle.nor_serprog.specs.Link.{is_in_step}
+use Rattle.nor_serprog.specs.Replies.{AwaitsCommand, OnlyAsks}
+use Rattle.nor_serprog.specs.Identify.{Concludes, Asked, IsReady, refused, clock_fault, clock_refused}
+use Rattle.nor_serprog.proofs.Replied.{power_then}
+use Rattle.nor_serprog.proofs.Synchronized.{asks_then}
+
+-- ---- one step
+
+-- A step that sent nothing.
+pub passes : {T C : Type 0} (calls : ℕ) (fault : Option (HandshakeFault C)) (IsValue : T → Type 0) (value : T)
+    (state : PortState) → AwaitsCommand state → fault ≡ None → IsValue value
+    → Concludes calls fault IsValue (Ok value) state state
+passes calls fault IsValue value state awaits usable is = record {
+  usable = usable;
+  value = is;
+  asks = record { left = omega arith; awaits = awaits; chip = refl; worn = refl; firmware = refl };
+  fails = tt;
+  power = tt;
+}
+
+-- A step that sent nothing, and failed.
+pub stops : {T C : Type 0} (calls : ℕ) (fault : Option (HandshakeFault C)) (IsValue : T → Type 0)
+    (error : HandshakeFault C) (state : PortState) → fault ≡ Some error
+    → Concludes calls fault IsValue (Err error) state state
+stops calls fault IsValue error state found = record {
+  usable = tt;
+  value = tt;
+  asks = tt;
+  fails = inl found;
+  power = record { chip = inl refl; worn = λ s. refl };
+}
+
+-- The calls of a step that succeeded.
+pub goes_on : {T T' C : Type 0} (calls : ℕ) (fault fault' : Option (HandshakeFault C)) (IsValue : T → Type 0)
+    (IsValue' : T' → Type 0) (value : T) (value' : T') (old new : PortState)
+    → Concludes calls fault IsValue (Ok value) old new → fault' ≡ None → IsValue' value'
+    → Concludes calls fault' IsValue' (Ok value') old new
+goes_on calls fault fault' IsValue IsValue' value value' old new done usable is = record {
+  usable = usable;
+  value = is;
+  asks = done.asks;
+  fails = tt;
+  power = tt;
+}
+
+-- A step that failed after calls that succeeded.
+pub stops_after : {T T' C : Type 0} (calls : ℕ) (fault fault' : Option (HandshakeFault C)) (IsValue : T → Type 0)
+    (IsValue' : T' → Type 0) (value : T) (error : HandshakeFault C) (old new : PortState)
+    → Concludes calls fault IsValue (Ok value) old new → fault' ≡ Some error
+    → Concludes calls fault' IsValue' (Err error) old new
+stops_after calls fault fault' IsValue IsValue' value error old new done found = record {
+  usable = tt;
+  value = tt;
+  asks = tt;
+  fails = inl found;
+  power = record { chip = inl done.asks.chip; worn = λ s. ap (λ (w : ℕ → Bool). w s) done.asks.worn };
+}
+
+-- A step that failed because a call in it did.
+pub fails_as : {T T' C : Type 0} (calls : ℕ) (fault fault' : Option (HandshakeFault C)) (IsValue : T → Type 0)
+    (IsValue' : T' → Type 0) (error : HandshakeFault C) (old new : PortState)
+    → Concludes calls fault IsValue (Err error) old new → (fault ≡ Some error → fault' ≡ Some error)
+    → Concludes calls fault' IsValue' (Err error) old new
+fails_as calls fault fault' IsValue IsValue' error old new failed same = record {
+  usable = tt;
+  value = tt;
+  asks = tt;
+  fails = elim failed.fails [ inl found ↦ inl (same found) | inr few ↦ inr few ];
+  power = failed.power;
+}
+
+-- A call that nothing stands against fails only because the port does.
+pub fails_anyhow : {T T' C : Type 0} (calls : ℕ) (fault' : Option (HandshakeFault C)) (IsValue : T → Type 0)
+    (IsValue' : T' → Type 0) (error : HandshakeFault C) (old new : PortState)
+    → Concludes calls None IsValue (Err error) old new → Concludes calls fault' IsValue' (Err error) old new
+fails_anyhow calls fault' IsValue IsValue' error old new failed =
+    fails_as calls None fault' IsValue IsValue' error old new failed (λ found. let never : ⊥ = cc in absurd never)
+
+-- The same result, of another step.
+pub concludes_as : {T C : Type 0} (calls : ℕ) (fault fault' : Option (HandshakeFault C)) (IsValue IsValue' : T → Type 0)
+    (result : Result T (HandshakeFault C)) (old new : PortState) → fault' ≡ fault
+    → ((value : T) → IsValue value → IsValue' value) → Concludes calls fault IsValue result old new
+    → Concludes calls fault' IsValue' result old new
+concludes_as calls fault fault' IsValue IsValue' (Ok value) old new same weaker c =
+    goes_on calls fault fault' IsValue IsValue' value value old new c (same ∙ c.usable) (weaker value c.value)
+concludes_as calls fault fault' IsValue IsValue' (Err error) old new same weaker c =
+    fails_as calls fault fault' IsValue IsValue' error old new c (λ found. same ∙ found)
+
+-- ---- queries
+
+-- What the map says of a command is what the firmware has.
+pub offered : (firmware : Firmware) (commands : List ℕ) (opcode : ℕ) (found value : Bool)
+    → found ≡ is_in_map commands opcode → commands ≡ firmware.commands → found ≡ value → has firmware opcode ≡ value
+offered firmware commands opcode found value is same known =
+    sym (ap (λ (m : List ℕ). is_in_map m opcode) same) ∙ sym is ∙ known
+
+-- The reply to a query that the programmer has.
+pub queried_has : (firmware : Firmware) (opcode : ℕ) (bytes : List ℕ) → has firmware opcode ≡ true
+    → queried firmware opcode bytes ≡ 0x06 ∷ bytes
+queried_has firmware opcode bytes has_it = ap (λ (b : Bool). if b then 0x06 ∷ bytes else nak) has_it
+
+pub lacks_query : (has_it : Bool) (bytes : List ℕ) (reply : Option (List ℕ)) → reply ≡ None
+    → reply ≡ (if has_it then Some bytes else None) → has_it ≡ false
+lacks_query true bytes reply none is = let e : None ≡ Some bytes = sym none ∙ is in let never : ⊥ = cc in absurd never
+lacks_query false bytes reply none is = refl
+
+-- What a query returned that was replied to.
+pub record Replied (has_it : Bool) (bytes reply : List ℕ) : Type 0 where
+  pub has_query : has_it ≡ true
+  pub bytes_are : reply ≡ bytes
+
+pub replied : (has_it : Bool) (bytes bytes' : List ℕ) (reply : Option (List ℕ)) → reply ≡ Some bytes'
+    → reply ≡ (if has_it then Some bytes else None) → Replied has_it bytes bytes'
+replied true bytes bytes' reply some is =
+    let e : Some bytes' ≡ Some bytes = sym some ∙ is in record { has_query = refl; bytes_are = cc }
+replied false bytes bytes' reply some is =
+    let e : Some bytes' ≡ None = sym some ∙ is in let never : ⊥ = cc in absurd never
+
+-- A number is found to be too small, or not.
+pub too_small : {F : Type 0} (found limit most : ℕ) (fault : ℕ → F) → found ≡ limit → found < most
+    → (if nat_lt limit most then Some (fault limit) else None) ≡ Some (fault found)
+too_small found limit most fault same less =
+    ap (λ (b : Bool). if b then Some (fault limit) else None) ((Decides-ltb limit most).1 (omega (arith, same, less)))
+    ∙ ap (λ (n : ℕ). Some (fault n)) (sym same)
+
+pub large_enough : {F : Type 0} (found limit most : ℕ) (fault : ℕ → F) → found ≡ limit → most ≤ found
+    → (if nat_lt limit most then Some (fault limit) else None) ≡ None
+large_enough found limit most fault same more =
+    elim (cases_Bool (nat_lt limit most)) [
+      | inl less ↦ let is = (Decides-ltb limit most).0 less in absurd (omega (arith, is, same, more))
+      | inr not_less ↦ ap (λ (b : Bool). if b then Some (fault limit) else None) not_less
+    ]
+
+pub buffer_lacks : {F : Type 0} (has_it rest : Bool) (fault : F) → has_it ≡ false
+    → (if has_it && rest then Some fault else None) ≡ None
+buffer_lacks has_it rest fault lacks = ap (λ (b : Bool). if b && rest then Some fault else None) lacks
+
+pub buffer_other : {F : Type 0} (has_it has_limit small : Bool) (fault : F) → has_limit ≡ true
+    → (if has_it && (not has_limit && small) then Some fault else None) ≡ None
+buffer_other true has_limit small fault h = ap (λ (b : Bool). if not b && small then Some fault else None) h
+buffer_other false has_limit small fault h = refl
+
+pub buffer_small : {F : Type 0} (has_it has_limit : Bool) (found limit : ℕ) (fault : ℕ → F) → has_it ≡ true
+    → has_limit ≡ false → found ≡ limit → found < 267
+    → (if has_it && (not has_limit && nat_lt limit 267) then Some (fault limit) else None) ≡ Some (fault found)
+buffer_small has_it has_limit found limit fault h none same less =
+    ap (λ (b : Bool). if b && (not has_limit && nat_lt limit 267) then Some (fault limit) else None) h
+    ∙ ap (λ (b : Bool). if not b && nat_lt limit 267 then Some (fault limit) else None) none
+    ∙ too_small found limit 267 fault same less
+
+pub buffer_large : {F : Type 0} (has_it has_limit : Bool) (found limit : ℕ) (fault : ℕ → F) → found ≡ limit
+    → 267 ≤ found → (if has_it && (not has_limit && nat_lt limit 267) then Some (fault limit) else None) ≡ None
+buffer_large false has_limit found limit fault same more = refl
+buffer_large true true found limit fault same more = refl
+buffer_large true false found limit fault same more = large_enough found limit 267 fault same more
+
+pub missing : {F : Type 0} (has_it : Bool) (fault : F) → has_it ≡ false
+    → (if has_it then None else Some fault) ≡ Some fault
+missing has_it fault lacks = ap (λ (b : Bool). if b then None else Some fault) lacks
+
+pub there : {F : Type 0} (has_it : Bool) (fault : F) → has_it ≡ true → (if has_it then None else Some fault) ≡ None
+there has_it fault is = ap (λ (b : Bool). if b then None else Some fault) is
+
+-- Whether SPI can be selected.
+abbrev can_select : (buses : ℕ) → (selects : Bool) → Bool
+can_select buses selects = not (bit_and buses 8 == 0) && (buses == 8 || selects)
+
+pub spi_missing : {F : Type 0} (found buses : ℕ) (selects selects' can : Bool) (fault : ℕ → F) → found ≡ buses
+    → selects' ≡ selects → can ≡ can_select found selects → can ≡ false
+    → (if can_select buses selects' then None else Some (fault buses)) ≡ Some (fault found)
+spi_missing found buses selects selects' can fault same same' is never =
+    ap (λ (n : ℕ). if can_select n selects' then None else Some (fault n)) (sym same)
+    ∙ ap (λ (b : Bool). if can_select found b then None else Some (fault found)) same'
+    ∙ missing (can_select found selects) (fault found) (sym is ∙ never)
+
+pub spi_there : {F : Type 0} (found buses : ℕ) (selects selects' can : Bool) (fault : ℕ → F) → found ≡ buses
+    → selects' ≡ selects → can ≡ can_select found selects → can ≡ true
+    → (if can_select buses selects' then None else Some (fault buses)) ≡ None
+spi_there found buses selects selects' can fault same same' is can_be =
+    ap (λ (n : ℕ). if can_select n selects' then None else Some (fault n)) (sym same)
+    ∙ ap (λ (b : Bool). if can_select found b then None else Some (fault found)) same'
+    ∙ there (can_select found selects) (fault found) (sym is ∙ can_be)
+
+pub version_same : {F : Type 0} (found version : ℕ) (fault : ℕ → F) → found ≡ version → found ≡ 1
+    → (if version == 1 then None else Some (fault version)) ≡ None
+version_same found version fault same one = there (version == 1) (fault version) ((Decides-eqb version 1).1 (sym same ∙ one))
+
+pub version_other : {F : Type 0} (found version : ℕ) (fault : ℕ → F) → found ≡ version → found ≢ 1
+    → (if version == 1 then None else Some (fault version)) ≡ Some (fault found)
+version_other found version fault same other =
+    elim (cases_Bool (version == 1)) [
+      | inl one ↦ absurd (other (same ∙ (Decides-eqb version 1).0 one))
+      | inr not_one ↦ missing (version == 1) (fault version) not_one ∙ ap (λ (n : ℕ). Some (fault n)) (sym same)
+    ]
+
+-- ---- numbers
+
+pub two_back : (n : ℕ) → n < 65536 → from_le_bytes w16 (two_of n) ≡ n
+two_back n fits = from_le_bytes-to_le_bytes_2 n fits
+
+four_back : (n : ℕ) → n < 4294967296 → from_le_bytes w32 (four_of n) ≡ n
+four_back n fits = from_le_bytes-to_le_bytes_4 n fits
+
+pub or_default : (has_it : Bool) (bytes default : List ℕ)
+    → unwrap_or (if has_it then Some bytes else None) default ≡ (if has_it then bytes else default)
+or_default true bytes default = refl
+or_default false bytes default = refl
+
+-- ---- the clock
+
+clock_fault_is : {C : Type 0} (firmware : Firmware) (hertz : ℕ) (asked : Option ℕ) → asked ≡ Some hertz
+    → has firmware 0x14 ≡ true → clock_fault {C = C} firmware asked ≡ clock_refused (firmware.clock hertz)
+clock_fault_is {C} firmware hertz asked is h =
+    ap (λ (o : Option ℕ). clock_fault {C = C} firmware o) is
+    ∙ ap (λ (b : Bool). if b then clock_refused (firmware.clock hertz) else Some (Faults.Lacks 0x14)) h
+
+clock_err_at : {C : Type 0} (firmware : Firmware) (hertz : ℕ) (reply : List ℕ) (error : HandshakeFault C)
+    (old new : PortState) (set : Option ℕ) (IsValue : Option ℕ → Type 0) → firmware.clock hertz ≡ set
+    → Asked firmware (SetFrequency hertz) 4 reply (Err error) old new
+    → Concludes 3 (clock_refused (firmware.clock hertz)) IsValue (Err error) old new
+clock_err_at firmware hertz reply error old new (Some set) IsValue e a =
+    fails_anyhow 3 _ _ _ _ _ _ (a.acked (four_of set) (ap clocked e) refl)
+clock_err_at firmware hertz reply error old new None IsValue e a =
+    fails_as 3 _ _ _ _ _ _ _ (a.naked (ap clocked e)) (λ found. ap (λ (o : Option ℕ). clock_refused o) e ∙ found)
+
+pub clock_err : {C : Type 0} (firmware : Firmware) (hertz : ℕ) (asked : Option ℕ) (reply : List ℕ)
+    (error : HandshakeFault C) (old new : PortState) (IsValue : Option ℕ → Type 0) → asked ≡ Some hertz
+    → has firmware 0x14 ≡ true → Asked firmware (SetFrequency hertz) 4 reply (Err error) old new
+    → Concludes 3 (clock_fault firmware asked) IsValue (Err error) old new
+clock_err firmware hertz asked reply error old new IsValue is h a =
+    fails_as 3 _ _ _ _ _ _ _ (clock_err_at firmware hertz reply error old new (firmware.clock hertz) IsValue refl a)
+    (λ found. clock_fault_is firmware hertz asked is h ∙ found)
+
+clock_ok_at : {C : Type 0} (firmware : Firmware) (hertz n : ℕ) (reply : List ℕ) (old new : PortState)
+    (set : Option ℕ) → firmware.clock hertz ≡ set → n ≡ from_le_bytes w32 reply
+    → Asked {C = C} firmware (SetFrequency hertz) 4 reply (Ok tt) old new
+    → Concludes {C = C} 3 (clock_refused (firmware.clock hertz)) (λ o. o ≡ firmware.clock hertz) (Ok (Some n)) old new
+clock_ok_at firmware hertz n reply old new (Some set) e is a =
+    let done = a.acked (four_of set) (ap clocked e) refl in
+    let fits : set < 4294967296 = subst (λ (o : Option ℕ). IfSome o (λ s. s < 4294967296)) e (firmware.clock_fits hertz) in
+    goes_on 3 None _ _ _ _ _ _ _ done (ap (λ (o : Option ℕ). clock_refused o) e)
+    (ap (λ (m : ℕ). Some m) (is ∙ ap (λ (l : List ℕ). from_le_bytes w32 l) done.value ∙ four_back set fits) ∙ sym e)
+clock_ok_at firmware hertz n reply old new None e is a = absurd (a.naked (ap clocked e)).value
+
+pub clock_ok : {C : Type 0} (firmware : Firmware) (hertz n : ℕ) (asked : Option ℕ) (reply : List ℕ)
+    (old new : PortState) → asked ≡ Some hertz → has firmware 0x14 ≡ true
+    → n ≡ from_le_bytes w32 reply → Asked {C = C} firmware (SetFrequency hertz) 4 reply (Ok tt) old new
+    → Concludes {C = C} 3 (clock_fault firmware asked) (λ o. o ≡ option_and_then firmware.clock asked) (Ok (Some n)) old new
+clock_ok firmware hertz n asked reply old new asks h is a =
+    concludes_as 3 _ _ _ _ _ _ _ (clock_fault_is firmware hertz asked asks h)
+    (λ value same. same ∙ sym (ap (λ (o : Option ℕ). option_and_then firmware.clock o) asks))
+    (clock_ok_at firmware hertz n reply old new (firmware.clock hertz) refl is a)
+
+-- ---- settings
+
+pub set_result : {C : Type 0} (accepts : Bool) (firmware : Firmware) (setting : Command) (reply : List ℕ)
+    (opcode : ℕ) (result : Result Unit (HandshakeFault C)) (old new : PortState)
+    → reply_of firmware setting ≡ taken accepts → slice_index (frame_of setting) 0 ≡ opcode
+    → has firmware opcode ≡ true → Asked firmware setting 0 reply result old new
+    → Concludes 3 (refused opcode (has firmware opcode) accepts) (λ _. ⊤) result old new
+set_result true firmware setting reply opcode result old new replies first has_it a =
+    concludes_as 3 None _ _ _ result old new
+    (ap (λ (b : Bool). if b && false then Some (Faults.Failure (Refused opcode)) else None) has_it)
+    (λ value is. tt) (a.acked [] replies refl)
+set_result false firmware setting reply opcode result old new replies first has_it a =
+    concludes_as 3 _ _ _ _ result old new
+    (ap (λ (b : Bool). if b && true then Some (Faults.Failure (Refused opcode)) else None) has_it
+    ∙ ap (λ (n : ℕ). Some (Faults.Failure (Refused n))) (sym first))
+    (λ value is. absurd is) (a.naked replies)
+
+-- ---- steps one after another
+
+-- These calls were made since the handshake began, and the link is ready.
+pub record HasReached {P C : Type 0} (port : P → PortState) (firmware : Firmware) (calls : ℕ) (old : PortState)
+    (link : Link P C) : Type 0 where
+  pub asks : OnlyAsks calls old (port link.port)
+  pub ready : IsReady port firmware link
+
+pub begins : {P C T : Type 0} (port : P → PortState) (old : PortState) (link : Link P C) (IsValue : T → Type 0)
+    (value : T) → Concludes {C = C} 29 None IsValue (Ok value) old (port link.port) → is_in_step link ≡ true
+    → HasReached port old.device.firmware 29 old link
+begins port old link IsValue value done in_step = record {
+  asks = done.asks;
+  ready = record { in_step = in_step; awaits = done.asks.awaits; same = done.asks.firmware };
+}
+
+pub reaches : {P C T : Type 0} (port : P → PortState) (firmware : Firmware) (first second : ℕ) (old : PortState)
+    (link link' : Link P C) (fault : Option (HandshakeFault C)) (IsValue : T → Type 0) (value : T)
+    → HasReached port firmware first old link
+    → Concludes second fault IsValue (Ok value) (port link.port) (port link'.port)
+    → is_in_step link' ≡ true → HasReached port firmware (first + second) old link'
+reaches port firmware first second old link link' fault IsValue value reached done in_step = record {
+  asks = asks_then first second old (port link.port) (port link'.port) reached.asks done.asks;
+  ready = record {
+    in_step = in_step;
+    awaits = done.asks.awaits;
+    same = done.asks.firmware ∙ reached.ready.same;
+  };
+}
+
+-- A step of the handshake failed.
+pub fails_at : {P C T T' : Type 0} (port : P → PortState) (firmware : Firmware) (first second total : ℕ)
+    (old new : PortState) (link : Link P C) (fault whole : Option (HandshakeFault C)) (IsValue : T → Type 0)
+    (IsValue' : T' → Type 0) (error : HandshakeFault C) → HasReached port firmware first old link
+    → Concludes second fault IsValue (Err error) (port link.port) new → first + second ≤ total
+    → (fault ≡ Some error → whole ≡ Some error)
+    → Concludes total whole IsValue' (Err error) old new
+fails_at port firmware first second total old new link fault whole IsValue IsValue' error reached failed within same = record {
+  usable = tt;
+  value = tt;
+  asks = tt;
+  fails = elim failed.fails [
+    | inl found ↦ inl (same found)
+    | inr few ↦ inr (few.0, omega (arith, few.1, reached.asks.left, within))
+  ];
+  power = power_then old.device (port link.port).device new.device reached.asks.chip reached.asks.worn failed.power;
+}
+
+-- The first fault is that of a later step if the earlier ones found none.
+pub skip : {F : Type 0} {first rest : Option F} {all : Option F} → first ≡ None → rest ≡ all → option_or first rest ≡ all
+skip {first = first} {rest = rest} none later = ap (λ (o : Option _). option_or o rest) none ∙ later
+
+pub hit : {F : Type 0} (first rest : Option F) (fault : F) → first ≡ Some fault → option_or first rest ≡ Some fault
+hit first rest fault found = ap (λ (o : Option _). option_or o rest) found
+
+-- A step that nothing stands against has no fault.
+pub never_none : {F : Type 0} {whole : Option F} {fault : F} → None ≡ Some fault → whole ≡ Some fault
+never_none found = let never : ⊥ = cc in absurd never

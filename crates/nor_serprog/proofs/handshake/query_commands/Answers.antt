@@ -1,0 +1,23 @@
+use Rattle.std.proofs.Common.{true, false, None, refl, sym}
+use Rattle.std.proofs.lemmas.Result.{err_from_is_err_and}
+use Rattle.nor_serprog.proofs.Handshaken.{fails_anyhow, goes_on, stops_after, offered, missing, there}
+use Rattle.nor_serprog.proofs.handshake.query_commands.Goals as goal
+
+pub returns-in_err-ask-clause-concludes : goal.returns-in_err-ask-clause-concludes
+returns-in_err-ask-clause-concludes g c firmware ready =
+    let p = err_from_is_err_and c.from_residual.result c.from_residual.ensures.1 in
+    rw (p.1, p.2)
+    (fails_anyhow 3 _ _ _ _ _ _
+    ((c.in_err-ask.ensures.asked firmware ready tt).acked firmware.commands refl (sym firmware.commands_len)))
+
+pub returns-then-not-offers-clause-concludes : goal.returns-then-not-offers-clause-concludes
+returns-then-not-offers-clause-concludes g c firmware ready =
+    let done = (c.in_ok-ask.ensures.asked firmware ready tt).acked firmware.commands refl (sym firmware.commands_len) in
+    let h = offered firmware c.ask.new.reply 0x13 _ false c.offers.ensures done.value c.if-not-offers.true in
+    stops_after 3 None _ _ _ _ _ _ _ done (missing _ _ h)
+
+pub returns-clause-concludes : goal.returns-clause-concludes
+returns-clause-concludes g c firmware ready =
+    let done = (c.in_ok-ask.ensures.asked firmware ready tt).acked firmware.commands refl (sym firmware.commands_len) in
+    let h = offered firmware c.ask.new.reply 0x13 _ true c.offers.ensures done.value c.if-not-offers.false in
+    goes_on 3 None _ _ _ _ _ _ _ done (there _ _ h) done.value

@@ -1,0 +1,136 @@
+-- What the handshake with a programmer finds, over an honest port: the firmware of the programmer determines the result.
+use Rattle.std.specs.Prelude.{◌≡◌, ◌<◌, ◌⊎◌, ◌==◌, ◌&&◌, ◌||◌, not, nat_lt, bit_and, ℕ, Bool, true, List, ◌∷◌, length, slice_index, Option, None, Some, option_and_then, replicate, if◌then◌else◌, Result, IfOk, OnOk, OnErr, IfErr}
+use Rattle.std.specs.Option.{option_or}
+use Rattle.nor_serprog.specs.declared.programmer.HandshakeFault.{HandshakeFault}
+use Rattle.nor_serprog.specs.declared.programmer.HandshakeFault.TheVariants.{Failure, Version, Lacks, NotSpi, WriteLimit, ReadLimit, SmallBuffer}
+use Rattle.nor_serprog.specs.declared.programmer.Programmer.{Programmer}
+use Rattle.nor_serprog.specs.declared.link.Failure.TheVariants.{Refused}
+use Rattle.nor_serprog.specs.declared.link.Link.{Link}
+use Rattle.nor_serprog.specs.Device.{PortState, MayLoseDevicePower}
+use Rattle.nor_serprog.specs.declared.command.Command.{Command}
+use Rattle.nor_serprog.specs.Frame.{frame_of}
+use Rattle.nor_serprog.specs.Firmware.{Firmware, has, reply_of, nak}
+use Rattle.nor_serprog.specs.Link.{is_in_step}
+use Rattle.nor_serprog.specs.Programmer.{name_of, writes_most, reads_most, buffer_of, frequency_of, has_chip_selects}
+use Rattle.nor_serprog.specs.Replies.{AwaitsCommand, OnlyAsks, IsPortFailure}
+
+-- ---- what a programmer has
+
+-- The flags of its types of bus. A programmer that lacks Q_BUSTYPE has SPI (8).
+abbrev pub buses_of : Firmware → ℕ
+buses_of firmware = if has firmware 0x05 then firmware.buses else 8
+
+-- A limit for a transaction: 2^24 if the programmer lacks the query, or returns 0.
+abbrev pub limit_in : (has_query : Bool) → (limit : ℕ) → ℕ
+limit_in has_query limit = if has_query && not (limit == 0) then limit else 16777216
+
+-- The greatest numbers of bytes that a transaction may send, and may read.
+abbrev pub write_limit : Firmware → ℕ
+write_limit firmware = limit_in (has firmware 0x08) firmware.longest_write
+
+abbrev pub read_limit : Firmware → ℕ
+read_limit firmware = limit_in (has firmware 0x11) firmware.longest_read
+
+-- Holds if this is what the programmer replied when it was identified, and `hertz` was requested. What it lacks is 0.
+pub record IsProgrammerOf (firmware : Firmware) (hertz : Option ℕ) (programmer : Programmer) : Type 0 where
+  pub name : name_of programmer ≡ (if has firmware 0x03 then firmware.name else replicate 16 0)
+  pub writes : writes_most programmer ≡ write_limit firmware
+  pub reads : reads_most programmer ≡ read_limit firmware
+  pub buffer : buffer_of programmer ≡ (if has firmware 0x04 then firmware.buffer else 0)
+  pub frequency : frequency_of programmer ≡ option_and_then firmware.clock hertz
+  pub selects : has_chip_selects programmer ≡ has firmware 0x16
+
+-- ---- why a programmer can't be used
+
+-- `Refused` with this opcode, if the programmer has the command and replies NAK.
+abbrev pub refused : {C : Type 0} → (opcode : ℕ) → (has_it accepts : Bool) → Option (HandshakeFault C)
+refused opcode has_it accepts = if has_it && not accepts then Some (Failure (Refused opcode)) else None
+
+-- It speaks another version than 1 (Q_IFACE).
+abbrev pub version_fault : {C : Type 0} → Firmware → Option (HandshakeFault C)
+version_fault firmware = if firmware.version == 1 then None else Some (Version firmware.version)
+
+-- It lacks O_SPIOP.
+abbrev pub operation_fault : {C : Type 0} → Firmware → Option (HandshakeFault C)
+operation_fault firmware = if has firmware 0x13 then None else Some (Lacks 0x13)
+
+-- SPI is not among its types of bus, or is not the only one and S_BUSTYPE, which selects one, is missing.
+abbrev pub buses_fault : {C : Type 0} → Firmware → Option (HandshakeFault C)
+buses_fault firmware =
+    if not (bit_and (buses_of firmware) 8 == 0) && (buses_of firmware == 8 || has firmware 0x12) then None
+    else Some (NotSpi (buses_of firmware))
+
+-- A transaction can't send a page program, or can't read a sector.
+abbrev pub write_fault : {C : Type 0} → Firmware → Option (HandshakeFault C)
+write_fault firmware = if nat_lt (write_limit firmware) 260 then Some (WriteLimit (write_limit firmware)) else None
+
+abbrev pub read_fault : {C : Type 0} → Firmware → Option (HandshakeFault C)
+read_fault firmware = if nat_lt (read_limit firmware) 4096 then Some (ReadLimit (read_limit firmware)) else None
+
+-- Without Q_WRNMAXLEN the serial buffer limits a frame, and it is too small for the longest one.
+abbrev pub buffer_fault : {C : Type 0} → Firmware → Option (HandshakeFault C)
+buffer_fault firmware =
+    if has firmware 0x04 && (not (has firmware 0x08) && nat_lt firmware.buffer 267) then Some (SmallBuffer firmware.buffer)
+    else None
+
+-- A clock is requested, and the programmer lacks S_SPI_FREQ or refuses that clock.
+abbrev pub clock_refused : {C : Type 0} → Option ℕ → Option (HandshakeFault C)
+clock_refused (Some set) = None
+clock_refused None = Some (Failure (Refused 0x14))
+
+abbrev pub clock_fault : {C : Type 0} → Firmware → (hertz : Option ℕ) → Option (HandshakeFault C)
+clock_fault firmware None = None
+clock_fault firmware (Some hertz) = if has firmware 0x14 then clock_refused (firmware.clock hertz) else Some (Lacks 0x14)
+
+-- Why the programmer can't be used: the first of these, in this order. `None` if it can.
+abbrev pub identify_fault : {C : Type 0} → Firmware → (hertz : Option ℕ) → Option (HandshakeFault C)
+identify_fault firmware hertz =
+    option_or (version_fault firmware)
+    (option_or (operation_fault firmware)
+    (option_or (buses_fault firmware)
+    (option_or (refused 0x12 (has firmware 0x12) (firmware.takes_buses 8))
+    (option_or (write_fault firmware)
+    (option_or (read_fault firmware)
+    (option_or (buffer_fault firmware)
+    (option_or (clock_fault firmware hertz)
+    (refused 0x15 (has firmware 0x15) (firmware.takes_pins true)))))))))
+
+-- Why this chip select can't be used. `None` if it can.
+abbrev pub select_fault : {C : Type 0} → Firmware → (number : ℕ) → Option (HandshakeFault C)
+select_fault firmware number =
+    if has firmware 0x16 then refused 0x16 true (firmware.takes_select number) else Some (Lacks 0x16)
+
+-- ---- the result of the handshake
+
+-- Holds if the port failed.
+abbrev pub IsPortFault : {C : Type 0} → HandshakeFault C → Type 0
+IsPortFault (Failure failure) = IsPortFailure failure
+IsPortFault _ = ⊥
+
+-- The result of a part of the handshake over an honest port that takes at most this number of calls. `fault` is why it
+-- must fail, if it must.
+pub record Concludes {T C : Type 0} (calls : ℕ) (fault : Option (HandshakeFault C)) (IsValue : T → Type 0)
+    (result : Result T (HandshakeFault C)) (old new : PortState) : Type 0 where
+  -- after success nothing stands against it, the value is the right one, the programmer waits for a command, and its
+  -- chip is as it was
+  pub usable : OnOk result (fault ≡ None)
+  pub value : IfOk result IsValue
+  pub asks : OnOk result (OnlyAsks calls old new)
+  -- an error is that fault; or the port failed, because fewer calls were left
+  pub fails : IfErr result (λ found. (fault ≡ Some found) ⊎ (IsPortFault found × (old.left < calls)))
+  -- after any error the chip is as it was, or has lost its power
+  pub power : OnErr result (MayLoseDevicePower old.device new.device)
+
+-- The link is in step over an honest port, and the programmer waits for a command and has this firmware.
+pub record IsReady {P C : Type 0} (port : P → PortState) (firmware : Firmware) (link : Link P C) : Type 0 where
+  pub in_step : is_in_step link ≡ true
+  pub awaits : AwaitsCommand (port link.port)
+  pub same : (port link.port).device.firmware ≡ firmware
+
+-- The result of one exchange of the handshake, which requests `count` reply bytes.
+pub record Asked {C : Type 0} (firmware : Firmware) (command : Command) (count : ℕ) (reply : List ℕ)
+    (result : Result Unit (HandshakeFault C)) (old new : PortState) : Type 0 where
+  pub acked : (bytes : List ℕ) → reply_of firmware command ≡ 0x06 ∷ bytes → count ≡ length bytes
+      → Concludes 3 None (λ _. reply ≡ bytes) result old new
+  pub naked : reply_of firmware command ≡ nak
+      → Concludes 3 (Some (Failure (Refused (slice_index (frame_of command) 0)))) (λ _. ⊥) result old new
