@@ -82,8 +82,9 @@ pub record RepliesTo (commands : List Command) (old new : Device) : Type 0 where
   pub chip : new.chip ≡ old.chip
   pub worn : new.worn ≡ old.worn
 
--- All bytes were sent, with one call. If they complete a frame of O_SPIOP, it is carried out. If they are whole frames of
--- other commands whose replies are specified, these are the replies. The effect of other bytes is not specified here.
+-- All bytes were sent, with one call. If they complete a frame of O_SPIOP, it is carried out. If they are whole frames
+-- of other commands whose replies are specified, the programmer replies. The effect of other bytes is not specified
+-- here.
 pub record IsSent (bytes : List ℕ) (old new : PortState) : Type 0 where
   pub left : old.left ≡ new.left + 1
   pub firmware : new.device.firmware ≡ old.device.firmware

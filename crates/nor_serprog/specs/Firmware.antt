@@ -85,8 +85,8 @@ reply_of firmware (SetPins enabled) = taken (firmware.takes_pins enabled)
 reply_of firmware (SelectChip number) = taken (firmware.takes_select number)
 reply_of firmware (Operate out replies) = []
 
--- Holds if `reply_of` specifies the reply to this command: it is not O_SPIOP, and a command that has arguments is in the
--- map. A programmer that lacks a command can't know the number of its arguments, and takes them for commands.
+-- Holds if `reply_of` specifies the reply to this command: it is not O_SPIOP, and if it has arguments, it is in the map.
+-- A programmer that lacks a command doesn't know the number of its arguments, and takes them for commands.
 abbrev pub HasReply : Firmware → Command → Type 0
 HasReply firmware (SetBuses flags) = has firmware 0x12 ≡ true
 HasReply firmware (SetFrequency hertz) = has firmware 0x14 ≡ true

@@ -1,4 +1,5 @@
--- What the handshake with a programmer finds, over an honest port: the firmware of the programmer determines the result.
+-- What the handshake with a programmer finds. Over an honest port the firmware of the programmer determines the result.
+-- (serprog protocol version 1, flashrom's Documentation/serprog-protocol.txt.)
 use Rattle.std.specs.Prelude.{◌≡◌, ◌<◌, ◌⊎◌, ◌==◌, ◌&&◌, ◌||◌, not, nat_lt, bit_and, ℕ, Bool, true, List, ◌∷◌, length, slice_index, Option, None, Some, option_and_then, replicate, if◌then◌else◌, Result, IfOk, OnOk, OnErr, IfErr}
 use Rattle.std.specs.Option.{option_or}
 use Rattle.nor_serprog.specs.declared.programmer.HandshakeFault.{HandshakeFault}
@@ -70,8 +71,8 @@ read_fault firmware = if nat_lt (read_limit firmware) 4096 then Some (ReadLimit 
 -- Without Q_WRNMAXLEN the serial buffer limits a frame, and it is too small for the longest one.
 abbrev pub buffer_fault : {C : Type 0} → Firmware → Option (HandshakeFault C)
 buffer_fault firmware =
-    if has firmware 0x04 && (not (has firmware 0x08) && nat_lt firmware.buffer 267) then Some (SmallBuffer firmware.buffer)
-    else None
+    if has firmware 0x04 && (not (has firmware 0x08) && nat_lt firmware.buffer 267)
+    then Some (SmallBuffer firmware.buffer) else None
 
 -- A clock is requested, and the programmer lacks S_SPI_FREQ or refuses that clock.
 abbrev pub clock_refused : {C : Type 0} → Option ℕ → Option (HandshakeFault C)
@@ -80,7 +81,8 @@ clock_refused None = Some (Failure (Refused 0x14))
 
 abbrev pub clock_fault : {C : Type 0} → Firmware → (hertz : Option ℕ) → Option (HandshakeFault C)
 clock_fault firmware None = None
-clock_fault firmware (Some hertz) = if has firmware 0x14 then clock_refused (firmware.clock hertz) else Some (Lacks 0x14)
+clock_fault firmware (Some hertz) =
+    if has firmware 0x14 then clock_refused (firmware.clock hertz) else Some (Lacks 0x14)
 
 -- Why the programmer can't be used: the first of these, in this order. `None` if it can.
 abbrev pub identify_fault : {C : Type 0} → Firmware → (hertz : Option ℕ) → Option (HandshakeFault C)
@@ -107,16 +109,16 @@ abbrev pub IsPortFault : {C : Type 0} → HandshakeFault C → Type 0
 IsPortFault (Failure failure) = IsPortFailure failure
 IsPortFault _ = ⊥
 
--- The result of a part of the handshake over an honest port that takes at most this number of calls. `fault` is why it
--- must fail, if it must.
+-- The result of the handshake, or of a part of it that takes at most this number of calls, over an honest port to a
+-- programmer that waits for a command. `fault` is the error that the firmware causes, if any.
 pub record Concludes {T C : Type 0} (calls : ℕ) (fault : Option (HandshakeFault C)) (IsValue : T → Type 0)
     (result : Result T (HandshakeFault C)) (old new : PortState) : Type 0 where
-  -- after success nothing stands against it, the value is the right one, the programmer waits for a command, and its
+  -- after success the firmware causes no error, the value is the right one, the programmer waits for a command, and its
   -- chip is as it was
   pub usable : OnOk result (fault ≡ None)
   pub value : IfOk result IsValue
   pub asks : OnOk result (OnlyAsks calls old new)
-  -- an error is that fault; or the port failed, because fewer calls were left
+  -- an error is the one that the firmware causes; or the port failed, because fewer calls were left
   pub fails : IfErr result (λ found. (fault ≡ Some found) ⊎ (IsPortFault found × (old.left < calls)))
   -- after any error the chip is as it was, or has lost its power
   pub power : OnErr result (MayLoseDevicePower old.device new.device)

@@ -36,7 +36,8 @@ IsPortFailure _ = ⊥
 
 -- Success, after at most this number of calls (`OnlyAsks`); or a failure of the port, because fewer were left. After a
 -- failure the chip is as it was, or has lost its power.
-pub record AsksUnlessFew {C : Type 0} (calls : ℕ) (result : Result Unit (Failure C)) (old new : PortState) : Type 0 where
+pub record AsksUnlessFew {C : Type 0} (calls : ℕ) (result : Result Unit (Failure C))
+    (old new : PortState) : Type 0 where
   pub done : OnOk result (OnlyAsks calls old new)
   pub few_left : IfErr result (λ failure. IsPortFailure failure × (old.left < calls))
   pub power : OnErr result (MayLoseDevicePower old.device new.device)

@@ -109,6 +109,10 @@ impl<P: Port + Drop> Link<P> {
     /// Returns `TooLong` if the command does not fit into one frame; nothing was sent then, and the link is as it was.
     /// After any other error no exchange sends anything until `synchronize` returns `Ok`. If the link was out of step,
     /// the call returns `OutOfStep` or `CutFrame` and does not use the port.
+    ///
+    /// Over an honest port to a programmer that waits for a command, the reply to a command other than O_SPIOP is the one
+    /// of its firmware, and `Refused` is returned exactly if it is NAK; or the port failed because fewer than three calls
+    /// were left (`Answered`).
     pub fn exchange(
         &mut self,
         command: Command<'_>,
@@ -213,6 +217,9 @@ impl<P: Port + Drop> Link<P> {
     /// Returns `CutFrame`, and does not use the port, if a frame may have been cut off: further bytes could complete
     /// the frame, and the chip would carry out a command that was never intended. A frame that another run cut off
     /// isn't known here, so disconnect the programmer from power after a run that was killed.
+    ///
+    /// Over an honest port to a programmer that waits for a command, the call fails only if fewer than 29 calls of the
+    /// port were left, and the chip is not selected.
     ///
     /// Returns `Port` if the port fails. Returns `NoSync` if the reply to the first SYNCNOP isn't among the next 65,536
     /// bytes, or the replies to the row aren't among the 65,536 bytes after it.
