@@ -1,13 +1,13 @@
 -- The simulated programmer replies to frames one after another, as its firmware says.
-use Rattle.std.proofs.Common.{◌≡◌, ◌∙◌, ◌+◌, ◌<◌, ◌≤◌, true, ◌++◌, ℕ, Bool, true, false, List, [], ◌∷◌, length, take, drop, refl, sym, subst, ap, arith, append_assoc, length-append}
-use Rattle.std.specs.Prelude.{◌==◌, ◌||◌, if◌then◌else◌, slice_index, Option, None, Some, unwrap_or, Result, Ok, Err, OnOk, IsOk}
+use Rattle.std.proofs.Common.{◌≡◌, ◌∙◌, ◌+◌, ◌<◌, ◌≤◌, true, ◌++◌, ℕ, Bool, true, false, List, [], ◌∷◌, length, take, drop, refl, sym, ap, arith, append_assoc, length-append}
+use Rattle.std.specs.Prelude.{◌==◌, ◌||◌, if◌then◌else◌, slice_index, Option, Some, unwrap_or, Result, Ok, Err, OnOk, IsOk}
 use Rattle.std.specs.Result.{is_err}
 use Rattle.std.specs.List.{IsSplitAt}
 use Rattle.std.proofs.lemmas.Bool.{false≢true}
 use Rattle.std.proofs.lemmas.List.{append-nil, take-append-le}
 use Rattle.std.proofs.Math.Seq.{take-length, drop-append_seam}
 use Rattle.nor_serprog.specs.declared.command.Command.{Command}
-use Rattle.nor_serprog.specs.declared.command.Command.TheVariants.{SetBuses, Operate, SetFrequency, SetPins, SelectChip, Nop, QueryInterface, QueryCommands, QueryName, QuerySerialBuffer, QueryBuses, QueryLongestWrite, SyncNop, QueryLongestRead}
+use Rattle.nor_serprog.specs.declared.command.Command.TheVariants.{SetBuses, Operate, SetFrequency, SetPins, SelectChip}
 use Rattle.nor_serprog.specs.Frame.{frame_of, frame_len, long_len, argument_count}
 use Rattle.nor_serprog.specs.Firmware.{HasReply, HaveReplies, reply_of, replies_of, frames_of}
 use Rattle.nor_wire.specs.SimPort.{simulated_firmware, simulated_reply}
