@@ -13,11 +13,11 @@ use Rattle.nor_serprog.specs.declared.link.Link.{Link}
 use Rattle.nor_serprog.specs.Device.{PortState}
 use Rattle.std.proofs.lemmas.Bool.{cases_Bool}
 use Rattle.std.proofs.lemmas.Bool.Decides.{Decides-ltb, Decides-eqb}
-use Rattle.nor_serprog.specs.Firmware.{Firmware, has, is_in_map, queried, reply_of, taken, clocked, two_of, nak}
+use Rattle.nor_serprog.specs.Firmware.{Firmware, has_command, is_in_map, queried, reply_of, taken, clocked, two_of, nak}
 use Rattle.nor_serprog.specs.Frame.{frame_of, four_of}
 use Rattle.nor_serprog.specs.Link.{is_in_step}
 use Rattle.nor_serprog.specs.Replies.{AwaitsCommand, OnlyAsks}
-use Rattle.nor_serprog.specs.Identify.{Concludes, Asked, IsReady, refused, clock_fault, clock_refused}
+use Rattle.nor_serprog.specs.Identify.{Concludes, Asked, IsInStepWith, refused, clock_fault, clock_refused}
 use Rattle.nor_serprog.proofs.Replied.{power_then}
 use Rattle.nor_serprog.proofs.Synchronized.{asks_then}
 
@@ -107,12 +107,12 @@ concludes_as calls fault fault' IsValue IsValue' (Err error) old new same weaker
 
 -- What the map says of a command is what the firmware has.
 pub offered : (firmware : Firmware) (commands : List ℕ) (opcode : ℕ) (found value : Bool)
-    → found ≡ is_in_map commands opcode → commands ≡ firmware.commands → found ≡ value → has firmware opcode ≡ value
+    → found ≡ is_in_map commands opcode → commands ≡ firmware.commands → found ≡ value → has_command firmware opcode ≡ value
 offered firmware commands opcode found value is same known =
     sym (ap (λ (m : List ℕ). is_in_map m opcode) same) ∙ sym is ∙ known
 
 -- The reply to a query that the programmer has.
-pub queried_has : (firmware : Firmware) (opcode : ℕ) (bytes : List ℕ) → has firmware opcode ≡ true
+pub queried_has : (firmware : Firmware) (opcode : ℕ) (bytes : List ℕ) → has_command firmware opcode ≡ true
     → queried firmware opcode bytes ≡ 0x06 ∷ bytes
 queried_has firmware opcode bytes has_it = ap (λ (b : Bool). if b then 0x06 ∷ bytes else nak) has_it
 
@@ -226,7 +226,7 @@ or_default false bytes default = refl
 -- ---- the clock
 
 clock_fault_is : {C : Type 0} (firmware : Firmware) (hertz : ℕ) (asked : Option ℕ) → asked ≡ Some hertz
-    → has firmware 0x14 ≡ true → clock_fault {C = C} firmware asked ≡ clock_refused (firmware.clock hertz)
+    → has_command firmware 0x14 ≡ true → clock_fault {C = C} firmware asked ≡ clock_refused (firmware.clock hertz)
 clock_fault_is {C} firmware hertz asked is h =
     ap (λ (o : Option ℕ). clock_fault {C = C} firmware o) is
     ∙ ap (λ (b : Bool). if b then clock_refused (firmware.clock hertz) else Some (Faults.Lacks 0x14)) h
@@ -242,7 +242,7 @@ clock_err_at firmware hertz reply error old new None IsValue e a =
 
 pub clock_err : {C : Type 0} (firmware : Firmware) (hertz : ℕ) (asked : Option ℕ) (reply : List ℕ)
     (error : HandshakeFault C) (old new : PortState) (IsValue : Option ℕ → Type 0) → asked ≡ Some hertz
-    → has firmware 0x14 ≡ true → Asked firmware (SetFrequency hertz) 4 reply (Err error) old new
+    → has_command firmware 0x14 ≡ true → Asked firmware (SetFrequency hertz) 4 reply (Err error) old new
     → Concludes 3 (clock_fault firmware asked) IsValue (Err error) old new
 clock_err firmware hertz asked reply error old new IsValue is h a =
     fails_as 3 _ _ _ _ _ _ _ (clock_err_at firmware hertz reply error old new (firmware.clock hertz) IsValue refl a)
@@ -260,7 +260,7 @@ clock_ok_at firmware hertz n reply old new (Some set) e is a =
 clock_ok_at firmware hertz n reply old new None e is a = absurd (a.naked (ap clocked e)).value
 
 pub clock_ok : {C : Type 0} (firmware : Firmware) (hertz n : ℕ) (asked : Option ℕ) (reply : List ℕ)
-    (old new : PortState) → asked ≡ Some hertz → has firmware 0x14 ≡ true
+    (old new : PortState) → asked ≡ Some hertz → has_command firmware 0x14 ≡ true
     → n ≡ from_le_bytes w32 reply → Asked {C = C} firmware (SetFrequency hertz) 4 reply (Ok tt) old new
     → Concludes {C = C} 3 (clock_fault firmware asked) (λ o. o ≡ option_and_then firmware.clock asked) (Ok (Some n)) old new
 clock_ok firmware hertz n asked reply old new asks h is a =
@@ -273,8 +273,8 @@ clock_ok firmware hertz n asked reply old new asks h is a =
 pub set_result : {C : Type 0} (accepts : Bool) (firmware : Firmware) (setting : Command) (reply : List ℕ)
     (opcode : ℕ) (result : Result Unit (HandshakeFault C)) (old new : PortState)
     → reply_of firmware setting ≡ taken accepts → slice_index (frame_of setting) 0 ≡ opcode
-    → has firmware opcode ≡ true → Asked firmware setting 0 reply result old new
-    → Concludes 3 (refused opcode (has firmware opcode) accepts) (λ _. ⊤) result old new
+    → has_command firmware opcode ≡ true → Asked firmware setting 0 reply result old new
+    → Concludes 3 (refused opcode (has_command firmware opcode) accepts) (λ _. ⊤) result old new
 set_result true firmware setting reply opcode result old new replies first has_it a =
     concludes_as 3 None _ _ _ result old new
     (ap (λ (b : Bool). if b && false then Some (Faults.Failure (Refused opcode)) else None) has_it)
@@ -291,7 +291,7 @@ set_result false firmware setting reply opcode result old new replies first has_
 pub record HasReached {P C : Type 0} (port : P → PortState) (firmware : Firmware) (calls : ℕ) (old : PortState)
     (link : Link P C) : Type 0 where
   pub asks : OnlyAsks calls old (port link.port)
-  pub ready : IsReady port firmware link
+  pub ready : IsInStepWith port firmware link
 
 pub begins : {P C T : Type 0} (port : P → PortState) (old : PortState) (link : Link P C) (IsValue : T → Type 0)
     (value : T) → Concludes {C = C} 29 None IsValue (Ok value) old (port link.port) → is_in_step link ≡ true

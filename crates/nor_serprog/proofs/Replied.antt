@@ -10,7 +10,7 @@ use Rattle.nor_serprog.specs.declared.link.Failure.{Failure}
 use Rattle.nor_serprog.specs.Frame.{frame_of}
 use Rattle.nor_serprog.specs.Firmware.{Firmware, HasReply, reply_of, nak, clocked}
 use Rattle.nor_serprog.specs.Device.{Device, PortState, IsIdle, AnswerBegins, IsSent, IsCutOff, AsksFor, AreShort, RepliesTo, TakesAnswer, MissesAnswer, MayLoseDevicePower}
-use Rattle.nor_serprog.specs.Replies.{AwaitsCommand, Answered, IsPortFailure, IsRefusal, IsRefused}
+use Rattle.nor_serprog.specs.Replies.{AwaitsCommand, EndsExchange, IsPortFailure, IsRefusal, IsRefused}
 use Rattle.nor_serprog.proofs.Exchanges.{none_rest}
 
 -- The frame of one command asks for that command.
@@ -86,7 +86,7 @@ pub answered_ok : {C : Type 0} (command : Command) (frame : List ℕ) (count : �
     (old sent new : PortState) → AwaitsCommand old → frame ≡ frame_of command
     → HasReply old.device.firmware command → IsSent frame old sent → TakesAnswer reply sent new
     → sent.honest ≡ old.honest → new.honest ≡ sent.honest → length reply ≡ count
-    → Answered {C = C} command count reply (Ok tt) old new
+    → EndsExchange {C = C} command count reply (Ok tt) old new
 answered_ok command frame count reply old sent new awaits exact has s t honest honest' len =
     let r = s.replies (command ∷ []) (asks_one command frame old.device awaits.idle exact has) in
     let p : sent.device.pending ≡ reply_of old.device.firmware command =
@@ -121,7 +121,7 @@ answered_ok command frame count reply old sent new awaits exact has s t honest h
 pub answered_cut_off : {C : Type 0} (command : Command) (frame : List ℕ) (count : ℕ) (reply : List ℕ)
     (failure : Failure C) (old new : PortState) → AwaitsCommand old → frame ≡ frame_of command
     → HasReply old.device.firmware command → IsCutOff frame old new → IsPortFailure failure
-    → Answered command count reply (Err failure) old new
+    → EndsExchange command count reply (Err failure) old new
 answered_cut_off command frame count reply failure old new awaits exact has cut failed =
     let asks = asks_one command frame old.device awaits.idle exact has in
     let none = cut.unanswered (command ∷ []) asks (short_one command old.device awaits.idle has) in
@@ -144,7 +144,7 @@ pub answered_missed : {C : Type 0} (command : Command) (frame : List ℕ) (count
     → (AnswerBegins sent → MissesAnswer count sent new) → (AnswerBegins sent → IsPortFailure failure)
     → (sent.device.pending ≡ nak → IsRefused opcode 1 sent.left failure) → opcode ≡ slice_index frame 0
     → MayLoseDevicePower sent.device new.device
-    → Answered command count reply (Err failure) old new
+    → EndsExchange command count reply (Err failure) old new
 answered_missed command frame count reply opcode failure old sent new awaits exact has s misses fails refuses first power =
     let r = s.replies (command ∷ []) (asks_one command frame old.device awaits.idle exact has) in
     let p : sent.device.pending ≡ reply_of old.device.firmware command =

@@ -1,7 +1,7 @@
 -- What a programmer is, and its replies to the commands other than O_SPIOP. (serprog protocol version 1, flashrom's
 -- Documentation/serprog-protocol.txt: the table of commands and its notes.)
 use Rattle.std.specs.Prelude.{◌≡◌, ◌<◌, ◌/◌, ◌%◌, ◌^◌, ◌++◌, ◌==◌, ℕ, Bool, true, false, List, [], ◌∷◌, Option, None, Some, IfSome, length, replicate, slice_index, if◌then◌else◌, ⊤}
-use Rattle.std.proofs.Common.{refl, arith}
+use Rattle.std.proofs.Common.{refl, lit<}
 use Rattle.nor_serprog.specs.declared.command.Command.{Command}
 use Rattle.nor_serprog.specs.declared.command.Command.TheVariants.{Nop, QueryInterface, QueryCommands, QueryName, QuerySerialBuffer, QueryBuses, QueryLongestWrite, SyncNop, QueryLongestRead, SetBuses, Operate, SetFrequency, SetPins, SelectChip}
 use Rattle.nor_serprog.specs.Frame.{frame_of, three_of, four_of}
@@ -43,8 +43,8 @@ abbrev pub is_in_map : (commands : List ℕ) → (opcode : ℕ) → Bool
 is_in_map commands opcode = slice_index commands (opcode / 8) / 2 ^ (opcode % 8) % 2 == 1
 
 -- True if the programmer has the command with this opcode.
-abbrev pub has : Firmware → (opcode : ℕ) → Bool
-has firmware opcode = is_in_map firmware.commands opcode
+abbrev pub has_command : Firmware → (opcode : ℕ) → Bool
+has_command firmware opcode = is_in_map firmware.commands opcode
 
 -- A 16-bit number as two bytes, the lowest first.
 abbrev pub two_of : ℕ → List ℕ
@@ -56,7 +56,7 @@ nak = 0x15 ∷ []
 
 -- The reply to a query with this opcode: ACK and these bytes, or NAK if the programmer lacks the query.
 abbrev pub queried : Firmware → (opcode : ℕ) → (bytes : List ℕ) → List ℕ
-queried firmware opcode bytes = if has firmware opcode then 0x06 ∷ bytes else nak
+queried firmware opcode bytes = if has_command firmware opcode then 0x06 ∷ bytes else nak
 
 -- The reply to a setting: ACK or NAK.
 abbrev pub taken : Bool → List ℕ
@@ -85,13 +85,13 @@ reply_of firmware (SetPins enabled) = taken (firmware.takes_pins enabled)
 reply_of firmware (SelectChip number) = taken (firmware.takes_select number)
 reply_of firmware (Operate out replies) = []
 
--- Holds if `reply_of` specifies the reply to this command: it is not O_SPIOP, and if it has arguments, it is in the map.
--- A programmer that lacks a command doesn't know the number of its arguments, and takes them for commands.
+-- Holds if `reply_of` specifies the reply to this command: it is not O_SPIOP, and if it has arguments, it is in the
+-- map. A programmer that lacks a command doesn't know the number of its arguments, and takes them for commands.
 abbrev pub HasReply : Firmware → Command → Type 0
-HasReply firmware (SetBuses flags) = has firmware 0x12 ≡ true
-HasReply firmware (SetFrequency hertz) = has firmware 0x14 ≡ true
-HasReply firmware (SetPins enabled) = has firmware 0x15 ≡ true
-HasReply firmware (SelectChip number) = has firmware 0x16 ≡ true
+HasReply firmware (SetBuses flags) = has_command firmware 0x12 ≡ true
+HasReply firmware (SetFrequency hertz) = has_command firmware 0x14 ≡ true
+HasReply firmware (SetPins enabled) = has_command firmware 0x15 ≡ true
+HasReply firmware (SelectChip number) = has_command firmware 0x16 ≡ true
 HasReply firmware (Operate out replies) = ⊥
 HasReply firmware _ = ⊤
 
@@ -124,12 +124,12 @@ unknown_firmware = record {
   takes_pins = λ enabled. false;
   takes_select = λ number. false;
   clock = λ hertz. None;
-  version_fits = omega arith;
+  version_fits = lit< tt;
   commands_len = refl;
   name_len = refl;
-  buffer_fits = omega arith;
-  buses_fit = omega arith;
-  write_fits = omega arith;
-  read_fits = omega arith;
+  buffer_fits = lit< tt;
+  buses_fit = lit< tt;
+  write_fits = lit< tt;
+  read_fits = lit< tt;
   clock_fits = λ hertz. tt;
 }

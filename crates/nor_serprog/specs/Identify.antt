@@ -10,16 +10,16 @@ use Rattle.nor_serprog.specs.declared.link.Link.{Link}
 use Rattle.nor_serprog.specs.Device.{PortState, MayLoseDevicePower}
 use Rattle.nor_serprog.specs.declared.command.Command.{Command}
 use Rattle.nor_serprog.specs.Frame.{frame_of}
-use Rattle.nor_serprog.specs.Firmware.{Firmware, has, reply_of, nak}
+use Rattle.nor_serprog.specs.Firmware.{Firmware, has_command, reply_of, nak}
 use Rattle.nor_serprog.specs.Link.{is_in_step}
-use Rattle.nor_serprog.specs.Programmer.{name_of, writes_most, reads_most, buffer_of, frequency_of, has_chip_selects}
+use Rattle.nor_serprog.specs.Programmer.{programmer_name, writes_most, reads_most, buffer_of, frequency_of, has_chip_selects}
 use Rattle.nor_serprog.specs.Replies.{AwaitsCommand, OnlyAsks, IsPortFailure}
 
 -- ---- what a programmer has
 
 -- The flags of its types of bus. A programmer that lacks Q_BUSTYPE has SPI (8).
 abbrev pub buses_of : Firmware → ℕ
-buses_of firmware = if has firmware 0x05 then firmware.buses else 8
+buses_of firmware = if has_command firmware 0x05 then firmware.buses else 8
 
 -- A limit for a transaction: 2^24 if the programmer lacks the query, or returns 0.
 abbrev pub limit_in : (has_query : Bool) → (limit : ℕ) → ℕ
@@ -27,19 +27,19 @@ limit_in has_query limit = if has_query && not (limit == 0) then limit else 1677
 
 -- The greatest numbers of bytes that a transaction may send, and may read.
 abbrev pub write_limit : Firmware → ℕ
-write_limit firmware = limit_in (has firmware 0x08) firmware.longest_write
+write_limit firmware = limit_in (has_command firmware 0x08) firmware.longest_write
 
 abbrev pub read_limit : Firmware → ℕ
-read_limit firmware = limit_in (has firmware 0x11) firmware.longest_read
+read_limit firmware = limit_in (has_command firmware 0x11) firmware.longest_read
 
 -- Holds if this is what the programmer replied when it was identified, and `hertz` was requested. What it lacks is 0.
 pub record IsProgrammerOf (firmware : Firmware) (hertz : Option ℕ) (programmer : Programmer) : Type 0 where
-  pub name : name_of programmer ≡ (if has firmware 0x03 then firmware.name else replicate 16 0)
+  pub name : programmer_name programmer ≡ (if has_command firmware 0x03 then firmware.name else replicate 16 0)
   pub writes : writes_most programmer ≡ write_limit firmware
   pub reads : reads_most programmer ≡ read_limit firmware
-  pub buffer : buffer_of programmer ≡ (if has firmware 0x04 then firmware.buffer else 0)
+  pub buffer : buffer_of programmer ≡ (if has_command firmware 0x04 then firmware.buffer else 0)
   pub frequency : frequency_of programmer ≡ option_and_then firmware.clock hertz
-  pub selects : has_chip_selects programmer ≡ has firmware 0x16
+  pub selects : has_chip_selects programmer ≡ has_command firmware 0x16
 
 -- ---- why a programmer can't be used
 
@@ -53,12 +53,12 @@ version_fault firmware = if firmware.version == 1 then None else Some (Version f
 
 -- It lacks O_SPIOP.
 abbrev pub operation_fault : {C : Type 0} → Firmware → Option (HandshakeFault C)
-operation_fault firmware = if has firmware 0x13 then None else Some (Lacks 0x13)
+operation_fault firmware = if has_command firmware 0x13 then None else Some (Lacks 0x13)
 
 -- SPI is not among its types of bus, or is not the only one and S_BUSTYPE, which selects one, is missing.
 abbrev pub buses_fault : {C : Type 0} → Firmware → Option (HandshakeFault C)
 buses_fault firmware =
-    if not (bit_and (buses_of firmware) 8 == 0) && (buses_of firmware == 8 || has firmware 0x12) then None
+    if not (bit_and (buses_of firmware) 8 == 0) && (buses_of firmware == 8 || has_command firmware 0x12) then None
     else Some (NotSpi (buses_of firmware))
 
 -- A transaction can't send a page program, or can't read a sector.
@@ -71,7 +71,7 @@ read_fault firmware = if nat_lt (read_limit firmware) 4096 then Some (ReadLimit 
 -- Without Q_WRNMAXLEN the serial buffer limits a frame, and it is too small for the longest one.
 abbrev pub buffer_fault : {C : Type 0} → Firmware → Option (HandshakeFault C)
 buffer_fault firmware =
-    if has firmware 0x04 && (not (has firmware 0x08) && nat_lt firmware.buffer 267)
+    if has_command firmware 0x04 && (not (has_command firmware 0x08) && nat_lt firmware.buffer 267)
     then Some (SmallBuffer firmware.buffer) else None
 
 -- A clock is requested, and the programmer lacks S_SPI_FREQ or refuses that clock.
@@ -82,7 +82,7 @@ clock_refused None = Some (Failure (Refused 0x14))
 abbrev pub clock_fault : {C : Type 0} → Firmware → (hertz : Option ℕ) → Option (HandshakeFault C)
 clock_fault firmware None = None
 clock_fault firmware (Some hertz) =
-    if has firmware 0x14 then clock_refused (firmware.clock hertz) else Some (Lacks 0x14)
+    if has_command firmware 0x14 then clock_refused (firmware.clock hertz) else Some (Lacks 0x14)
 
 -- Why the programmer can't be used: the first of these, in this order. `None` if it can.
 abbrev pub identify_fault : {C : Type 0} → Firmware → (hertz : Option ℕ) → Option (HandshakeFault C)
@@ -90,17 +90,17 @@ identify_fault firmware hertz =
     option_or (version_fault firmware)
     (option_or (operation_fault firmware)
     (option_or (buses_fault firmware)
-    (option_or (refused 0x12 (has firmware 0x12) (firmware.takes_buses 8))
+    (option_or (refused 0x12 (has_command firmware 0x12) (firmware.takes_buses 8))
     (option_or (write_fault firmware)
     (option_or (read_fault firmware)
     (option_or (buffer_fault firmware)
     (option_or (clock_fault firmware hertz)
-    (refused 0x15 (has firmware 0x15) (firmware.takes_pins true)))))))))
+    (refused 0x15 (has_command firmware 0x15) (firmware.takes_pins true)))))))))
 
 -- Why this chip select can't be used. `None` if it can.
 abbrev pub select_fault : {C : Type 0} → Firmware → (number : ℕ) → Option (HandshakeFault C)
 select_fault firmware number =
-    if has firmware 0x16 then refused 0x16 true (firmware.takes_select number) else Some (Lacks 0x16)
+    if has_command firmware 0x16 then refused 0x16 true (firmware.takes_select number) else Some (Lacks 0x16)
 
 -- ---- the result of the handshake
 
@@ -124,7 +124,7 @@ pub record Concludes {T C : Type 0} (calls : ℕ) (fault : Option (HandshakeFaul
   pub power : OnErr result (MayLoseDevicePower old.device new.device)
 
 -- The link is in step over an honest port, and the programmer waits for a command and has this firmware.
-pub record IsReady {P C : Type 0} (port : P → PortState) (firmware : Firmware) (link : Link P C) : Type 0 where
+pub record IsInStepWith {P C : Type 0} (port : P → PortState) (firmware : Firmware) (link : Link P C) : Type 0 where
   pub in_step : is_in_step link ≡ true
   pub awaits : AwaitsCommand (port link.port)
   pub same : (port link.port).device.firmware ≡ firmware

@@ -15,8 +15,8 @@ abbrev pub has_chip_selects : Programmer → Bool
 has_chip_selects programmer = programmer.selects
 
 -- The name of the programmer.
-abbrev pub name_of : Programmer → List ℕ
-name_of programmer = programmer.name
+abbrev pub programmer_name : Programmer → List ℕ
+programmer_name programmer = programmer.name
 
 -- The size of the serial buffer.
 abbrev pub buffer_of : Programmer → ℕ

@@ -54,7 +54,7 @@ IsRefused opcode calls left failure = IsRefusal opcode failure ⊎ (IsPortFailur
 
 -- The result of an exchange that requests `count` reply bytes, over an honest port to an idle programmer, for a command
 -- other than O_SPIOP whose reply is specified.
-pub record Answered {C : Type 0} (command : Command) (count : ℕ) (reply : List ℕ) (result : Result Unit (Failure C))
+pub record EndsExchange {C : Type 0} (command : Command) (count : ℕ) (reply : List ℕ) (result : Result Unit (Failure C))
     (old new : PortState) : Type 0 where
   -- if the programmer replies ACK and `count` bytes: success with these bytes, and the programmer is idle; or the port
   -- failed because fewer than three calls were left

@@ -1,11 +1,11 @@
 //! The handshake that precedes the first transaction: identifies a programmer, and prepares it for SPI.
 ghost use Rattle.std.specs.Prelude.{◌≡◌, ◌<◌, ◌≤◌, ℕ, Bool, true, false, List, length, slice_index, None, Some, OnOk, IfOk, IsErr};
 ghost use Rattle.std.specs.Prelude.{option_and_then, replicate, if◌then◌else◌, ◌||◌, ◌&&◌, ◌==◌, not, bit_and, ⊤};
-ghost use Rattle.nor_serprog.specs.Firmware.{Firmware, HasReply, has, is_in_map, reply_of, queried, taken};
+ghost use Rattle.nor_serprog.specs.Firmware.{Firmware, HasReply, has_command, is_in_map, reply_of, queried, taken};
 ghost use Rattle.nor_serprog.specs.Frame.{frame_of, three_of};
 ghost use Rattle.nor_serprog.specs.Link.{port_of, is_in_step, is_cut};
 ghost use Rattle.nor_serprog.specs.Replies.{AwaitsCommand};
-ghost use Rattle.nor_serprog.specs.Identify.{Asked, Concludes, IsReady, IsProgrammerOf, identify_fault, select_fault};
+ghost use Rattle.nor_serprog.specs.Identify.{Asked, Concludes, IsInStepWith, IsProgrammerOf, identify_fault, select_fault};
 ghost use Rattle.nor_serprog.specs.Identify.{version_fault, operation_fault, buses_fault, write_fault, read_fault};
 ghost use Rattle.nor_serprog.specs.Identify.{buffer_fault, clock_fault, refused, buses_of, write_limit, read_limit, limit_in};
 
@@ -52,10 +52,10 @@ impl Programmer {
     /// A step whose command the programmer's map lacks is skipped. It is an error, however, if `hertz` is given and the
     /// map lacks S_SPI_FREQ. (serprog protocol, flashrom's Documentation/serprog-protocol.txt.)
     ///
-    /// Over an honest port to a programmer that waits for a command, its firmware determines the result, unless the port
-    /// fails because fewer than 59 calls were left. The errors are those of `identify_fault`, in the order of the steps.
-    /// After `Ok` the programmer waits for a command again, and its chip is as it was. Nothing of this paragraph is
-    /// promised for a link on which a frame may have been cut off.
+    /// Over an honest port to a programmer that waits for a command, its firmware determines the result, unless the
+    /// port fails because fewer than 59 calls were left. The errors are those of `identify_fault`, in the order of the
+    /// steps. After `Ok` the programmer waits for a command again, and its chip is as it was. Nothing of this paragraph
+    /// is promised for a link on which a frame may have been cut off.
     pub fn identify<P: Port + Drop>(
         link: &mut Link<P>,
         hertz: Option<u32>,
@@ -102,8 +102,8 @@ impl Programmer {
         ensures unsent { has_chip_selects self.now ≡ false → link.new ≡ link.old }
         ensures lacks { has_chip_selects self.now ≡ false → IsErr result }
         ensures ok { OnOk result (is_in_step link.new ≡ true) }
-        ensures selects { (firmware : Firmware) → IsReady P.state firmware link.old
-            → has_chip_selects self.now ≡ has firmware 0x16
+        ensures selects { (firmware : Firmware) → IsInStepWith P.state firmware link.old
+            → has_chip_selects self.now ≡ has_command firmware 0x16
             → Concludes 3 (select_fault firmware number) (λ _. ⊤) result
             (P.state (port_of link.old)) (P.state (port_of link.new)) }
     {
@@ -143,7 +143,7 @@ fn ask<P: Port + Drop>(
     reply: &mut [u8],
 ) -> Result<(), HandshakeFault<P::Cause>>
     ensures in_step { OnOk result (is_in_step link.new ≡ true) }
-    ensures asked { (firmware : Firmware) → IsReady P.state firmware link.old → HasReply firmware command.entry
+    ensures asked { (firmware : Firmware) → IsInStepWith P.state firmware link.old → HasReply firmware command.entry
         → Asked firmware command.entry (length reply.old) reply.new result
         (P.state (port_of link.old)) (P.state (port_of link.new)) }
 {
@@ -161,10 +161,10 @@ fn query<P: Port + Drop, const LEN: usize>(
     opcode: u8,
 ) -> Result<Option<[u8; LEN]>, HandshakeFault<P::Cause>>
     ensures in_step { is_in_step link.old ≡ true → OnOk result (is_in_step link.new ≡ true) }
-    ensures concludes { (firmware : Firmware) (bytes : List ℕ) → IsReady P.state firmware link.old
+    ensures concludes { (firmware : Firmware) (bytes : List ℕ) → IsInStepWith P.state firmware link.old
         → commands.now ≡ firmware.commands → HasReply firmware query.entry
         → reply_of firmware query.entry ≡ queried firmware opcode bytes → length bytes ≡ LEN
-        → Concludes 3 None (λ reply. reply ≡ (if has firmware opcode then Some bytes else None)) result
+        → Concludes 3 None (λ reply. reply ≡ (if has_command firmware opcode then Some bytes else None)) result
         (P.state (port_of link.old)) (P.state (port_of link.new)) }
 {
     if !offers(commands, opcode) {
@@ -183,10 +183,10 @@ fn set<P: Port + Drop>(
     opcode: u8,
 ) -> Result<(), HandshakeFault<P::Cause>>
     ensures in_step { is_in_step link.old ≡ true → OnOk result (is_in_step link.new ≡ true) }
-    ensures concludes { (firmware : Firmware) (accepts : Bool) → IsReady P.state firmware link.old
-        → commands.now ≡ firmware.commands → (has firmware opcode ≡ true → HasReply firmware setting.entry)
+    ensures concludes { (firmware : Firmware) (accepts : Bool) → IsInStepWith P.state firmware link.old
+        → commands.now ≡ firmware.commands → (has_command firmware opcode ≡ true → HasReply firmware setting.entry)
         → reply_of firmware setting.entry ≡ taken accepts → slice_index (frame_of setting.entry) 0 ≡ opcode
-        → Concludes 3 (refused opcode (has firmware opcode) accepts) (λ _. ⊤) result
+        → Concludes 3 (refused opcode (has_command firmware opcode) accepts) (λ _. ⊤) result
         (P.state (port_of link.old)) (P.state (port_of link.new)) }
 {
     if !offers(commands, opcode) {
@@ -198,7 +198,7 @@ fn set<P: Port + Drop>(
 // Returns `Version` if the programmer doesn't speak version 1.
 fn require_version<P: Port + Drop>(link: &mut Link<P>) -> Result<(), HandshakeFault<P::Cause>>
     ensures in_step { is_in_step link.old ≡ true → OnOk result (is_in_step link.new ≡ true) }
-    ensures concludes { (firmware : Firmware) → IsReady P.state firmware link.old
+    ensures concludes { (firmware : Firmware) → IsInStepWith P.state firmware link.old
         → Concludes 3 (version_fault firmware) (λ _. ⊤) result
         (P.state (port_of link.old)) (P.state (port_of link.new)) }
 {
@@ -214,7 +214,7 @@ fn require_version<P: Port + Drop>(link: &mut Link<P>) -> Result<(), HandshakeFa
 // Returns the map of commands, or `Lacks` if the programmer lacks O_SPIOP.
 fn query_commands<P: Port + Drop>(link: &mut Link<P>) -> Result<Map, HandshakeFault<P::Cause>>
     ensures in_step { is_in_step link.old ≡ true → OnOk result (is_in_step link.new ≡ true) }
-    ensures concludes { (firmware : Firmware) → IsReady P.state firmware link.old
+    ensures concludes { (firmware : Firmware) → IsInStepWith P.state firmware link.old
         → Concludes 3 (operation_fault firmware) (λ commands. commands ≡ firmware.commands) result
         (P.state (port_of link.old)) (P.state (port_of link.new)) }
 {
@@ -232,7 +232,7 @@ fn require_spi<P: Port + Drop>(
     commands: &Map,
 ) -> Result<(), HandshakeFault<P::Cause>>
     ensures in_step { is_in_step link.old ≡ true → OnOk result (is_in_step link.new ≡ true) }
-    ensures concludes { (firmware : Firmware) → IsReady P.state firmware link.old
+    ensures concludes { (firmware : Firmware) → IsInStepWith P.state firmware link.old
         → commands.now ≡ firmware.commands → Concludes 3 (buses_fault firmware) (λ _. ⊤) result
         (P.state (port_of link.old)) (P.state (port_of link.new)) }
 {
@@ -249,7 +249,7 @@ fn query_buses<P: Port + Drop>(
     commands: &Map,
 ) -> Result<u8, HandshakeFault<P::Cause>>
     ensures in_step { is_in_step link.old ≡ true → OnOk result (is_in_step link.new ≡ true) }
-    ensures concludes { (firmware : Firmware) → IsReady P.state firmware link.old
+    ensures concludes { (firmware : Firmware) → IsInStepWith P.state firmware link.old
         → commands.now ≡ firmware.commands → Concludes 3 None (λ buses. buses ≡ buses_of firmware) result
         (P.state (port_of link.old)) (P.state (port_of link.new)) }
 {
@@ -273,7 +273,7 @@ fn query_write_limit<P: Port + Drop>(
 ) -> Result<u32, HandshakeFault<P::Cause>>
     ensures enough { IfOk result (λ limit. 260 ≤ limit) }
     ensures in_step { is_in_step link.old ≡ true → OnOk result (is_in_step link.new ≡ true) }
-    ensures concludes { (firmware : Firmware) → IsReady P.state firmware link.old
+    ensures concludes { (firmware : Firmware) → IsInStepWith P.state firmware link.old
         → commands.now ≡ firmware.commands
         → Concludes 3 (write_fault firmware) (λ limit. limit ≡ write_limit firmware) result
         (P.state (port_of link.old)) (P.state (port_of link.new)) }
@@ -291,7 +291,7 @@ fn query_read_limit<P: Port + Drop>(
 ) -> Result<u32, HandshakeFault<P::Cause>>
     ensures enough { IfOk result (λ limit. 4096 ≤ limit) }
     ensures in_step { is_in_step link.old ≡ true → OnOk result (is_in_step link.new ≡ true) }
-    ensures concludes { (firmware : Firmware) → IsReady P.state firmware link.old
+    ensures concludes { (firmware : Firmware) → IsInStepWith P.state firmware link.old
         → commands.now ≡ firmware.commands
         → Concludes 3 (read_fault firmware) (λ limit. limit ≡ read_limit firmware) result
         (P.state (port_of link.old)) (P.state (port_of link.new)) }
@@ -327,9 +327,9 @@ fn query_buffer<P: Port + Drop>(
     commands: &Map,
 ) -> Result<u16, HandshakeFault<P::Cause>>
     ensures in_step { is_in_step link.old ≡ true → OnOk result (is_in_step link.new ≡ true) }
-    ensures concludes { (firmware : Firmware) → IsReady P.state firmware link.old
+    ensures concludes { (firmware : Firmware) → IsInStepWith P.state firmware link.old
         → commands.now ≡ firmware.commands → Concludes 3 (buffer_fault firmware)
-        (λ size. size ≡ (if has firmware 0x04 then firmware.buffer else 0)) result
+        (λ size. size ≡ (if has_command firmware 0x04 then firmware.buffer else 0)) result
         (P.state (port_of link.old)) (P.state (port_of link.new)) }
 {
     let size = match query(link, commands, Command::QuerySerialBuffer, 0x04)? {
@@ -350,9 +350,9 @@ fn query_name<P: Port + Drop>(
     commands: &Map,
 ) -> Result<[u8; 16], HandshakeFault<P::Cause>>
     ensures in_step { is_in_step link.old ≡ true → OnOk result (is_in_step link.new ≡ true) }
-    ensures concludes { (firmware : Firmware) → IsReady P.state firmware link.old
+    ensures concludes { (firmware : Firmware) → IsInStepWith P.state firmware link.old
         → commands.now ≡ firmware.commands → Concludes 3 None
-        (λ name. name ≡ (if has firmware 0x03 then firmware.name else replicate 16 0)) result
+        (λ name. name ≡ (if has_command firmware 0x03 then firmware.name else replicate 16 0)) result
         (P.state (port_of link.old)) (P.state (port_of link.new)) }
 {
     let name = query(link, commands, Command::QueryName, 0x03)?;
@@ -365,7 +365,7 @@ fn set_frequency<P: Port + Drop>(
     hertz: Option<u32>,
 ) -> Result<Option<u32>, HandshakeFault<P::Cause>>
     ensures in_step { is_in_step link.old ≡ true → OnOk result (is_in_step link.new ≡ true) }
-    ensures concludes { (firmware : Firmware) → IsReady P.state firmware link.old
+    ensures concludes { (firmware : Firmware) → IsInStepWith P.state firmware link.old
         → commands.now ≡ firmware.commands → Concludes 3 (clock_fault firmware hertz)
         (λ set. set ≡ option_and_then firmware.clock hertz) result
         (P.state (port_of link.old)) (P.state (port_of link.new)) }

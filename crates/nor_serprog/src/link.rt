@@ -5,7 +5,7 @@ ghost use Rattle.nor_serprog.specs.Device.{AnswerBegins, TakesAnswer, MissesAnsw
 ghost use Rattle.nor_serprog.specs.Firmware.{HasReply, nak};
 ghost use Rattle.nor_serprog.specs.Frame.{frame_of, FitsFrame, IsFrame, ReadsAs};
 ghost use Rattle.nor_serprog.specs.Link.{port_of, sync_of, is_in_step, is_cut};
-ghost use Rattle.nor_serprog.specs.Replies.{AwaitsCommand, Answered, IsPortFailure, IsRefused, IsPending, AsksUnlessFew};
+ghost use Rattle.nor_serprog.specs.Replies.{AwaitsCommand, EndsExchange, IsPortFailure, IsRefused, IsPending, AsksUnlessFew};
 
 use crate::{Answer, Command, Frame, Port};
 use thiserror::Error;
@@ -110,9 +110,9 @@ impl<P: Port + Drop> Link<P> {
     /// After any other error no exchange sends anything until `synchronize` returns `Ok`. If the link was out of step,
     /// the call returns `OutOfStep` or `CutFrame` and does not use the port.
     ///
-    /// Over an honest port to a programmer that waits for a command, the reply to a command other than O_SPIOP is the one
-    /// of its firmware, and `Refused` is returned exactly if it is NAK; or the port failed because fewer than three calls
-    /// were left (`Answered`).
+    /// Over an honest port to a programmer that waits for a command, the reply to a command other than O_SPIOP is the
+    /// one of its firmware, and `Refused` is returned exactly if it is NAK; or the port failed because fewer than three
+    /// calls were left (`EndsExchange`).
     pub fn exchange(
         &mut self,
         command: Command<'_>,
@@ -131,7 +131,7 @@ impl<P: Port + Drop> Link<P> {
             → OnErr result ((self.new ≡ self.old) ⊎ IfOperates command.entry (λ out replies.
             Interrupted out replies (length reply.old) (P.state (port_of self.old)) (P.state (port_of self.new)))) }
         ensures answered { AwaitsCommand (P.state (port_of self.old)) → is_in_step self.old ≡ true
-            → HasReply (P.state (port_of self.old)).device.firmware command.entry → Answered command.entry
+            → HasReply (P.state (port_of self.old)).device.firmware command.entry → EndsExchange command.entry
             (length reply.old) reply.new result (P.state (port_of self.old)) (P.state (port_of self.new)) }
         ensures unread { (P.state (port_of self.old)).honest ≡ true → OnErr result (reply.new ≡ reply.old) }
     {
@@ -168,7 +168,7 @@ impl<P: Port + Drop> Link<P> {
             → OnErr result ((self.new ≡ self.old) ⊎ IfOperates command.entry (λ out replies.
             Interrupted out replies (length reply.old) (P.state (port_of self.old)) (P.state (port_of self.new)))) }
         ensures answered { AwaitsCommand (P.state (port_of self.old))
-            → HasReply (P.state (port_of self.old)).device.firmware command.entry → Answered command.entry
+            → HasReply (P.state (port_of self.old)).device.firmware command.entry → EndsExchange command.entry
             (length reply.old) reply.new result (P.state (port_of self.old)) (P.state (port_of self.new)) }
         ensures unread { (P.state (port_of self.old)).honest ≡ true → OnErr result (reply.new ≡ reply.old) }
     {

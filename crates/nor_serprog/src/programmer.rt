@@ -50,11 +50,11 @@ pub struct Programmer {
 }
 
 impl Programmer {
-    ghost use Rattle.nor_serprog.specs.Programmer.{name_of, writes_most, reads_most, buffer_of, frequency_of};
+    ghost use Rattle.nor_serprog.specs.Programmer.{programmer_name, writes_most, reads_most, buffer_of, frequency_of};
 
     /// Returns the name of the programmer, 16 bytes padded with zeros. It is all zeros if the programmer has none.
     pub fn name(&self) -> [u8; 16]
-        ensures { result ≡ name_of self.now }
+        ensures { result ≡ programmer_name self.now }
     {
         self.name
     }

@@ -1,6 +1,6 @@
 -- The simulated port, as contracts see it.
 use Rattle.std.specs.Prelude.{◌==◌, ◌||◌, ℕ, true, false, List, [], ◌∷◌, None, replicate, if◌then◌else◌}
-use Rattle.std.proofs.Common.{refl, arith}
+use Rattle.std.proofs.Common.{refl, lit<}
 use Rattle.nor_model.specs.Bus.{BusState}
 use Rattle.nor_chip.specs.declared.sim.SimBus.{SimBus}
 use Rattle.nor_serprog.specs.Device.{Device, PortState}
@@ -30,13 +30,13 @@ simulated_firmware = record {
   takes_pins = λ enabled. false;
   takes_select = λ number. false;
   clock = λ hertz. None;
-  version_fits = omega arith;
+  version_fits = lit< tt;
   commands_len = refl;
   name_len = refl;
-  buffer_fits = omega arith;
-  buses_fit = omega arith;
-  write_fits = omega arith;
-  read_fits = omega arith;
+  buffer_fits = lit< tt;
+  buses_fit = lit< tt;
+  write_fits = lit< tt;
+  read_fits = lit< tt;
   clock_fits = λ hertz. tt;
 }
 

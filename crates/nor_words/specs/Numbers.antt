@@ -35,7 +35,7 @@ number_or_length text = if starts_with nat_eq text (codes "0x") then numeral 16 
 abbrev pub range_of : Text → Option (ℕ × ℕ)
 range_of text =
     option_and_then (λ start. option_map (λ len. (start, len)) (number_or_length (rest_of text)))
-        (number_or_length (front_of text))
+    (number_or_length (front_of text))
 
 -- the eight bytes that 16 hexadecimal digits encode
 abbrev pub unique_number : Text → Option (List ℕ)

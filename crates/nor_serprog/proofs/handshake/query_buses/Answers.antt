@@ -1,7 +1,7 @@
 use Rattle.std.proofs.Common.{◌∙◌, List, ℕ, Bool, [], ◌∷◌, None, refl, sym, ap, get_or}
 use Rattle.std.specs.Prelude.{if◌then◌else◌}
 use Rattle.std.proofs.lemmas.Result.{err_from_is_err_and}
-use Rattle.nor_serprog.specs.Firmware.{has}
+use Rattle.nor_serprog.specs.Firmware.{has_command}
 use Rattle.nor_serprog.proofs.Handshaken.{fails_anyhow, goes_on, lacks_query, replied}
 use Rattle.nor_serprog.proofs.handshake.query_buses.Goals as goal
 
@@ -15,7 +15,7 @@ returns-in_err-reply-clause-concludes g c firmware ready same =
 pub returns-in-Some-clause-concludes : goal.returns-in-Some-clause-concludes
 returns-in-Some-clause-concludes g c firmware ready same =
     let done = c.in_ok-reply.ensures.concludes firmware (firmware.buses ∷ []) ready same tt refl refl in
-    let r = replied (has firmware 0x05) (firmware.buses ∷ []) _ _ c.in-Some.is done.value in
+    let r = replied (has_command firmware 0x05) (firmware.buses ∷ []) _ _ c.in-Some.is done.value in
     goes_on 3 None None _ _ _ _ _ _ done refl
     (ap (λ (l : List ℕ). get_or l 0 0) r.bytes_are
     ∙ sym (ap (λ (b : Bool). if b then firmware.buses else 8) r.has_query))
@@ -23,5 +23,5 @@ returns-in-Some-clause-concludes g c firmware ready same =
 pub returns-in-None-clause-concludes : goal.returns-in-None-clause-concludes
 returns-in-None-clause-concludes g c firmware ready same =
     let done = c.in_ok-reply.ensures.concludes firmware (firmware.buses ∷ []) ready same tt refl refl in
-    let h = lacks_query (has firmware 0x05) (firmware.buses ∷ []) _ c.in-None.is done.value in
+    let h = lacks_query (has_command firmware 0x05) (firmware.buses ∷ []) _ c.in-None.is done.value in
     goes_on 3 None None _ _ _ _ _ _ done refl (sym (ap (λ (b : Bool). if b then firmware.buses else 8) h))

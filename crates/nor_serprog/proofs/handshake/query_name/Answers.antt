@@ -1,7 +1,7 @@
 use Rattle.std.proofs.Common.{◌∙◌, List, ℕ, Option, None, refl, ap}
 use Rattle.std.specs.Prelude.{replicate, unwrap_or}
 use Rattle.std.proofs.lemmas.Result.{err_from_is_err_and}
-use Rattle.nor_serprog.specs.Firmware.{has}
+use Rattle.nor_serprog.specs.Firmware.{has_command}
 use Rattle.nor_serprog.proofs.Handshaken.{fails_anyhow, goes_on, or_default}
 use Rattle.nor_serprog.proofs.handshake.query_name.Goals as goal
 
@@ -17,4 +17,4 @@ returns-clause-concludes g c firmware ready same =
     let done = c.in_ok-name.ensures.concludes firmware firmware.name ready same tt refl firmware.name_len in
     goes_on 3 None None _ _ _ _ _ _ done refl
     (c.unwrap_or.ensures ∙ ap (λ (o : Option (List ℕ)). unwrap_or o (replicate 16 0)) done.value
-    ∙ or_default (has firmware 0x03) firmware.name (replicate 16 0))
+    ∙ or_default (has_command firmware 0x03) firmware.name (replicate 16 0))
