@@ -1,6 +1,5 @@
 use Rattle.std.proofs.Common.{option_map, rules, arith}
 use Rattle.flashnor.proofs.Holds.{faults_before, found_before}
-use Rattle.flashnor.proofs.Stays.{known_stay_on}
 use Rattle.flashnor.proofs.holding.hold_content.Goals as goal
 
 pub returns-in_err-status-clause-err : goal.returns-in_err-status-clause-err

@@ -1,5 +1,5 @@
 use Rattle.std.proofs.Common.{arith}
-use Rattle.flashnor.proofs.WrittenBack.{both_amid, both_put, reported_before, reported}
+use Rattle.flashnor.proofs.WrittenBack.{both_amid, both_put}
 use Rattle.flashnor.proofs.holding.write_back.Goals as goal
 
 pub returns-clause-put : goal.returns-clause-put
