@@ -10,8 +10,8 @@ use Rattle.std.proofs.lemmas.Slice.Eq.{bytes_eq-Decides}
 use Rattle.nor_words.specs.Programmer.{value_in}
 use Rattle.nor_words.specs.Text.{Text, key_of, value_of}
 use Rattle.nor_words.proofs.InTurn.{turned, ended}
-use Rattle.flashnor_serprog.specs.Setting.{EachHardwareKey, OfHardwareKey, StoresAt, StoresSetting, IsNotStored}
-use Rattle.flashnor_serprog.specs.Setting.{BeginsWrong, EndsWithRate, IsDeviceOf, IsWrongSetting, first_wrong}
+use Rattle.flashnor_serprog.specs.Setting.{EachSerprogKey, OfSerprogKey, StoresAt, StoresSetting, CannotBeStored}
+use Rattle.flashnor_serprog.specs.Setting.{HasFirstWrong, EndsWithRate, IsDeviceOf, IsWrongSetting, first_wrong}
 use Rattle.flashnor_serprog.specs.Setting.{may_have_value, names_network, serprog_settings}
 use Rattle.flashnor_serprog.specs.declared.setting.Settings.{Settings}
 use Rattle.flashnor_serprog.specs.declared.setting.WrongSetting.{WrongSetting}
@@ -62,10 +62,10 @@ reading-next taken all left setting key read old new stores before =
 
 -- ---- every key
 
-each-both : {P Q R : OfHardwareKey}
+each-both : {P Q R : OfSerprogKey}
     → ((T : Type 0) (key : Text) (is_value : Text → Bool) (read : Text → Option T) (place : Settings → Option T)
     → P T key is_value read place → Q T key is_value read place → R T key is_value read place)
-    → EachHardwareKey P → EachHardwareKey Q → EachHardwareKey R
+    → EachSerprogKey P → EachSerprogKey Q → EachSerprogKey R
 each-both f p q = record {
   device = f _ _ _ _ _ p.device q.device;
   hertz = f _ _ _ _ _ p.hertz q.hertz;
@@ -78,7 +78,7 @@ either true false c first more is = more is
 either false b c first more is = more is
 
 -- if a statement holds for each key with a correct value, it holds for any known key with a correct value
-any-key : (key value : Text) (P : Type 0) → EachHardwareKey (λ T name is_value read place. bytes_eq key name ≡ true
+any-key : (key value : Text) (P : Type 0) → EachSerprogKey (λ T name is_value read place. bytes_eq key name ≡ true
     → is_value value ≡ true → P) → may_have_value key value ≡ true → P
 any-key key value P each =
     either _ _ _ each.device (either _ _ _ each.hertz (either _ _ _ each.chip_select (λ none. cc)))
@@ -86,7 +86,7 @@ any-key key value P each =
 -- Holds after some settings of `all`, with the keys `taken`, were stored, and those of `left` remain.
 pub record Gathering (all left : List Text) (said : Settings) : Type 0 where
   pub taken : List Text
-  pub keys : EachHardwareKey (λ T key is_value read place. Reading taken all left key read (place said))
+  pub keys : EachSerprogKey (λ T key is_value read place. Reading taken all left key read (place said))
   pub wrong : first_wrong taken left ≡ first_wrong [] all
 
 -- whether a key is taken, if it equals a key of which this is known
@@ -115,7 +115,7 @@ module _ (all : List Text) (n : ℕ) (setting : Text) (at : (n < length all) × 
 
   -- a setting that can't be stored is the first wrong one
   pub gathering-refused : (said : Settings) → Gathering all (drop n all) said
-      → IsNotStored (key_of setting) (value_of setting) said → first_wrong [] all ≡ Some setting
+      → CannotBeStored (key_of setting) (value_of setting) said → first_wrong [] all ≡ Some setting
   gathering-refused said before refused =
       let now = rw (turned all n setting at) at before in
       elim (cases_Bool (may_have_value (key_of setting) (value_of setting))) [
@@ -130,13 +130,13 @@ module _ (all : List Text) (n : ℕ) (setting : Text) (at : (n < length all) × 
       ]
 
 -- Holds if each field has the value that the settings give its key.
-abbrev pub AreHardwareValues : List Text → Settings → Type 0
-AreHardwareValues all said = EachHardwareKey (λ T key is_value read place.
+abbrev pub AreSerprogValues : List Text → Settings → Type 0
+AreSerprogValues all said = EachSerprogKey (λ T key is_value read place.
     option_and_then read (value_in all key) ≡ place said)
 
 -- after the last setting none was wrong, and each field has its value
 pub gathering-last : (all : List Text) (n : ℕ) (said : Settings) → Gathering all (drop n all) said → n ≡ length all
-    → (first_wrong [] all ≡ None) × AreHardwareValues all said
+    → (first_wrong [] all ≡ None) × AreSerprogValues all said
 gathering-last all n said before end =
     let now = rw (ended all n end) at before in (
       sym now.wrong,
@@ -147,7 +147,7 @@ gathering-last all n said before end =
 
 -- the error of a setting that can't be stored is that of its text, if this setting is the first wrong one
 pub wrong_is : (text setting : Text) (wrong : WrongSetting)
-    → wrong ≡ (if names_network setting then Network else Other) → BeginsWrong text setting → IsWrongSetting text wrong
+    → wrong ≡ (if names_network setting then Network else Other) → HasFirstWrong text setting → IsWrongSetting text wrong
 wrong_is text setting wrong said begins = elim (cases_Bool (names_network setting)) [
   | inl is ↦ let same : wrong ≡ Network = rw is at said in rw same (setting, begins, is)
   | inr is ↦ let same : wrong ≡ Other = rw is at said in rw same (inr (inl (setting, begins, is)))

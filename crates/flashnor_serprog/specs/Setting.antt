@@ -22,24 +22,24 @@ chip_select_of text = option_and_then
 
 -- a statement about a key: the test of its values, the parser of its values, and the field of `Settings` that has its
 -- value
-abbrev pub OfHardwareKey : Type 1
-OfHardwareKey = (T : Type 0) → (key : Text) → (is_value : Text → Bool) → (read : Text → Option T)
+abbrev pub OfSerprogKey : Type 1
+OfSerprogKey = (T : Type 0) → (key : Text) → (is_value : Text → Bool) → (read : Text → Option T)
     → (place : Settings → Option T) → Type 0
 
 -- Holds if the statement is true for each key.
-pub record EachHardwareKey (P : OfHardwareKey) : Type 0 where
+pub record EachSerprogKey (P : OfSerprogKey) : Type 0 where
   pub device : P _ (codes "dev") is_file Some (λ said. option_map (λ name. name.now) said.device)
   pub hertz : P _ (codes "spispeed") (reads clock_of) clock_of (λ said. said.hertz)
   pub chip_select : P _ (codes "cs") (reads chip_select_of) chip_select_of (λ said. said.chip_select)
 
 -- the known keys, each with the test that its values pass
-abbrev pub hardware_keys : List (Text × (Text → Bool))
-hardware_keys =
+abbrev pub serprog_keys : List (Text × (Text → Bool))
+serprog_keys =
     (codes "dev", is_file) ∷ (codes "spispeed", reads clock_of) ∷ (codes "cs", reads chip_select_of) ∷ []
 
 -- true if the key is known and the value passes its test
 abbrev pub may_have_value : (key value : Text) → Bool
-may_have_value key value = list_any (λ known. bytes_eq key known.0 && known.1 value) hardware_keys
+may_have_value key value = list_any (λ known. bytes_eq key known.0 && known.1 value) serprog_keys
 
 -- the settings after `serprog:`
 abbrev pub serprog_settings : Text → List Text
@@ -85,7 +85,7 @@ pub record IsSetting (text : Text) (setting : Setting) : Type 0 where
       ≡ setting.chip_select
 
 -- The first wrong setting of the text, if it begins with `serprog:` and has one.
-pub record BeginsWrong (text setting : Text) : Type 0 where
+pub record HasFirstWrong (text setting : Text) : Type 0 where
   pub begins : names_serprog text ≡ true
   pub first : first_wrong [] (serprog_settings text) ≡ Some setting
 
@@ -96,11 +96,11 @@ pub record BeginsWrong (text setting : Text) : Type 0 where
 -- - `Other`: the text doesn't begin with `serprog:`, or its first wrong setting is another one, or no setting is wrong
 --   and `dev=` is missing.
 abbrev pub IsWrongSetting : Text → WrongSetting → Type 0
-IsWrongSetting text Network = (setting : Text) × BeginsWrong text setting × (names_network setting ≡ true)
+IsWrongSetting text Network = (setting : Text) × HasFirstWrong text setting × (names_network setting ≡ true)
 IsWrongSetting text (BaudRate device rate) = (value : Text) × IsDeviceOf text value
     × (first_wrong [] (serprog_settings text) ≡ None) × HasRate value device.now rate.now
 IsWrongSetting text Other = (names_serprog text ≡ false)
-    ⊎ ((setting : Text) × BeginsWrong text setting × (names_network setting ≡ false))
+    ⊎ ((setting : Text) × HasFirstWrong text setting × (names_network setting ≡ false))
     ⊎ ((first_wrong [] (serprog_settings text) ≡ None) × (device_in (serprog_settings text) ≡ None))
 
 -- Holds for a refused device: its value ends with a colon and a number.
@@ -118,10 +118,10 @@ pub record StoresAt {T : Type 0} (key : Text) (read : Text → Option T) (given 
 -- Holds if a setting with this key and value was stored.
 abbrev pub StoresSetting : (key value : Text) → (old new : Settings) → Type 0
 StoresSetting given value old new =
-    EachHardwareKey (λ T key is_value read place. StoresAt key read given value (place old) (place new))
+    EachSerprogKey (λ T key is_value read place. StoresAt key read given value (place old) (place new))
 
 -- Holds if a setting with this key and value can't be stored: its key is unknown or already has a value, or its value
 -- isn't valid for its key.
-abbrev pub IsNotStored : (key value : Text) → Settings → Type 0
-IsNotStored given value said = EachHardwareKey (λ T key is_value read place.
+abbrev pub CannotBeStored : (key value : Text) → Settings → Type 0
+CannotBeStored given value said = EachSerprogKey (λ T key is_value read place.
     bytes_eq given key ≡ true → is_value value ≡ true → is_some (place said) ≡ true)

@@ -5,7 +5,7 @@ ghost use Rattle.std.specs.Option.{MatchOption};
 ghost use Rattle.std.specs.Result.{MatchResult};
 ghost use Rattle.nor_words.specs.Programmer.{is_file};
 ghost use Rattle.nor_words.specs.Text.{key_of, value_of};
-ghost use Rattle.flashnor_serprog.specs.Setting.{EndsWithRate, IsNotStored, IsSetting, IsWrongSetting, StoresSetting};
+ghost use Rattle.flashnor_serprog.specs.Setting.{EndsWithRate, CannotBeStored, IsSetting, IsWrongSetting, StoresSetting};
 ghost use Rattle.flashnor_serprog.specs.Setting.{chip_select_of, clock_of, may_have_value, names_network};
 ghost use Rattle.flashnor_serprog.specs.declared.setting.WrongSetting.TheVariants.{Network, Other};
 
@@ -78,7 +78,7 @@ impl<'a> Settings<'a> {
             (λ _. (may_have_value (key_of setting.now) (value_of setting.now) ≡ true)
             × StoresSetting (key_of setting.now) (value_of setting.now) self.old self.new)
             (λ wrong. (wrong ≡ (if names_network setting.now then Network else Other))
-            × IsNotStored (key_of setting.now) (value_of setting.now) self.old) }
+            × CannotBeStored (key_of setting.now) (value_of setting.now) self.old) }
     {
         match setting.split_once('=') {
             Some(("ip", _)) => Err(WrongSetting::Network),
@@ -90,7 +90,7 @@ impl<'a> Settings<'a> {
     // Parses and stores the value of one key. Returns `None` if the key is unknown or already stored, or the value is
     // invalid.
     fn take_value(&mut self, key: &str, value: &'a str) -> Option<()>
-        ensures { MatchOption result (IsNotStored key.now value.now self.old)
+        ensures { MatchOption result (CannotBeStored key.now value.now self.old)
             (λ _. (may_have_value key.now value.now ≡ true) × StoresSetting key.now value.now self.old self.new) }
     {
         match key {

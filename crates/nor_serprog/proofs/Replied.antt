@@ -9,7 +9,7 @@ use Rattle.nor_serprog.specs.declared.command.Command.TheVariants.{Nop, QueryInt
 use Rattle.nor_serprog.specs.declared.link.Failure.{Failure}
 use Rattle.nor_serprog.specs.Frame.{frame_of}
 use Rattle.nor_serprog.specs.Firmware.{Firmware, HasReply, reply_of, nak, clocked}
-use Rattle.nor_serprog.specs.Device.{Device, PortState, IsIdle, AnswerBegins, IsSent, IsCutOff, AsksFor, AreShort, RepliesTo, TakesAnswer, MissesAnswer, MayLoseDevicePower}
+use Rattle.nor_serprog.specs.Device.{Device, PortState, IsIdle, AnswerBegins, IsSent, IsCutOff, AsksFor, AreWithinLimits, RepliesTo, TakesAnswer, MissesAnswer, MayLoseDevicePower}
 use Rattle.nor_serprog.specs.Replies.{AwaitsCommand, EndsExchange, IsPortFailure, IsRefusal, IsRefused}
 use Rattle.nor_serprog.proofs.Exchanges.{none_rest}
 
@@ -73,7 +73,7 @@ frame_short firmware (SelectChip number) has = omega arith
 frame_short firmware _ has = omega arith
 
 short_one : (command : Command) (old : Device) → IsIdle old → HasReply old.firmware command
-    → AreShort (command ∷ []) old
+    → AreWithinLimits (command ∷ []) old
 short_one command old idle has = record {
   none_pending = idle.pending;
   sends = omega (arith, length-append (frame_of command) [], frame_short old.firmware command has);
@@ -124,7 +124,7 @@ pub answered_cut_off : {C : Type 0} (command : Command) (frame : List ℕ) (coun
     → EndsExchange command count reply (Err failure) old new
 answered_cut_off command frame count reply failure old new awaits exact has cut failed =
     let asks = asks_one command frame old.device awaits.idle exact has in
-    let none = cut.unanswered (command ∷ []) asks (short_one command old.device awaits.idle has) in
+    let none = cut.none_left_for_commands (command ∷ []) asks (short_one command old.device awaits.idle has) in
     record {
       acked = λ bytes acks same. (tt, (failed, omega (arith, none)));
       refused = λ naks. (tt, inr (failed, omega (arith, none)));

@@ -4,7 +4,7 @@ use Rattle.std.specs.Prelude.{slice_index, Err}
 use Rattle.nor_serprog.specs.declared.command.Command.{Command}
 use Rattle.nor_serprog.specs.declared.command.Command.TheVariants.{Nop, SyncNop}
 use Rattle.nor_serprog.specs.Firmware.{Firmware, frames_of, replies_of, HaveReplies}
-use Rattle.nor_serprog.specs.Device.{PortState, IsSent, IsCutOff, AsksFor, AreShort}
+use Rattle.nor_serprog.specs.Device.{PortState, IsSent, IsCutOff, AsksFor, AreWithinLimits}
 use Rattle.nor_serprog.specs.declared.link.Failure.{Failure}
 use Rattle.nor_serprog.specs.Replies.{IsPortFailure, AwaitsCommand, OnlyAsks, AsksUnlessFew, IsPending}
 use Rattle.nor_serprog.proofs.Replied.{power_then}
@@ -108,14 +108,14 @@ pub row_cut : {C : Type 0} (commands : List Command) (bytes answers : List ℕ) 
     → IsPortFailure failure → 0 < calls → AsksUnlessFew calls (Err failure) old new
 row_cut commands bytes answers calls failure old new is awaits cut failed some =
     let asks = asks_row commands bytes answers old is awaits in
-    let short : AreShort commands old.device = record {
+    let short : AreWithinLimits commands old.device = record {
       none_pending = awaits.idle.pending;
       sends = is.short;
       reads = omega (arith, ap length (is.answers_are old.device.firmware), is.few);
     } in
     record {
       done = tt;
-      few_left = (failed, omega (arith, cut.unanswered commands asks short, some));
+      few_left = (failed, omega (arith, cut.none_left_for_commands commands asks short, some));
       power = cut.power commands asks;
     }
 

@@ -101,7 +101,7 @@ pub record IsWithinLimits (frame : List ℕ) (device : Device) : Type 0 where
 
 -- These commands are within the limits of every honest port: no reply is pending, and their frames have at most 260
 -- bytes, and the replies to them at most 4,096.
-pub record AreShort (commands : List Command) (device : Device) : Type 0 where
+pub record AreWithinLimits (commands : List Command) (device : Device) : Type 0 where
   pub none_pending : device.pending ≡ []
   pub sends : length (frames_of commands) ≤ 260
   pub reads : length (replies_of device.firmware commands) ≤ 4096
@@ -113,7 +113,7 @@ pub record AreShort (commands : List Command) (device : Device) : Type 0 where
 -- left.
 pub record IsCutOff (bytes : List ℕ) (old new : PortState) : Type 0 where
   pub firmware : new.device.firmware ≡ old.device.firmware
-  pub unanswered : (commands : List Command) → AsksFor commands bytes old.device → AreShort commands old.device
+  pub none_left_for_commands : (commands : List Command) → AsksFor commands bytes old.device → AreWithinLimits commands old.device
       → old.left ≡ 0
   pub power : (commands : List Command) → AsksFor commands bytes old.device
       → MayLoseDevicePower old.device new.device

@@ -26,7 +26,7 @@ returns-clause-sent c =
 pub returns-in_default-clause-cut_off : goal.returns-in_default-clause-cut_off
 returns-in_default-clause-cut_off c = record {
   firmware = refl;
-  unanswered = λ commands asks short.
+  none_left_for_commands = λ commands asks short.
       absurd (no_operation commands c.args.frame.now asks.frames asks.replies c.requires);
   power = λ commands asks. absurd (no_operation commands c.args.frame.now asks.frames asks.replies c.requires);
   none_left = search rules;
