@@ -16,8 +16,8 @@ use Rattle.nor_lines.specs.Stored.{ArePut, AreTwo, Happens, IsNot, IsReportedOf}
 abbrev OthersOf : Option (Bor Text) → (old new : FilesState) → Type 0
 OthersOf name old new = is_lawful old.view ≡ true → (any : Name) → IsNot old.view.nature name any → KeepsFile any old new
 
--- the clauses of `write_if_named` for a file, if one is named; `failed` is the name that is returned if the file could not be
--- written
+-- the clauses of `write_if_named` for a file, if one is named; `failed` is the name that is returned if the file could
+-- not be written
 abbrev PutsBack : Option (Bor Text) → (there : Bool) → (bytes : List ℕ) → (failed : Option (Bor Text))
     → (old new : FilesState) → Type 0
 PutsBack name there bytes failed old new = record {

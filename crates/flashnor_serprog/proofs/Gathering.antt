@@ -77,7 +77,7 @@ either true true c first more is = first refl refl
 either true false c first more is = more is
 either false b c first more is = more is
 
--- if a statement holds for each key with a correct value, it holds for any known key with a correct value
+-- `P` follows for a known key with a valid value, if it follows for each of the three keys
 any-key : (key value : Text) (P : Type 0) → EachSerprogKey (λ T name is_value read place. bytes_eq key name ≡ true
     → is_value value ≡ true → P) → may_have_value key value ≡ true → P
 any-key key value P each =

@@ -103,7 +103,7 @@ IsWrongSetting text Other = (names_serprog text ≡ false)
     ⊎ ((setting : Text) × HasFirstWrong text setting × (names_network setting ≡ false))
     ⊎ ((first_wrong [] (serprog_settings text) ≡ None) × (device_in (serprog_settings text) ≡ None))
 
--- Holds for a refused device: its value ends with a colon and a number.
+-- Holds if the error is `BaudRate`, and the text is its device, a colon and its number.
 abbrev pub EndsWithRate : Text → WrongSetting → Type 0
 EndsWithRate text (BaudRate device rate) = HasRate text device.now rate.now
 EndsWithRate text _ = ⊥
@@ -115,7 +115,8 @@ pub record StoresAt {T : Type 0} (key : Text) (read : Text → Option T) (given 
   pub met : bytes_eq given key ≡ true → (old ≡ None) × (read value ≡ new) × (is_some new ≡ true)
   pub other : bytes_eq given key ≡ false → new ≡ old
 
--- Holds if a setting with this key and value was stored.
+-- For each known key: if the setting has this key, its field was empty and now has the value; otherwise the field is as
+-- before.
 abbrev pub StoresSetting : (key value : Text) → (old new : Settings) → Type 0
 StoresSetting given value old new =
     EachSerprogKey (λ T key is_value read place. StoresAt key read given value (place old) (place new))

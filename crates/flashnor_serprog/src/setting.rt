@@ -45,9 +45,9 @@ struct Settings<'a> {
 impl<'a> Setting<'a> {
     /// Parses the value of `-p`. A `KEY=VALUE` pair ends at the next comma, and its key at the first `=`.
     ///
-    /// Returns `Network` if the first wrong setting is `ip=..`, `BaudRate` if no setting is wrong but the device ends
-    /// with a colon and a number, and `Other` for all other texts that describe no programmer. No clause says that
-    /// every device with a baud rate is refused.
+    /// If the text begins with `serprog:`, returns `Network` if the first wrong setting is `ip=..`, and `BaudRate` if
+    /// no setting is wrong but the device ends with a colon and a number. Returns `Other` for all other texts that
+    /// describe no programmer. No clause says that every device with a baud rate is refused.
     pub fn read(text: &'a str) -> Result<Setting<'a>, WrongSetting<'a>>
         ensures { MatchResult result (IsSetting text.now) (IsWrongSetting text.now) }
     {
@@ -72,7 +72,7 @@ impl<'a> Setting<'a> {
 
 impl<'a> Settings<'a> {
     // Parses and stores one `KEY=VALUE` pair. Returns an error if the key is unknown or already stored, or the value is
-    // invalid: `Network` for the key `ip`, otherwise `Other`.
+    // invalid: `Network` for `ip=..`, otherwise `Other`.
     fn take_in(&mut self, setting: &'a str) -> Result<(), WrongSetting<'a>>
         ensures { MatchResult result
             (λ _. (may_have_value (key_of setting.now) (value_of setting.now) ≡ true)

@@ -80,7 +80,7 @@ EndsInError changes wanted old new error =
 module _ {changes : Changes} {wanted bytes : ℕ → ℕ} {worn : ℕ → Bool} {code : ℕ} {numbers : Numbers}
     {readings spent : ℕ} {old mid : BusState} {done : Tally}
     (so : SoFar changes wanted bytes worn code numbers readings spent old mid done) where
-  -- For the next part. If `CanApply` held at the start of all changes, the part can be carried out (`Can`), and changes
+  -- The next part: if `CanApply` held at the start of all changes, the part can be carried out (`Can`), and changes
   -- the chip only as `MayChange` allows.
   module _ {part : ℕ} {limits : Limits} {Can : Chip → Type 0} {May : BusState → BusState → Type 0} {new : BusState}
       (leaves : Leaves part limits Can May mid new)

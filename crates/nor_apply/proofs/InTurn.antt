@@ -17,7 +17,7 @@ use Rattle.nor_apply.specs.Spending.{Tallies}
 
 -- ---- limits
 
--- The limits of `n` and of `m` erases add up to those of `k` erases, if the second sectors are among the first ones.
+-- Limits of `n` and then `m` erases add up to those of `n + m` erases of the first sectors, if these include the second.
 pub erasing_sum : {all part : ℕ → Bool} {n m k : ℕ} → ((s : ℕ) → part s ≡ true → all s ≡ true) → n + m ≡ k
     → IsSum (erasing all n) (erasing part m) (erasing all k)
 erasing_sum inside sum = grind (arith, inside, sum)
@@ -29,7 +29,7 @@ erasing_parts inside fits = grind (arith, inside, fits)
 pub erasing_more : {sectors : ℕ → Bool} {n k : ℕ} → n ≤ k → IsPartOf (erasing sectors n) (erasing sectors k)
 erasing_more few = grind (arith, few)
 
--- The same holds for page programs.
+-- Limits of page programs add up as those of erases do.
 pub programming_sum : {all part : ℕ → Bool} {n m k : ℕ} → ((s : ℕ) → part s ≡ true → all s ≡ true) → n + m ≡ k
     → IsSum (programming all n) (programming part m) (programming all k)
 programming_sum inside sum = grind (arith, inside, sum)
@@ -75,7 +75,7 @@ ran_part leaves exactly tallies = record {
   tallies = tallies;
 }
 
--- a single operation that succeeded, as `Ran` without reads
+-- a single operation that succeeded is a part (`Ran`) without reads
 pub ran_one : {e p w sent : ℕ} {limits : Limits} {Can : Chip → Type 0} {May : BusState → BusState → Type 0}
     {old new : BusState} → Leaves most_operation limits Can May old new → SendsExactly e p w old new
     → EndsWaiting old new sent → Ran (record limits { erases = e; programs = p; status_writes = w }) 0 old new

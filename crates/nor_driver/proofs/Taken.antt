@@ -9,9 +9,8 @@ use Rattle.nor_driver.specs.Limits.{limits_of}
 use Rattle.nor_driver.specs.Operations.{operation_of, MayOperate, HasOperated, ChipOperation, LeavesOperation, Operates, command_operation}
 use Rattle.nor_driver.proofs.Limits.{sends_more}
 
--- Holds if the bytes `out`, with the data `sent` at their end, ask this chip for the command of the operation if the
--- chip can carry it out, and for nothing if the chip ignores it. The bytes are within the limits of the operation, and
--- have exactly the numbers of these limits.
+-- Holds if `out`, which ends with the data `sent`, is a command of this operation: a chip under `can` decodes `command`,
+-- and a chip under `ignores` nothing. The limits of `out` lie within those of the operation, with equal numbers.
 pub record IsFor (out sent : List ℕ) (command : Command) (operation : ChipOperation) (chip : Chip) : Type 0 where
   pub sectors : (s : ℕ) → (limits_of out).sectors s ≡ true → operation.limits.sectors s ≡ true
   pub status : (one two : ℕ) → (limits_of out).status one two ≡ true → operation.limits.status one two ≡ true

@@ -61,8 +61,8 @@ pub record MayErase (erase : Erase) (old new : BusState) : Type 0 where
   pub runs : new.chip.busy ≢ 0 → new.chip.running ≡ Runs.Erase (4096 * erase.sector) (block_length old.chip erase)
   pub worn : (s : ℕ) → is_sector_in_block erase old.chip s ≡ false → new.worn s ≡ old.worn s
 
--- On an honest bus, the block was erased. All other bytes, the non-volatile bits and the record of other erased sectors
--- are as they were.
+-- On an honest bus, the block was erased, and the write enable latch is clear. All other bytes, the non-volatile bits
+-- and the record of other erased sectors are as they were.
 abbrev pub HasErased : Erase → (old new : BusState) → Type 0
 HasErased erase old =
     HasEnded (λ a. if is_address_in_block erase old.chip a then 255 else old.chip.bytes a) old.chip.kept

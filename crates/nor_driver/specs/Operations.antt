@@ -84,7 +84,8 @@ pub record MayOperate (command : Command) (sent : List ℕ) (old new : BusState)
   pub worn : (s : ℕ) → wears command s ≡ false → new.worn s ≡ old.worn s
 
 -- On an honest bus, an operation has ended: the chip has the bytes `content` and the non-volatile bits `bits`, and the
--- sectors of `erased` are recorded as erased. The configuration is as it was, and the write enable latch is clear.
+-- exactly the sectors of `erased` are recorded as erased. The configuration is as it was, and the write enable latch is
+-- clear.
 pub record HasEnded (content : ℕ → ℕ) (bits : KeptBits) (erased : ℕ → Bool) (old new : BusState) : Type 0 where
   pub config : new.chip.config ≡ old.chip.config
   pub bytes : (a : ℕ) → new.chip.bytes a ≡ content a
@@ -93,13 +94,13 @@ pub record HasEnded (content : ℕ → ℕ) (bits : KeptBits) (erased : ℕ → 
   pub latch : new.chip.latch ≡ false
 
 -- On an honest bus, an operation that an idle chip carried out has ended, with its whole effect on bytes, non-volatile
--- bits and erased sectors.
+-- bits and erased sectors. The write enable latch is clear.
 abbrev pub HasOperated : Command → (sent : List ℕ) → (old new : BusState) → Type 0
 HasOperated command sent old =
     HasEnded (byte_after old.chip command sent) (kept_after old.chip command) (λ s. old.worn s || wears command s) old
 
--- An operation: its limits, the chips that carry it out (`can`) and those that ignore it (`ignores`), and its effect on
--- an honest bus whose chip carries it out, at every exit (`may`) and after it succeeded (`has`).
+-- An operation: its limits, a condition under which a chip carries it out (`can`), and one under which a chip ignores
+-- it (`ignores`). Under `can`, on an honest bus: its effect at every exit (`may`), and after it succeeded (`has`).
 pub record ChipOperation : Type 1 where
   pub limits : Limits
   pub can : Chip → Type 0

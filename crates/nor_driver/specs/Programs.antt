@@ -44,8 +44,8 @@ pub record MayProgram (at : ℕ) (sent : List ℕ) (old new : BusState) : Type 0
   pub runs : new.chip.busy ≢ 0 → new.chip.running ≡ Runs.Program (at / 256)
   pub worn : (s : ℕ) → new.worn s ≡ old.worn s
 
--- On an honest bus, the bytes were programmed. All other bytes, the non-volatile bits and the erased sectors are as
--- they were.
+-- On an honest bus, the bytes were programmed, and the write enable latch is clear. All other bytes, the non-volatile
+-- bits and the erased sectors are as they were.
 abbrev pub HasProgrammed : (at : ℕ) → (sent : List ℕ) → (old new : BusState) → Type 0
 HasProgrammed at sent old = HasEnded (programmed at sent old.chip.bytes) old.chip.kept old.worn old
 

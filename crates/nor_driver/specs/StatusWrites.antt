@@ -45,8 +45,8 @@ pub record MayWriteStatus (code : ℕ) (old new : BusState) : Type 0 where
   pub runs : new.chip.busy ≢ 0 → new.chip.running ≡ Runs.StatusWrite old.chip.kept.one old.chip.kept.two
   pub worn : (s : ℕ) → new.worn s ≡ old.worn s
 
--- On an honest bus, the protection bits were written. The other non-volatile bits, the bytes and the erased sectors are
--- as they were.
+-- On an honest bus, the protection bits were written, and the write enable latch is clear. The other non-volatile bits,
+-- the bytes and the erased sectors are as they were.
 abbrev pub HasWrittenStatus : (code : ℕ) → (old new : BusState) → Type 0
 HasWrittenStatus code old = HasEnded old.chip.bytes (with_code code old.chip.kept) old.worn old
 

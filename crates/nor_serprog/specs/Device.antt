@@ -69,7 +69,8 @@ pub record CompletesOperation (bytes : List ℕ) (old : Device) : Type 0 where
   pub whole : IsFrame (old.begun ++ bytes)
   pub opcode : slice_index (old.begun ++ bytes) 0 ≡ 0x13
 
--- While no command is begun, the bytes are the frames of these commands, and the reply to each of them is specified.
+-- No command is begun, the bytes are the frames of these commands one after another, and the reply to each is
+-- specified.
 pub record AsksFor (commands : List Command) (bytes : List ℕ) (old : Device) : Type 0 where
   pub begun : old.begun ≡ []
   pub frames : bytes ≡ frames_of commands
@@ -82,9 +83,9 @@ pub record RepliesTo (commands : List Command) (old new : Device) : Type 0 where
   pub chip : new.chip ≡ old.chip
   pub worn : new.worn ≡ old.worn
 
--- All bytes were sent, with one call. If they complete a frame of O_SPIOP, it is carried out. If they are whole frames
--- of other commands whose replies are specified, the programmer replies. The effect of other bytes is not specified
--- here.
+-- All bytes were sent, with one call. If they complete a frame of O_SPIOP, it is carried out. If no command is begun
+-- and they are whole frames of other commands whose replies are specified (`AsksFor`), the programmer replies. The
+-- effect of other bytes is not specified here.
 pub record IsSent (bytes : List ℕ) (old new : PortState) : Type 0 where
   pub left : old.left ≡ new.left + 1
   pub firmware : new.device.firmware ≡ old.device.firmware
@@ -108,13 +109,13 @@ pub record AreWithinLimits (commands : List Command) (device : Device) : Type 0 
 
 -- The port failed while these bytes were sent, after any number of them, and no further call succeeds. If they would
 -- complete a frame of O_SPIOP within the limits, no call was left. If they would complete any frame of O_SPIOP, its
--- transaction was cut (`IsCut`): a programmer may begin it before the frame is complete. If they are whole frames of
--- other commands, the chip was not selected, but may have lost its power; if these are within the limits, no call was
--- left.
+-- transaction was cut (`IsCut`): a programmer may begin it before the frame is complete. If no command is begun and
+-- they are whole frames of other commands whose replies are specified (`AsksFor`), the chip was not selected, but may
+-- have lost its power; if these frames are within the limits, no call was left.
 pub record IsCutOff (bytes : List ℕ) (old new : PortState) : Type 0 where
   pub firmware : new.device.firmware ≡ old.device.firmware
-  pub none_left_for_commands : (commands : List Command) → AsksFor commands bytes old.device → AreWithinLimits commands old.device
-      → old.left ≡ 0
+  pub none_left_for_commands : (commands : List Command) → AsksFor commands bytes old.device
+      → AreWithinLimits commands old.device → old.left ≡ 0
   pub power : (commands : List Command) → AsksFor commands bytes old.device
       → MayLoseDevicePower old.device new.device
   pub none_left : CompletesOperation bytes old.device → IsWithinLimits (old.device.begun ++ bytes) old.device

@@ -1,12 +1,12 @@
--- What a programmer is, and its replies to the commands other than O_SPIOP. (serprog protocol version 1, flashrom's
--- Documentation/serprog-protocol.txt: the table of commands and its notes.)
+-- The firmware of a programmer, and its replies to the commands other than O_SPIOP. (serprog protocol version 1,
+-- flashrom's Documentation/serprog-protocol.txt: the table of commands and its notes.)
 use Rattle.std.specs.Prelude.{◌≡◌, ◌<◌, ◌/◌, ◌%◌, ◌^◌, ◌++◌, ◌==◌, ℕ, Bool, true, false, List, [], ◌∷◌, Option, None, Some, IfSome, length, replicate, slice_index, if◌then◌else◌, ⊤}
 use Rattle.std.proofs.Common.{refl, lit<}
 use Rattle.nor_serprog.specs.declared.command.Command.{Command}
 use Rattle.nor_serprog.specs.declared.command.Command.TheVariants.{Nop, QueryInterface, QueryCommands, QueryName, QuerySerialBuffer, QueryBuses, QueryLongestWrite, SyncNop, QueryLongestRead, SetBuses, Operate, SetFrequency, SetPins, SelectChip}
 use Rattle.nor_serprog.specs.Frame.{frame_of, three_of, four_of}
 
--- What a programmer replies to the queries, and which settings it accepts. Nothing that is sent changes it.
+-- The replies of a programmer to the queries, and the settings that it accepts. Nothing that is sent changes them.
 pub record Firmware : Type 0 where
   -- the version of the protocol (Q_IFACE)
   pub version : ℕ
@@ -28,7 +28,7 @@ pub record Firmware : Type 0 where
   pub takes_select : (number : ℕ) → Bool
   -- the clock in hertz that the programmer sets if this one is requested, or `None` if it refuses (S_SPI_FREQ)
   pub clock : (hertz : ℕ) → Option ℕ
-  -- the numbers of bytes that the protocol gives to each of these
+  -- the size of each of these in the protocol
   pub version_fits : version < 65536
   pub commands_len : length commands ≡ 32
   pub name_len : length name ≡ 16
@@ -68,7 +68,7 @@ clocked (Some set) = 0x06 ∷ four_of set
 clocked None = nak
 
 -- The reply of the programmer to a whole frame of a command. Each programmer has NOP, Q_IFACE, Q_CMDMAP and SYNCNOP.
--- The reply to O_SPIOP is not this one (`OperatesFrame` of Device.antt).
+-- For O_SPIOP the list is empty; `OperatesFrame` in Device.antt has its reply.
 abbrev pub reply_of : Firmware → Command → List ℕ
 reply_of firmware Nop = 0x06 ∷ []
 reply_of firmware QueryInterface = 0x06 ∷ two_of firmware.version
@@ -86,7 +86,7 @@ reply_of firmware (SelectChip number) = taken (firmware.takes_select number)
 reply_of firmware (Operate out replies) = []
 
 -- Holds if `reply_of` specifies the reply to this command: it is not O_SPIOP, and if it has arguments, it is in the
--- map. A programmer that lacks a command doesn't know the number of its arguments, and takes them for commands.
+-- map. A programmer that lacks a command takes the argument bytes after the opcode for commands.
 abbrev pub HasReply : Firmware → Command → Type 0
 HasReply firmware (SetBuses flags) = has_command firmware 0x12 ≡ true
 HasReply firmware (SetFrequency hertz) = has_command firmware 0x14 ≡ true

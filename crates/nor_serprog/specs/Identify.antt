@@ -17,7 +17,7 @@ use Rattle.nor_serprog.specs.Replies.{AwaitsCommand, OnlyAsks, IsPortFailure}
 
 -- ---- what a programmer has
 
--- The flags of its types of bus. A programmer that lacks Q_BUSTYPE has SPI (8).
+-- The flags of the programmer's types of bus. A programmer that lacks Q_BUSTYPE has SPI (8).
 abbrev pub buses_of : Firmware → ℕ
 buses_of firmware = if has_command firmware 0x05 then firmware.buses else 8
 
@@ -32,7 +32,8 @@ write_limit firmware = limit_in (has_command firmware 0x08) firmware.longest_wri
 abbrev pub read_limit : Firmware → ℕ
 read_limit firmware = limit_in (has_command firmware 0x11) firmware.longest_read
 
--- Holds if this is what the programmer replied when it was identified, and `hertz` was requested. What it lacks is 0.
+-- Holds if `programmer` has what this firmware replied, for a requested clock of `hertz`. Without the query, a limit is
+-- 2^24, the buffer 0 and the name all zeros.
 pub record IsProgrammerOf (firmware : Firmware) (hertz : Option ℕ) (programmer : Programmer) : Type 0 where
   pub name : programmer_name programmer ≡ (if has_command firmware 0x03 then firmware.name else replicate 16 0)
   pub writes : writes_most programmer ≡ write_limit firmware
@@ -47,38 +48,42 @@ pub record IsProgrammerOf (firmware : Firmware) (hertz : Option ℕ) (programmer
 abbrev pub refused : {C : Type 0} → (opcode : ℕ) → (has_it accepts : Bool) → Option (HandshakeFault C)
 refused opcode has_it accepts = if has_it && not accepts then Some (Failure (Refused opcode)) else None
 
--- It speaks another version than 1 (Q_IFACE).
+-- `Version` if the programmer speaks another version than 1 (Q_IFACE).
 abbrev pub version_fault : {C : Type 0} → Firmware → Option (HandshakeFault C)
 version_fault firmware = if firmware.version == 1 then None else Some (Version firmware.version)
 
--- It lacks O_SPIOP.
+-- `Lacks` if the programmer lacks O_SPIOP.
 abbrev pub operation_fault : {C : Type 0} → Firmware → Option (HandshakeFault C)
 operation_fault firmware = if has_command firmware 0x13 then None else Some (Lacks 0x13)
 
--- SPI is not among its types of bus, or is not the only one and S_BUSTYPE, which selects one, is missing.
+-- `NotSpi` if SPI is not among the programmer's types of bus, or is not the only one and the programmer lacks
+-- S_BUSTYPE, which selects one.
 abbrev pub buses_fault : {C : Type 0} → Firmware → Option (HandshakeFault C)
 buses_fault firmware =
     if not (bit_and (buses_of firmware) 8 == 0) && (buses_of firmware == 8 || has_command firmware 0x12) then None
     else Some (NotSpi (buses_of firmware))
 
--- A transaction can't send a page program, or can't read a sector.
+-- `WriteLimit` if a transaction can't send a page program, and `ReadLimit` if it can't read a sector.
 abbrev pub write_fault : {C : Type 0} → Firmware → Option (HandshakeFault C)
 write_fault firmware = if nat_lt (write_limit firmware) 260 then Some (WriteLimit (write_limit firmware)) else None
 
 abbrev pub read_fault : {C : Type 0} → Firmware → Option (HandshakeFault C)
 read_fault firmware = if nat_lt (read_limit firmware) 4096 then Some (ReadLimit (read_limit firmware)) else None
 
--- Without Q_WRNMAXLEN the serial buffer limits a frame, and it is too small for the longest one.
+-- `SmallBuffer` if the programmer has Q_SERBUF but lacks Q_WRNMAXLEN, and its serial buffer holds fewer than the 267
+-- bytes of the longest frame.
 abbrev pub buffer_fault : {C : Type 0} → Firmware → Option (HandshakeFault C)
 buffer_fault firmware =
     if has_command firmware 0x04 && (not (has_command firmware 0x08) && nat_lt firmware.buffer 267)
     then Some (SmallBuffer firmware.buffer) else None
 
--- A clock is requested, and the programmer lacks S_SPI_FREQ or refuses that clock.
+-- `Refused` with S_SPI_FREQ (14h), if the programmer set no clock.
 abbrev pub clock_refused : {C : Type 0} → Option ℕ → Option (HandshakeFault C)
 clock_refused (Some set) = None
 clock_refused None = Some (Failure (Refused 0x14))
 
+-- `Lacks` or `Refused` with S_SPI_FREQ (14h), if a clock is requested and the programmer lacks the command or refuses
+-- that clock.
 abbrev pub clock_fault : {C : Type 0} → Firmware → (hertz : Option ℕ) → Option (HandshakeFault C)
 clock_fault firmware None = None
 clock_fault firmware (Some hertz) =
@@ -110,11 +115,11 @@ IsPortFault (Failure failure) = IsPortFailure failure
 IsPortFault _ = ⊥
 
 -- The result of the handshake, or of a part of it that takes at most this number of calls, over an honest port to a
--- programmer that waits for a command. `fault` is the error that the firmware causes, if any.
+-- programmer that is idle. `fault` is the error that the firmware causes, if any.
 pub record Concludes {T C : Type 0} (calls : ℕ) (fault : Option (HandshakeFault C)) (IsValue : T → Type 0)
     (result : Result T (HandshakeFault C)) (old new : PortState) : Type 0 where
-  -- after success the firmware causes no error, the value is the right one, the programmer waits for a command, and its
-  -- chip is as it was
+  -- after success the firmware causes no error, the value is the right one, the programmer is idle, and its chip is as
+  -- it was
   pub usable : OnOk result (fault ≡ None)
   pub value : IfOk result IsValue
   pub asks : OnOk result (OnlyAsks calls old new)
@@ -123,7 +128,7 @@ pub record Concludes {T C : Type 0} (calls : ℕ) (fault : Option (HandshakeFaul
   -- after any error the chip is as it was, or has lost its power
   pub power : OnErr result (MayLoseDevicePower old.device new.device)
 
--- The link is in step over an honest port, and the programmer waits for a command and has this firmware.
+-- The link is in step over an honest port, and the programmer is idle and has this firmware.
 pub record IsInStepWith {P C : Type 0} (port : P → PortState) (firmware : Firmware) (link : Link P C) : Type 0 where
   pub in_step : is_in_step link ≡ true
   pub awaits : AwaitsCommand (port link.port)

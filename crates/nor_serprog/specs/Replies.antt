@@ -1,4 +1,4 @@
--- What a link does with the replies to commands other than O_SPIOP.
+-- The results of a link's exchanges of commands other than O_SPIOP, and of its synchronization.
 use Rattle.std.specs.Prelude.{◌≡◌, ◌≢◌, ◌<◌, ◌≤◌, ◌+◌, ◌⊎◌, ℕ, true, List, [], ◌∷◌, length, slice_index, Result, OnOk, OnErr, IfErr, ⊤}
 use Rattle.nor_serprog.specs.declared.command.Command.{Command}
 use Rattle.nor_serprog.specs.declared.link.Failure.{Failure}
@@ -7,12 +7,12 @@ use Rattle.nor_serprog.specs.Frame.{frame_of}
 use Rattle.nor_serprog.specs.Firmware.{reply_of, nak}
 use Rattle.nor_serprog.specs.Device.{PortState, IsIdle, MayLoseDevicePower}
 
--- The port is honest, and its programmer waits for a command.
+-- The port is honest, and its programmer is idle (`IsIdle`).
 pub record AwaitsCommand (port : PortState) : Type 0 where
   pub honest : port.honest ≡ true
   pub idle : IsIdle port.device
 
--- At most this number of calls was made, and the programmer waits for a command again. The chip was not selected.
+-- At most this number of calls was made, and the programmer is idle again. The chip was not selected.
 pub record OnlyAsks (calls : ℕ) (old new : PortState) : Type 0 where
   pub left : old.left ≤ new.left + calls
   pub awaits : AwaitsCommand new
@@ -20,7 +20,7 @@ pub record OnlyAsks (calls : ℕ) (old new : PortState) : Type 0 where
   pub worn : new.device.worn ≡ old.device.worn
   pub firmware : new.device.firmware ≡ old.device.firmware
 
--- The port is honest, no command is begun, and these bytes are pending, at most 25. The first is not 0.
+-- The port is honest, no command is begun, and exactly these bytes are pending: 1 to 25, the first not 0.
 pub record IsPending (bytes : List ℕ) (port : PortState) : Type 0 where
   pub honest : port.honest ≡ true
   pub begun : port.device.begun ≡ []
@@ -53,7 +53,7 @@ abbrev pub IsRefused : {C : Type 0} → (opcode calls left : ℕ) → Failure C 
 IsRefused opcode calls left failure = IsRefusal opcode failure ⊎ (IsPortFailure failure × (left < calls))
 
 -- The result of an exchange that requests `count` reply bytes, over an honest port to an idle programmer, for a command
--- other than O_SPIOP whose reply is specified.
+-- other than O_SPIOP whose reply is specified. For SYNCNOP, whose reply is NAK and ACK, only `power` says something.
 pub record EndsExchange {C : Type 0} (command : Command) (count : ℕ) (reply : List ℕ) (result : Result Unit (Failure C))
     (old new : PortState) : Type 0 where
   -- if the programmer replies ACK and `count` bytes: success with these bytes, and the programmer is idle; or the port

@@ -52,10 +52,10 @@ impl Programmer {
     /// A step whose command the programmer's map lacks is skipped. It is an error, however, if `hertz` is given and the
     /// map lacks S_SPI_FREQ. (serprog protocol, flashrom's Documentation/serprog-protocol.txt.)
     ///
-    /// Over an honest port to a programmer that waits for a command, its firmware determines the result, unless the
-    /// port fails because fewer than 59 calls were left. The errors are those of `identify_fault`, in the order of the
-    /// steps. After `Ok` the programmer waits for a command again, and its chip is as it was. Nothing of this paragraph
-    /// is promised for a link on which a frame may have been cut off.
+    /// Over an honest port to an idle programmer, its firmware determines the result, unless the port fails because
+    /// fewer than 59 calls were left. The errors are those of `identify_fault`, in the order of the steps. After `Ok`
+    /// the programmer is idle again, and its chip is as it was. Nothing of this paragraph is promised for a link on
+    /// which a frame may have been cut off.
     pub fn identify<P: Port + Drop>(
         link: &mut Link<P>,
         hertz: Option<u32>,
@@ -92,8 +92,8 @@ impl Programmer {
     ///
     /// Returns `Lacks` if the programmer lacks the command. Nothing is sent then: the programmer would take the number
     /// for a command. Returns a `Failure` if the exchange failed: `Refused` if the programmer has no chip select with
-    /// this number. Over an honest port to a programmer that waits for a command, these are the only errors, unless the
-    /// port fails because fewer than three calls were left.
+    /// this number. If the link is in step, the port is honest and the programmer is idle, the only errors are `Lacks`,
+    /// `Refused`, and a failure of the port because fewer than three calls were left.
     pub fn select_chip<P: Port + Drop>(
         &self,
         link: &mut Link<P>,

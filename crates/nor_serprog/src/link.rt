@@ -110,9 +110,11 @@ impl<P: Port + Drop> Link<P> {
     /// After any other error no exchange sends anything until `synchronize` returns `Ok`. If the link was out of step,
     /// the call returns `OutOfStep` or `CutFrame` and does not use the port.
     ///
-    /// Over an honest port to a programmer that waits for a command, the reply to a command other than O_SPIOP is the
-    /// one of its firmware, and `Refused` is returned exactly if it is NAK; or the port failed because fewer than three
-    /// calls were left (`EndsExchange`).
+    /// Over an honest port, if the link is in step and the programmer is idle, the firmware determines the reply to
+    /// each command except O_SPIOP and SYNCNOP. A command with arguments must be in the programmer's map. If the
+    /// firmware replies ACK and as many bytes as `reply` holds, `reply` receives these bytes. If it replies NAK, the
+    /// call returns `Refused`. The only other error is a failure of the port with fewer than three calls left
+    /// (`EndsExchange`).
     pub fn exchange(
         &mut self,
         command: Command<'_>,
@@ -218,8 +220,8 @@ impl<P: Port + Drop> Link<P> {
     /// the frame, and the chip would carry out a command that was never intended. A frame that another run cut off
     /// isn't known here, so disconnect the programmer from power after a run that was killed.
     ///
-    /// Over an honest port to a programmer that waits for a command, the call fails only if fewer than 29 calls of the
-    /// port were left, and the chip is not selected.
+    /// If no frame may have been cut off, the port is honest and the programmer is idle, the call fails only if fewer
+    /// than 29 calls of the port were left. The chip is not selected.
     ///
     /// Returns `Port` if the port fails. Returns `NoSync` if the reply to the first SYNCNOP isn't among the next 65,536
     /// bytes, or the replies to the row aren't among the 65,536 bytes after it.

@@ -10,8 +10,9 @@ ghost use Rattle.nor_serprog.specs.Device.{PortState, IsSent, IsCutOff, IsReceiv
 /// programmer's replies in order. As long as calls are left, these succeed:
 ///
 /// - a call that sends an O_SPIOP of at most 260 bytes and 4,096 reply bytes, while no reply is pending
-/// - a call that sends whole frames of other commands, of at most 260 bytes and 4,096 reply bytes, while no command is
-///   begun and no reply is pending; commands that have arguments must be in the programmer's map
+/// - a call that sends whole frames of other commands, in total at most 260 bytes and 4,096 reply bytes (with each
+///   ACK), while no command is begun and no reply is pending; commands that have arguments must be in the programmer's
+///   map
 /// - a call that requests no more bytes than are pending
 ///
 /// Any other call may fail, for example by a timeout or because a buffer is full. After a failure no further call

@@ -224,7 +224,7 @@ reply_fits frames rest frame rest' before now len done commands is split fits a 
     let r = a.remains commands same have in
     next_fits rest frame rest' before now len commands r.later is split fits r.frames r.have r.replies
 
--- What the test of a result says.
+-- A result that is Ok passes no test for an error.
 pub err_not_ok : {T E : Type 0} (result : Result T E) → IsOk result → true ≡ is_err result → ⊥
 err_not_ok (Ok value) ok is = false≢true (sym is)
 err_not_ok (Err error) ok is = false≢true ok
