@@ -7,3 +7,4 @@ pub mod Saves
 pub mod WholeJournals
 pub mod OneForm
 pub mod Rests
+pub mod Lengths

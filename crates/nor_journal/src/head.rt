@@ -16,7 +16,7 @@ pub const MAGIC: [u8; 8] = *b"NORUNDO2";
 pub const FIRST_MAGIC: [u8; 8] = *b"NORUNDO1";
 
 /// The length of a header of format 2 in bytes.
-const HEAD: usize = 25;
+pub const HEAD: usize = 25;
 
 /// The length of a header of format 1 in bytes.
 const FIRST_HEAD: usize = 17;

@@ -8,8 +8,8 @@ ghost use Rattle.nor_journal.specs.Fault.{HasFault};
 ghost use Rattle.nor_journal.specs.declared.fault.JournalFault.{JournalFault};
 
 use crate::fault::JournalFault;
-use crate::head::{Head, read_head};
-use crate::records::{RECORD, check_end, count_records, record_at};
+use crate::head::{HEAD, Head, read_head};
+use crate::records::{DIGEST, END_MARK, RECORD, check_end, count_records, record_at};
 use std::marker::Model;
 
 /// A journal that was read. The saved sectors are borrowed from its bytes.
@@ -162,6 +162,15 @@ pub fn one_text()
     ensures { (c d : Content) (x y : List ℕ) → IsContent c → IsContent d → text c ++ x ≡ text d ++ y
         → (c ≡ d) × (x ≡ y) }
 {}
+
+/// Returns the length in bytes of a journal of format 2 that saves this number of sectors.
+pub fn journal_len(sectors: u32) -> u64
+    ensures { (c : Content) (unique : List ℕ) → IsContent c → c.unique ≡ Some unique → length c.saved ≡ sectors
+        → length (text c) ≡ result }
+{
+    let fixed = HEAD + END_MARK.len() + DIGEST;
+    fixed as u64 + RECORD as u64 * u64::from(sectors)
+}
 
 /// A law: bytes have at most one first fault (`HasFault`).
 pub fn one_fault()

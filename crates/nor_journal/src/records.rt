@@ -18,7 +18,7 @@ pub const RECORD: usize = 4 + SECTOR_LEN as usize;
 pub const END_MARK: [u8; 4] = [0xFF; 4];
 
 /// The length of a digest in bytes.
-const DIGEST: usize = 32;
+pub const DIGEST: usize = 32;
 
 /// Returns the sector number of the record at the beginning of `bytes`, or `None` if the end mark is there.
 ///
