@@ -23,7 +23,7 @@ use Rattle.nor_request.specs.Errors.{IdentificationErrors, EndsAtError}
 use Rattle.nor_scan.specs.Saving.{IsIdentityOf, HasIdleChip}
 use Rattle.nor_scan.specs.SavedScan.{SavePuts, SaveErrors}
 use Rattle.nor_probe.specs.Known.{IsModelled}
-use Rattle.nor_session.specs.Bounds.{most_of}
+use Rattle.nor_session.specs.Bounds.{most_reads, most_of}
 use Rattle.nor_scan.specs.Verdict.{IsNamed, IsVerdict, IdentityAccepts}
 use Rattle.nor_session.specs.Session.{SessionErrors, HonestErrors}
 use Rattle.nor_scan.proofs.OneVerdict.{first_of}
@@ -106,6 +106,15 @@ save_errors request image identity code old mid new vault vault' StatusLocked is
 save_errors request image identity code old mid new vault vault' (Protected address) is only_reads opens accepts rose errors =
     errors old.chip (opening_of is opens) (shows request identity old mid is only_reads opens) accepts
 save_errors request image identity code old mid new vault vault' _ is only_reads opens accepts rose errors = absurd errors
+
+-- a stop of the scan means that the chip's identification and scan needed more transactions than were left
+pub save_early : (request : Request) (image : List ℕ) (identity : Identity) (code : ℕ) (old mid new : BusState)
+    → IsModelled old → OnlyReads most_identity old mid → ReadsIdentity request.named old mid identity
+    → SaveErrors request identity code image mid new Stopped
+    → old.left < most_reads (scanned_sectors request old.chip.config.size)
+save_early request image identity code old mid new is only_reads opens errors =
+    let ran = errors.ran_out (only_reads.nature.honest ∙ is.honest) in let count = opens.count is.honest in
+    let most = opens.most in rw (← (opens.genuine is).size) (omega arith)
 
 -- nothing was sent after a stop
 pub save_last : (request : Request) (identity : Identity) (code : ℕ) (image : List ℕ) (old new : BusState)

@@ -4,6 +4,7 @@ pub mod Headline
 pub mod Checking
 pub mod Changing
 pub mod Session
+pub mod Announcing
 pub mod Judged
 pub mod Restore
 pub mod WrittenOver

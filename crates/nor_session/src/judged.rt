@@ -3,7 +3,9 @@
 ghost use Rattle.std.specs.Prelude.{length};
 ghost use Rattle.nor_journal.specs.Vault.{IsFresh};
 ghost use Rattle.nor_session.specs.Judged.{IsJudged, SinceIdentity, KeepsPromise};
+ghost use Rattle.nor_session.specs.Announcing.{Announces};
 
+use crate::announcement::{Announcement, announce_changes};
 use crate::kept::{Kept, Restorer};
 use crate::sources::Image;
 use nor_apply::Changes;
@@ -24,14 +26,21 @@ pub(crate) struct Judged<'a, B: Bus, V: Vault> {
 }
 
 impl<'a, B: Bus, V: Vault> Judged<'a, B, V> {
-    /// Saves the touched sectors, makes the changes, and returns the session's report. The clause states the promises
-    /// of a session (`KeepsPromise`), from each state of the bus in which the session may have begun.
-    pub(crate) fn answer(self) -> Result<Report, Refusal>
+    /// Saves the touched sectors, announces and makes the changes, and returns the session's report. The clause `keeps`
+    /// states the promises of a session (`KeepsPromise`), from each state of the bus in which the session may have
+    /// begun.
+    pub(crate) fn answer<F: FnOnce(Announcement) + Drop>(
+        self,
+        announce: F,
+    ) -> Result<Report, Refusal>
         requires fresh { IsFresh (V.state self.vault.now) }
         requires judged { IsJudged self.request.now (length self.image.now) self.identity self.code }
-        ensures { SinceIdentity self.entry.request.now.named self.entry.identity (B.state self.entry.bus.now)
+        requires callable { F.IsAlwaysCallable announce }
+        ensures keeps { SinceIdentity self.entry.request.now.named self.entry.identity (B.state self.entry.bus.now)
             (λ first. KeepsPromise self.entry.request.now self.entry.image.now first (B.state self.exit.0.now)
             (V.state self.entry.vault.now) (V.state self.exit.1.0.now) result) }
+        ensures announces { Announces (λ announcement. F.post announce announcement tt)
+            (B.state self.entry.bus.now) (B.state self.exit.0.now) result }
     {
         let Judged {
             bus,
@@ -51,6 +60,7 @@ impl<'a, B: Bus, V: Vault> Judged<'a, B, V> {
             unlock: saved.unlock,
             code,
         };
+        announce_changes(announce, &changes, saved.scanned.count);
         let kept_chip = Kept {
             bus,
             source: &Image { bytes: image },

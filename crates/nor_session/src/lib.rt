@@ -26,6 +26,7 @@
 //! buses most promises are made. `InTurn.antt` and `WrittenOver.antt` have the definitions of the laws.
 #![tactic(auto)]
 
+mod announcement;
 mod checks;
 mod judged;
 mod kept;
@@ -36,6 +37,7 @@ mod restores;
 mod sessions;
 mod sources;
 
+pub use announcement::Announcement;
 pub use laws::{
     begun_restores_original, power_lost_restores_original, read_restores_original,
     restore_written_over, restored_stays, same_written_over, session_written_over, undone_in_turn,
@@ -43,5 +45,5 @@ pub use laws::{
 };
 pub use nor_request::{Refusal, Report, Request, What};
 pub use rehearsals::{Rehearsal, rehearse};
-pub use restores::restore;
-pub use sessions::{accepted_alone, session};
+pub use restores::{restore, restore_announced};
+pub use sessions::{accepted_alone, session, session_announced};

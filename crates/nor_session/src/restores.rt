@@ -3,7 +3,9 @@ ghost use Rattle.std.specs.Prelude.{◌≡◌, true};
 ghost use Rattle.nor_probe.specs.Known.{IsModelled};
 ghost use Rattle.nor_session.specs.Headline.{RestoresOriginal};
 ghost use Rattle.nor_session.specs.Restore.{RestoreAlways, RestoreHonest, RestoreModelled};
+ghost use Rattle.nor_session.specs.Announcing.{Announces};
 
+use crate::announcement::{Announcement, announce_changes};
 use crate::kept::{Kept, Restorer};
 use crate::prepare_restore::prepare_restore;
 use crate::sources::Saved;
@@ -35,7 +37,33 @@ pub fn restore<B: Bus>(bus: &mut B, journal: &Journal<'_>) -> Result<Report, Ref
     ensures modelled { IsModelled (B.state bus.old)
         → RestoreModelled journal.now (B.state bus.old) (B.state bus.new) result }
 {
+    restore_announced(bus, journal, |_| ())
+}
+
+/// Runs a restore as `restore` does, with the same promises. In addition it calls `announce` before the first modifying
+/// command, with the numbers of touched sectors and of erases: a saved sector is touched if its bytes on the chip are
+/// not the saved ones.
+///
+/// A restore that refuses the chip makes no announcement. After success the announced numbers are those of the report.
+/// An announcement of 0 touched sectors doesn't exclude a status write.
+pub fn restore_announced<B: Bus, F: FnOnce(Announcement) + Drop>(
+    bus: &mut B,
+    journal: &Journal<'_>,
+    announce: F,
+) -> Result<Report, Refusal>
+    requires { F.IsAlwaysCallable announce }
+    ensures restores_original { IsModelled (B.state bus.old)
+        → RestoresOriginal journal.now (B.state bus.old) (B.state bus.new) result }
+    ensures always { RestoreAlways journal.now (B.state bus.old) (B.state bus.new) result }
+    ensures honest { (B.state bus.old).honest ≡ true
+        → RestoreHonest journal.now (B.state bus.old) (B.state bus.new) result }
+    ensures modelled { IsModelled (B.state bus.old)
+        → RestoreModelled journal.now (B.state bus.old) (B.state bus.new) result }
+    ensures announces { Announces (λ announcement. F.post announce announcement tt)
+        (B.state bus.old) (B.state bus.new) result }
+{
     let prepared = prepare_restore(bus, journal)?;
+    announce_changes(announce, &prepared.changes, prepared.touched);
     let kept = Kept {
         bus,
         source: &Saved { journal },

@@ -8,7 +8,9 @@ ghost use Rattle.nor_probe.specs.Known.{IsModelled};
 ghost use Rattle.nor_session.specs.Headline.{KeepsOriginal};
 ghost use Rattle.nor_scan.specs.Verdict.{IsVerdict, IsAccepted};
 ghost use Rattle.nor_session.specs.Session.{SessionAlways, SessionHonest, SessionModelled};
+ghost use Rattle.nor_session.specs.Announcing.{Announces};
 
+use crate::announcement::Announcement;
 use crate::judged::Judged;
 use nor_journal::Vault;
 use nor_model::Bus;
@@ -48,6 +50,33 @@ pub fn session<B: Bus, V: Vault>(
     ensures modelled { IsModelled (B.state bus.old) → SessionModelled request.now image.old
         (B.state bus.old) (B.state bus.new) (V.state vault.old) (V.state vault.new) result }
 {
+    session_announced(bus, vault, image, request, |_| ())
+}
+
+/// Runs a session as `session` does, with the same promises. In addition it calls `announce` after the vault is sealed
+/// and before the first modifying command, with the numbers of touched sectors and of erases.
+///
+/// A call that returns before the seal makes no announcement. After success the announced numbers are those of the
+/// report. An announcement of 0 touched sectors doesn't exclude a status write.
+pub fn session_announced<B: Bus, V: Vault, F: FnOnce(Announcement) + Drop>(
+    bus: &mut B,
+    vault: &mut V,
+    image: &mut [u8],
+    request: &Request,
+    announce: F,
+) -> Result<Report, Refusal>
+    requires fresh { IsFresh (V.state vault.old) }
+    requires callable { F.IsAlwaysCallable announce }
+    ensures keeps { KeepsOriginal (B.state bus.old) (B.state bus.new) (V.state vault.new) }
+    ensures always { SessionAlways request.now (B.state bus.old) (B.state bus.new) (V.state vault.old)
+        (V.state vault.new) result }
+    ensures honest { (B.state bus.old).honest ≡ true
+        → SessionHonest request.now image.old (B.state bus.old) (B.state bus.new) result }
+    ensures modelled { IsModelled (B.state bus.old) → SessionModelled request.now image.old
+        (B.state bus.old) (B.state bus.new) (V.state vault.old) (V.state vault.new) result }
+    ensures announces { Announces (λ announcement. F.post announce announcement tt)
+        (B.state bus.old) (B.state bus.new) result }
+{
     let identity = identify(bus, request.named)?;
     let code = judge_identity(request, &identity, image.len())?;
     let judged = Judged {
@@ -58,7 +87,7 @@ pub fn session<B: Bus, V: Vault>(
         identity,
         code,
     };
-    judged.answer()
+    judged.answer(announce)
 }
 
 /// A request that is accepted for an image and a chip has no verdict that refuses it.

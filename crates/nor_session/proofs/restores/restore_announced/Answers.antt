@@ -10,7 +10,7 @@ use Rattle.nor_session.proofs.RestoredOriginal.{only_stopped}
 use Rattle.nor_session.proofs.Naming.{prepare_names, change_names}
 use Rattle.nor_session.proofs.Targeting.{none_written, none_sent, change_sends, change_writes}
 use Rattle.nor_session.proofs.OfJournal.{restore_of_journal, counted}
-use Rattle.nor_session.proofs.restores.restore.Goals as goal
+use Rattle.nor_session.proofs.restores.restore_announced.Goals as goal
 
 -- all clauses, if the preparation returned an error
 pub returns-in_err-prepared : goal.returns-in_err-prepared
@@ -36,6 +36,7 @@ returns-in_err-prepared g c =
           let returned = returned modelled errors in
           let leaves = leaves_after_reads journal most old new (only_reads.honest_reads modelled.honest) in
           search (rules, none_written);
+      announces = record { first = inr only_reads.sent; truly = tt };
     })
 
 -- all clauses, if the changes or their check failed
@@ -71,6 +72,7 @@ returns-in_err-work g c =
             (no_write prepared.changes (λ writes. none ((are.is.modelled modelled).needed writes)));
         spares = search rules;
       };
+      announces = record { first = inl (_, c.announce_changes.ensures); truly = tt };
     })
 
 -- the sum of the transactions in the report doesn't overflow
@@ -113,4 +115,5 @@ returns g c =
             (no_write prepared.changes (λ writes. none ((are.is.modelled modelled).needed writes)));
         spares = λ none. restored_sparing journal prepared old mid new work sent are does (omega arith) modelled none;
       };
+      announces = record { first = inl (_, c.announce_changes.ensures); truly = rw does.erases c.announce_changes.ensures };
     }

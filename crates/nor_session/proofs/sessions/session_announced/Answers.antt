@@ -4,11 +4,11 @@ use Rattle.nor_session.proofs.Naming.{judged_names}
 use Rattle.nor_session.proofs.Targeting.{none_written, few_none}
 use Rattle.nor_session.proofs.ReadyChip.{opening_of, named, open_errors, open_last, judge_errors}
 use Rattle.nor_session.proofs.RestoresOriginal.{original_kept}
-use Rattle.nor_session.proofs.sessions.session.Goals as goal
+use Rattle.nor_session.proofs.sessions.session_announced.Goals as goal
 
 pub returns-clause-keeps : goal.returns-clause-keeps
 returns-clause-keeps g c =
-    let kept = c.answer.ensures (g.B.Bus.state c.args.bus.now) (search rules) (search rules) in
+    let kept = c.answer.ensures.keeps (g.B.Bus.state c.args.bus.now) (search rules) (search rules) in
     original_kept c.args.request.now c.args.image.now _ _ _ _ (g.met.B.Bus.reaches c.args.bus.now) kept.always.only_reads
     (λ modelled. (kept.modelled modelled).undo)
 

@@ -6,15 +6,16 @@ use Rattle.nor_driver.proofs.RestsInTurn.{only_reads_after}
 use Rattle.nor_request.specs.Request.{scanned_sectors}
 use Rattle.nor_driver.specs.Limits.{Spends}
 use Rattle.nor_session.specs.Bounds.{most_reads, most_of}
-use Rattle.nor_session.specs.Session.{most_status_writes}
+use Rattle.nor_session.specs.Session.{CanBeUndone, most_status_writes}
 use Rattle.nor_scan.specs.Verdict.{NeedsStatusWrite}
 use Rattle.nor_session.proofs.Ready.{changes_of, has_opened, ready, scanned_few, spends_only_reads, spends_more, spends_ready, writes_few, bounded_by, touched_data}
-use Rattle.nor_session.proofs.ReadyChip.{small_first, opening_of, shows, named, most_sized, refused_puts, save_fails, save_errors, save_last}
+use Rattle.nor_session.proofs.ReadyChip.{small_first, opening_of, shows, named, most_sized, refused_puts, save_fails, save_errors, save_early, save_last}
 use Rattle.nor_session.proofs.SessionChanges.{never_written, change_fails, change_errors}
 use Rattle.nor_session.proofs.SessionEnds.{ready_chip, can_be_undone, done, session_checked, spared}
 use Rattle.nor_session.proofs.Restoring.{change_last}
 use Rattle.nor_session.proofs.RepliedJournal.{replied_saved}
 use Rattle.nor_session.proofs.Naming.{save_names, save_number, work_names}
+use Rattle.nor_request.specs.declared.refusal.Refusal.TheVariants.{Stopped}
 use Rattle.nor_scan.specs.Saving.{header_found}
 use Rattle.nor_session.proofs.Targeting.{none_written, few_none, change_writes, change_few}
 use Rattle.nor_session.proofs.OfJournal.{session_sends, counted}
@@ -30,8 +31,8 @@ finish-requires-clause-sourced g c = λ s touched.
     let below = scans.marks.below s touched in
     lt-ltb (4096 * s + 4095) (length c.save.new.image) (omega arith)
 
-pub returns-in_err-saved : goal.returns-in_err-saved
-returns-in_err-saved g c = λ first only_reads opens.
+pub returns-in_err-saved-clause-keeps : goal.returns-in_err-saved-clause-keeps
+returns-in_err-saved-clause-keeps g c = λ first only_reads opens.
     let request = c.args.self.request.now in let size = c.args.self.identity.found.size in
     let new = g.B.Bus.state c.save.new.bus in let leaves = c.save.ensures.leaves in
     let vault = g.V.Vault.state c.args.self.vault.now in let vault' = g.V.Vault.state c.save.new.vault in
@@ -80,11 +81,15 @@ returns-in_err-saved g c = λ first only_reads opens.
           (c.requires.judged.accepts first.chip _ opened is_named refl) (search rules) returned.errors in
           let falls = (spends_more (most_sized request (opens.genuine modelled)) spent).falls modelled.honest in
           let unwritten = none_written 0 first new reads_all.sent in
-          search (rules, inr, returned.begins, returned.cut);
+          let early = λ (is : refusal ≡ Stopped). save_early request c.args.self.image.now _ c.args.self.code _ _ _ modelled
+          only_reads opens (rw is at returned.errors) in
+          let undo : vault'.sealed ≡ true → CanBeUndone request c.args.self.image.now first new vault'
+          = λ on. absurd (both_ways vault'.sealed unsealed on) in
+          search (rules, inr, returned.begins, returned.cut, early, undo);
     })
 
-pub returns-in_err-work : goal.returns-in_err-work
-returns-in_err-work g c = λ first only_reads opens.
+pub returns-in_err-work-clause-keeps : goal.returns-in_err-work-clause-keeps
+returns-in_err-work-clause-keeps g c = λ first only_reads opens.
     let request = c.args.self.request.now in let image = c.args.self.image.now in
     let keeps = c.in_ok-saved.ensures.keeps in let leaves = c.finish.ensures.leaves in
     let vault = g.V.Vault.state c.args.self.vault.now in let vault' = g.V.Vault.state c.save.new.vault in
@@ -122,8 +127,8 @@ returns-in_err-work g c = λ first only_reads opens.
           search rules;
     })
 
-pub returns : goal.returns
-returns g c = λ first only_reads opens.
+pub returns-clause-keeps : goal.returns-clause-keeps
+returns-clause-keeps g c = λ first only_reads opens.
     let request = c.args.self.request.now in let image = c.args.self.image.now in
     let keeps = c.in_ok-saved.ensures.keeps in let leaves = c.finish.ensures.leaves in
     let vault' = g.V.Vault.state c.save.new.vault in let does = c.in_ok-work.ensures.does in

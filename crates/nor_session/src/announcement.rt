@@ -1,0 +1,29 @@
+//! What a session or restore announces before it changes the chip.
+ghost use Rattle.std.specs.Prelude.{◌≡◌};
+ghost use Rattle.nor_apply.specs.Applying.{AreConsistent};
+ghost use Rattle.nor_session.specs.Announcing.{announcement_of};
+
+use nor_apply::Changes;
+use nor_plan::erases;
+
+/// What a session or restore is about to do: the number of touched sectors, in which bytes will change, and the number
+/// of erases that it will send.
+#[derive(Clone, Copy, Debug, PartialEq, Eq)]
+pub struct Announcement {
+    pub touched: u32,
+    pub erases: u32,
+}
+
+/// Calls `announce` with the number of touched sectors, which is given, and the number of erases that `changes` takes.
+pub(crate) fn announce_changes<F: FnOnce(Announcement)>(
+    announce: F,
+    changes: &Changes,
+    touched: u32,
+)
+    requires callable { F.IsAlwaysCallable announce }
+    requires consistent { AreConsistent changes.now }
+    ensures { F.post announce (announcement_of changes.now touched) tt }
+{
+    let erases = erases(&changes.raised, changes.kinds, changes.size).count() as u32;
+    announce(Announcement { touched, erases });
+}
