@@ -95,7 +95,7 @@ fn change_with<'a, R: Store, B: Meter>(
     ensures err { IfErr result (FailsToKeep (R.state rt.old).view journal_use.now) }
 {
     match journal_use {
-        JournalUse::Journal { file } => session_in_file(rt, bus, *file, image, request),
+        JournalUse::Journal { file } => session_in_file(rt, bus, *file, image, request, |_| ()),
         JournalUse::Rehearse { stops } => {
             let mut vault = MemVault::new(rt.alloc());
             Ok(rehearse_change(bus, &mut vault, image, request, stops.as_slice()))

@@ -9,6 +9,8 @@ use Rattle.nor_request.specs.declared.report.Report.{Report}
 use Rattle.nor_request.specs.declared.request.Request.{Request}
 use Rattle.nor_session.specs.Headline.{KeepsOriginal}
 use Rattle.nor_session.specs.Session.{SessionAlways, SessionHonest, SessionModelled}
+use Rattle.nor_session.specs.Announcing.{Announces}
+use Rattle.nor_session.specs.declared.announcement.Announcement.{Announcement}
 use Rattle.nor_words.specs.Text.{Text}
 use Rattle.nor_lines.specs.Readings.{AnswersCall}
 use Rattle.nor_lines.specs.Stored.{IsKeptFile}
@@ -29,6 +31,14 @@ pub record HasRunSession (request : Request) (image : List ℕ) (old new : BusSt
   pub always : SessionAlways request old new vault vault' result
   pub honest : old.honest ≡ true → SessionHonest request image old new result
   pub modelled : IsModelled old → SessionModelled request image old new vault vault' result
+  pub returned : AnswersCall ReportsDone result outcome
+
+-- The job called `session_announced` or `restore_announced`. The call made its announcement before it changed the chip
+-- (`Announces`), and the job returned its report or its error.
+pub record HasAnnounced (Was : Announcement → Type 0) (old new : BusState)
+    (outcome : Result Answer Refusal) : Type 0 where
+  pub result : Result Report Refusal
+  pub announced : Announces Was old new result
   pub returned : AnswersCall ReportsDone result outcome
 
 -- A session was run with its journal in a new file. If the files obey their contract, the file has exactly the bytes of

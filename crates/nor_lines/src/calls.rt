@@ -5,7 +5,7 @@ ghost use Rattle.nor_files.specs.Files.{OthersStay, is_lawful};
 ghost use Rattle.nor_journal.specs.Vault.{IsFresh};
 ghost use Rattle.nor_lines.specs.Files.{IsMaking};
 ghost use Rattle.nor_lines.specs.Readings.{HasReadInto, HasReadOut, HasReported, HasVerified, ListsRanges, ReportsProtection};
-ghost use Rattle.nor_lines.specs.Sessions.{HasRunInFile, HasRunSession};
+ghost use Rattle.nor_lines.specs.Sessions.{HasAnnounced, HasRunInFile, HasRunSession};
 
 use crate::answers::{Answer, Outcome};
 use crate::files::{empty, make};
@@ -16,7 +16,7 @@ use nor_layout::Ranges;
 use nor_model::{Bus, offered};
 use nor_probe::ChipName;
 use nor_read::{read_out, verify, wp_status};
-use nor_session::{Request, session};
+use nor_session::{Announcement, Request, session_announced};
 use std::alloc::{AllocError, Global};
 
 /// Returns the chip's protected range, if the datasheets define one for its protection bits, and whether its status is
@@ -102,15 +102,18 @@ pub fn erased(alloc: Global, size: u32) -> Result<Vec<u8>, AllocError>
 
 /// Runs the session of a request with its journal in the file of this name, which must not exist.
 ///
-/// `image` is the argument `image` of `session`, whose documentation describes it. The outer error is one of `make`,
-/// which occurred before the first transaction. The inner error is one of `session`.
-pub fn session_in_file<'a, R: Store, B: Bus>(
+/// `image` and `announce` are the arguments of `session_announced` with these names, whose documentation describes
+/// them. The outer error is one of `make`, which occurred before the first transaction. The inner error is one of
+/// `session`.
+pub fn session_in_file<'a, R: Store, B: Bus, F: FnOnce(Announcement) + Drop>(
     rt: &mut R,
     bus: &mut B,
     file: &'a str,
     image: &mut [u8],
     request: &Request,
+    announce: F,
 ) -> Result<Outcome, Fault<'a>>
+    requires { F.IsAlwaysCallable announce }
     ensures nature { (R.state rt.new).view.nature ≡ (R.state rt.old).view.nature }
     ensures others { is_lawful (R.state rt.old).view ≡ true
         → OthersStay file.now (R.state rt.old) (R.state rt.new) }
@@ -120,24 +123,30 @@ pub fn session_in_file<'a, R: Store, B: Bus>(
         → OnErr result (BorrowsNone file.now (R.state rt.old) (R.state rt.new)) }
     ensures unsent { OnErr result (B.state bus.new ≡ B.state bus.old) }
     ensures err { IfErr result (IsMaking (R.state rt.old).view file.now) }
+    ensures announces { IfOk result (HasAnnounced (λ announcement. F.post announce announcement tt)
+        (B.state bus.old) (B.state bus.new)) }
 {
     let mut journal = make(rt, file)?;
-    let outcome = run_session(bus, &mut journal, image, request);
+    let outcome = run_session(bus, &mut journal, image, request, announce);
     rt.return_vault(journal);
     Ok(outcome)
 }
 
 // Runs the session of a request with its journal in `vault`.
-fn run_session<B: Bus, V: Vault>(
+fn run_session<B: Bus, V: Vault, F: FnOnce(Announcement) + Drop>(
     bus: &mut B,
     vault: &mut V,
     image: &mut [u8],
     request: &Request,
+    announce: F,
 ) -> Outcome
-    requires { IsFresh (V.state vault.old) }
-    ensures { HasRunSession request.now image.old (B.state bus.old) (B.state bus.new)
+    requires fresh { IsFresh (V.state vault.old) }
+    requires callable { F.IsAlwaysCallable announce }
+    ensures runs { HasRunSession request.now image.old (B.state bus.old) (B.state bus.new)
         (V.state vault.old) (V.state vault.new) result }
+    ensures announces { HasAnnounced (λ announcement. F.post announce announcement tt)
+        (B.state bus.old) (B.state bus.new) result }
 {
-    let report = session(bus, vault, image, request)?;
+    let report = session_announced(bus, vault, image, request, announce)?;
     Ok(Answer::Done(report))
 }

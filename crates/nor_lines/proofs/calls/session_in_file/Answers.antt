@@ -9,7 +9,7 @@ returns-clause-ok g c = record {
   fresh = c.in_ok-journal.ensures.fresh;
   kept_in = kept_file _ _ _ _ _ c.make.ensures.nature c.in_ok-journal.ensures.borrows
       c.return_vault.ensures.nature c.return_vault.ensures.takes;
-  ran = c.run_session-outcome.ensures;
+  ran = c.run_session-outcome.ensures.runs;
 }
 
 pub returns-clause-others : goal.returns-clause-others
