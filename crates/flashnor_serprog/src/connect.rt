@@ -1,7 +1,7 @@
 //! Opens the device of a programmer and identifies the programmer.
 
 use crate::port::DevicePort;
-use crate::progress::Shown;
+use crate::progress::{Screen, Shown};
 use crate::setting::Setting;
 use crate::trouble::ProgrammerFault;
 use nor_files::LockFile;
@@ -43,7 +43,7 @@ pub fn connect<'a>(
         Some(image) => ReadTwice::expecting(bus, image),
         None => ReadTwice::new(bus),
     };
-    Ok(Shown::new(ReadAhead::new(bus, longest_read), rt))
+    Ok(Shown::new(ReadAhead::new(bus, longest_read), Screen::new(rt)))
 }
 
 // Opens the device, and locks it against a second run. Returns `NoDevice` and opens nothing if the file is no character

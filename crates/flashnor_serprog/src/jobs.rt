@@ -8,17 +8,19 @@ ghost use Rattle.flashnor_serprog.specs.Jobs.{DoesTask, FailsBefore, FailsToChan
 ghost use Rattle.flashnor_serprog.specs.Jobs.{HasChangedBy, HasIdentified, HasLookedUp, HasReadChip, HasRestored};
 ghost use Rattle.flashnor_serprog.specs.Jobs.{HasRunRestore, IsBufferOf, IsNamedFirst, IsNoJournal, ReportsFound, ReportsSize};
 
+use crate::progress::{Progress, Screen};
 use crate::sources::Sources;
 use nor_chip::Bus;
 use nor_files::Store;
+use nor_geometry::SECTOR_LEN;
 use nor_journal::Journal;
-use nor_layout::Ranges;
+use nor_layout::{Ranges, includes_in_sector};
 use nor_lines::{
     Answer, Fault, Outcome, erased, list_ranges, or_fault, read_to_file, report_protection,
     request_for, session_in_file, verify_image,
 };
 use nor_probe::{ChipName, Found, probe};
-use nor_session::{Refusal, restore};
+use nor_session::{Refusal, restore_announced};
 use nor_words::{Change, JournalUse, Operation, Task, UsageFault, Wanted};
 use std::alloc::Global;
 
@@ -31,9 +33,10 @@ use std::alloc::Global;
 ///
 /// A read identifies the chip before it empties its file, so a file is kept if there is no chip. An erase identifies
 /// the chip to know its size, before its journal is created.
-pub fn perform<'a, R: Store, B: Bus>(
+pub fn perform<'a, R: Store, B: Progress>(
     rt: &mut R,
     bus: &mut B,
+    screen: Screen<'_>,
     operation: &Operation<'a>,
     sources: Sources,
 ) -> Result<Outcome, Fault<'a>>
@@ -53,8 +56,8 @@ pub fn perform<'a, R: Store, B: Bus>(
         Task::WpList => Ok(list_ranges(bus, named)),
         Task::Read { file, .. } => read_chip(rt, bus, named, *file, sources.included.as_ref()),
         Task::Verify { .. } => Ok(verify_chip(bus, named, sources)),
-        Task::Change(change) => change_chip(rt, bus, named, change, sources),
-        Task::Restore { .. } => restore_chip(bus, named, &sources.bytes),
+        Task::Change(change) => change_chip(rt, bus, screen, named, change, sources),
+        Task::Restore { .. } => restore_chip(bus, screen, named, &sources.bytes),
     }
 }
 
@@ -90,7 +93,7 @@ fn find_first<'a, B: Bus>(bus: &mut B, named: Option<ChipName>) -> Result<Found,
 }
 
 // Identifies the chip, and reads it into the file of this name.
-fn read_chip<'a, R: Store, B: Bus>(
+fn read_chip<'a, R: Store, B: Progress>(
     rt: &mut R,
     bus: &mut B,
     named: Option<ChipName>,
@@ -103,24 +106,27 @@ fn read_chip<'a, R: Store, B: Bus>(
     ensures others { is_lawful (R.state rt.old).view ≡ true
         → OthersStay file.now (R.state rt.old) (R.state rt.new) }
 {
-    find_first(bus, named)?;
+    let found = find_first(bus, named)?;
+    bus.expect_reads(sectors_to_read(found.size as usize, included));
     read_to_file(rt, bus, named, file, included)
 }
 
 // Compares the chip with an image at the included addresses: those of the included regions, or all if no regions were
 // given.
-fn verify_chip<B: Bus>(bus: &mut B, named: Option<ChipName>, sources: Sources) -> Outcome
+fn verify_chip<B: Progress>(bus: &mut B, named: Option<ChipName>, sources: Sources) -> Outcome
     ensures { HasVerified named sources.included sources.bytes.items (B.state bus.old) (B.state bus.new) result }
 {
     let Sources { included, bytes } = sources;
+    bus.expect_reads(sectors_to_read(bytes.len(), included.as_ref()));
     verify_image(bus, named, &bytes, included.as_ref())
 }
 
 // Changes the chip, with its journal in a new file. Returns a usage fault for a rehearsal, which this program doesn't
 // perform.
-fn change_chip<'a, R: Store, B: Bus>(
+fn change_chip<'a, R: Store, B: Progress>(
     rt: &mut R,
     bus: &mut B,
+    screen: Screen<'_>,
     named: Option<ChipName>,
     change: &Change<'a>,
     sources: Sources,
@@ -139,7 +145,10 @@ fn change_chip<'a, R: Store, B: Bus>(
     let Sources { included, bytes } = sources;
     let request = request_for(change, named, included);
     let mut image = fill_buffer(bus, named, change.wanted, bytes, rt.alloc())?;
-    session_in_file(rt, bus, *file, &mut image, &request)
+    bus.expect_reads(sectors_to_read(image.len(), request.included.as_ref()));
+    session_in_file(rt, bus, *file, &mut image, &request, |announcement| {
+        screen.show_session(announcement)
+    })
 }
 
 // Returns the buffer of a session: for an erase FFh for each byte of the chip, which is identified to know its size;
@@ -164,10 +173,19 @@ fn fill_buffer<'a, B: Bus>(
     }
 }
 
+// Returns the number of sectors with an included address on a chip of `size` bytes. If `included` is `None`, these are
+// all sectors.
+fn sectors_to_read(size: usize, included: Option<&Ranges>) -> usize {
+    // no chip is so large that this number isn't a `u32`
+    let sectors = u32::try_from(size / SECTOR_LEN as usize).unwrap_or(0);
+    (0..sectors).filter(|sector| includes_in_sector(included, *sector)).count()
+}
+
 // Restores the chip from the bytes of a journal. If `named` is given, the chip must have that name. Returns error 15 if
 // the bytes are no journal.
-fn restore_chip<'a, B: Bus>(
+fn restore_chip<'a, B: Progress>(
     bus: &mut B,
+    screen: Screen<'_>,
     named: Option<ChipName>,
     bytes: &[u8],
 ) -> Result<Outcome, Fault<'a>>
@@ -180,7 +198,8 @@ fn restore_chip<'a, B: Bus>(
         Err(fault) => return Err(Fault::Refused(Refusal::BadJournal(fault))),
     };
     check_name(bus, named)?;
-    Ok(run_restore(bus, &journal))
+    bus.expect_reads(journal.count());
+    Ok(run_restore(bus, screen, &journal))
 }
 
 // If `named` is given, identifies the chip and checks that it has that name. If not, sends nothing.
@@ -194,9 +213,11 @@ fn check_name<'a, B: Bus>(bus: &mut B, named: Option<ChipName>) -> Result<(), Fa
     Ok(())
 }
 
-fn run_restore<B: Bus>(bus: &mut B, journal: &Journal<'_>) -> Outcome
+fn run_restore<B: Bus>(bus: &mut B, screen: Screen<'_>, journal: &Journal<'_>) -> Outcome
     ensures { HasRunRestore journal.now (B.state bus.old) (B.state bus.new) result }
 {
-    let report = restore(bus, journal)?;
+    let report = restore_announced(bus, journal, |announcement| {
+        screen.show_restore(announcement)
+    })?;
     Ok(Answer::Done(report))
 }

@@ -1,7 +1,9 @@
-//! A bus that prints the progress of a job to standard error.
-ghost use Rattle.std.specs.Prelude.{◌≡◌};
+//! The progress of a job on standard error: a bus that prints the steps, and the line with what a change will do.
+ghost use Rattle.std.specs.Prelude.{◌≡◌, ◌≤◌};
 
 use nor_chip::{Bus, Stopped, is_changing};
+use nor_journal::journal_len;
+use nor_session::Announcement;
 use std::fs;
 use std::os::unix::fs::FileTypeExt;
 
@@ -49,11 +51,22 @@ impl Step {
     fn as_str(self) -> &'static str {
         match self {
             Step::Identify => "identify",
-            Step::Scan => "scan: sectors read",
+            Step::Scan => "scan: sector",
             Step::Erase => "erase: erases sent",
             Step::Program => "program: pages sent",
             Step::Protect => "protect: status writes sent",
             Step::ReadBack => "read back: sectors read",
+        }
+    }
+
+    // Returns the number of transactions from one printed line to the next. An erase takes up to some seconds, so the
+    // erases have more lines.
+    fn stride(self) -> u64
+        ensures { 1 ≤ result }
+    {
+        match self {
+            Step::Erase => 16,
+            _ => 256,
         }
     }
 }
@@ -63,46 +76,39 @@ const SEALED: &str = "SEALED: the chip is changed from here on.";
 
 const CHANGED: &str = "The chip is changed from here on.";
 
-// The number of transactions of one step from one printed line to the next.
-const LINE_EACH: u64 = 256;
-
-/// A bus that prints a line to standard error before the first transaction of each step, and before every 256th one
-/// after that. It prints nothing if standard error is not a character device.
-///
-/// A step is recognized by the opcode of a transaction. Before the first modifying command a line says that the chip is
-/// changed from here on. In a session that line begins with `SEALED`, since a session sends no modifying command before
-/// its journal is sealed. In contracts, the state of this bus is that of the bus inside.
-#[derive(Drop)]
-pub struct Shown<'a, B> {
-    bus: B,
+/// Standard error, on which progress is printed if it is a character device.
+#[derive(Clone, Copy)]
+pub struct Screen<'a> {
     rt: &'a HostRuntime,
     visible: bool,
-    in_session: bool,
-    changing: bool,
-    counts: Counts,
 }
 
-impl<'a, B: Bus + Drop> Shown<'a, B> {
-    /// Returns a bus that prints the progress of the job on `bus`.
-    pub fn new(bus: B, rt: &'a HostRuntime) -> Shown<'a, B> {
-        Shown {
-            bus,
+impl<'a> Screen<'a> {
+    /// Returns the standard error of this program.
+    pub fn new(rt: &'a HostRuntime) -> Screen<'a> {
+        Screen {
             rt,
             visible: is_terminal(rt),
-            in_session: false,
-            changing: false,
-            counts: Counts::default(),
         }
     }
 
-    /// Returns the bus inside.
-    pub fn inner(&self) -> &B {
-        &self.bus
+    /// Prints what a session is about to change, and the length of its journal.
+    pub fn show_session(&self, announcement: Announcement) {
+        if self.visible {
+            let Announcement { touched, erases } = announcement;
+            let len = journal_len(touched);
+            let _ = eprintln!(self.rt;
+                "Sectors to change: {touched}. Erases: {erases}. Bytes of journal: {len}."
+            );
+        }
     }
 
-    /// Marks the transactions from now on as those of a session, whose journal is sealed before the first change.
-    pub fn begin_session(&mut self) {
-        self.in_session = true;
+    /// Prints what a restore is about to change.
+    pub fn show_restore(&self, announcement: Announcement) {
+        if self.visible {
+            let Announcement { touched, erases } = announcement;
+            let _ = eprintln!(self.rt; "Sectors to change: {touched}. Erases: {erases}.");
+        }
     }
 }
 
@@ -114,28 +120,91 @@ fn is_terminal(rt: &HostRuntime) -> bool {
     }
 }
 
+/// A bus that shows the progress of a job.
+pub trait Progress: Bus {
+    /// Records how many sectors the job will read before it changes anything. In contracts nothing changes.
+    fn expect_reads(&mut self, sectors: usize)
+        ensures { Self.state self.new ≡ Self.state self.old };
+}
+
+/// A bus that prints a line to standard error for the first transaction of each step, and for every later one after a
+/// fixed number of them (`Step::stride`). It prints nothing if standard error is not a character device.
+///
+/// A step is recognized by the opcode of a transaction. Before the first modifying command a line says that the chip is
+/// changed from here on. In a session that line begins with `SEALED`, since a session sends no modifying command before
+/// its journal is sealed. In contracts, the state of this bus is that of the bus inside.
+#[derive(Drop)]
+pub struct Shown<'a, B> {
+    bus: B,
+    screen: Screen<'a>,
+    in_session: bool,
+    changing: bool,
+    // the number of sectors that the job reads before it changes anything, if it is known
+    expected: Option<usize>,
+    counts: Counts,
+}
+
+impl<'a, B: Bus + Drop> Shown<'a, B> {
+    /// Returns a bus that prints the progress of the job on `bus` to `screen`.
+    pub fn new(bus: B, screen: Screen<'a>) -> Shown<'a, B> {
+        Shown {
+            bus,
+            screen,
+            in_session: false,
+            changing: false,
+            expected: None,
+            counts: Counts::default(),
+        }
+    }
+
+    /// Returns the bus inside.
+    pub fn inner(&self) -> &B {
+        &self.bus
+    }
+
+    /// Returns the screen that the progress is printed to.
+    pub fn screen(&self) -> Screen<'a> {
+        self.screen
+    }
+
+    /// Marks the transactions from now on as those of a session, whose journal is sealed before the first change.
+    pub fn begin_session(&mut self) {
+        self.in_session = true;
+    }
+}
+
 impl<B> Shown<'_, B> {
-    // If `visible` is set, prints a line before the first modifying command, and one if this transaction is number 1,
-    // 257, 513, .. of its step.
+    // Prints a line before the first modifying command, and one if this transaction is the first of its step or
+    // follows the last printed one by the step's stride.
     fn show(&mut self, out: &[u8])
         ensures { self.new.bus ≡ self.old.bus }
     {
-        if !self.visible {
+        if !self.screen.visible {
             return;
         }
         if is_changing(out) && !self.changing {
             self.changing = true;
             let what = if self.in_session { SEALED } else { CHANGED };
-            let _ = eprintln!(self.rt; "{what}");
+            let _ = eprintln!(self.screen.rt; "{what}");
         }
         let Some(step) = step_of(out, self.changing) else {
             return;
         };
         let count = self.counts.count(step);
-        if count % LINE_EACH == 1 {
-            let text = step.as_str();
-            let _ = eprintln!(self.rt; "{text} {count}");
+        if count % step.stride() == 1 {
+            self.show_step(step, count);
         }
+    }
+
+    // Prints the line of a step. `count` is the number of its transactions so far.
+    fn show_step(&self, step: Step, count: u64) {
+        let text = step.as_str();
+        let _ = match (step, self.expected) {
+            (Step::Scan, Some(expected)) => {
+                eprintln!(self.screen.rt; "{text} {count} of {expected}")
+            }
+            _ => eprintln!(self.screen.rt; "{text} {count}"),
+        };
     }
 }
 
@@ -161,5 +230,11 @@ impl<B: Bus> Bus for Shown<'_, B> {
     fn transfer(&mut self, out: &[u8], reply: &mut [u8]) -> Result<(), Stopped> {
         self.show(out);
         self.bus.transfer(out, reply)
+    }
+}
+
+impl<B: Bus> Progress for Shown<'_, B> {
+    fn expect_reads(&mut self, sectors: usize) {
+        self.expected = Some(sectors);
     }
 }

@@ -12,11 +12,11 @@ ghost use Rattle.flashnor_serprog.specs.Sends.{SendsOnly, changes};
 use crate::connect::{ChipBus, connect};
 use crate::help::HELP;
 use crate::jobs::perform;
+use crate::progress::{Progress, Screen};
 use crate::roles::have_one_role;
 use crate::setting::Setting;
 use crate::sources::{Sources, read_sources};
 use crate::trouble::{StopLine, Trouble};
-use nor_chip::Bus;
 use nor_files::{Disk, Store};
 use nor_lines::{
     Answer, DIRECTORY, Fault, help_of, or_fault, print_answer, print_fault, print_help, unread,
@@ -187,7 +187,8 @@ fn run_prepared<R: Store, O: Write, E: Write>(
     if let Task::Change(_) = &operation.task {
         bus.begin_session();
     }
-    match end_job(files, &mut bus, &operation, sources) {
+    let screen = bus.screen();
+    match end_job(files, &mut bus, screen, &operation, sources) {
         Ok(answer) => end_well(output, answer),
         Err(fault) => {
             let status = end_badly(errors, &fault);
@@ -200,9 +201,10 @@ fn run_prepared<R: Store, O: Write, E: Write>(
 }
 
 // Performs a job, and returns its answer or its fault.
-fn end_job<'a, R: Store, B: Bus>(
+fn end_job<'a, R: Store, B: Progress>(
     files: &mut R,
     bus: &mut B,
+    screen: Screen<'_>,
     operation: &Operation<'a>,
     sources: Sources,
 ) -> Result<Answer, Fault<'a>>
@@ -211,7 +213,7 @@ fn end_job<'a, R: Store, B: Bus>(
     ensures sends { SendsOnly operation.now.task sources.bytes.items (B.state bus.old) (B.state bus.new)
         (R.state files.new) }
 {
-    let outcome = perform(files, bus, operation, sources)?;
+    let outcome = perform(files, bus, screen, operation, sources)?;
     or_fault(outcome)
 }
 

@@ -13,5 +13,5 @@ returns-clause-ok g c = rw c.in-Journal.is (IfOk-weaker c.session_in_file.result
   found = g.B.Bus.state c.fill_buffer.new.bus;
   image = c.in_ok-image.image.items;
   buffer = c.in_ok-image.ensures.ok;
-  ran = rw (c.request_for-request.ensures, c.deref_mut.ensures.value) at ran;
+  ran = rw (c.request_for-request.ensures, c.deref_mut.ensures.value, c.expect_reads.ensures) at ran;
 }) c.session_in_file.ensures.ok)
