@@ -66,6 +66,10 @@ pub record HasRate (text device rate : Text) : Type 0 where
   pub parts : text ≡ device ++ 58 ∷ rate
   pub number : reads decimal_number rate ≡ true
 
+-- Holds if the text doesn't end with a colon and a number.
+abbrev pub HasNoRate : Text → Type 0
+HasNoRate text = (device rate : Text) → ¬ HasRate text device rate
+
 -- the value of `dev=` in the settings, or `None` if they lack it
 abbrev pub device_in : List Text → Option Text
 device_in settings = value_in settings (codes "dev")
@@ -76,13 +80,14 @@ pub record IsDeviceOf (text device : Text) : Type 0 where
   pub named : device_in (serprog_settings text) ≡ Some device
 
 -- The value of `-p` describes this programmer: it begins with `serprog:`, no setting is wrong, and each field has the
--- value of its key, or is `None` if the text lacks the key.
+-- value of its key, or is `None` if the text lacks the key. The device doesn't end with a colon and a number.
 pub record IsSetting (text : Text) (setting : Setting) : Type 0 where
   pub device : IsDeviceOf text setting.device.now
   pub sound : first_wrong [] (serprog_settings text) ≡ None
   pub hertz : option_and_then clock_of (value_in (serprog_settings text) (codes "spispeed")) ≡ setting.hertz
   pub chip_select : option_and_then chip_select_of (value_in (serprog_settings text) (codes "cs"))
       ≡ setting.chip_select
+  pub rateless : HasNoRate setting.device.now
 
 -- The first wrong setting of the text, if it begins with `serprog:` and has one.
 pub record HasFirstWrong (text setting : Text) : Type 0 where

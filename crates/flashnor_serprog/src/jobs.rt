@@ -178,7 +178,9 @@ fn fill_buffer<'a, B: Bus>(
 fn sectors_to_read(size: usize, included: Option<&Ranges>) -> usize {
     // no chip is so large that this number isn't a `u32`
     let sectors = u32::try_from(size / SECTOR_LEN as usize).unwrap_or(0);
-    (0..sectors).filter(|sector| includes_in_sector(included, *sector)).count()
+    (0..sectors)
+        .filter(|sector| includes_in_sector(included, *sector))
+        .count()
 }
 
 // Restores the chip from the bytes of a journal. If `named` is given, the chip must have that name. Returns error 15 if

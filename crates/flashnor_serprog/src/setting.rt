@@ -1,11 +1,11 @@
 //! The value of the option `-p`.
 
-ghost use Rattle.std.specs.Prelude.{◌≡◌, ◌&&◌, IfErr, None, false, is_none, is_some, true, if◌then◌else◌};
+ghost use Rattle.std.specs.Prelude.{◌≡◌, ◌&&◌, None, false, is_none, is_some, true, if◌then◌else◌};
 ghost use Rattle.std.specs.Option.{MatchOption};
 ghost use Rattle.std.specs.Result.{MatchResult};
 ghost use Rattle.nor_words.specs.Programmer.{is_file};
 ghost use Rattle.nor_words.specs.Text.{key_of, value_of};
-ghost use Rattle.flashnor_serprog.specs.Setting.{EndsWithRate, CannotBeStored, IsSetting, IsWrongSetting, StoresSetting};
+ghost use Rattle.flashnor_serprog.specs.Setting.{EndsWithRate, CannotBeStored, HasNoRate, IsSetting, IsWrongSetting, StoresSetting};
 ghost use Rattle.flashnor_serprog.specs.Setting.{chip_select_of, clock_of, may_have_value, names_network};
 ghost use Rattle.flashnor_serprog.specs.declared.setting.WrongSetting.TheVariants.{Network, Other};
 
@@ -47,7 +47,7 @@ impl<'a> Setting<'a> {
     ///
     /// If the text begins with `serprog:`, returns `Network` if the first wrong setting is `ip=..`, and `BaudRate` if
     /// no setting is wrong but the device ends with a colon and a number. Returns `Other` for all other texts that
-    /// describe no programmer. No clause says that every device with a baud rate is refused.
+    /// describe no programmer.
     pub fn read(text: &'a str) -> Result<Setting<'a>, WrongSetting<'a>>
         ensures { MatchResult result (IsSetting text.now) (IsWrongSetting text.now) }
     {
@@ -140,12 +140,14 @@ fn set<T: Copy>(place: &mut Option<T>, read: Option<T>) -> Option<()>
 
 // Returns `BaudRate` if the device ends with a colon and a number: flashrom's syntax is `dev=DEVICE:BAUD`.
 fn refuse_rate(device: &str) -> Result<(), WrongSetting<'_>>
-    ensures { IfErr result (EndsWithRate device.now) }
+    ensures { MatchResult result (λ _. HasNoRate device.now) (EndsWithRate device.now) }
 {
-    match device.rsplit_once(':') {
-        Some((device, rate)) if read_number(rate).is_some() => {
-            Err(WrongSetting::BaudRate { device, rate })
-        }
-        _ => Ok(()),
+    let Some((name, rate)) = device.rsplit_once(':') else {
+        return Ok(());
+    };
+    if read_number(rate).is_some() {
+        Err(WrongSetting::BaudRate { device: name, rate })
+    } else {
+        Ok(())
     }
 }

@@ -73,4 +73,5 @@ returns c =
       sound = last.0;
       hertz = last.1.hertz;
       chip_select = last.1.chip_select;
+      rateless = c.in_ok-refuse_rate.ensures;
     }
