@@ -121,8 +121,8 @@ class Bench:
         self.compare(got, out, err)
         return got
 
-    def run_at_terminal(self, *words):
-        """Runs the program with standard error at a terminal, checks that it succeeds, and returns the lines there."""
+    def expect_at_terminal(self, *words, lines):
+        """Runs the program with standard error at a terminal, and checks that it succeeds and the lines there."""
         terminal, slave = os.openpty()
         self.server.begin({})
         process = self.start(words, err=slave)
@@ -130,8 +130,8 @@ class Bench:
         with ThreadPoolExecutor(1) as pool:
             shown = pool.submit(read_all, terminal)
             process.communicate(timeout=LONGEST)
+        check("lines at the terminal", shown.result().decode().splitlines(), lines)
         check("exit status", process.returncode, 0)
-        return shown.result().decode().splitlines()
 
     def run_unprinted(self, *words):
         """Runs the program with standard output at /dev/full, and returns its exit status and the faults' lines."""

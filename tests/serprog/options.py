@@ -319,16 +319,49 @@ def protects(start):
 
 
 def shows_progress(start):
-    """On a terminal a session prints SEALED before its first change. A restore seals nothing, and prints another line."""
+    """On a terminal each step has a line, and what a session or restore will change has one before the first change."""
     old, new = images("shows_progress")
     bench = start(data=old)
     bench.write("new", new)
-    for words, line in ((("-w", "new", "--journal", "j"), "SEALED: the chip is changed from here on."),
-                        (("--restore", "j"), "The chip is changed from here on."), (("-v", "again"), None)):
-        lines = bench.run_at_terminal(*words)
-        check("the first step", lines[:1], ["identify 1"])
-        check("lines of a change", [it for it in lines if "changed" in it], [line] * bool(line))
-        bench.write("again", old)
+    # Sector 1 is blank, so it is programmed without an erase, but read again before. The restore must erase it.
+    journal = 25 + 4 * 4100 + 36
+    bench.expect_at_terminal("-w", "new", "--journal", "j", lines=[
+        "identify 1", "scan: sector 1 of 16", f"Sectors to change: 4. Erases: 3. Bytes of journal: {journal}.",
+        "SEALED: the chip is changed from here on.", "erase: erases sent 1", "read back: sectors read 1",
+        "program: pages sent 1"])
+    bench.expect_at_terminal("-v", "new", lines=["identify 1", "scan: sector 1 of 16"])
+    bench.expect_at_terminal("--restore", "j", lines=[
+        "identify 1", "scan: sector 1 of 4", "Sectors to change: 4. Erases: 4.", "The chip is changed from here on.",
+        "erase: erases sent 1", "program: pages sent 1", "read back: sectors read 1"])
+    bench.check_chip(old)
+    bench.write("old", old)
+    bench.expect_at_terminal("-w", "old", "--journal", "k", lines=[
+        "identify 1", "scan: sector 1 of 16", "Sectors to change: 0. Erases: 0. Bytes of journal: 61."])
+    bench.write("layout", b"1800:2fff some\nf000:f000 byte\n")
+    for words in (("-r", "out"), ("-v", "old")):
+        bench.expect_at_terminal(*words, "-l", "layout", "-i", "some,byte", lines=[
+            "identify 1", "scan: sector 1 of 3"])
+    bench.expect_at_terminal("-E", "--journal", "l", "-l", "layout", "-i", "byte", lines=[
+        "identify 1", "scan: sector 1 of 1", "Sectors to change: 1. Erases: 1. Bytes of journal: 4161.",
+        "SEALED: the chip is changed from here on.", "erase: erases sent 1", "program: pages sent 1",
+        "read back: sectors read 1"])
+
+
+def shows_long_progress(start):
+    """Each 256th sector and each 16th erase has a line, too. A status write is a step of its own."""
+    old = bytearray(b"\x5a" * (1 << 23))
+    bench = start("W25Q64FV", data=bytes(old))
+    for number in range(0, 34 * 32, 32):
+        old[number * SECTOR] = 0xA5
+    bench.write("new", bytes(old))
+    bench.expect_at_terminal("-w", "new", "--journal", "j", lines=[
+        "identify 1", *(f"scan: sector {n} of 2048" for n in range(1, 2048, 256)),
+        f"Sectors to change: 34. Erases: 34. Bytes of journal: {25 + 34 * 4100 + 36}.",
+        "SEALED: the chip is changed from here on.", *(f"erase: erases sent {n}" for n in (1, 17, 33)),
+        *(f"program: pages sent {n}" for n in (1, 257, 513)), "read back: sectors read 1"])
+    bench.expect_at_terminal("--wp-range", "0,0x800000", "--journal", "k", lines=[
+        "identify 1", "Sectors to change: 0. Erases: 0. Bytes of journal: 61.",
+        "SEALED: the chip is changed from here on.", "protect: status writes sent 1"])
 
 
 def needs_its_output(start):
@@ -345,4 +378,4 @@ def needs_its_output(start):
 CASES = [identifies, sets_the_clock, selects_a_chip, keeps_to_the_protocol, names_the_chip, reads, reads_regions,
          reads_inside, verifies, verifies_regions, writes, writes_without_verification, writes_regions, writes_at_random,
          writes_large_chips, changes_nothing, erases, erases_regions, prints_the_size, shows_protection, lists_ranges,
-         protects, shows_progress, needs_its_output]
+         protects, shows_progress, shows_long_progress, needs_its_output]
