@@ -1,14 +1,13 @@
 -- Which texts end with a colon and a number.
-use Rattle.std.proofs.Common.{◌≡◌, ◌∙◌, ◌+◌, ◌-◌, ◌<◌, ◌≤◌, ℕ, true, false, ◌∷◌, ◌++◌, length, drop, take, get_or, nat_eq, nat_lt, [], sym, ap, arith, refl, append_assoc, inl, inr, true≢false}
+use Rattle.std.proofs.Common.{◌≡◌, ◌∙◌, ◌+◌, ◌-◌, ◌<◌, ◌≤◌, ℕ, true, false, ◌∷◌, ◌++◌, length, drop, get_or, nat_eq, nat_lt, [], sym, ap, arith, refl, append_assoc, inl, inr, true≢false}
 use Rattle.std.specs.Char.{is_digit}
-use Rattle.std.specs.List.{list_all}
 use Rattle.std.specs.Str.{NoCharPasses}
 use Rattle.std.specs.Str.Pattern.{RFindsChar, SplitsAroundMatch}
 use Rattle.std.proofs.lemmas.List.{length-append, length-drop, get_or-append_right}
 use Rattle.std.proofs.lemmas.Bool.{cases_Bool}
 use Rattle.std.proofs.lemmas.Bool.Decides.{nat_tests}
 use Rattle.std.proofs.lemmas.List.Folds.{list_all_at}
-use Rattle.std.proofs.lemmas.Str.Pattern.{NoCharPasses-char, drop_at_char}
+use Rattle.std.proofs.lemmas.Str.Pattern.{NoCharPasses-char}
 use Rattle.std.proofs.Math.Seq.{get_or-append_seam, get_or-drop, drop_at}
 use Rattle.nor_words.specs.Numbers.{decimal_number}
 use Rattle.nor_words.specs.Text.{Text, reads}

@@ -7,7 +7,6 @@ use Rattle.nor_journal.specs.Fault.{HasFault}
 use Rattle.nor_layout.specs.declared.ranges.Span.{Span}
 use Rattle.nor_request.specs.declared.refusal.Refusal.TheVariants.{BadJournal}
 use Rattle.nor_words.specs.Text.{Text}
-use Rattle.nor_words.specs.declared.job.Change.{Change}
 use Rattle.nor_words.specs.declared.job.JournalUse.{JournalUse}
 use Rattle.nor_words.specs.declared.job.JournalUse.TheVariants as uses
 use Rattle.nor_words.specs.declared.job.Task.{Task}
