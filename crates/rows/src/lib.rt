@@ -49,6 +49,7 @@
 //! Single calls:
 //!
 //! - `probes.rt`: which chips are found, what a probe sends, and how long it waits
+//! - `announced.rt`: what sessions and restores announce before they change the chip
 //! - `sessions.rt`: sessions on chips with different erase types, on a busy chip, and with and without verification
 //! - `kernels.rt`: nor_plan's comparisons of two slices
 //! - `sets.rt`: sets of addresses made from spans
@@ -58,6 +59,8 @@
 
 #[cfg(test)]
 mod allowances;
+#[cfg(test)]
+mod announced;
 #[cfg(test)]
 mod bounds;
 #[cfg(test)]
