@@ -1,5 +1,5 @@
 -- The job or fault of the arguments follows from that of the options that they give.
-use Rattle.std.proofs.Common.{◌≡◌, arith, Bool, List, [], Some, None, Result, Ok, Err}
+use Rattle.std.proofs.Common.{◌≡◌, arith, Bool, List, [], Some, None, Result}
 use Rattle.std.specs.Prelude.{MatchResult}
 use Rattle.clap.specs.declared.error.Error.{Error}
 use Rattle.nor_words.specs.Text.{Text}
@@ -28,9 +28,7 @@ pub asked-by_words : (words : List Text) (given : Texts) (r : Result Job UsageFa
     → MatchResult r (λ job. (first_fault (usage_faults given) ≡ None) × IsAsked given job)
     (λ fault. first_fault (usage_faults given) ≡ Some fault)
     → MatchResult r (IsJob words) (IsFault words)
-asked-by_words words given (Ok job) taken same h =
-    record { taken = taken; sound = rw same at h.0; asked = rw same at h.1 }
-asked-by_words words given (Err fault) taken same h = fault-returned words fault taken (rw same at h)
+asked-by_words words given r taken same h = grind (arith, fault-returned)
 
 -- ---- programs for hardware
 
@@ -40,5 +38,4 @@ pub hardware_asked-by_words : (program : Text) (words : List Text) (given : Text
     → hardware_refusals_of program words ≡ [] → given ≡ hardware_given_by program words
     → MatchResult r (IsHardwareAsked given) (λ fault. (fault ≡ why.NoProgrammer) × (given.programmer ≡ None))
     → MatchResult r (IsHardwareJob program words) (IsHardwareFault program words)
-hardware_asked-by_words program words given (Ok job) taken same h = record { taken = taken; asked = rw same at h }
-hardware_asked-by_words program words given (Err fault) taken same h = rw h.0 (taken, rw same at h.1)
+hardware_asked-by_words program words given r taken same h = grind arith

@@ -1,7 +1,7 @@
 -- The result of `strip_prefix`, in terms of `starts_with`; which texts describe no programmer; and the result of
 -- `option_and_then`.
 use Rattle.std.proofs.Common.{◌≡◌, ◌∙◌, true, false, List, Option, Some, None, ℕ, length, drop, ap, codes, option_map}
-use Rattle.std.proofs.Common.{arith, refl, sym, nat_eq}
+use Rattle.std.proofs.Common.{arith, sym, nat_eq}
 use Rattle.std.specs.Prelude.{option_and_then}
 use Rattle.std.specs.Borrow.{Bor}
 use Rattle.std.specs.List.{starts_with}
@@ -29,10 +29,8 @@ is_programmer-unnamed text unnamed = grind arith
 -- a parser applied to an optional value returns what `option_and_then` does
 pub and_then_read : {T : Type 0} (f : Text → Option T) (o : Option (Bor Text)) (r : Option T)
     → MatchOption o (r ≡ None) (λ x. r ≡ f x.now) → option_and_then f (option_map (λ x. x.now) o) ≡ r
-and_then_read f None r h = sym h
-and_then_read f (Some x) r h = sym h
+and_then_read f o r h = grind arith
 
 -- `option_and_then` with `Some` returns the optional value as it is
 pub and_then-some : {T : Type 0} (o : Option T) → option_and_then Some o ≡ o
-and_then-some None = refl
-and_then-some (Some x) = refl
+and_then-some o = grind arith

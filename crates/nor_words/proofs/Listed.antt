@@ -1,6 +1,6 @@
 -- The list of stops, read one after the other.
-use Rattle.std.proofs.Common.{◌≡◌, ℕ, suc, ◌+◌, ◌<◌, ◌≤◌, ◌&&◌, true, List, [], ◌∷◌, ◌++◌, Option, Some}
-use Rattle.std.proofs.Common.{None, length, drop, get_or, cond, ap, refl, arith, nat_le}
+use Rattle.std.proofs.Common.{◌≡◌, ℕ, ◌+◌, ◌<◌, ◌≤◌, ◌&&◌, List, [], ◌∷◌, ◌++◌, Option, Some}
+use Rattle.std.proofs.Common.{None, length, drop, get_or, cond, arith, nat_le}
 use Rattle.std.specs.Prelude.{filter_map}
 use Rattle.std.specs.List.{list_all}
 use Rattle.std.proofs.lemmas.Bool.Decides.{nat_tests}
@@ -20,25 +20,17 @@ with_stops stops pieces = cond (list_all (reads decimal_number) pieces && nat_le
 module _ (stops : List ℕ) (pieces : List Text) (n : ℕ) (piece : Text)
     (at : (n < length pieces) × (piece ≡ get_or pieces n piece)) where
   pub stops-refused : decimal_number piece ≡ None → with_stops stops (drop n pieces) ≡ None
-  stops-refused other = rw (turned pieces n piece at, other) refl
+  stops-refused other = rw (turned pieces n piece at) (grind arith)
 
   pub stops-full : 64 ≤ length stops → with_stops stops (drop n pieces) ≡ None
   stops-full full = rw (turned pieces n piece at) (grind (arith, nat_tests))
 
   pub stops-added : (x : ℕ) → decimal_number piece ≡ Some x
       → with_stops stops (drop n pieces) ≡ with_stops (stops ++ x ∷ []) (drop (n + 1) pieces)
-  stops-added x number =
-      let left = drop (n + 1) pieces in
-      let longer = length_push stops x in
-      let len : length stops + suc (length left) ≡ length (stops ++ x ∷ []) + length left = omega arith in
-      rw (turned pieces n piece at, number, len, append_assoc stops (x ∷ [])) refl
+  stops-added x number = rw (turned pieces n piece at) (grind (arith, length_push stops x, append_assoc stops (x ∷ [])))
 
 pub stops-ended : (stops : List ℕ) → length stops ≤ 64 → with_stops stops [] ≡ Some stops
-stops-ended stops few =
-    let fits : nat_le (length stops + 0) 64 ≡ true = grind (arith, nat_tests) in
-    rw fits (ap Some (append-nil stops))
+stops-ended stops few = grind (arith, nat_tests, append-nil stops)
 
 pub stops_of-with : (text : Text) → with_stops [] (pieces_of text) ≡ stops_of text
-stops_of-with text =
-    let zero_more : 0 + length (pieces_of text) ≡ length (pieces_of text) = omega arith in
-    rw zero_more refl
+stops_of-with text = grind arith

@@ -1,12 +1,11 @@
 -- The digits of numbers, and ranges, which are two numbers.
 use Rattle.std.proofs.Common.{◌≡◌, ℕ, ◌^◌, ◌<◌, ◌≤◌, ◌==◌, ◌&&◌, Bool, true, [], ◌∷◌, Option, Some, None, Result}
-use Rattle.std.proofs.Common.{Ok, Err, length, cond, ap, sym, refl, arith, inl, inr, nat_lt, nat_le, option_map}
+use Rattle.std.proofs.Common.{Ok, Err, length, cond, ap, sym, refl, arith, nat_le, option_map}
 use Rattle.std.specs.Prelude.{option_and_then}
-use Rattle.std.specs.Char.{digit_value, is_digit}
+use Rattle.std.specs.Char.{is_digit}
 use Rattle.std.specs.List.{list_all, position_or_len}
 use Rattle.std.specs.Result.{result_ok}
 use Rattle.std.specs.Str.Parse.{AllDigits, ParsesUnsigned, digits_value, without_leading_plus}
-use Rattle.std.proofs.lemmas.Bool.{and_parts, cases_Bool}
 use Rattle.std.proofs.lemmas.Bool.Decides.{nat_tests}
 use Rattle.std.proofs.lemmas.List.{at_drop_all}
 use Rattle.nor_words.specs.Text.{Text, front_of, rest_of}
@@ -15,21 +14,11 @@ use Rattle.nor_words.specs.Numbers.{numeral, number_or_length, range_of}
 -- a text of digits has no leading plus
 without_plus : (radix : ℕ) (text : Text) → radix ≤ 36 → list_all (λ digit. is_digit digit radix) text ≡ true
     → without_leading_plus text ≡ text
-without_plus radix [] low all = refl
-without_plus radix (c ∷ cs) low all = elim (cases_Bool (c == 43)) [
-  | inl is ↦
-      let plus : c ≡ 43 = grind (arith, nat_tests) in
-      let digit : is_digit c radix ≡ true = (and_parts _ _ all).0 in
-      let value : nat_lt (digit_value 43) radix ≡ true = rw plus at digit in
-      absurd (grind (arith, nat_tests))
-  | inr is ↦ rw is refl
-]
+without_plus radix text low all = grind (arith, nat_tests)
 
 all_digits : (radix : ℕ) (text : Text) → list_all (λ digit. is_digit digit radix) text ≡ true → AllDigits radix text
 all_digits radix [] all = tt
-all_digits radix (c ∷ cs) all =
-    let first : nat_lt (digit_value c) radix ≡ true = (and_parts _ _ all).0 in
-    (grind (arith, nat_tests), all_digits radix cs (and_parts _ _ all).1)
+all_digits radix (c ∷ cs) all = grind (arith, nat_tests, all_digits radix cs)
 
 -- the number, or `None` if it is above `greatest`
 abbrev pub at_most : ℕ → ℕ → Option ℕ

@@ -1,8 +1,6 @@
 use Rattle.std.proofs.Common.{arith}
 use Rattle.std.proofs.lemmas.Bool.Decides.{nat_tests}
-use Rattle.nor_words.proofs.Wrong.{wrong-programmer}
 use Rattle.nor_words.proofs.given.Given.has_wrong_programmer.Goals as goal
 
 pub returns-then-is_some : goal.returns-then-is_some
-returns-then-is_some c =
-    grind (arith, nat_tests, wrong-programmer c.args.self.now.programmer _ c.parsed_programmer.ensures)
+returns-then-is_some c = grind (arith, nat_tests)

@@ -1,9 +1,6 @@
 use Rattle.std.proofs.Common.{arith}
 use Rattle.std.proofs.lemmas.Bool.Decides.{nat_tests}
-use Rattle.nor_words.specs.Numbers.{range_of}
-use Rattle.nor_words.proofs.Wrong.{wrong-read}
 use Rattle.nor_words.proofs.given.Given.has_wrong_range.Goals as goal
 
 pub returns-then-is_some : goal.returns-then-is_some
-returns-then-is_some c =
-    grind (arith, nat_tests, wrong-read range_of c.args.self.now.wp_range _ c.parsed_range.ensures)
+returns-then-is_some c = grind (arith, nat_tests)
