@@ -90,5 +90,4 @@ pub buffer_before : (trace : Option (Bor Text)) (old amid : View) (chip : Emulat
     → IsBufferOf amid chip what bytes → IsBufferOf old chip what bytes
 buffer_before trace old amid chip (wanted.Write image) bytes two but is =
     reads_before trace image.now 16777217 _ old amid (not_that old.nature trace image two) but is
-buffer_before trace old amid chip wanted.Erase bytes two but is = is
-buffer_before trace old amid chip (wanted.Range start len) bytes two but is = is
+buffer_before trace old amid chip _ bytes two but is = is

@@ -1,6 +1,6 @@
 -- A file of the chip that is moved aside between two runs, and what a run reads of the files that are left.
 use Rattle.std.proofs.Common.{◌≡◌, ◌+◌, ℕ, Option, None, Some}
-use Rattle.std.proofs.Common.{◌⊎◌, IfSome, IsSomeAnd, arith, inl, inr, length, option_map, refl, sym, take}
+use Rattle.std.proofs.Common.{◌⊎◌, IfSome, arith, inl, inr, length, option_map, refl, sym, take}
 use Rattle.std.specs.Borrow.{Bor}
 use Rattle.std.proofs.lemmas.List.{length-take, take_all}
 use Rattle.nor_model.specs.Bus.{BusState}
@@ -28,10 +28,6 @@ left_seen files rest may_stay None len found is whole was = is
 left_seen files rest may_stay (Some name) len found is whole was =
     inl (rw (whole_seen len (files.view.seen name.now) found (is (known_at_rest rest name.now)) whole) (may_stay name.now))
 
-whole_of : (found : Found) (n m : ℕ) → n ≡ m → IsSomeAnd found (λ all. length all ≡ n)
-    → IfSome found (λ all. length all ≡ m)
-whole_of found n m same many = grind arith
-
 pub none_found : (view : View) (name : Option (Bor Text)) (len : ℕ) (found : Found) → IsFileFound view name len found
     → name ≡ None → found ≡ None
 none_found view name len found is none = grind arith
@@ -48,12 +44,8 @@ aside_of : (other : Bor Text) (was found left : Found) (len : ℕ) (mid new : Fi
 aside_of other was None left len mid new rest may_stay is whole long aside = (None, inr (refl, refl), tt, inr aside)
 aside_of other was (Some all) left len mid new rest may_stay is whole long aside =
     let seen = whole_seen len (mid.view.seen other.now) (Some all) (is (known_at_rest rest other.now)) whole in
-    let has = new.view.seen other.now in (
-      has,
-      inl (may_stay other.now),
-      whole_of has (length all) len whole (long all (sym seen) has (may_stay other.now)),
-      inr aside,
-    )
+    let has = new.view.seen other.now in
+    (has, inl (may_stay other.now), grind (arith, long all (sym seen) has (may_stay other.now)), inr aside)
 
 -- Suppose that `left` may be found of the files `new` if the file was as `was` at first. Then some `kept` may be found
 -- of them if the file was as `found` before the restore. The two are equal, or the file was missing at first and `left`
@@ -69,8 +61,7 @@ pick (Some one) (Some other) was found left len mid new same rest may_stay is wh
   | inl may ↦ (left, inl (rw same may), fits, inl refl)
   | inr aside ↦ aside_of other was found left len mid new rest may_stay is whole long aside
 ]
-pick None (Some other) was found left len mid new same rest may_stay is whole long can fits = absurd same
-pick (Some one) None was found left len mid new same rest may_stay is whole long can fits = absurd same
+pick _ _ was found left len mid new same rest may_stay is whole long can fits = absurd same
 
 -- An idle chip with the original chip's configuration is restorable, if each byte and the non-volatile status bits are
 -- those of a restorable chip or of the original chip.

@@ -1,5 +1,5 @@
 -- The files after a run that ends before its call to the engine, or whose task does not change the chip.
-use Rattle.std.proofs.Common.{◌≡◌, ◌∙◌, Option, Some, arith, false, sym, true, true≢false}
+use Rattle.std.proofs.Common.{◌≡◌, Option, Some, arith, false, true}
 use Rattle.std.specs.Borrow.{Bor}
 use Rattle.nor_files.specs.Calls.{LeaveNoMore, LeavesNoMore, LeavesOrEmpty}
 use Rattle.nor_files.specs.Files.{AreAtRest, FilesState, KnownStay, Name, Nature, KeepsFile}
@@ -13,7 +13,7 @@ use Rattle.nor_lines.specs.Tasks.{named_by, made_by}
 use Rattle.flashnor.specs.Run.{KeepsFiles, StayBut}
 use Rattle.nor_lines.specs.Stored.{AreTwo, IsNot, LeavesNoMoreOf, MakesNothing}
 use Rattle.flashnor.specs.Tasks.{journal_by, writes_back}
-use Rattle.flashnor.proofs.Stays.{StayApart, apart, not_after, not_that}
+use Rattle.flashnor.proofs.Stays.{StayApart}
 
 -- ---- the file that a task creates is no file of the chip
 
@@ -76,16 +76,6 @@ module _ (old mid new : FilesState) (rest : AreAtRest old) (nature : mid.view.na
   keeps_before job roles puts stay makes =
       let was = old.view.nature in
       let leave : (any : Name) → IsNot old.view.nature job.programmer.trace any
-      → IsNot old.view.nature (made_by job.task) any → LeavesNoMore any old new =
-      λ any traced other left can.
-      let stays = stay any (not_after job.programmer.trace any nature traced)
-      (not_after (made_by job.task) any nature other) in
-      first any left (stays.leaves left can) in
-      keeps_unmade job.programmer old new
-      (apart was (λ n. LeavesNoMoreOf n old new) tt job.programmer.image job.programmer.trace (made_by job.task)
-      roles.image_trace (image_made was job roles) (λ file. leave file.now))
-      (apart was (λ n. LeavesNoMoreOf n old new) tt job.programmer.status job.programmer.trace (made_by job.task)
-      roles.status_trace (status_made was job roles) (λ file. leave file.now))
-      job.task (λ no. absurd (true≢false (sym puts ∙ no))) leave
-      (λ file is. leave file.now (not_that was job.programmer.trace file (rw is at roles.trace_journal)) (rw is tt))
+      → IsNot old.view.nature (made_by job.task) any → LeavesNoMore any old new = grind arith in
+      keeps_unmade job.programmer old new (grind arith) (grind arith) job.task (grind arith) leave (grind arith)
       (λ file is. or_empty (journal_by job.task) file is makes)

@@ -44,9 +44,7 @@ pub does_read : (view after : View) (named : Option ChipName) (file : Text) (reg
     (ranges : Option (List Span)) (old new : BusState) (result : Result (Result Answer Refusal) Fault)
     → AreRangesOf view regions ranges → IfOk result (HasReadOut named file ranges old new after)
     → IfOk result (DoesRead view after named file regions old new)
-does_read view after named file regions ranges old new (Ok outcome) included read =
-    record { ranges = ranges; included = included; read = read }
-does_read view after named file regions ranges old new (Err fault) included read = tt
+does_read view after named file regions ranges old new result included read = grind arith
 
 stays : (old new : BusState) (refusal : Refusal)
     → HonestErrors (most_of 4096) (λ refusal. refusal_number refusal ≤ 11) old new refusal → refusal_number refusal ≤ 11
@@ -82,14 +80,12 @@ module _ (request : Request) (image : List ℕ) (old new : BusState) (vault vaul
       → HasKeptChange request image old new vault vault' outcome
   kept_by (Ok report) (Ok (answer.Done returned)) always honest model passed =
       kept always.only_reads model.undo _ (rw passed model.done) (λ ok. always.ends.sealed)
-  kept_by (Ok report) (Ok _) always honest model passed = absurd passed
-  kept_by (Ok report) (Err refusal) always honest model passed = absurd passed
-  kept_by (Err refusal) (Ok found) always honest model passed = absurd passed
   kept_by (Err refusal) (Err returned) always honest model passed = kept always.only_reads model.undo _ (rw passed (record {
     refuses = model.errors;
     same = stays _ _ _ honest.honest_errors;
     unused = always.answers.unused;
   })) (λ ok. cc)
+  kept_by _ _ always honest model passed = absurd passed
 
 -- A session with its journal in a file is a change of a job (`HasMadeChange`), by what `session_in_file` promises. The
 -- bus must be modelled, and steady or idle.
@@ -111,5 +107,4 @@ made_in_file request image file before after old new (Err fault) modelled is ste
 pub unmade_file : (name : Text) (old new : FilesState) (result : Result (Result Answer Refusal) Fault)
     → OnErr result (BorrowsNone name old new)
     → OnErr result (IsKnownFile name old.view → LeavesOrEmpty name old new)
-unmade_file name old new (Ok outcome) none = tt
-unmade_file name old new (Err fault) none = none.leaves
+unmade_file name old new result none = grind arith

@@ -1,14 +1,14 @@
 -- How a run ends, from the end of its call and of its job.
-use Rattle.std.proofs.Common.{◌≡◌, ◌≢◌, ℕ, List, Option, Result, Ok, Err, IfOk, arith, false}
+use Rattle.std.proofs.Common.{◌≡◌, ℕ, List, Option, Result, Ok, Err, IfOk, arith, false}
 use Rattle.nor_request.specs.declared.refusal.Refusal.{Refusal}
 use Rattle.nor_words.specs.Text.{Text}
-use Rattle.nor_words.specs.Words.{IsJob, IsRefusedArguments}
+use Rattle.nor_words.specs.Words.{IsJob}
 use Rattle.nor_words.specs.declared.job.ChipJob.{ChipJob}
 use Rattle.nor_words.specs.declared.job.Job.TheVariants as job
 use Rattle.nor_words.specs.declared.words.UsageFault.TheVariants as usage
 use Rattle.flashnor.specs.Endings.{HasPrinted, all_written}
 use Rattle.nor_files.specs.Files.{AreAtRest, FilesState}
-use Rattle.flashnor.specs.Run.{EndsChipJob, FailsJob, AnswersArguments, HoldsResult, HoldsTask, IsCalled, IsStatus, KeepsFiles, RunSucceeds}
+use Rattle.flashnor.specs.Run.{EndsChipJob, FailsJob, AnswersArguments, HoldsResult, HoldsTask, IsCalled, IsStatus, KeepsFiles}
 use Rattle.nor_lines.specs.Messages.{IsReportedAs}
 use Rattle.nor_lines.specs.declared.answers.Answer.{Answer}
 use Rattle.flashnor.specs.declared.holding.Unwritten.{Unwritten}
@@ -63,13 +63,6 @@ module _ (files after : FilesState) (words : List Text) where
   module _ (outcome : Result Answer Fault) (unwritten : Unwritten) (out out' err err' : Option (List ℕ))
       (ending : Ending) (answers : AnswersArguments files after words outcome unwritten)
       (prints : HasPrinted outcome unwritten out out' err err' ending) where
-    succeeds : ending.status ≡ 0 → RunSucceeds files after words out out'
-    succeeds none = grind arith
-
-    -- if the arguments ask neither for a job nor for help, the exit status isn't 0
-    fails : IsRefusedArguments words → ending.status ≢ 0
-    fails refused none = grind arith
-
     pub is_status : IsStatus files after words out out' err err' ending
     is_status = grind arith
 

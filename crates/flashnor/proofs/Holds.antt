@@ -1,8 +1,8 @@
 -- Files of the chip that were locked and read: the absence of a missing file is durable, and a fault of the second file
 -- is one that the files had at the start.
-use Rattle.std.proofs.Common.{◌≡◌, ℕ, Bool, Option, None, Ok, IsSomeAnd, arith, false, is_some}
+use Rattle.std.proofs.Common.{◌≡◌, ℕ, Bool, Option, None, Ok, IsSomeAnd, arith, false}
 use Rattle.std.specs.Borrow.{Bor}
-use Rattle.nor_files.specs.Calls.{Holds, IsPlaced, ReadsFile}
+use Rattle.nor_files.specs.Calls.{Holds, IsPlaced}
 use Rattle.nor_files.specs.Files.{FilesState, Found, IsKnownFile, IsDurable, KnownStay, Name}
 use Rattle.nor_words.specs.Text.{Text}
 use Rattle.nor_lines.specs.Files.{IsLockingFault}
@@ -11,20 +11,12 @@ use Rattle.nor_lines.specs.declared.messages.Fault.{Fault}
 
 -- ---- a file that is missing
 
-missing : (found : Found) → is_some found ≡ false → found ≡ None
-missing found gone = grind arith
-
 pub missing_durable : {E : Type 0} {name : Name} {there : Bool} {old held new : FilesState} → there ≡ false
     → IsKnownFile name old.view → Holds {E = E} name (Ok there) old held → IsPlaced name held new
     → IsDurable name None new
 missing_durable = grind arith
 
 -- ---- faults
-
--- if all known files stayed, a read afterwards returns what a read before would have returned
-reads_before : (name : Name) (most : ℕ) (found : Found) (a b : FilesState) → b.view.nature ≡ a.view.nature
-    → KnownStay a b → ReadsFile name most found b.view → ReadsFile name most found a.view
-reads_before name most found a b same stay reads known = grind arith
 
 pub found_before : (name : Option (Bor Text)) (len : ℕ) (found : Found) (a b : FilesState)
     → b.view.nature ≡ a.view.nature → KnownStay a b → IsFileFound b.view name len found

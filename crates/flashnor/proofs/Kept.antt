@@ -1,11 +1,10 @@
 -- The files after a run that changes a chip: at every exit, and after success.
-use Rattle.std.proofs.Common.{◌≡◌, ◌<◌, ◌/◌, ◌%◌, ◌∙◌, ◌∷◌, [], ℕ, Bool, List, Option, None, Some}
-use Rattle.std.proofs.Common.{Result, Ok, IfSome, ap, arith, inl, inr, length, refl, replicate, subst, sym, true}
+use Rattle.std.proofs.Common.{◌≡◌, ◌<◌, ◌∙◌, ℕ, Bool, List, Option, None, Some}
+use Rattle.std.proofs.Common.{Result, Ok, ap, arith, inr, length, refl, sym, true}
 use Rattle.std.specs.Borrow.{Bor}
-use Rattle.std.proofs.lemmas.Bool.{cases_lt}
 use Rattle.std.proofs.lemmas.List.{get_or_past}
 use Rattle.nor_model.specs.Bus.{BusState}
-use Rattle.nor_model.specs.Chip.{KeptBits, status_of}
+use Rattle.nor_model.specs.Chip.{status_of}
 use Rattle.nor_model.proofs.Kept.{kept_in-status_of}
 use Rattle.nor_model.specs.declared.config.Config.{Config}
 use Rattle.nor_probe.specs.declared.table.ChipName.{ChipName}
@@ -42,7 +41,7 @@ use Rattle.flashnor.proofs.Stays.{StayApart, known_at_rest, not_that, rest_on}
 use Rattle.nor_lines.proofs.Lent.{lawful_after, stays_on}
 use Rattle.flashnor.proofs.Traced.{missing_before, reads_before}
 use Rattle.flashnor.proofs.AfterCall.{buffer_before, kept_after, ranges_before}
-use Rattle.flashnor.proofs.Reopened.{as_long, found_either, of_gone, of_none, opened_many, opened_size}
+use Rattle.flashnor.proofs.Reopened.{as_long, found_either, opened_many, opened_size}
 
 -- ---- the chip's files
 
@@ -109,37 +108,27 @@ module _ (job : ChipJob) (held : Held) (s0 s1 s2 : FilesState) (bus bus' : BusSt
         → IsWrittenOver bus.chip bus'.chip later.chip
     over image status later can can_status from =
         let holds = opens.holds in
-        let byte = found_either held.content.bytes.items is_amid.put (replicate bus.chip.config.size 255)
-        job.programmer.image held.image_there s3 read.bytes.found image
-        (λ gone. rw (opened_size first) (fills_missing.image gone))
-        (λ none. rw (opened_size first) (of_none s0.view job.programmer.image _ _ _ none read.bytes))
-        (λ none. rw (opened_size first) (of_gone read.bytes none)) is_amid.image can
-        (subst (λ (n : ℕ). IfSome image (λ has. length has ≡ n)) (sym put_len) from.whole) in
-        let bit = found_either held.content.status (status_of bus'.chip) (0 ∷ 0 ∷ []) job.programmer.status
-        held.status_there s3 read.status.found status fills_missing.status
-        (λ none. of_none s0.view job.programmer.status _ _ _ none read.status) (λ none. of_gone read.status none)
-        is_amid.status can_status from.two in
-        let one_of = λ (kept : KeptBits). kept.one in let two_of = λ (kept : KeptBits). kept.two in
+        let byte = found_either s0.view job.programmer.image _ _ _ is_amid.put read.bytes held.image_there s3 image
+        fills_missing.image is_amid.image can (grind (arith, put_len, from.whole)) in
+        let bit = found_either s0.view job.programmer.status _ _ _ (status_of bus'.chip) read.status held.status_there s3
+        status fills_missing.status is_amid.status can_status from.two in
+        let in_status = kept_in-status_of bus'.chip small in
         record {
           config = from.config;
-          bytes = λ a. elim (byte a) [
-            | inl is ↦ inl (from.bytes a ∙ is ∙ sym (holds.bytes a))
-            | inr is ↦ elim (cases_lt a bus.chip.config.size) [
-              | inl below ↦ inr (from.bytes a ∙ is
-                  ∙ is_amid.are.at a (omega (arith, below, ap (λ (c : Config). c.size) setup)))
-              | inr past ↦ inl (from.bytes a ∙ is ∙ get_or_past is_amid.put a 0 (omega (arith, put_len, past))
-                  ∙ sym (get_or_past held.content.bytes.items a 0 (omega (arith, opened_many first, past)))
-                  ∙ sym (holds.bytes a))
-            ]
-          ];
-          one = elim (bit 0) [
-            | inl is ↦ inl (ap one_of from.kept ∙ ap (λ (b : ℕ). b / 4) is ∙ sym (ap one_of holds.kept))
-            | inr is ↦ inr (ap one_of from.kept ∙ ap (λ (b : ℕ). b / 4) is ∙ ap one_of (kept_in-status_of bus'.chip small))
-          ];
-          two = elim (bit 1) [
-            | inl is ↦ inl (ap two_of from.kept ∙ ap (λ (b : ℕ). b % 128) is ∙ sym (ap two_of holds.kept))
-            | inr is ↦ inr (ap two_of from.kept ∙ ap (λ (b : ℕ). b % 128) is ∙ ap two_of (kept_in-status_of bus'.chip small))
-          ];
+          bytes = λ a. grind (
+            arith,
+            byte a,
+            opened_size first,
+            from.bytes a,
+            holds.bytes a,
+            is_amid.are.at a,
+            put_len,
+            opened_many first,
+            get_or_past is_amid.put a 0,
+            get_or_past held.content.bytes.items a 0,
+          );
+          one = grind (arith, bit 0, from.kept, holds.kept, in_status);
+          two = grind (arith, bit 1, from.kept, holds.kept, in_status);
           idle = from.idle;
         }
 

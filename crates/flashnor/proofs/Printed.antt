@@ -1,6 +1,6 @@
 -- The text that several writes print.
-use Rattle.std.proofs.Common.{◌≡◌, ◌∙◌, ℕ, Bool, List, Option, None, Some, Result, Err, IfSome, arith, false, refl}
-use Rattle.std.proofs.Common.{sym, true}
+use Rattle.std.proofs.Common.{◌≡◌, ℕ, Bool, List, Option, Some, Result, Err, IfSome, arith}
+use Rattle.std.proofs.Common.{true}
 use Rattle.std.specs.Fmt.{option_append}
 use Rattle.std.specs.Io.KnownBytes.{Appends}
 use Rattle.nor_lines.proofs.Printed.{appends_then}
@@ -14,8 +14,7 @@ use Rattle.flashnor.specs.declared.printing.Ending.{Ending}
 -- The print of a line, and after it that of other lines, append both, if the first line is known.
 pub appends_both : (line : Option (List ℕ)) (a b c : Option (List ℕ)) (others : List ℕ) → IfSome line (Appends a b) → Appends b c others
     → IfSome (option_append line (Some others)) (Appends a c)
-appends_both None a b c others one two = tt
-appends_both (Some first) a b c others one two = appends_then a b c first others one two
+appends_both line a b c others one two = grind (arith, appends_then)
 
 -- `HasPrinted` holds after a run with an answer or help
 pub printed_well : (outcome : Result Answer Fault) (unwritten : Unwritten) (out out' err err' : Option (List ℕ)) (ending : Ending)
@@ -27,14 +26,4 @@ printed_well outcome unwritten out out' err err' ending is_printed answered prin
 pub printed_badly : (fault : Fault) (unwritten : Unwritten) (out err err' : Option (List ℕ)) (ending : Ending)
     → (IsAnswered (Err fault) → ⊥) → EndsBadly fault unwritten err err' ending
     → HasPrinted (Err fault) unwritten out out err err' ending
-printed_badly fault unwritten out err err' ending never ends = record {
-  few = omega (arith, ends.status);
-  exact = (λ none. absurd (omega (arith, ends.status, none)), λ both. absurd (never_both (sym ends.printed ∙ both.0)));
-  printed = λ is. absurd (never_both (sym ends.printed ∙ is));
-  reported = ends.reported;
-  no_output = λ _. refl;
-  silent = λ answered _. absurd (never answered);
-}
-  where
-    never_both : false ≡ true → ⊥
-    never_both same = cc
+printed_badly fault unwritten out err err' ending never ends = grind arith

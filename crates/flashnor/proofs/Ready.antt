@@ -1,13 +1,12 @@
 -- A ready bus to the emulated chip is modelled, and an identification that succeeds on it finds that chip.
-use Rattle.std.proofs.Common.{◌≡◌, ◌∙◌, ◌<◌, ℕ, Option, None, Ok, arith, inr, is_none, subst, sym, true}
+use Rattle.std.proofs.Common.{◌≡◌, ℕ, Option, None, Ok, arith, inr, is_none, sym, true}
 use Rattle.nor_model.specs.Bus.{Allows, BusState}
 use Rattle.nor_model.specs.Chip.{IsSame}
 use Rattle.nor_driver.specs.OnlyReads.{IsSteadyOrIdle, OnlyReads}
 use Rattle.nor_probe.specs.Known.{IsModelled, shown_as}
-use Rattle.nor_probe.specs.Found.{Finds, IsWanted, ProbeErrors, part_in, most_probe}
+use Rattle.nor_probe.specs.Found.{Finds, IsWanted, ProbeErrors, part_in}
 use Rattle.nor_probe.specs.declared.probes.Found.{Found}
 use Rattle.nor_probe.specs.declared.probes.ProbeFault.{ProbeFault}
-use Rattle.nor_probe.specs.declared.probes.ProbeFault.TheVariants as Probes
 use Rattle.nor_probe.specs.declared.table.ChipName.{ChipName}
 use Rattle.nor_probe.specs.declared.table.Part.{Part}
 use Rattle.nor_request.specs.Refusal.{of_probe}
@@ -22,10 +21,7 @@ use Rattle.flashnor.proofs.Shown.{known_with, shown_with}
 -- ---- the bus
 
 pub modelled_ready : (programmer : Programmer) (bus : BusState) → IsReady programmer bus → IsModelled bus
-modelled_ready programmer bus ready = record {
-  honest = ready.honest;
-  genuine = (known_with programmer.chip programmer.unique bus.chip.config ready.config).genuine;
-}
+modelled_ready programmer bus ready = grind (arith, known_with)
 
 pub steady_or_idle-ready : (programmer : Programmer) (bus : BusState) → IsReady programmer bus → IsSteadyOrIdle bus
 steady_or_idle-ready programmer bus ready = inr ready.idle
@@ -34,8 +30,7 @@ steady_or_idle-ready programmer bus ready = inr ready.idle
 shows : (programmer : Programmer) (bus : BusState) (part : Part) → IsReady programmer bus
     → shown_as bus.chip.config ≡ Ok part → emulated_part programmer.chip ≡ part
 shows programmer bus part ready shown =
-    let both = sym (shown_with programmer.chip programmer.unique bus.chip.config ready.config) ∙ shown in
-    cc
+    cc (shown_with programmer.chip programmer.unique bus.chip.config ready.config)
 
 -- On a ready bus, a probe that succeeds finds the emulated chip, with the requested name if one is requested.
 pub finds_ready : (programmer : Programmer) (named : Option ChipName) (old new : BusState) (found : Found)
@@ -48,16 +43,8 @@ finds_ready programmer named old new found ready name finds =
 -- on a ready bus an error of the identification is one that `FindRefuses` allows
 pub refuses_ready : (programmer : Programmer) (named : Option ChipName) (old new : BusState) (fault : ProbeFault)
     → IsReady programmer old → ProbeErrors named old new fault → FindRefuses programmer named (of_probe fault)
-refuses_ready programmer named old new Probes.OtherName ready errors = λ has.
-    let other = errors.0 in
-    let part : emulated_part programmer.chip ≡ other.part = shows programmer old _ ready other.shown in
-    other.other (rw (← part) has)
-refuses_ready programmer named old new Probes.Stopped ready errors =
-    subst (λ (n : ℕ). n < most_probe) ready.left errors.1
-refuses_ready programmer named old new Probes.Timeout ready errors = errors
-refuses_ready programmer named old new _ ready errors =
-    let bad = sym (shown_with programmer.chip programmer.unique old.chip.config ready.config) ∙ errors.0 in
-    cc
+refuses_ready programmer named old new fault ready errors =
+    grind (arith, shows, shown_with programmer.chip programmer.unique old.chip.config ready.config)
 
 -- The bus that `start` returns is ready: it gets its contents first, then the setting for power cuts, then its number
 -- of transactions.

@@ -1,5 +1,5 @@
 -- The chip that a later run opens, from any contents of its files that a host crash may leave.
-use Rattle.std.proofs.Common.{◌≡◌, ◌∙◌, ℕ, Bool, List, Option, None, ◌⊎◌, IfSome, arith, false, length}
+use Rattle.std.proofs.Common.{◌≡◌, ◌∙◌, ℕ, Bool, List, Option, ◌⊎◌, IfSome, arith, false, length}
 use Rattle.std.proofs.Common.{slice_index, sym, unwrap_or}
 use Rattle.std.specs.Borrow.{Bor}
 use Rattle.std.proofs.lemmas.List.{length-replicate}
@@ -12,14 +12,6 @@ use Rattle.flashnor.specs.Left.{LeavesAsLong, MayFind, Opened}
 use Rattle.nor_lines.specs.Stored.{AreOfFile}
 
 -- ---- files of the right length
-
-pub of_none : (view : View) (name : Option (Bor Text)) (len : ℕ) (missing bytes : List ℕ) → name ≡ None
-    → AreOfFile view name len missing bytes → bytes ≡ missing
-of_none view name len missing bytes none are = grind arith
-
-pub of_gone : {view : View} {name : Option (Bor Text)} {len : ℕ} {missing bytes : List ℕ}
-    → (are : AreOfFile view name len missing bytes) → are.found ≡ None → bytes ≡ missing
-of_gone = grind arith
 
 pub as_many : (view : View) (name : Option (Bor Text)) (len : ℕ) (missing bytes : List ℕ)
     → AreOfFile view name len missing bytes → length missing ≡ len → length bytes ≡ len
@@ -43,11 +35,11 @@ IsEither had bytes has = (i : ℕ) → (slice_index has i ≡ slice_index had i)
 -- Each byte of what a later run may find of a file of the chip is the old or the new one (`IsEither`). For a file that
 -- was moved aside it is the old one: the old bytes are what stands for a missing file. `over` in Kept.antt needs this
 -- for the image and for the status file.
-pub found_either : (had bytes missing : List ℕ) (named : Option (Bor Text)) (there : Bool) (files : FilesState)
-    (was' left : Found) → (there ≡ false → had ≡ missing) → (named ≡ None → had ≡ missing)
-    → (was' ≡ None → had ≡ missing) → LeavesAmid named there had bytes files → MayFind named was' left files
+pub found_either : (view : View) (named : Option (Bor Text)) (len : ℕ) (missing had bytes : List ℕ)
+    (are : AreOfFile view named len missing had) (there : Bool) (files : FilesState) (left : Found)
+    → (there ≡ false → had ≡ missing) → LeavesAmid named there had bytes files → MayFind named are.found left files
     → IfSome left (λ has. length has ≡ length bytes) → IsEither had bytes (unwrap_or left missing)
-found_either had bytes missing named there files was' left stood unnamed moved amid can whole i = grind arith
+found_either view named len missing had bytes are there files left gone amid can whole i = grind arith
 
 -- A file of the chip that existed keeps its length. It is overwritten in place with as many bytes as it had, and a mix
 -- of the old and the new bytes has that length.

@@ -20,9 +20,6 @@ module _ (chip : Emulated) (number : Option (List ℕ)) (config : Config) (is : 
   abbrev plain : Config
   plain = record config { unique = made.0 }
 
-  pub size_with : config.size ≡ (emulated_part chip).size
-  size_with = made.1.size
-
   pub known_with : IsKnown config
   known_with = renumbered_known plain config.unique (emulated_known plain (chip.part, chip.emulated, made.1))
 

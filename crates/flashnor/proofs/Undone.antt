@@ -1,15 +1,14 @@
 -- Runs that follow one another: the journal can restore the original chip after each run that restores from it, and
 -- such a run that succeeds leaves the original chip.
 use mathlib.Core.HLevel.{is_prop→PathP}
-use Rattle.std.proofs.Common.{◌≡◌, ◌<◌, ◌∙◌, ◌++◌, ◌∷◌, [], ℕ, Bool, List, Option, None, Some, Result}
+use Rattle.std.proofs.Common.{◌≡◌, ◌<◌, ◌∙◌, ◌∷◌, [], ℕ, Bool, List, Option, None, Some, Result}
 use Rattle.std.proofs.Common.{Ok, ◌⊎◌, IfSome, IsTrue, ap, arith, drop, inl, inr, length, option_map, refl, replicate}
 use Rattle.std.proofs.Common.{slice_index, subst, sym, take, true, unwrap_or}
 use Rattle.std.specs.Borrow.{Bor}
 use Rattle.std.proofs.Math.Bool.{Bool-set}
-use Rattle.std.proofs.lemmas.Bool.{cases_lt}
 use Rattle.std.proofs.lemmas.List.{append-nil, get_or_past, take-append-drop}
 use Rattle.nor_model.specs.Bus.{BusState}
-use Rattle.nor_model.specs.Chip.{Chip, IsSame, KeptBits, kept_in, status_of}
+use Rattle.nor_model.specs.Chip.{Chip, IsSame, kept_in, status_of}
 use Rattle.nor_model.specs.Makers.{HasParts}
 use Rattle.nor_chip.specs.Sim.{sim_state}
 use Rattle.nor_model.specs.Size.{is_chip_size}
@@ -92,11 +91,8 @@ restores file done is = grind arith
 same_journal : (journal other : Journal) (n : ℕ) → IsContent journal → IsContent other
     → Some (text other) ≡ option_map (take n) (Some (text journal)) → other ≡ journal
 same_journal journal other n sound is reads =
-    let begins : take n (text journal) ≡ text other = cc in
-    let e : text other ++ drop n (text journal) ≡ text journal ++ [] =
-    ap (λ (t : List ℕ). t ++ drop n (text journal)) (sym begins) ∙ take-append-drop n (text journal)
-    ∙ sym (append-nil (text journal)) in
-    (one_text other journal (drop n (text journal)) [] is sound e).0
+    (one_text other journal (drop n (text journal)) [] is sound
+    (cc (take-append-drop n (text journal), append-nil (text journal)))).0
 
 -- ---- one run
 
@@ -142,17 +138,7 @@ module _ (programmer : Programmer) (file : Text) (start : FilesState) (first : O
           (rw (← same.chip, ← same.unique) found.opens.ready.config) first.opens.ready.config
 
       from : IsOpenedFrom found.read.bytes.found found.read.status.found first.bus.chip.config found.bus.chip
-      from =
-          let size = sym (opened_size found) ∙ ap (λ (c : Config). c.size) one_setup in
-          record {
-            config = one_setup;
-            whole = subst (λ (n : ℕ). IfSome found.read.bytes.found (λ all. length all ≡ n)) size found.read.bytes.whole;
-            two = found.read.status.whole;
-            bytes = λ a. found.opens.holds.bytes a ∙ ap (λ (l : List ℕ). slice_index l a)
-                (found.read.bytes.same ∙ ap (λ (n : ℕ). unwrap_or found.read.bytes.found (replicate n 255)) size);
-            kept = found.opens.holds.kept ∙ ap kept_in found.read.status.same;
-            idle = found.opens.ready.idle;
-          }
+      from = grind (arith, one_setup, opened_size found)
 
       -- the journal can restore the original chip from the chip that the run opened
       can_restore_then : (journal : Journal) → IsContent journal → IsRead mid.view file 16793662 (text journal)
@@ -218,32 +204,17 @@ module _ (programmer : Programmer) (file : Text) (start : FilesState) (first : O
             idle = is.idle;
           }))
 
-      abbrev byte_in : ℕ → Found → ℕ
-      byte_in a left = slice_index (unwrap_or left (replicate first.bus.chip.config.size 255)) a
-
-      abbrev bits_in : Found → KeptBits
-      bits_in left = kept_in (unwrap_or left (0 ∷ 0 ∷ []))
-
       can_later : CanRestore restorable.journal first.bus.chip later
       can_later =
           mixed_can_restore restorable.journal first.bus.chip state later can_state is.config
-          (λ a. elim kept_image.3 [
-            | inl same' ↦ inl (is.bytes a ∙ ap (byte_in a) same'
-                ∙ ap (λ (c : Config). slice_index (unwrap_or kept_image.0 (replicate c.size 255)) a) (sym setup))
-            | inr aside ↦ inr (is.bytes a ∙ ap (byte_in a) aside.1 ∙ first_byte aside.0 a)
-          ])
-          (elim kept_status.3 [
-            | inl same' ↦ inl (is.kept ∙ ap bits_in same')
-            | inr aside ↦ inr (is.kept ∙ ap bits_in aside.1 ∙ first_kept aside.0)
-          ])
+          (λ a. grind (arith, kept_image.3, setup, is.bytes a, first_byte)) (grind (arith, kept_status.3, is.kept, first_kept))
           is.idle
 
     -- `IsRestorableFrom` still holds for the files that a restore leaves at any exit.
     restorable_at_exit : (new : FilesState) → ((name : Name) → new.may_leave name (new.view.seen name))
         → KeepsRestorable other file mid new → IsRestorableFrom file first new
     restorable_at_exit new may_stay' (inl none) =
-        restorable_less mid new none.journal (λ i. less_of programmer.image other.image _ i mid new same.image none.image)
-        (λ s. less_of programmer.status other.status _ s mid new same.status none.status) restorable
+        restorable_less mid new none.journal (search less_of) (search less_of) restorable
     restorable_at_exit new may_stay' (inr kept) = record {
       journal = restorable.journal;
       sound = restorable.sound;
@@ -265,13 +236,16 @@ module _ (programmer : Programmer) (file : Text) (start : FilesState) (first : O
 
     byte_of : (left : Found) (a : ℕ) → ((first.read.bytes.found ≡ None) × (left ≡ None)) ⊎ (left ≡ Some put.bytes)
         → slice_index (unwrap_or left (replicate first.bus.chip.config.size 255)) a ≡ first.bus.chip.bytes a
-    byte_of left a (inl none) = rw none.1 (first_byte none.0 a)
-    byte_of left a (inr has) = rw has (elim (cases_lt a first.bus.chip.config.size) [
-      | inl below ↦ put.are.at a (omega (arith, below, ap (λ (c : Config). c.size) is.config)) ∙ is.bytes a
-      | inr past ↦ get_or_past put.bytes a 0 (omega (arith, put.are.len, ap (λ (c : Config). c.size) is.config, past))
-          ∙ sym (get_or_past first.content.bytes.items a 0 (omega (arith, opened_many first, past)))
-          ∙ sym (first.opens.holds.bytes a)
-    ])
+    byte_of left a one = grind (
+      arith,
+      first_byte,
+      put.are.at a,
+      is.bytes a,
+      opened_many first,
+      first.opens.holds.bytes a,
+      get_or_past put.bytes a 0,
+      get_or_past first.content.bytes.items a 0,
+    )
 
     opens_original : LeavesOriginal first new
     opens_original image status opened can can_status from' =
@@ -283,10 +257,7 @@ module _ (programmer : Programmer) (file : Text) (start : FilesState) (first : O
         record {
           config = from'.config;
           bytes = λ a. from'.bytes a ∙ byte_of image a i;
-          kept = from'.kept ∙ elim s [
-            | inl none ↦ rw none.1 (first_kept none.0)
-            | inr has ↦ rw has (kept_in-status_of chip small ∙ is.kept)
-          ];
+          kept = grind (arith, s, first_kept, kept_in-status_of chip small, is.kept, from'.kept);
         }
 
 -- ---- runs

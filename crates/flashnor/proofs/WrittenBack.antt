@@ -1,5 +1,5 @@
 -- Both files of the chip, written one after the other, and the names of those that could not be written.
-use Rattle.std.proofs.Common.{◌≡◌, ◌∙◌, ℕ, Bool, List, Option, None, Some, IfSome, arith, true}
+use Rattle.std.proofs.Common.{◌≡◌, ℕ, Bool, List, Option, None, Some, IfSome, arith, true}
 use Rattle.std.specs.Borrow.{Bor}
 use Rattle.nor_model.specs.Chip.{Chip, status_of}
 use Rattle.nor_chip.specs.Start.{AreChipBytes}
@@ -9,7 +9,7 @@ use Rattle.nor_words.specs.Text.{Text}
 use Rattle.nor_words.specs.declared.programmer.Programmer.{Programmer}
 use Rattle.flashnor.specs.Chips.{AreWrittenBack}
 use Rattle.flashnor.specs.Holding.{AreAmid, AreReady, IsReadyIfNamed, LeavesAmid, MakesDurable}
-use Rattle.nor_lines.specs.Stored.{ArePut, AreTwo, Happens, IsNot, IsReportedOf}
+use Rattle.nor_lines.specs.Stored.{AreTwo, Happens, IsNot, IsReportedOf}
 
 -- Holds if, provided that the files obey their contract, each file is as it was whose name is apart from the given one,
 -- if one is given.
@@ -40,11 +40,6 @@ other_write_keeps there had bytes a b c one other two same others ready = grind 
 
 -- ---- the names that are returned
 
-are_put : (name : Option (Bor Text)) (bytes : List ℕ) (failed : Option (Bor Text)) (old new : FilesState)
-    → new.view.nature ≡ old.view.nature → IfSome failed (λ of. (name ≡ Some of) × Happens old.view (Unwritten of.now))
-    → (failed ≡ None → MakesDurable name (Some bytes) new) → ArePut name bytes failed new
-are_put name bytes failed old new same fails put = grind arith
-
 pub reported : (name failed : Option (Bor Text)) (view : View)
     → IfSome failed (λ is. (name ≡ Some is) × Happens view (Unwritten is.now)) → IsReportedOf name failed view
 reported name failed view is = grind arith
@@ -62,28 +57,18 @@ module _ {programmer : Programmer} {image_there status_there : Bool} {had bits :
     (ready : AreReady programmer image_there status_there had bits chip a)
     (first : PutsBack programmer.image image_there bytes image a b)
     (second' : PutsBack programmer.status status_there flags status b c) where
-  second : PutsBack programmer.status status_there (status_of chip) status b c
-  second = rw is at second'
-
-  ready_status : IsReadyIfNamed programmer.status status_there bits (status_of chip) b
-  ready_status = grind arith
-
   pub both_put : AreWrittenBack programmer chip image status c
   both_put = record {
     bytes = bytes;
     are = are;
-    image_put = are_put programmer.image bytes image a c (second.nature ∙ first.nature) first.fails
-        (λ none. (other_write_keeps image_there had bytes a b c programmer.image programmer.status two first.nature second.others
-        (ready.image bytes are)).0 (first.put none had (ready.image bytes are)));
-    status_put = are_put programmer.status (status_of chip) status b c second.nature second.fails
-        (λ none. second.put none bits ready_status);
+    image_put = grind (arith, other_write_keeps, ready.image bytes are);
+    status_put = grind (arith, other_write_keeps);
   }
 
   pub both_amid : AreAmid programmer image_there status_there had bits chip c
   both_amid = record {
     put = bytes;
     are = are;
-    image = (other_write_keeps image_there had bytes a b c programmer.image programmer.status two first.nature second.others
-        (ready.image bytes are)).1 (first.amid had (ready.image bytes are));
-    status = second.amid bits ready_status;
+    image = grind (arith, other_write_keeps, ready.image bytes are);
+    status = grind (arith, other_write_keeps);
   }

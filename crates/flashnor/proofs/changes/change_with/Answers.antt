@@ -1,4 +1,4 @@
-use Rattle.std.proofs.Common.{ap, refl}
+use Rattle.std.proofs.Common.{arith, refl}
 use Rattle.nor_journal.specs.MemVault.{held_by}
 use Rattle.flashnor.proofs.Doing.{made_in_file, unmade_file}
 use Rattle.flashnor.proofs.changes.change_with.Goals as goal
@@ -21,10 +21,7 @@ returns-in-Rehearse-clause-ok g c = λ modelled steady_or_idle. rw c.in-Rehearse
   missing = tt;
   vault = held_by c.new-vault.result;
   vault' = held_by c.rehearse_change.new.vault;
-  fresh = record {
-    empty = ap (λ vault. vault.bytes) c.new-vault.ensures;
-    unsealed = ap (λ vault. vault.sealed) c.new-vault.ensures;
-  };
+  fresh = grind (arith, c.new-vault.ensures);
   kept_in = refl;
   done = rw (← c.as_slice.ensures.value) (c.rehearse_change.ensures modelled steady_or_idle);
 })

@@ -1,6 +1,5 @@
 use Rattle.std.proofs.Common.{◌∙◌, inl, inr}
 use Rattle.std.proofs.lemmas.Result.{err_from_is_err_and}
-use Rattle.nor_probe.specs.Found.{most_probe}
 use Rattle.nor_session.proofs.Restoring.{can_restore_after_reads}
 use Rattle.nor_session.proofs.WrittenBack.{restore_over}
 use Rattle.flashnor.proofs.Ready.{same_after_reads}
@@ -18,9 +17,7 @@ returns-in_err-find_named g c = λ modelled steady_or_idle.
       config = same.config;
       name = tt;
       returned = inr (c.in_err-find_named.ensures.refuses modelled);
-      over = λ first opened can.
-          restore_over c.args.journal.now first _ _ opened can
-          (can_restore_after_reads c.args.journal.now first most_probe _ _ modelled.honest only_reads can);
+      over = search (restore_over, can_restore_after_reads);
       back = tt;
     })
 
@@ -42,9 +39,7 @@ returns-in_err-report g c = λ modelled steady_or_idle.
         same = λ judged.
             same_after_reads 69638 _ _ (c.in_err-report.ensures.always.only_reads judged) passes.modelled.honest passes.steady_or_idle;
       });
-      over = λ first opened can.
-          restore_over c.args.journal.now first _ _ opened can
-          (original.within first (can_restore_after_reads c.args.journal.now first most_probe _ _ modelled.honest only_reads can));
+      over = search (restore_over, original.within, can_restore_after_reads);
       back = tt;
     })
 
@@ -61,9 +56,6 @@ returns g c = λ modelled steady_or_idle.
       config = done.leaves.config ∙ passes.same.config;
       name = passes.name;
       returned = done.done;
-      over = λ first opened can.
-          restore_over c.args.journal.now first _ _ opened can
-          (original.within first (can_restore_after_reads c.args.journal.now first most_probe _ _ modelled.honest only_reads can));
-      back = λ first can.
-          original.back first (can_restore_after_reads c.args.journal.now first most_probe _ _ modelled.honest only_reads can);
+      over = search (restore_over, original.within, can_restore_after_reads);
+      back = search (original.back, can_restore_after_reads);
     }

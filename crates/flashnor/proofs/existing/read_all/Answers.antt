@@ -1,12 +1,10 @@
-use Rattle.std.proofs.Common.{inl, inr}
+use Rattle.std.proofs.Common.{arith, inr}
 use Rattle.std.proofs.lemmas.Result.{err_from_is_err_and}
 use Rattle.flashnor.proofs.Traced.{view_apart}
 use Rattle.flashnor.proofs.existing.read_all.Goals as goal
 
 pub returns-in_err-make_trace-clause-fails : goal.returns-in_err-make_trace-clause-fails
-returns-in_err-make_trace-clause-fails g c =
-    let p = err_from_is_err_and c.from_residual-in_err-make_trace.result c.from_residual-in_err-make_trace.ensures.1 in
-    rw (p.1, p.2) (inr (inr (inl c.in_err-make_trace.ensures.err)))
+returns-in_err-make_trace-clause-fails g c = grind arith
 
 pub returns-in_err-read_sources-clause-fails : goal.returns-in_err-read_sources-clause-fails
 returns-in_err-read_sources-clause-fails g c =

@@ -1,45 +1,25 @@
-use Rattle.std.proofs.Common.{inl, inr}
+use Rattle.std.proofs.Common.{arith, inl, inr}
 use Rattle.std.proofs.lemmas.Result.{err_from_is_err_and}
-use Rattle.flashnor.specs.Tasks.{journal_by}
-use Rattle.nor_lines.specs.Tasks.{made_by}
-use Rattle.flashnor.proofs.Stays.{not_after, nothing_same}
-use Rattle.nor_lines.proofs.Lent.{lawful_after, stays_on}
 use Rattle.flashnor.proofs.Traced.{makes_nothing_before, view_but}
 use Rattle.flashnor.proofs.run.call_on.Goals as goal
 
 pub returns-in_err-log-clause-others : goal.returns-in_err-log-clause-others
-returns-in_err-log-clause-others g c = λ is name not made.
-    c.in_err-log.ensures.others is name (rw c.in-Some.is at not)
+returns-in_err-log-clause-others g c = grind arith
 
 pub returns-in_err-have_one_role-clause-others : goal.returns-in_err-have_one_role-clause-others
-returns-in_err-have_one_role-clause-others g c = λ is name not made.
-    c.in_ok-log.ensures.others is name (rw c.in-Some.is at not)
+returns-in_err-have_one_role-clause-others g c = grind arith
 
 pub returns-in_err-outcome-2-clause-others : goal.returns-in_err-outcome-2-clause-others
-returns-in_err-outcome-2-clause-others g c = λ is name not made.
-    stays_on (c.in_ok-log.ensures.others is name (rw c.in-Some.is at not))
-    (c.in_err-outcome-2.ensures.others (lawful_after c.in_ok-log.ensures.nature is) name
-    (not_after (made_by c.args.job.now.task) name c.in_ok-log.ensures.nature made))
+returns-in_err-outcome-2-clause-others g c = grind arith
 
 pub returns-clause-others : goal.returns-clause-others
-returns-clause-others g c = λ is name not made.
-    stays_on (c.in_ok-log.ensures.others is name (rw c.in-Some.is at not))
-    (c.in_ok-outcome-2.ensures.others (lawful_after c.in_ok-log.ensures.nature is) name
-    (not_after (made_by c.args.job.now.task) name c.in_ok-log.ensures.nature made))
+returns-clause-others g c = grind arith
 
 pub returns-in_err-have_one_role-clause-unmade : goal.returns-in_err-have_one_role-clause-unmade
-returns-in_err-have_one_role-clause-unmade g c =
-    let p = err_from_is_err_and c.from_residual-in_err-have_one_role.result
-    c.from_residual-in_err-have_one_role.ensures.1 in
-    rw p.1 (λ is two. makes_nothing_before c.in-Some.name (journal_by c.args.job.now.task) _ _ _
-    c.in_ok-log.ensures.nature (rw c.in-Some.is at two) c.in_ok-log.ensures.others (nothing_same _ _))
+returns-in_err-have_one_role-clause-unmade g c = grind (arith, makes_nothing_before)
 
 pub returns-in_err-outcome-2-clause-unmade : goal.returns-in_err-outcome-2-clause-unmade
-returns-in_err-outcome-2-clause-unmade g c =
-    let p = err_from_is_err_and c.from_residual-in_err-outcome-2.result c.from_residual-in_err-outcome-2.ensures.1 in
-    rw p.1 (λ is two. makes_nothing_before c.in-Some.name (journal_by c.args.job.now.task) _ _ _
-    c.in_ok-log.ensures.nature (rw c.in-Some.is at two) c.in_ok-log.ensures.others
-    (c.in_err-outcome-2.ensures.unmade (lawful_after c.in_ok-log.ensures.nature is)))
+returns-in_err-outcome-2-clause-unmade g c = grind (arith, makes_nothing_before)
 
 pub returns-in_err-have_one_role-clause-err : goal.returns-in_err-have_one_role-clause-err
 returns-in_err-have_one_role-clause-err g c =

@@ -17,14 +17,7 @@ returns-in-WpList g c = rw c.in-WpList.is (search (rules, stays_same))
 
 pub returns-in-Read : goal.returns-in-Read
 returns-in-Read g c =
-    let read = c.read_chip.ensures in
-    rw c.in-Read.is (record {
-      nature = read.nature;
-      others = read.others;
-      unmade = λ is. grind arith;
-      ok = λ ready. read.ok;
-      err = read.err;
-    })
+    rw c.in-Read.is (search (rules, arith, c.read_chip.ensures.ok))
 
 pub returns-in-Verify : goal.returns-in-Verify
 returns-in-Verify g c = rw c.in-Verify.is (search (rules, stays_same))
