@@ -56,7 +56,7 @@ module _ {programmer : Programmer} {image_there status_there : Bool} {had bits :
     (is : flags ≡ status_of chip) (two : AreTwo a.view.nature programmer.image programmer.status)
     (ready : AreReady programmer image_there status_there had bits chip a)
     (first : PutsBack programmer.image image_there bytes image a b)
-    (second' : PutsBack programmer.status status_there flags status b c) where
+    (second : PutsBack programmer.status status_there flags status b c) where
   pub both_put : AreWrittenBack programmer chip image status c
   both_put = record {
     bytes = bytes;

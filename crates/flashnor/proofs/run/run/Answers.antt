@@ -1,4 +1,3 @@
-use Rattle.std.proofs.Common.{map, string_bytes}
 use Rattle.flashnor.proofs.Ended.{answer_ended, answer_failed}
 use Rattle.nor_lines.proofs.Lent.{stays_same}
 use Rattle.flashnor.proofs.run.run.Goals as goal
@@ -13,16 +12,14 @@ returns-in-Ok-List g c =
 
 pub returns-in-Ok : goal.returns-in-Ok
 returns-in-Ok g c =
-    answer_ended _ _ c.in-Ok-Chip.job c.in-Ok.work.unwritten (map string_bytes c.args.words.now) c.in-Ok.work.answer
-    (rw c.in-Ok-Chip.field-0-is at c.in-Ok-Chip.ensures) c.in-Ok.ensures.keeps c.in-Ok.ensures.holds
-    c.in-Ok.ensures.ok
+    answer_ended _ _ c.in-Ok-Chip.job _ _ c.in-Ok.work.answer (rw c.in-Ok-Chip.field-0-is at c.in-Ok-Chip.ensures)
+    c.in-Ok.ensures.keeps c.in-Ok.ensures.holds c.in-Ok.ensures.ok
 
 pub returns-in-Err-work_on_chip : goal.returns-in-Err-work_on_chip
 returns-in-Err-work_on_chip g c =
-    let unwritten = c.before-in-Err-work_on_chip.result.unwritten in
-    rw c.before-in-Err-work_on_chip.ensures.answer (answer_failed _ _ c.in-Ok-Chip.job unwritten
-    (map string_bytes c.args.words.now) c.in-Err-work_on_chip.fault (rw c.in-Ok-Chip.field-0-is at c.in-Ok-Chip.ensures)
-    c.in-Err-work_on_chip.ensures.keeps c.in-Err-work_on_chip.ensures.err)
+    rw c.before-in-Err-work_on_chip.ensures.answer (answer_failed _ _ c.in-Ok-Chip.job _ _ c.in-Err-work_on_chip.fault
+    (rw c.in-Ok-Chip.field-0-is at c.in-Ok-Chip.ensures) c.in-Err-work_on_chip.ensures.keeps
+    c.in-Err-work_on_chip.ensures.err)
 
 pub returns-in-Err : goal.returns-in-Err
 returns-in-Err g c =
