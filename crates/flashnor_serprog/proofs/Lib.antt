@@ -1,5 +1,5 @@
 pub mod Found
 pub mod Sent
-pub mod Gathering
+pub mod StoredSoFar
 pub mod Helped
 pub mod Rates
