@@ -1,5 +1,5 @@
 -- The options of a program for hardware, from the rows of the table.
-use Rattle.std.proofs.Common.{◌≡◌, ◌∙◌, List, ap, cond, map, refl, sym}
+use Rattle.std.proofs.Common.{◌≡◌, ◌∙◌, List, ap, cond, map, sym}
 use Rattle.std.specs.Prelude.{fold}
 use Rattle.std.specs.List.{filter}
 use Rattle.std.proofs.lemmas.List.Folds.{fold-map}
@@ -11,12 +11,8 @@ use Rattle.nor_words.specs.declared.options.Choice.{Choice}
 abbrev with_hardware_rule : App → Rule → App
 with_hardware_rule app rule = cond (is_for_hardware rule.id) (with_rule app rule) app
 
-most-added : (app : App) → fold with_hardware_rule app most_rules
-    ≡ with_rules app (filter (λ rule. is_for_hardware rule.id) most_rules)
-most-added app = refl
-
 pub all-added : (app : App) (choices : List Choice) → map chosen choices ≡ most_rules
     → fold with_hardware_choice app choices ≡ with_rules app (filter (λ rule. is_for_hardware rule.id) most_rules)
 all-added app choices is =
     sym (fold-map with_hardware_rule chosen app choices)
-    ∙ ap (λ (rules : List Rule). fold with_hardware_rule app rules) is ∙ most-added app
+    ∙ ap (λ (rules : List Rule). fold with_hardware_rule app rules) is

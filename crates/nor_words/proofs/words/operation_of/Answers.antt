@@ -1,13 +1,15 @@
 use Rattle.std.proofs.lemmas.Result.{err_from_is_err_and}
 use Rattle.nor_words.proofs.Asked.{hardware_asked-by_words}
-use Rattle.nor_words.proofs.Taken.{hardware-refused, hardware_refusals_of-taken, hardware_rows-taken}
+use Rattle.nor_words.proofs.Taken.{hardware_options_are_free, hardware_options_are_simple}
+use Rattle.nor_words.proofs.Taken.{hardware-refused, none-refused, rows-taken}
 use Rattle.nor_words.proofs.words.operation_of.Goals as goal
 
 pub returns : goal.returns
 returns c =
     let same = c.in_ok-make_hardware_options.ensures in
-    let taken = hardware_refusals_of-taken _ _ same _ c.in_ok-matches.matches c.in_ok-matches.ensures.kinds in
-    let rows = hardware_rows-taken _ _ same _ c.in_ok-matches.matches c.in_ok-matches.ensures.matches in
+    let taken = none-refused _ _ same _ c.in_ok-matches.matches (hardware_options_are_free c.args.help.program.now) c.in_ok-matches.ensures.kinds in
+    let rows = rows-taken _ _ same _ c.in_ok-matches.matches (hardware_options_are_simple c.args.help.program.now) c.in_ok-matches.ensures.matches
+    in
     hardware_asked-by_words _ _ _ _ taken (rw rows at c.of_hardware.ensures) c.hardware_job.ensures
 
 pub returns-in_err-matches : goal.returns-in_err-matches
