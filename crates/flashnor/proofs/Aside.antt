@@ -5,7 +5,7 @@ use Rattle.std.specs.Borrow.{Bor}
 use Rattle.std.proofs.lemmas.List.{length-take, take_all}
 use Rattle.nor_model.specs.Bus.{BusState}
 use Rattle.nor_model.specs.Chip.{Chip}
-use Rattle.nor_files.specs.Files.{AreAtRest, FilesState, Found, Name, View}
+use Rattle.nor_files.specs.Files.{AreAtRest, FilesState, Found, Name}
 use Rattle.nor_journal.specs.Text.{Content as Journal}
 use Rattle.nor_session.specs.Headline.{CanRestore}
 use Rattle.nor_words.specs.Text.{Text}
@@ -27,10 +27,6 @@ pub left_seen : (files : FilesState) → AreAtRest files → ((name : Name) → 
 left_seen files rest may_stay None len found is whole was = is
 left_seen files rest may_stay (Some name) len found is whole was =
     inl (rw (whole_seen len (files.view.seen name.now) found (is (known_at_rest rest name.now)) whole) (may_stay name.now))
-
-pub none_found : (view : View) (name : Option (Bor Text)) (len : ℕ) (found : Found) → IsFileFound view name len found
-    → name ≡ None → found ≡ None
-none_found view name len found is none = grind arith
 
 -- ---- a file that is moved aside
 

@@ -1,6 +1,6 @@
 -- The chip that a later run opens, from any contents of its files that a host crash may leave.
-use Rattle.std.proofs.Common.{◌≡◌, ◌∙◌, ℕ, Bool, List, Option, ◌⊎◌, IfSome, arith, false, length}
-use Rattle.std.proofs.Common.{slice_index, sym, unwrap_or}
+use Rattle.std.proofs.Common.{◌≡◌, ℕ, Bool, List, Option, ◌⊎◌, IfSome, arith, false, length}
+use Rattle.std.proofs.Common.{slice_index, unwrap_or}
 use Rattle.std.specs.Borrow.{Bor}
 use Rattle.std.proofs.lemmas.List.{length-replicate}
 use Rattle.nor_files.specs.Files.{AllStay, FilesState, Found, View}
@@ -13,18 +13,13 @@ use Rattle.nor_lines.specs.Stored.{AreOfFile}
 
 -- ---- files of the right length
 
-pub as_many : (view : View) (name : Option (Bor Text)) (len : ℕ) (missing bytes : List ℕ)
-    → AreOfFile view name len missing bytes → length missing ≡ len → length bytes ≡ len
-as_many view name len missing bytes are many = grind arith
-
 -- the size of an opened chip, and the number of bytes in its contents
 module _ {programmer : Programmer} {files : FilesState} (first : Opened programmer files) where
   pub opened_size : first.bus.chip.config.size ≡ (emulated_part programmer.chip).size
   opened_size = grind arith
 
   pub opened_many : length first.content.bytes.items ≡ first.bus.chip.config.size
-  opened_many =
-      as_many files.view programmer.image _ _ _ first.read.bytes (length-replicate {A = ℕ} _ 255) ∙ sym opened_size
+  opened_many = grind (arith, opened_size, length-replicate)
 
 -- ---- what is opened from the files that may be left
 

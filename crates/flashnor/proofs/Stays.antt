@@ -3,7 +3,7 @@ use Rattle.std.proofs.Common.{◌≡◌, Option, Some, arith}
 use Rattle.std.specs.Borrow.{Bor}
 use Rattle.nor_files.specs.Files.{AllStay, AreAtRest, FilesState, IsKnownFile, KnownStay, Name}
 use Rattle.nor_files.specs.Files.{Nature, KeepsFile}
-use Rattle.nor_lines.specs.Stored.{AreTwo, IsNot, MakesNothing}
+use Rattle.nor_lines.specs.Stored.{AreTwo, IsNot}
 use Rattle.nor_words.specs.Text.{Text}
 
 -- ---- names that are apart
@@ -16,9 +16,6 @@ not_that nature one file two = grind arith
 abbrev pub StayApart : (one other : Option (Bor Text)) → (old new : FilesState) → Type 0
 StayApart one other old new = (any : Name) → IsNot old.view.nature one any → IsNot old.view.nature other any
     → KeepsFile any old new
-
-pub nothing_same : (name : Option (Bor Text)) (files : FilesState) → MakesNothing name files files
-nothing_same name files = grind arith
 
 -- ---- what is known of a file stays known
 

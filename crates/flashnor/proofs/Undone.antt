@@ -39,7 +39,7 @@ use Rattle.flashnor.proofs.Reopened.{opened_many, opened_size}
 use Rattle.flashnor.proofs.Stays.{known_at_rest, not_that}
 use Rattle.nor_lines.proofs.Lent.{lawful_after}
 use Rattle.flashnor.proofs.Traced.{reads_before}
-use Rattle.flashnor.proofs.Aside.{left_seen, mixed_can_restore, none_found, pick}
+use Rattle.flashnor.proofs.Aside.{left_seen, mixed_can_restore, pick}
 
 -- ---- an emulated chip with a given unique ID has one configuration
 
@@ -162,9 +162,6 @@ module _ (programmer : Programmer) (file : Text) (start : FilesState) (first : O
       setup : found.bus.chip.config ≡ first.bus.chip.config
       setup = one_setup found
 
-      size_of : first.bus.chip.config.size ≡ (emulated_part other.chip).size
-      size_of = grind arith
-
       abbrev Kept : Option (Bor Text) → (was given left : Found) → (len : ℕ) → Type 0
       Kept name was given left len = (of : Found) × MayFind name given of new × IfSome of (λ all. length all ≡ len)
           × ((left ≡ of) ⊎ ((was ≡ None) × (left ≡ None)))
@@ -173,7 +170,7 @@ module _ (programmer : Programmer) (file : Text) (start : FilesState) (first : O
       kept_image =
           pick programmer.image other.image _ _ image _ mid new same.image rest may_stay' found.read.bytes.is_found
           found.read.bytes.whole kept.image can_image
-          (subst (λ (n : ℕ). IfSome image (λ all. length all ≡ n)) size_of is.whole)
+          (grind (arith, is.whole, setup, opened_size found))
 
       kept_status : Kept other.status first.read.status.found found.read.status.found status 2
       kept_status =
@@ -251,9 +248,9 @@ module _ (programmer : Programmer) (file : Text) (start : FilesState) (first : O
     opens_original image status opened can can_status from' =
         let small : chip.kept.two < 128 = rw (is.kept ∙ first.opens.holds.kept) (omega arith) in
         let i = durable other.image programmer.image first.read.bytes.found put.bytes image
-        (none_found start.view programmer.image _ _ first.read.bytes.is_found) same.image put.image_put can in
+        (grind (arith, first.read.bytes.is_found)) same.image put.image_put can in
         let s = durable other.status programmer.status first.read.status.found (status_of chip) status
-        (none_found start.view programmer.status _ _ first.read.status.is_found) same.status put.status_put can_status in
+        (grind (arith, first.read.status.is_found)) same.status put.status_put can_status in
         record {
           config = from'.config;
           bytes = λ a. from'.bytes a ∙ byte_of image a i;

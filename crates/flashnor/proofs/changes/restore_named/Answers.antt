@@ -8,11 +8,10 @@ use Rattle.flashnor.proofs.changes.restore_named.Goals as goal
 pub returns-in_err-find_named : goal.returns-in_err-find_named
 returns-in_err-find_named g c = λ modelled steady_or_idle.
     let p = err_from_is_err_and c.from_residual.result c.from_residual.ensures.1 in
-    let only_reads = c.in_err-find_named.ensures.only_reads in
     let same = c.find_named.ensures.same modelled steady_or_idle in
     rw (p.1, p.2) (record {
       found = g.B.Bus.state c.find_named.new.bus;
-      only_reads = only_reads;
+      only_reads = c.in_err-find_named.ensures.only_reads;
       same = same;
       config = same.config;
       name = tt;
@@ -24,13 +23,12 @@ returns-in_err-find_named g c = λ modelled steady_or_idle.
 pub returns-in_err-report : goal.returns-in_err-report
 returns-in_err-report g c = λ modelled steady_or_idle.
     let p = err_from_is_err_and c.from_residual-in_err-report.result c.from_residual-in_err-report.ensures.1 in
-    let only_reads = c.in_ok-find_named.ensures.only_reads in
     let passes = c.in_ok-find_named.ensures.passes modelled steady_or_idle in
     let failed = c.in_err-report.ensures.modelled passes.modelled in
     let original = c.in_err-report.ensures.restores_original passes.modelled in
     rw (p.1, p.2) (record {
       found = g.B.Bus.state c.find_named.new.bus;
-      only_reads = only_reads;
+      only_reads = c.in_ok-find_named.ensures.only_reads;
       same = passes.same;
       config = failed.leaves.config ∙ passes.same.config;
       name = tt;
@@ -45,13 +43,12 @@ returns-in_err-report g c = λ modelled steady_or_idle.
 
 pub returns : goal.returns
 returns g c = λ modelled steady_or_idle.
-    let only_reads = c.in_ok-find_named.ensures.only_reads in
     let passes = c.in_ok-find_named.ensures.passes modelled steady_or_idle in
     let done = c.in_ok-report.ensures.modelled passes.modelled in
     let original = c.in_ok-report.ensures.restores_original passes.modelled in
     record {
       found = g.B.Bus.state c.find_named.new.bus;
-      only_reads = only_reads;
+      only_reads = c.in_ok-find_named.ensures.only_reads;
       same = passes.same;
       config = done.leaves.config ∙ passes.same.config;
       name = passes.name;
