@@ -51,6 +51,7 @@ exchanged frame out replies reply old sent new idle whole opcode goes comes s t 
     record {
       left = omega (arith, s.left, t.left);
       idle = record { begun = t.begun ∙ o.begun; pending = rest };
+      settings = t.settings ∙ o.settings;
       steps = steps_then out reply old.device sent.device new.device t.chip t.worn (subst Q got (subst P goes o.steps));
     }
 

@@ -3,21 +3,21 @@ use Rattle.std.proofs.Common.{◌≡◌, ◌∙◌, ◌+◌, ◌<◌, ◌≤◌,
 use Rattle.std.specs.Prelude.{nat_lt, bit_and, not, ◌&&◌, ◌||◌, ◌==◌, IfSome, unwrap_or, option_and_then, slice_index, if◌then◌else◌, Option, None, Some, Result, Ok, Err, ⊤}
 use Rattle.std.specs.Option.{option_or}
 use Rattle.nor_serprog.specs.declared.command.Command.{Command}
-use Rattle.nor_serprog.specs.declared.command.Command.TheVariants.{SetFrequency}
+use Rattle.nor_serprog.specs.declared.command.Command.TheVariants.{SetBuses, SetFrequency, SetPins}
 use Rattle.std.specs.Int.{w16, w32, from_le_bytes}
 use Rattle.std.proofs.lemmas.Nat.{from_le_bytes-to_le_bytes_2, from_le_bytes-to_le_bytes_4}
 use Rattle.nor_serprog.specs.declared.programmer.HandshakeFault.{HandshakeFault}
 use Rattle.nor_serprog.specs.declared.programmer.HandshakeFault.TheVariants as Faults
 use Rattle.nor_serprog.specs.declared.link.Failure.TheVariants.{Refused}
 use Rattle.nor_serprog.specs.declared.link.Link.{Link}
-use Rattle.nor_serprog.specs.Device.{PortState}
+use Rattle.nor_serprog.specs.Device.{PortState, with_settings}
 use Rattle.std.proofs.lemmas.Bool.{cases_Bool}
 use Rattle.std.proofs.lemmas.Bool.Decides.{Decides-ltb, Decides-eqb}
-use Rattle.nor_serprog.specs.Firmware.{Firmware, has_command, is_in_map, queried, reply_of, taken, clocked, two_of, nak}
+use Rattle.nor_serprog.specs.Firmware.{Firmware, ProgrammerSettings, has_command, is_in_map, queried, reply_of, settings_after, taken, clocked, two_of, nak}
 use Rattle.nor_serprog.specs.Frame.{frame_of, four_of}
 use Rattle.nor_serprog.specs.Link.{is_in_step}
 use Rattle.nor_serprog.specs.Replies.{AwaitsCommand, OnlyAsks}
-use Rattle.nor_serprog.specs.Identify.{Concludes, Asked, IsInStepWith, refused, clock_fault, clock_refused}
+use Rattle.nor_serprog.specs.Identify.{Concludes, Asked, IsInStepWith, refused, clock_fault, clock_refused, settings_if_offered, prepared_settings}
 use Rattle.nor_serprog.proofs.Replied.{power_then}
 use Rattle.nor_serprog.proofs.Synchronized.{asks_then}
 
@@ -30,7 +30,7 @@ pub passes : {T C : Type 0} (calls : ℕ) (fault : Option (HandshakeFault C)) (I
 passes calls fault IsValue value state awaits usable is = record {
   usable = usable;
   value = is;
-  asks = record { left = omega arith; awaits = awaits; chip = refl; worn = refl; firmware = refl };
+  asks = record { left = omega arith; awaits = awaits; chip = refl; worn = refl; firmware = refl; settings = refl };
   fails = tt;
   power = tt;
 }
@@ -84,6 +84,19 @@ fails_as calls fault fault' IsValue IsValue' error old new failed same = record 
   asks = tt;
   fails = elim failed.fails [ inl found ↦ inl (same found) | inr few ↦ inr few ];
   power = failed.power;
+}
+
+-- A failure says nothing of the settings.
+pub fails_with : {T T' C : Type 0} (calls : ℕ) (fault fault' : Option (HandshakeFault C)) (IsValue : T → Type 0)
+    (IsValue' : T' → Type 0) (error : HandshakeFault C) (old new : PortState) (settings : ProgrammerSettings)
+    → Concludes calls fault IsValue (Err error) old new → (fault ≡ Some error → fault' ≡ Some error)
+    → Concludes calls fault' IsValue' (Err error) (with_settings settings old) new
+fails_with calls fault fault' IsValue IsValue' error old new settings failed same = record {
+  usable = tt;
+  value = tt;
+  asks = tt;
+  fails = elim failed.fails [ inl found ↦ inl (same found) | inr few ↦ inr few ];
+  power = record { chip = failed.power.chip; worn = failed.power.worn };
 }
 
 -- A call that nothing stands against fails only because the port does.
@@ -274,16 +287,47 @@ pub set_result : {C : Type 0} (accepts : Bool) (firmware : Firmware) (setting : 
     (opcode : ℕ) (result : Result Unit (HandshakeFault C)) (old new : PortState)
     → reply_of firmware setting ≡ taken accepts → slice_index (frame_of setting) 0 ≡ opcode
     → has_command firmware opcode ≡ true → Asked firmware setting 0 reply result old new
-    → Concludes 3 (refused opcode (has_command firmware opcode) accepts) (λ _. ⊤) result old new
-set_result true firmware setting reply opcode result old new replies first has_it a =
-    concludes_as 3 None _ _ _ result old new
-    (ap (λ (b : Bool). if b && false then Some (Faults.Failure (Refused opcode)) else None) has_it)
-    (λ value is. tt) (a.acked [] replies refl)
-set_result false firmware setting reply opcode result old new replies first has_it a =
-    concludes_as 3 _ _ _ _ result old new
-    (ap (λ (b : Bool). if b && true then Some (Faults.Failure (Refused opcode)) else None) has_it
-    ∙ ap (λ (n : ℕ). Some (Faults.Failure (Refused n))) (sym first))
-    (λ value is. absurd is) (a.naked replies)
+    → Concludes 3 (refused opcode (has_command firmware opcode) accepts) (λ _. ⊤) result
+    (with_settings (settings_if_offered firmware opcode setting old.device.settings) old) new
+set_result {C} true firmware setting reply opcode result old new replies first has_it a =
+    let after = settings_after firmware setting old.device.settings in
+    let P : Bool → Type 0 =
+    λ b. Concludes 3 (refused {C = C} opcode b true) (λ _. ⊤) result
+    (with_settings (if b then after else old.device.settings) old) new in
+    subst P (sym has_it)
+    (concludes_as 3 None None _ (λ _. ⊤) result (with_settings after old) new refl (λ value is. tt) (a.acked [] replies refl))
+set_result false firmware setting reply opcode (Ok value) old new replies first has_it a = absurd (a.naked replies).value
+set_result false firmware setting reply opcode (Err error) old new replies first has_it a =
+    fails_with 3 _ _ _ _ error old new _ (a.naked replies)
+    (λ found. ap (λ (b : Bool). if b && true then Some (Faults.Failure (Refused opcode)) else None) has_it
+    ∙ ap (λ (n : ℕ). Some (Faults.Failure (Refused n))) (sym first) ∙ found)
+
+-- The settings of the handshake, if the programmer refuses none of them.
+bus_selected : {C : Type 0} (has_it takes : Bool) (settings : ProgrammerSettings)
+    → refused {C = C} 0x12 has_it takes ≡ None
+    → (if has_it then (if takes then record settings { bus_type = Some 8 } else settings) else settings)
+    ≡ record settings { bus_type = if has_it then Some 8 else settings.bus_type }
+bus_selected true true settings none = refl
+bus_selected true false settings none = let never : ⊥ = cc in absurd never
+bus_selected false takes settings none = refl
+
+pins_switched : {C : Type 0} (has_it takes : Bool) (settings : ProgrammerSettings)
+    → refused {C = C} 0x15 has_it takes ≡ None
+    → (if has_it then (if takes then record settings { pins_on = true } else settings) else settings)
+    ≡ record settings { pins_on = if has_it then true else settings.pins_on }
+pins_switched true true settings none = refl
+pins_switched true false settings none = let never : ⊥ = cc in absurd never
+pins_switched false takes settings none = refl
+
+pub is_prepared : {C : Type 0} (firmware : Firmware) (settings : ProgrammerSettings)
+    → refused {C = C} 0x12 (has_command firmware 0x12) (firmware.takes_buses 8) ≡ None
+    → refused {C = C} 0x15 (has_command firmware 0x15) (firmware.takes_pins true) ≡ None
+    → settings_if_offered firmware 0x15 (SetPins true) (settings_if_offered firmware 0x12 (SetBuses 8) settings)
+    ≡ prepared_settings firmware settings
+is_prepared firmware settings bus pins =
+    ap (λ (s : ProgrammerSettings). settings_if_offered firmware 0x15 (SetPins true) s)
+    (bus_selected (has_command firmware 0x12) (firmware.takes_buses 8) settings bus)
+    ∙ pins_switched (has_command firmware 0x15) (firmware.takes_pins true) _ pins
 
 -- ---- steps one after another
 
@@ -315,14 +359,38 @@ reaches port firmware first second old link link' fault IsValue value reached do
   };
 }
 
+-- A step that makes a setting.
+pub sets : {P C T : Type 0} (port : P → PortState) (firmware : Firmware) (first second : ℕ) (old : PortState)
+    (link link' : Link P C) (fault : Option (HandshakeFault C)) (IsValue : T → Type 0) (value : T)
+    (after : ProgrammerSettings → ProgrammerSettings) → HasReached port firmware first old link
+    → Concludes second fault IsValue (Ok value)
+    (with_settings (after (port link.port).device.settings) (port link.port)) (port link'.port)
+    → is_in_step link' ≡ true → HasReached port firmware (first + second) (with_settings (after old.device.settings) old) link'
+sets port firmware first second old link link' fault IsValue value after reached done in_step = record {
+  asks = record {
+    left = omega (arith, reached.asks.left, done.asks.left);
+    awaits = done.asks.awaits;
+    chip = done.asks.chip ∙ reached.asks.chip;
+    worn = done.asks.worn ∙ reached.asks.worn;
+    firmware = done.asks.firmware ∙ reached.asks.firmware;
+    settings = done.asks.settings ∙ ap after reached.asks.settings;
+  };
+  ready = record {
+    in_step = in_step;
+    awaits = done.asks.awaits;
+    same = done.asks.firmware ∙ reached.ready.same;
+  };
+}
+
 -- A step of the handshake failed.
 pub fails_at : {P C T T' : Type 0} (port : P → PortState) (firmware : Firmware) (first second total : ℕ)
     (old new : PortState) (link : Link P C) (fault whole : Option (HandshakeFault C)) (IsValue : T → Type 0)
-    (IsValue' : T' → Type 0) (error : HandshakeFault C) → HasReached port firmware first old link
-    → Concludes second fault IsValue (Err error) (port link.port) new → first + second ≤ total
+    (IsValue' : T' → Type 0) (error : HandshakeFault C) (tried settings : ProgrammerSettings)
+    → HasReached port firmware first old link
+    → Concludes second fault IsValue (Err error) (with_settings tried (port link.port)) new → first + second ≤ total
     → (fault ≡ Some error → whole ≡ Some error)
-    → Concludes total whole IsValue' (Err error) old new
-fails_at port firmware first second total old new link fault whole IsValue IsValue' error reached failed within same = record {
+    → Concludes total whole IsValue' (Err error) (with_settings settings old) new
+fails_at port firmware first second total old new link fault whole IsValue IsValue' error tried settings reached failed within same = record {
   usable = tt;
   value = tt;
   asks = tt;
@@ -330,7 +398,11 @@ fails_at port firmware first second total old new link fault whole IsValue IsVal
     | inl found ↦ inl (same found)
     | inr few ↦ inr (few.0, omega (arith, few.1, reached.asks.left, within))
   ];
-  power = power_then old.device (port link.port).device new.device reached.asks.chip reached.asks.worn failed.power;
+  power =
+      let p =
+      power_then old.device (with_settings tried (port link.port)).device new.device reached.asks.chip reached.asks.worn
+      failed.power in
+      record { chip = p.chip; worn = p.worn };
 }
 
 -- The first fault is that of a later step if the earlier ones found none.

@@ -108,6 +108,7 @@ answered_ok command frame count reply old sent new awaits exact has s t honest h
                 chip = t.chip ∙ r.chip;
                 worn = t.worn ∙ r.worn;
                 firmware = t.firmware ∙ s.firmware;
+                settings = t.settings ∙ r.settings;
               },
             ),
             tt,

@@ -28,6 +28,7 @@ pub record HasSkipped (wanted last : List ℕ) (count : ℕ) (old now : PortStat
   pub chip : now.device.chip ≡ old.device.chip
   pub worn : now.device.worn ≡ old.device.worn
   pub firmware : now.device.firmware ≡ old.device.firmware
+  pub settings : now.device.settings ≡ old.device.settings
 
 pub record Skips (wanted last : List ℕ) (count : ℕ) (old now : PortState) : Type 0 where
   pub uses : UsesCalls old now
@@ -47,6 +48,7 @@ skips_none wanted state = record {
       chip = refl;
       worn = refl;
       firmware = refl;
+      settings = refl;
     },
   );
 }
@@ -107,6 +109,7 @@ received_more wanted last last' count byte old now new some_left s r honest shif
       chip = r.chip ∙ s.chip;
       worn = r.worn ∙ s.worn;
       firmware = r.firmware ∙ s.firmware;
+      settings = r.settings ∙ s.settings;
     }
 
 zeros_are_zero : (i : ℕ) → i < length (replicate {A = ℕ} 25 0) → get_or (replicate {A = ℕ} 25 0) i 0 ≡ 0
@@ -151,6 +154,7 @@ skipped wanted last count old now s all = record {
   chip = s.chip;
   worn = s.worn;
   firmware = s.firmware;
+  settings = s.settings;
 }
 
 -- The port failed before the last byte was received.

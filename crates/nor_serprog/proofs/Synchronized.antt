@@ -3,7 +3,7 @@ use Rattle.std.proofs.Common.{◌≡◌, ◌≢◌, ◌∙◌, ◌+◌, ◌<◌,
 use Rattle.std.specs.Prelude.{slice_index, Err}
 use Rattle.nor_serprog.specs.declared.command.Command.{Command}
 use Rattle.nor_serprog.specs.declared.command.Command.TheVariants.{Nop, SyncNop}
-use Rattle.nor_serprog.specs.Firmware.{Firmware, frames_of, replies_of, HaveReplies}
+use Rattle.nor_serprog.specs.Firmware.{Firmware, ProgrammerSettings, frames_of, replies_of, settings_after_all, HaveReplies}
 use Rattle.nor_serprog.specs.Device.{PortState, IsSent, IsCutOff, AsksFor, AreWithinLimits}
 use Rattle.nor_serprog.specs.declared.link.Failure.{Failure}
 use Rattle.nor_serprog.specs.Replies.{IsPortFailure, AwaitsCommand, OnlyAsks, AsksUnlessFew, IsPending}
@@ -21,6 +21,7 @@ pub record IsRow (commands : List Command) (bytes answers : List ℕ) : Type 0 w
   pub frames : bytes ≡ frames_of commands
   pub has : (firmware : Firmware) → HaveReplies firmware commands
   pub answers_are : (firmware : Firmware) → replies_of firmware commands ≡ answers
+  pub keeps : (firmware : Firmware) (settings : ProgrammerSettings) → settings_after_all firmware commands settings ≡ settings
   pub short : length (frames_of commands) ≤ 260
   pub some : 0 < length answers
   pub few : length answers ≤ 25
@@ -31,6 +32,7 @@ sync_row = record {
   frames = refl;
   has = λ firmware. (tt, tt);
   answers_are = λ firmware. refl;
+  keeps = λ firmware settings. refl;
   short = omega arith;
   some = omega arith;
   few = omega arith;
@@ -46,6 +48,7 @@ whole_row = record {
   has = λ firmware.
       (tt, (tt, (tt, (tt, (tt, (tt, (tt, (tt, (tt, (tt, (tt, (tt, (tt, (tt, (tt, (tt, tt))))))))))))))));
   answers_are = λ firmware. refl;
+  keeps = λ firmware settings. refl;
   short = omega arith;
   some = omega arith;
   few = omega arith;
@@ -89,6 +92,7 @@ row_done commands bytes answers calls old sent new is awaits s asks =
       chip = asks.chip ∙ r.chip;
       worn = asks.worn ∙ r.worn;
       firmware = asks.firmware ∙ s.firmware;
+      settings = asks.settings ∙ r.settings ∙ is.keeps old.device.firmware old.device.settings;
     }
 
 -- Calls that left the chip as it was, and further ones.
@@ -100,6 +104,7 @@ asks_then first second old mid new asks more = record {
   chip = more.chip ∙ asks.chip;
   worn = more.worn ∙ asks.worn;
   firmware = more.firmware ∙ asks.firmware;
+  settings = more.settings ∙ asks.settings;
 }
 
 -- The port failed when a row was to be sent.

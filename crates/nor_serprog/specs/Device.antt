@@ -1,7 +1,7 @@
 -- A programmer and its chip, and an honest port to the programmer: the effect of whole frames. Firmware.antt has the
 -- replies to the commands other than O_SPIOP. (serprog protocol version 1, flashrom's
 -- Documentation/serprog-protocol.txt: "Command And Answer Sequence", and the note on O_SPIOP.)
-use Rattle.std.specs.Prelude.{◌≡◌, ◌<◌, ◌≤◌, ◌+◌, ◌++◌, ◌⊎◌, ◌||◌, ℕ, Bool, false, List, [], ◌∷◌, length, take, slice_index, ⊤}
+use Rattle.std.specs.Prelude.{◌≡◌, ◌<◌, ◌≤◌, ◌+◌, ◌++◌, ◌⊎◌, ◌||◌, ℕ, Bool, false, List, [], ◌∷◌, None, length, take, slice_index, ⊤}
 use Rattle.nor_model.specs.Chip.{Chip}
 use Rattle.nor_model.specs.Bus.{unknown_chip}
 use Rattle.nor_model.specs.Power.{PowerLost}
@@ -9,7 +9,7 @@ use Rattle.nor_model.specs.Step.{Step, done_of, wears}
 use Rattle.nor_serprog.specs.declared.command.Command.{Command}
 use Rattle.nor_serprog.specs.declared.command.Command.TheVariants.{Operate}
 use Rattle.nor_serprog.specs.Frame.{IsFrame, out_in, replies_in}
-use Rattle.nor_serprog.specs.Firmware.{Firmware, HaveReplies, frames_of, replies_of, unknown_firmware}
+use Rattle.nor_serprog.specs.Firmware.{Firmware, ProgrammerSettings, HaveReplies, frames_of, replies_of, settings_after_all, unknown_firmware}
 
 -- The state of a programmer and its chip.
 pub record Device : Type 0 where
@@ -18,6 +18,8 @@ pub record Device : Type 0 where
   pub worn : ℕ → Bool
   -- what the programmer replies to queries and settings
   pub firmware : Firmware
+  -- the type of bus that was selected, and the state of the pin drivers; not specified after a failure of the port
+  pub settings : ProgrammerSettings
   -- the bytes that the programmer received of a command that is not complete yet
   pub begun : List ℕ
   -- the bytes of replies that the host has not received yet
@@ -35,6 +37,10 @@ pub record PortState : Type 0 where
   pub left : ℕ
   -- the port keeps the contract of an honest port
   pub honest : Bool
+
+-- The state of a port, with these settings of the programmer in place of its own.
+abbrev pub with_settings : ProgrammerSettings → PortState → PortState
+with_settings settings port = record port { device = record port.device { settings = settings } }
 
 -- The chip made one step, and the sectors of an erase that it carried out are recorded.
 pub record StepsOnce (out answer : List ℕ) (old new : Device) : Type 0 where
@@ -56,13 +62,14 @@ pub record IsCut (out : List ℕ) (old new : Device) : Type 0 where
   pub then : MayLoseDevicePower reached new
 
 -- A whole frame of O_SPIOP is carried out: the chip makes one step, and the reply is ACK and the bytes that the chip
--- returned.
+-- returned. The settings are as they were.
 pub record OperatesFrame (frame : List ℕ) (old new : Device) : Type 0 where
   pub answer : List ℕ
   pub len : length answer ≡ replies_in frame
   pub steps : StepsOnce (out_in frame) answer old new
   pub begun : new.begun ≡ []
   pub pending : new.pending ≡ old.pending ++ 0x06 ∷ answer
+  pub settings : new.settings ≡ old.settings
 
 -- The bytes complete a frame of O_SPIOP.
 pub record CompletesOperation (bytes : List ℕ) (old : Device) : Type 0 where
@@ -76,10 +83,11 @@ pub record AsksFor (commands : List Command) (bytes : List ℕ) (old : Device) :
   pub frames : bytes ≡ frames_of commands
   pub replies : HaveReplies old.firmware commands
 
--- The programmer replied to these commands. The chip was not selected.
+-- The programmer replied to these commands, and made the settings that it acknowledged. The chip was not selected.
 pub record RepliesTo (commands : List Command) (old new : Device) : Type 0 where
   pub pending : new.pending ≡ old.pending ++ replies_of old.firmware commands
   pub begun : new.begun ≡ []
+  pub settings : new.settings ≡ settings_after_all old.firmware commands old.settings
   pub chip : new.chip ≡ old.chip
   pub worn : new.worn ≡ old.worn
 
@@ -131,6 +139,7 @@ pub record IsReceived (bytes : List ℕ) (old new : PortState) : Type 0 where
   pub chip : new.device.chip ≡ old.device.chip
   pub worn : new.device.worn ≡ old.device.worn
   pub firmware : new.device.firmware ≡ old.device.firmware
+  pub settings : new.device.settings ≡ old.device.settings
 
 -- The port failed while this number of bytes was to be received, and no further call succeeds. If at least this number
 -- was pending, no call was left. The chip may have lost its power.
@@ -148,6 +157,7 @@ pub record TakesAnswer (reply : List ℕ) (old new : PortState) : Type 0 where
   pub chip : new.device.chip ≡ old.device.chip
   pub worn : new.device.worn ≡ old.device.worn
   pub firmware : new.device.firmware ≡ old.device.firmware
+  pub settings : new.device.settings ≡ old.device.settings
 
 -- The pending bytes begin with ACK.
 pub record AnswerBegins (port : PortState) : Type 0 where
@@ -162,10 +172,11 @@ pub record MissesAnswer (count : ℕ) (old new : PortState) : Type 0 where
   pub power : MayLoseDevicePower old.device new.device
 
 -- A transaction was carried out with three calls, and the reply was received: the chip made one step, and the
--- programmer is idle.
+-- programmer is idle, with the settings that it had.
 pub record Exchanged (out answer : List ℕ) (old new : PortState) : Type 0 where
   pub left : old.left ≡ new.left + 3
   pub idle : IsIdle new.device
+  pub settings : new.device.settings ≡ old.device.settings
   pub steps : StepsOnce out answer old.device new.device
 
 -- A transaction that requests this number of reply bytes was cut, and too few calls are left for another one. If it is
@@ -189,6 +200,7 @@ unknown_port = record {
     chip = unknown_chip;
     worn = λ s. false;
     firmware = unknown_firmware;
+    settings = record { bus_type = None; pins_on = false };
     begun = [];
     pending = [];
   };

@@ -95,6 +95,29 @@ HasReply firmware (SelectChip number) = has_command firmware 0x16 ≡ true
 HasReply firmware (Operate out replies) = ⊥
 HasReply firmware _ = ⊤
 
+-- The settings of a programmer that the commands of this crate change.
+pub record ProgrammerSettings : Type 0 where
+  -- the flags of the last S_BUSTYPE that the programmer acknowledged; `None` if it acknowledged none
+  pub bus_type : Option ℕ
+  -- whether the pin drivers are on: true if the last S_PIN_STATE that the programmer acknowledged switched them on, and
+  -- false if it acknowledged none
+  pub pins_on : Bool
+
+-- The settings after a whole frame of a command. Only S_BUSTYPE and S_PIN_STATE change them, and only if the programmer
+-- acknowledges the command.
+abbrev pub settings_after : Firmware → Command → ProgrammerSettings → ProgrammerSettings
+settings_after firmware (SetBuses flags) settings =
+    if firmware.takes_buses flags then record settings { bus_type = Some flags } else settings
+settings_after firmware (SetPins enabled) settings =
+    if firmware.takes_pins enabled then record settings { pins_on = enabled } else settings
+settings_after firmware _ settings = settings
+
+-- The settings after whole frames of these commands, one after another.
+abbrev pub settings_after_all : Firmware → List Command → ProgrammerSettings → ProgrammerSettings
+settings_after_all firmware [] settings = settings
+settings_after_all firmware (command ∷ rest) settings =
+    settings_after_all firmware rest (settings_after firmware command settings)
+
 -- The frames of these commands, one after another.
 abbrev pub frames_of : List Command → List ℕ
 frames_of [] = []

@@ -7,10 +7,10 @@ use Rattle.nor_serprog.specs.declared.programmer.HandshakeFault.TheVariants.{Fai
 use Rattle.nor_serprog.specs.declared.programmer.Programmer.{Programmer}
 use Rattle.nor_serprog.specs.declared.link.Failure.TheVariants.{Refused}
 use Rattle.nor_serprog.specs.declared.link.Link.{Link}
-use Rattle.nor_serprog.specs.Device.{PortState, MayLoseDevicePower}
+use Rattle.nor_serprog.specs.Device.{PortState, MayLoseDevicePower, with_settings}
 use Rattle.nor_serprog.specs.declared.command.Command.{Command}
 use Rattle.nor_serprog.specs.Frame.{frame_of}
-use Rattle.nor_serprog.specs.Firmware.{Firmware, has_command, reply_of, nak}
+use Rattle.nor_serprog.specs.Firmware.{Firmware, ProgrammerSettings, has_command, reply_of, settings_after, nak}
 use Rattle.nor_serprog.specs.Link.{is_in_step}
 use Rattle.nor_serprog.specs.Programmer.{programmer_name, writes_most, reads_most, buffer_of, frequency_of, has_chip_selects}
 use Rattle.nor_serprog.specs.Replies.{AwaitsCommand, OnlyAsks, IsPortFailure}
@@ -107,6 +107,26 @@ abbrev pub select_fault : {C : Type 0} → Firmware → (number : ℕ) → Optio
 select_fault firmware number =
     if has_command firmware 0x16 then refused 0x16 true (firmware.takes_select number) else Some (Lacks 0x16)
 
+-- ---- the settings that the handshake makes
+
+-- The settings after a command that makes one, if the programmer has this command, which has this opcode. Without the
+-- command, they are as they were.
+abbrev pub settings_if_offered : Firmware → (opcode : ℕ) → Command → ProgrammerSettings → ProgrammerSettings
+settings_if_offered firmware opcode command settings =
+    if has_command firmware opcode then settings_after firmware command settings else settings
+
+-- The settings of a programmer that was prepared for SPI: SPI (8) is selected if the programmer has S_BUSTYPE, and the
+-- pin drivers are on if it has S_PIN_STATE. Without the command, a setting is as it was.
+abbrev pub prepared_settings : Firmware → ProgrammerSettings → ProgrammerSettings
+prepared_settings firmware settings = record {
+  bus_type = if has_command firmware 0x12 then Some 8 else settings.bus_type;
+  pins_on = if has_command firmware 0x15 then true else settings.pins_on;
+}
+
+-- The state of a port whose programmer was prepared for SPI (`prepared_settings`).
+abbrev pub prepared : PortState → PortState
+prepared port = with_settings (prepared_settings port.device.firmware port.device.settings) port
+
 -- ---- the result of the handshake
 
 -- Holds if the port failed.
@@ -115,11 +135,12 @@ IsPortFault (Failure failure) = IsPortFailure failure
 IsPortFault _ = ⊥
 
 -- The result of the handshake, or of a part of it that takes at most this number of calls, over an honest port to a
--- programmer that is idle. `fault` is the error that the firmware causes, if any.
+-- programmer that is idle. `fault` is the error that the firmware causes, if any. `old` is the state of the port before
+-- it, with the settings that the programmer has after success.
 pub record Concludes {T C : Type 0} (calls : ℕ) (fault : Option (HandshakeFault C)) (IsValue : T → Type 0)
     (result : Result T (HandshakeFault C)) (old new : PortState) : Type 0 where
-  -- after success the firmware causes no error, the value is the right one, the programmer is idle, and its chip is as
-  -- it was
+  -- after success the firmware causes no error, the value is the right one, the programmer is idle and has the settings
+  -- of `old`, and its chip is as it was
   pub usable : OnOk result (fault ≡ None)
   pub value : IfOk result IsValue
   pub asks : OnOk result (OnlyAsks calls old new)
@@ -138,6 +159,7 @@ pub record IsInStepWith {P C : Type 0} (port : P → PortState) (firmware : Firm
 pub record Asked {C : Type 0} (firmware : Firmware) (command : Command) (count : ℕ) (reply : List ℕ)
     (result : Result Unit (HandshakeFault C)) (old new : PortState) : Type 0 where
   pub acked : (bytes : List ℕ) → reply_of firmware command ≡ 0x06 ∷ bytes → count ≡ length bytes
-      → Concludes 3 None (λ _. reply ≡ bytes) result old new
+      → Concludes 3 None (λ _. reply ≡ bytes) result
+      (with_settings (settings_after firmware command old.device.settings) old) new
   pub naked : reply_of firmware command ≡ nak
       → Concludes 3 (Some (Failure (Refused (slice_index (frame_of command) 0)))) (λ _. ⊥) result old new

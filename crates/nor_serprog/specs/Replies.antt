@@ -4,21 +4,23 @@ use Rattle.nor_serprog.specs.declared.command.Command.{Command}
 use Rattle.nor_serprog.specs.declared.link.Failure.{Failure}
 use Rattle.nor_serprog.specs.declared.link.Failure.TheVariants.{Port, Refused}
 use Rattle.nor_serprog.specs.Frame.{frame_of}
-use Rattle.nor_serprog.specs.Firmware.{reply_of, nak}
-use Rattle.nor_serprog.specs.Device.{PortState, IsIdle, MayLoseDevicePower}
+use Rattle.nor_serprog.specs.Firmware.{reply_of, settings_after, nak}
+use Rattle.nor_serprog.specs.Device.{PortState, IsIdle, MayLoseDevicePower, with_settings}
 
 -- The port is honest, and its programmer is idle (`IsIdle`).
 pub record AwaitsCommand (port : PortState) : Type 0 where
   pub honest : port.honest ≡ true
   pub idle : IsIdle port.device
 
--- At most this number of calls was made, and the programmer is idle again. The chip was not selected.
+-- At most this number of calls was made, and the programmer is idle again, with the settings of `old`. The chip was not
+-- selected.
 pub record OnlyAsks (calls : ℕ) (old new : PortState) : Type 0 where
   pub left : old.left ≤ new.left + calls
   pub awaits : AwaitsCommand new
   pub chip : new.device.chip ≡ old.device.chip
   pub worn : new.device.worn ≡ old.device.worn
   pub firmware : new.device.firmware ≡ old.device.firmware
+  pub settings : new.device.settings ≡ old.device.settings
 
 -- The port is honest, no command is begun, and exactly these bytes are pending: 1 to 25, the first not 0.
 pub record IsPending (bytes : List ℕ) (port : PortState) : Type 0 where
@@ -56,10 +58,11 @@ IsRefused opcode calls left failure = IsRefusal opcode failure ⊎ (IsPortFailur
 -- other than O_SPIOP whose reply is specified. For SYNCNOP, whose reply is NAK and ACK, only `power` says something.
 pub record EndsExchange {C : Type 0} (command : Command) (count : ℕ) (reply : List ℕ) (result : Result Unit (Failure C))
     (old new : PortState) : Type 0 where
-  -- if the programmer replies ACK and `count` bytes: success with these bytes, and the programmer is idle; or the port
-  -- failed because fewer than three calls were left
+  -- if the programmer replies ACK and `count` bytes: success with these bytes, and the programmer is idle and has made
+  -- the setting of the command, if the command is one; or the port failed because fewer than three calls were left
   pub acked : (bytes : List ℕ) → reply_of old.device.firmware command ≡ 0x06 ∷ bytes → count ≡ length bytes
-      → OnOk result ((reply ≡ bytes) × OnlyAsks 3 old new)
+      → OnOk result ((reply ≡ bytes) × OnlyAsks 3
+      (with_settings (settings_after old.device.firmware command old.device.settings) old) new)
       × IfErr result (λ failure. IsPortFailure failure × (old.left < 3))
   -- if the programmer replies NAK: `Refused` with the opcode of the command; or the port failed because fewer than two
   -- calls were left

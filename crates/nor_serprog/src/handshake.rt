@@ -1,11 +1,14 @@
 //! The handshake that precedes the first transaction: identifies a programmer, and prepares it for SPI.
 ghost use Rattle.std.specs.Prelude.{◌≡◌, ◌<◌, ◌≤◌, ℕ, Bool, true, false, List, length, slice_index, None, Some, OnOk, IfOk, IsErr};
 ghost use Rattle.std.specs.Prelude.{option_and_then, replicate, if◌then◌else◌, ◌||◌, ◌&&◌, ◌==◌, not, bit_and, ⊤};
-ghost use Rattle.nor_serprog.specs.Firmware.{Firmware, HasReply, has_command, is_in_map, reply_of, queried, taken};
+ghost use Rattle.nor_serprog.specs.Device.{with_settings};
+ghost use Rattle.nor_serprog.specs.Firmware.{Firmware, HasReply, ProgrammerSettings, has_command, is_in_map, reply_of, queried};
+ghost use Rattle.nor_serprog.specs.Firmware.{settings_after, taken};
 ghost use Rattle.nor_serprog.specs.Frame.{frame_of, three_of};
 ghost use Rattle.nor_serprog.specs.Link.{port_of, is_in_step, is_cut};
 ghost use Rattle.nor_serprog.specs.Replies.{AwaitsCommand};
 ghost use Rattle.nor_serprog.specs.Identify.{Asked, Concludes, IsInStepWith, IsProgrammerOf, identify_fault, select_fault};
+ghost use Rattle.nor_serprog.specs.Identify.{prepared, settings_if_offered};
 ghost use Rattle.nor_serprog.specs.Identify.{version_fault, operation_fault, buses_fault, write_fault, read_fault};
 ghost use Rattle.nor_serprog.specs.Identify.{buffer_fault, clock_fault, refused, buses_of, write_limit, read_limit, limit_in};
 
@@ -54,8 +57,9 @@ impl Programmer {
     ///
     /// Over an honest port to an idle programmer, its firmware determines the result, unless the port fails because
     /// fewer than 59 calls were left. The errors are those of `identify_fault`, in the order of the steps. After `Ok`
-    /// the programmer is idle again, and its chip is as it was. Nothing of this paragraph is promised for a link on
-    /// which a frame may have been cut off.
+    /// the programmer is idle again, and its chip is as it was. SPI is selected if the programmer has S_BUSTYPE. The
+    /// pin drivers are on if the programmer has S_PIN_STATE. Without the command, a setting is as it was. Nothing of
+    /// this paragraph is promised for a link on which a frame may have been cut off.
     pub fn identify<P: Port + Drop>(
         link: &mut Link<P>,
         hertz: Option<u32>,
@@ -64,7 +68,7 @@ impl Programmer {
         ensures identifies { AwaitsCommand (P.state (port_of link.old)) → is_cut link.old ≡ false
             → Concludes 59 (identify_fault (P.state (port_of link.old)).device.firmware hertz)
             (IsProgrammerOf (P.state (port_of link.old)).device.firmware hertz) result
-            (P.state (port_of link.old)) (P.state (port_of link.new)) }
+            (prepared (P.state (port_of link.old))) (P.state (port_of link.new)) }
     {
         synchronize(link)?;
         require_version(link)?;
@@ -164,6 +168,7 @@ fn query<P: Port + Drop, const LEN: usize>(
     ensures concludes { (firmware : Firmware) (bytes : List ℕ) → IsInStepWith P.state firmware link.old
         → commands.now ≡ firmware.commands → HasReply firmware query.entry
         → reply_of firmware query.entry ≡ queried firmware opcode bytes → length bytes ≡ LEN
+        → ((settings : ProgrammerSettings) → settings_after firmware query.entry settings ≡ settings)
         → Concludes 3 None (λ reply. reply ≡ (if has_command firmware opcode then Some bytes else None)) result
         (P.state (port_of link.old)) (P.state (port_of link.new)) }
 {
@@ -187,7 +192,8 @@ fn set<P: Port + Drop>(
         → commands.now ≡ firmware.commands → (has_command firmware opcode ≡ true → HasReply firmware setting.entry)
         → reply_of firmware setting.entry ≡ taken accepts → slice_index (frame_of setting.entry) 0 ≡ opcode
         → Concludes 3 (refused opcode (has_command firmware opcode) accepts) (λ _. ⊤) result
-        (P.state (port_of link.old)) (P.state (port_of link.new)) }
+        (with_settings (settings_if_offered firmware opcode setting.entry (P.state (port_of link.old)).device.settings)
+        (P.state (port_of link.old))) (P.state (port_of link.new)) }
 {
     if !offers(commands, opcode) {
         return Ok(());

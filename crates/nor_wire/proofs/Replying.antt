@@ -9,8 +9,8 @@ use Rattle.std.proofs.Math.Seq.{take-length, drop-append_seam}
 use Rattle.nor_serprog.specs.declared.command.Command.{Command}
 use Rattle.nor_serprog.specs.declared.command.Command.TheVariants.{SetBuses, Operate, SetFrequency, SetPins, SelectChip}
 use Rattle.nor_serprog.specs.Frame.{frame_of, frame_len, long_len, argument_count}
-use Rattle.nor_serprog.specs.Firmware.{HasReply, HaveReplies, reply_of, replies_of, frames_of}
-use Rattle.nor_wire.specs.SimPort.{simulated_firmware, simulated_reply}
+use Rattle.nor_serprog.specs.Firmware.{ProgrammerSettings, HasReply, HaveReplies, reply_of, replies_of, settings_after, settings_after_all, frames_of}
+use Rattle.nor_wire.specs.SimPort.{simulated_firmware, simulated_reply, simulated_settings, bus_type_after}
 
 -- The reply to a frame is the one of the firmware.
 reply_is : (command : Command) → HasReply simulated_firmware command
@@ -21,6 +21,17 @@ reply_is (SetPins enabled) has = absurd (false≢true has)
 reply_is (SelectChip number) has = absurd (false≢true has)
 reply_is (SetBuses flags) has = refl
 reply_is _ has = refl
+
+-- The type of bus after a frame is the one of the settings.
+selects_as : (command : Command) → HasReply simulated_firmware command → (bus_type : Option ℕ)
+    → simulated_settings (bus_type_after (frame_of command) bus_type)
+    ≡ settings_after simulated_firmware command (simulated_settings bus_type)
+selects_as (Operate out replies) has bus_type = absurd has
+selects_as (SetFrequency hertz) has bus_type = absurd (false≢true has)
+selects_as (SetPins enabled) has bus_type = absurd (false≢true has)
+selects_as (SelectChip number) has bus_type = absurd (false≢true has)
+selects_as (SetBuses flags) has bus_type = refl
+selects_as _ has bus_type = refl
 
 len_is : (command : Command) → HasReply simulated_firmware command → (more : List ℕ)
     → frame_len (frame_of command ++ more) ≡ Some (length (frame_of command))
@@ -73,22 +84,25 @@ len_some (opcode ∷ rest) =
     either_some (opcode == 0x13 || opcode == 0x0D) (long_len rest) (Some (1 + argument_count opcode)) (long_some rest)
     (omega arith)
 
--- The frames of `later` are left, and the replies to the earlier commands are among `now`.
-pub record Remains (rest before now : List ℕ) (commands : List Command) : Type 0 where
+-- The frames of `later` are left. The replies to the earlier commands are among `now`, and the type of bus that they
+-- select is `bus'`.
+pub record Remains (rest before now : List ℕ) (bus bus' : Option ℕ) (commands : List Command) : Type 0 where
   pub later : List Command
   pub frames : rest ≡ frames_of later
   pub have : HaveReplies simulated_firmware later
   pub replies : now ++ replies_of simulated_firmware later ≡ before ++ replies_of simulated_firmware commands
+  pub settings : settings_after_all simulated_firmware later (simulated_settings bus')
+      ≡ settings_after_all simulated_firmware commands (simulated_settings bus)
 
-pub record Answers (frames rest before now : List ℕ) (done : ℕ) : Type 0 where
+pub record Answers (frames rest before now : List ℕ) (bus bus' : Option ℕ) (done : ℕ) : Type 0 where
   pub shorter : length rest + done ≤ length frames
   pub remains : (commands : List Command) → frames ≡ frames_of commands
-      → HaveReplies simulated_firmware commands → Remains rest before now commands
+      → HaveReplies simulated_firmware commands → Remains rest before now bus bus' commands
 
-pub answers_none : (frames before : List ℕ) → Answers frames frames before before 0
-answers_none frames before = record {
+pub answers_none : (frames before : List ℕ) (bus : Option ℕ) → Answers frames frames before before bus bus 0
+answers_none frames before bus = record {
   shorter = omega arith;
-  remains = λ commands same have. record { later = commands; frames = same; have = have; replies = refl };
+  remains = λ commands same have. record { later = commands; frames = same; have = have; replies = refl; settings = refl };
 }
 
 -- The next frame is that of the next command.
@@ -119,15 +133,17 @@ nothing_left rest frame rest' len same is split =
     omega (arith, huge, split.0, ap length same)
 
 -- One more frame was answered.
-pub remains_then : (rest frame rest' before now now' : List ℕ) (len : ℕ) (commands later : List Command)
+pub remains_then : (rest frame rest' before now now' : List ℕ) (bus mid bus' : Option ℕ) (len : ℕ) (commands later : List Command)
     → len ≡ unwrap_or (frame_len rest) 18446744073709551615 → IsSplitAt rest len frame rest'
-    → now' ≡ now ++ simulated_reply (slice_index frame 0) → rest ≡ frames_of later
+    → now' ≡ now ++ simulated_reply (slice_index frame 0) → bus' ≡ bus_type_after frame mid → rest ≡ frames_of later
     → HaveReplies simulated_firmware later
     → now ++ replies_of simulated_firmware later ≡ before ++ replies_of simulated_firmware commands
-    → Remains rest' before now' commands
-remains_then rest frame rest' before now now' len commands [] is split more frames have replies =
+    → settings_after_all simulated_firmware later (simulated_settings mid)
+    ≡ settings_after_all simulated_firmware commands (simulated_settings bus)
+    → Remains rest' before now' bus bus' commands
+remains_then rest frame rest' before now now' bus mid bus' len commands [] is split more selects frames have replies settings =
     absurd (nothing_left rest frame rest' len frames is split)
-remains_then rest frame rest' before now now' len commands (command ∷ later) is split more frames have replies =
+remains_then rest frame rest' before now now' bus mid bus' len commands (command ∷ later) is split more selects frames have replies settings =
     let n = next rest frame rest' len command later frames have.0 is split in
     let reply = reply_of simulated_firmware command in
     let same : simulated_reply (slice_index frame 0) ≡ reply =
@@ -138,26 +154,28 @@ remains_then rest frame rest' before now now' len commands (command ∷ later) i
       have = have.1;
       replies = ap (λ (l : List ℕ). l ++ replies_of simulated_firmware later) (more ∙ ap (λ (r : List ℕ). now ++ r) same)
           ∙ append_assoc now reply (replies_of simulated_firmware later) ∙ replies;
+      settings = ap (λ (s : ProgrammerSettings). settings_after_all simulated_firmware later s)
+          (ap simulated_settings (selects ∙ ap (λ (f : List ℕ). bus_type_after f mid) n.frame_is)
+          ∙ selects_as command have.0 mid) ∙ settings;
     }
 
-pub answers_then : (frames rest frame rest' before now now' : List ℕ) (len done : ℕ)
+pub answers_then : (frames rest frame rest' before now now' : List ℕ) (bus mid bus' : Option ℕ) (len done : ℕ)
     → len ≡ unwrap_or (frame_len rest) 18446744073709551615 → IsSplitAt rest len frame rest'
-    → now' ≡ now ++ simulated_reply (slice_index frame 0) → Answers frames rest before now done
-    → Answers frames rest' before now' (done + 1)
-answers_then frames rest frame rest' before now now' len done is split more a = record {
+    → now' ≡ now ++ simulated_reply (slice_index frame 0) → bus' ≡ bus_type_after frame mid
+    → Answers frames rest before now bus mid done → Answers frames rest' before now' bus bus' (done + 1)
+answers_then frames rest frame rest' before now now' bus mid bus' len done is split more selects a = record {
   shorter = omega (arith, a.shorter, split.4, len_some rest, is);
   remains = λ commands same have.
       let r = a.remains commands same have in
-      remains_then rest frame rest' before now now' len commands r.later is split more r.frames r.have r.replies;
+      remains_then rest frame rest' before now now' bus mid bus' len commands r.later is split more selects r.frames r.have
+      r.replies r.settings;
 }
 
 -- Nothing is left: all commands were answered.
-ended : (rest before now : List ℕ) (commands later : List Command) → length rest ≤ 0 → rest ≡ frames_of later
-    → HaveReplies simulated_firmware later
-    → now ++ replies_of simulated_firmware later ≡ before ++ replies_of simulated_firmware commands
-    → now ≡ before ++ replies_of simulated_firmware commands
-ended rest before now commands [] none frames have replies = sym (append-nil now) ∙ replies
-ended rest before now commands (command ∷ later) none frames have replies =
+ended : (rest : List ℕ) (later : List Command) → length rest ≤ 0 → rest ≡ frames_of later
+    → HaveReplies simulated_firmware later → later ≡ []
+ended rest [] none frames have = refl
+ended rest (command ∷ later) none frames have =
     absurd (omega (
       arith,
       none,
@@ -166,34 +184,46 @@ ended rest before now commands (command ∷ later) none frames have replies =
       frame_some command have.0,
     ))
 
-pub all_answered : (frames rest before now : List ℕ) (done : ℕ) (commands : List Command) → length frames ≤ done
-    → Answers frames rest before now done → frames ≡ frames_of commands
-    → HaveReplies simulated_firmware commands → now ≡ before ++ replies_of simulated_firmware commands
-all_answered frames rest before now done commands all a same have =
-    let r = a.remains commands same have in
-    ended rest before now commands r.later (omega (arith, a.shorter, all)) r.frames r.have r.replies
-
 -- No whole frame is left: all commands were answered.
-no_frame : (rest before now : List ℕ) (len : ℕ) (commands later : List Command)
+no_frame : (rest : List ℕ) (len : ℕ) (later : List Command)
     → len ≡ unwrap_or (frame_len rest) 18446744073709551615 → length rest < len → rest ≡ frames_of later
-    → HaveReplies simulated_firmware later
-    → now ++ replies_of simulated_firmware later ≡ before ++ replies_of simulated_firmware commands
-    → now ≡ before ++ replies_of simulated_firmware commands
-no_frame rest before now len commands [] is short frames have replies = sym (append-nil now) ∙ replies
-no_frame rest before now len commands (command ∷ later) is short frames have replies =
+    → HaveReplies simulated_firmware later → later ≡ []
+no_frame rest len [] is short frames have = refl
+no_frame rest len (command ∷ later) is short frames have =
     let known : frame_len rest ≡ Some (length (frame_of command)) =
     ap frame_len frames ∙ len_is command have.0 (frames_of later) in
     let len_of : len ≡ length (frame_of command) =
     is ∙ ap (λ (o : Option ℕ). unwrap_or o 18446744073709551615) known in
     absurd (omega (arith, short, len_of, ap length frames, length-append (frame_of command) (frames_of later)))
 
-pub none_whole : (frames rest before now : List ℕ) (len done : ℕ) (commands : List Command)
-    → len ≡ unwrap_or (frame_len rest) 18446744073709551615 → length rest < len
-    → Answers frames rest before now done → frames ≡ frames_of commands → HaveReplies simulated_firmware commands
-    → now ≡ before ++ replies_of simulated_firmware commands
-none_whole frames rest before now len done commands is short a same have =
+-- The replies to all of these commands are among `now`, and the type of bus that they select is `bus'`.
+pub record AreAnswered (before now : List ℕ) (bus bus' : Option ℕ) (commands : List Command) : Type 0 where
+  pub replies : now ≡ before ++ replies_of simulated_firmware commands
+  pub settings : simulated_settings bus' ≡ settings_after_all simulated_firmware commands (simulated_settings bus)
+
+are_answered : (rest before now : List ℕ) (bus bus' : Option ℕ) (commands : List Command)
+    → (r : Remains rest before now bus bus' commands) → r.later ≡ [] → AreAnswered before now bus bus' commands
+are_answered rest before now bus bus' commands r none = record {
+  replies = sym (append-nil now)
+      ∙ ap (λ (l : List Command). now ++ replies_of simulated_firmware l) (sym none) ∙ r.replies;
+  settings = ap (λ (l : List Command). settings_after_all simulated_firmware l (simulated_settings bus')) (sym none)
+      ∙ r.settings;
+}
+
+pub all_answered : (frames rest before now : List ℕ) (bus bus' : Option ℕ) (done : ℕ) (commands : List Command)
+    → length frames ≤ done → Answers frames rest before now bus bus' done → frames ≡ frames_of commands
+    → HaveReplies simulated_firmware commands → AreAnswered before now bus bus' commands
+all_answered frames rest before now bus bus' done commands all a same have =
     let r = a.remains commands same have in
-    no_frame rest before now len commands r.later is short r.frames r.have r.replies
+    are_answered rest before now bus bus' commands r (ended rest r.later (omega (arith, a.shorter, all)) r.frames r.have)
+
+pub none_whole : (frames rest before now : List ℕ) (bus bus' : Option ℕ) (len done : ℕ) (commands : List Command)
+    → len ≡ unwrap_or (frame_len rest) 18446744073709551615 → length rest < len
+    → Answers frames rest before now bus bus' done → frames ≡ frames_of commands → HaveReplies simulated_firmware commands
+    → AreAnswered before now bus bus' commands
+none_whole frames rest before now bus bus' len done commands is short a same have =
+    let r = a.remains commands same have in
+    are_answered rest before now bus bus' commands r (no_frame rest len r.later is short r.frames r.have)
 
 -- If the replies to all commands fit, so does the next one.
 next_fits : (rest frame rest' before now : List ℕ) (len : ℕ) (commands later : List Command)
@@ -215,12 +245,12 @@ next_fits rest frame rest' before now len commands (command ∷ later) is split 
     let right = length-append before (replies_of simulated_firmware commands) in
     omega (arith, ap length same, all, left, both, right, fits)
 
-pub reply_fits : (frames rest frame rest' before now : List ℕ) (len done : ℕ) (commands : List Command)
+pub reply_fits : (frames rest frame rest' before now : List ℕ) (bus bus' : Option ℕ) (len done : ℕ) (commands : List Command)
     → len ≡ unwrap_or (frame_len rest) 18446744073709551615 → IsSplitAt rest len frame rest'
     → length before + length (replies_of simulated_firmware commands) ≤ 4097
-    → Answers frames rest before now done → frames ≡ frames_of commands → HaveReplies simulated_firmware commands
+    → Answers frames rest before now bus bus' done → frames ≡ frames_of commands → HaveReplies simulated_firmware commands
     → length now + length (simulated_reply (slice_index frame 0)) ≤ 4097
-reply_fits frames rest frame rest' before now len done commands is split fits a same have =
+reply_fits frames rest frame rest' before now bus bus' len done commands is split fits a same have =
     let r = a.remains commands same have in
     next_fits rest frame rest' before now len commands r.later is split fits r.frames r.have r.replies
 

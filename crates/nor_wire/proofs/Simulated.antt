@@ -1,12 +1,12 @@
 -- A transaction of a simulated chip, as a transaction of the programmer in front of it.
 use Rattle.std.proofs.Common.{◌≡◌, ◌∙◌, ℕ, Bool, true, List, [], ◌∷◌, length, refl, ap, subst, arith}
-use Rattle.std.specs.Prelude.{◌||◌, ◌==◌, take, Result, Ok, Err, OnOk, OnErr}
+use Rattle.std.specs.Prelude.{◌||◌, ◌==◌, take, Option, Result, Ok, Err, OnOk, OnErr}
 use Rattle.std.proofs.lemmas.Bool.{eqb-true}
 use Rattle.nor_model.specs.Chip.{Chip}
 use Rattle.nor_model.specs.Step.{Step, done_of, wears}
 use Rattle.nor_model.specs.Bus.{BusState, Allows, AtStop}
 use Rattle.nor_serprog.specs.Device.{IsCut}
-use Rattle.nor_wire.specs.SimPort.{device_over, simulated_firmware}
+use Rattle.nor_wire.specs.SimPort.{device_over, simulated_firmware, simulated_settings}
 
 pub empty : (items : List ℕ) → (length items == 0) ≡ true → items ≡ []
 empty [] none = refl
@@ -29,14 +29,21 @@ worn_then n out replies old mid worn allows after s =
     (after s ∙ ap (λ (w : Bool). w || wears (done_of mid.chip out replies) s) (allows.worn s))
 
 -- A transaction at which the simulated bus stopped was interrupted, as `IsCut` describes.
-pub cut : (out : List ℕ) (old mid new : BusState) (pending : List ℕ) → Allows 0 old mid → AtStop out mid new
-    → IsCut out (device_over old pending) (device_over new pending)
-cut out old mid new pending allows stop =
+pub cut : (out : List ℕ) (old mid new : BusState) (bus_type : Option ℕ) (pending : List ℕ) → Allows 0 old mid
+    → AtStop out mid new → IsCut out (device_over old bus_type pending) (device_over new bus_type pending)
+cut out old mid new bus_type pending allows stop =
     let P : Chip → Type 0 = λ c. Step c (take stop.count out) stop.read stop.reached in
     record {
       count = stop.count;
       read = stop.read;
-      reached = record { chip = stop.reached; worn = new.worn; firmware = simulated_firmware; begun = []; pending = [] };
+      reached = record {
+        chip = stop.reached;
+        worn = new.worn;
+        firmware = simulated_firmware;
+        settings = simulated_settings bus_type;
+        begun = [];
+        pending = [];
+      };
       steps = record {
         step = subst P allows.chip stop.step;
         worn = worn_then 0 (take stop.count out) (length stop.read) old mid new.worn allows stop.worn;

@@ -1,10 +1,10 @@
 -- The simulated port, as contracts see it.
-use Rattle.std.specs.Prelude.{◌==◌, ◌||◌, ℕ, true, false, List, [], ◌∷◌, None, replicate, if◌then◌else◌}
+use Rattle.std.specs.Prelude.{◌==◌, ◌||◌, ℕ, true, false, List, [], ◌∷◌, Option, None, Some, replicate, slice_index, if◌then◌else◌}
 use Rattle.std.proofs.Common.{refl, lit<}
 use Rattle.nor_model.specs.Bus.{BusState}
 use Rattle.nor_chip.specs.declared.sim.SimBus.{SimBus}
 use Rattle.nor_serprog.specs.Device.{Device, PortState}
-use Rattle.nor_serprog.specs.Firmware.{Firmware, nak}
+use Rattle.nor_serprog.specs.Firmware.{Firmware, ProgrammerSettings, nak}
 use Rattle.nor_wire.specs.declared.sim_port.SimPort.{SimPort}
 
 -- The chip of a simulated port, as a simulated bus.
@@ -49,21 +49,30 @@ simulated_reply opcode =
     else if opcode == 0x10 then 0x15 ∷ 0x06 ∷ []
     else nak
 
--- A programmer in front of the chip of this bus, with these bytes pending. The programmer keeps no part of a frame from
--- one call of the port to the next, so `begun` is empty.
-abbrev pub device_over : BusState → (pending : List ℕ) → Device
-device_over bus pending = record {
+-- The type of bus that is selected after a frame, if `before` was selected before it. Only S_BUSTYPE (12h) selects one.
+abbrev pub bus_type_after : (frame : List ℕ) → (before : Option ℕ) → Option ℕ
+bus_type_after frame before = if slice_index frame 0 == 0x12 then Some (slice_index frame 1) else before
+
+-- The settings of the simulated programmer, which has no S_PIN_STATE.
+abbrev pub simulated_settings : (bus_type : Option ℕ) → ProgrammerSettings
+simulated_settings bus_type = record { bus_type = bus_type; pins_on = false }
+
+-- A programmer in front of the chip of this bus, with this type of bus selected, and with these bytes pending. The
+-- programmer keeps no part of a frame from one call of the port to the next, so `begun` is empty.
+abbrev pub device_over : BusState → (bus_type : Option ℕ) → (pending : List ℕ) → Device
+device_over bus bus_type pending = record {
   chip = bus.chip;
   worn = bus.worn;
   firmware = simulated_firmware;
+  settings = simulated_settings bus_type;
   begun = [];
   pending = pending;
 }
 
 -- An honest port to the programmer in front of the chip of this bus (`device_over`), with `left` calls left.
-abbrev pub port_over : BusState → (pending : List ℕ) → (left : ℕ) → PortState
-port_over bus pending left = record {
-  device = device_over bus pending;
+abbrev pub port_over : BusState → (bus_type : Option ℕ) → (pending : List ℕ) → (left : ℕ) → PortState
+port_over bus bus_type pending left = record {
+  device = device_over bus bus_type pending;
   left = left;
   honest = true;
 }

@@ -1,11 +1,12 @@
 //! A simulated port: a programmer in memory, in front of a simulated chip.
-ghost use Rattle.std.specs.Prelude.{◌≡◌, ◌≤◌, ◌+◌, ◌++◌, ◌∷◌, true, false, [], ℕ, List, length, slice_index, OnOk, OnErr};
+ghost use Rattle.std.specs.Prelude.{◌≡◌, ◌≤◌, ◌+◌, ◌++◌, ◌∷◌, true, false, [], ℕ, List, Option, None, length, slice_index};
+ghost use Rattle.std.specs.Prelude.{OnOk, OnErr};
 ghost use Rattle.nor_serprog.specs.Device.{IsIdle, IsSent, IsCutOff, IsCut, StepsOnce};
-ghost use Rattle.nor_serprog.specs.Firmware.{HaveReplies, frames_of, replies_of};
+ghost use Rattle.nor_serprog.specs.Firmware.{HaveReplies, frames_of, replies_of, settings_after_all};
 ghost use Rattle.nor_serprog.specs.Frame.{IsFrame, out_in, replies_in};
 ghost use Rattle.nor_serprog.specs.declared.command.Command.{Command};
 ghost use Rattle.nor_wire.specs.SimPort.{simulated_chip, simulated_firmware, simulated_reply, left_of};
-ghost use Rattle.nor_wire.specs.SimPort.{device_over, port_over};
+ghost use Rattle.nor_wire.specs.SimPort.{bus_type_after, simulated_settings, device_over, port_over};
 
 use arrayvec::ArrayVec;
 use nor_chip::{Bus, Meter, SimBus};
@@ -43,10 +44,10 @@ pub enum SimFailure {
 /// out the given number of calls, and then fails.
 ///
 /// The programmer carries out an O_SPIOP frame only if one call of `send` sends that frame and nothing else. It replies
-/// to the queries of a handshake (`Programmer::identify`). If the port fails while it sends an O_SPIOP, the chip stops
-/// as `SimBus::tear` and `SimBus::lose` set. The programmer sends as many bytes of the transaction as `tear` set (none
-/// by default, at most all), and the chip loses its power only if `lose` set that. If the port fails later in an
-/// exchange, the chip has carried out the transaction, and the reply is lost.
+/// to the queries of a handshake (`Programmer::identify`), and accepts any type of bus (S_BUSTYPE). If the port fails
+/// while it sends an O_SPIOP, the chip stops as `SimBus::tear` and `SimBus::lose` set. The programmer sends as many
+/// bytes of the transaction as `tear` set (none by default, at most all), and the chip loses its power only if `lose`
+/// set that. If the port fails later in an exchange, the chip has carried out the transaction, and the reply is lost.
 ///
 /// A call that sends one O_SPIOP frame also fails if a reply is pending, or if the frame requests more than 4,096
 /// bytes. A call fails, too, if it sends other frames whose replies are longer than 4,097 bytes together with those
@@ -55,6 +56,8 @@ pub enum SimFailure {
 pub struct SimPort {
     chip: SimBus,
     pending: ArrayVec<u8, MOST_PENDING>,
+    // The flags of the last S_BUSTYPE.
+    bus_type: Option<u8>,
     left: u64,
 }
 
@@ -62,11 +65,12 @@ impl SimPort {
     /// Returns a port to a programmer with this chip. `left` is the greatest number of calls that can succeed.
     pub fn new(chip: SimBus, left: u64) -> SimPort
         ensures chip { simulated_chip result ≡ chip }
-        ensures state { ⟦<SimPort as Port>⟧.state result ≡ port_over (⟦<SimBus as Bus>⟧.state chip) [] left }
+        ensures state { ⟦<SimPort as Port>⟧.state result ≡ port_over (⟦<SimBus as Bus>⟧.state chip) None [] left }
     {
         SimPort {
             chip,
             pending: ArrayVec::new(),
+            bus_type: None,
             left,
         }
     }
@@ -121,7 +125,7 @@ impl SimPort {
 impl Port for SimPort {
     type Cause = SimFailure;
 
-    ghost state = { λ port. port_over (⟦<SimBus as Bus>⟧.state port.chip) port.pending.items port.left };
+    ghost state = { λ port. port_over (⟦<SimBus as Bus>⟧.state port.chip) port.bus_type port.pending.items port.left };
 
     ghost reaches = { λ port honest. record {
       busy = port.chip.flash.busy_in;
@@ -137,7 +141,7 @@ impl Port for SimPort {
         if self.left == 0 {
             return Err(SimFailure::Cut);
         }
-        if !reply_to_each(&mut self.pending, bytes) {
+        if !reply_to_each(&mut self.pending, &mut self.bus_type, bytes) {
             self.left = 0;
             return Err(SimFailure::Cut);
         }
@@ -204,9 +208,9 @@ fn acknowledged(bytes: &[u8]) -> ArrayVec<u8, MOST_PENDING>
 
 // Carries out one transaction of the chip.
 fn transact(chip: &mut SimBus, out: &[u8], reply: &mut [u8])
-    ensures { (pending pending' : List ℕ) → StepsOnce out.now reply.new
-        (device_over (⟦<SimBus as Bus>⟧.state chip.old) pending)
-        (device_over (⟦<SimBus as Bus>⟧.state chip.new) pending') }
+    ensures { (bus_type : Option ℕ) (pending pending' : List ℕ) → StepsOnce out.now reply.new
+        (device_over (⟦<SimBus as Bus>⟧.state chip.old) bus_type pending)
+        (device_over (⟦<SimBus as Bus>⟧.state chip.new) bus_type pending') }
 {
     chip.allow(1);
     let _ = chip.transfer(out, reply);
@@ -215,19 +219,27 @@ fn transact(chip: &mut SimBus, out: &[u8], reply: &mut [u8])
 // Stops the chip at a transaction that sends `out`, after as many bytes as `SimBus::tear` set, and with or without a
 // loss of power, as `SimBus::lose` set.
 fn cut(chip: &mut SimBus, out: &[u8])
-    ensures { (pending : List ℕ) → IsCut out.now (device_over (⟦<SimBus as Bus>⟧.state chip.old) pending)
-        (device_over (⟦<SimBus as Bus>⟧.state chip.new) pending) }
+    ensures { (bus_type : Option ℕ) (pending : List ℕ) → IsCut out.now
+        (device_over (⟦<SimBus as Bus>⟧.state chip.old) bus_type pending)
+        (device_over (⟦<SimBus as Bus>⟧.state chip.new) bus_type pending) }
 {
     chip.allow(0);
     let _ = chip.transfer(out, &mut []);
 }
 
-// Appends the reply to each of these frames (`reply_to`) to `pending`. Bytes after the last whole frame are ignored.
-// Returns false if the replies do not fit.
-fn reply_to_each(pending: &mut ArrayVec<u8, MOST_PENDING>, frames: &[u8]) -> bool
+// Appends the reply to each of these frames (`reply_to`) to `pending`, and changes `bus_type` as they select a type of
+// bus (`selected_by`). Bytes after the last whole frame are ignored. Returns false if the replies do not fit.
+fn reply_to_each(
+    pending: &mut ArrayVec<u8, MOST_PENDING>,
+    bus_type: &mut Option<u8>,
+    frames: &[u8],
+) -> bool
     ensures replies { (commands : List Command) → frames.now ≡ frames_of commands
         → HaveReplies simulated_firmware commands → result ≡ true
         → pending.new.items ≡ pending.old.items ++ replies_of simulated_firmware commands }
+    ensures selects { (commands : List Command) → frames.now ≡ frames_of commands
+        → HaveReplies simulated_firmware commands → result ≡ true → simulated_settings bus_type.new
+        ≡ settings_after_all simulated_firmware commands (simulated_settings bus_type.old) }
     ensures fits { (commands : List Command) → frames.now ≡ frames_of commands
         → HaveReplies simulated_firmware commands
         → length pending.old.items + length (replies_of simulated_firmware commands) ≤ 4097 → result ≡ true }
@@ -241,9 +253,21 @@ fn reply_to_each(pending: &mut ArrayVec<u8, MOST_PENDING>, frames: &[u8]) -> boo
         if pending.try_extend_from_slice(reply_to(frame)).is_err() {
             return false;
         }
+        *bus_type = selected_by(frame, *bus_type);
         rest = later;
     }
     true
+}
+
+// Returns the type of bus that is selected after a frame, if `before` was selected before it.
+fn selected_by(frame: &[u8], before: Option<u8>) -> Option<u8>
+    ensures { result ≡ bus_type_after frame.now before }
+{
+    if byte_at(frame, 0) == 0x12 {
+        Some(byte_at(frame, 1))
+    } else {
+        before
+    }
 }
 
 // Returns the reply to one frame (serprog protocol, flashrom's Documentation/serprog-protocol.txt). An O_SPIOP that is

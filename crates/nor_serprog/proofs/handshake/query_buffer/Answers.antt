@@ -12,17 +12,17 @@ returns-in_err-size-clause-concludes g c firmware ready same =
     let p = err_from_is_err_and c.from_residual.result c.from_residual.ensures.1 in
     rw (p.1, p.2)
     (fails_anyhow 3 _ _ _ _ _ _
-    (c.in_err-size.ensures.concludes firmware (two_of firmware.buffer) ready same tt refl refl))
+    (c.in_err-size.ensures.concludes firmware (two_of firmware.buffer) ready same tt refl refl (λ s. refl)))
 
 pub returns-in-None-clause-concludes : goal.returns-in-None-clause-concludes
 returns-in-None-clause-concludes g c firmware ready same =
-    let done = c.in_ok-size.ensures.concludes firmware (two_of firmware.buffer) ready same tt refl refl in
+    let done = c.in_ok-size.ensures.concludes firmware (two_of firmware.buffer) ready same tt refl refl (λ s. refl) in
     let h = lacks_query (has_command firmware 0x04) (two_of firmware.buffer) _ c.in-None.is done.value in
     goes_on 3 None _ _ _ _ _ _ _ done (buffer_lacks _ _ _ h) (sym (ap (λ (b : Bool). if b then firmware.buffer else 0) h))
 
 pub returns-then-offers-clause-concludes : goal.returns-then-offers-clause-concludes
 returns-then-offers-clause-concludes g c firmware ready same =
-    let done = c.in_ok-size.ensures.concludes firmware (two_of firmware.buffer) ready same tt refl refl in
+    let done = c.in_ok-size.ensures.concludes firmware (two_of firmware.buffer) ready same tt refl refl (λ s. refl) in
     let r = replied (has_command firmware 0x04) (two_of firmware.buffer) _ _ c.in-Some.is done.value in
     let e : c.from_le_bytes-size.result ≡ firmware.buffer =
     c.from_le_bytes-size.ensures ∙ ap (λ (l : List ℕ). from_le_bytes w16 l) r.bytes_are
@@ -33,7 +33,7 @@ returns-then-offers-clause-concludes g c firmware ready same =
 
 pub returns-then-size-lt-LONGEST_FRAME-clause-concludes : goal.returns-then-size-lt-LONGEST_FRAME-clause-concludes
 returns-then-size-lt-LONGEST_FRAME-clause-concludes g c firmware ready same =
-    let done = c.in_ok-size.ensures.concludes firmware (two_of firmware.buffer) ready same tt refl refl in
+    let done = c.in_ok-size.ensures.concludes firmware (two_of firmware.buffer) ready same tt refl refl (λ s. refl) in
     let r = replied (has_command firmware 0x04) (two_of firmware.buffer) _ _ c.in-Some.is done.value in
     let e : c.from_le_bytes-size.result ≡ firmware.buffer =
     c.from_le_bytes-size.ensures ∙ ap (λ (l : List ℕ). from_le_bytes w16 l) r.bytes_are
@@ -44,7 +44,7 @@ returns-then-size-lt-LONGEST_FRAME-clause-concludes g c firmware ready same =
 
 pub returns-clause-concludes : goal.returns-clause-concludes
 returns-clause-concludes g c firmware ready same =
-    let done = c.in_ok-size.ensures.concludes firmware (two_of firmware.buffer) ready same tt refl refl in
+    let done = c.in_ok-size.ensures.concludes firmware (two_of firmware.buffer) ready same tt refl refl (λ s. refl) in
     let r = replied (has_command firmware 0x04) (two_of firmware.buffer) _ _ c.in-Some.is done.value in
     let e : c.from_le_bytes-size.result ≡ firmware.buffer =
     c.from_le_bytes-size.ensures ∙ ap (λ (l : List ℕ). from_le_bytes w16 l) r.bytes_are

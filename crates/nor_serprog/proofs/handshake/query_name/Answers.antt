@@ -10,11 +10,11 @@ returns-in_err-name-clause-concludes g c firmware ready same =
     let p = err_from_is_err_and c.from_residual.result c.from_residual.ensures.1 in
     rw (p.1, p.2)
     (fails_anyhow 3 None _ _ _ _ _
-    (c.in_err-name.ensures.concludes firmware firmware.name ready same tt refl firmware.name_len))
+    (c.in_err-name.ensures.concludes firmware firmware.name ready same tt refl firmware.name_len (λ s. refl)))
 
 pub returns-clause-concludes : goal.returns-clause-concludes
 returns-clause-concludes g c firmware ready same =
-    let done = c.in_ok-name.ensures.concludes firmware firmware.name ready same tt refl firmware.name_len in
+    let done = c.in_ok-name.ensures.concludes firmware firmware.name ready same tt refl firmware.name_len (λ s. refl) in
     goes_on 3 None None _ _ _ _ _ _ done refl
     (c.unwrap_or.ensures ∙ ap (λ (o : Option (List ℕ)). unwrap_or o (replicate 16 0)) done.value
     ∙ or_default (has_command firmware 0x03) firmware.name (replicate 16 0))

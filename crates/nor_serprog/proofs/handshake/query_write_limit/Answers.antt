@@ -11,16 +11,16 @@ returns-in_err-query-clause-concludes g c firmware ready same =
     let p = err_from_is_err_and c.from_residual.result c.from_residual.ensures.1 in
     rw (p.1, p.2)
     (fails_anyhow 3 _ _ _ _ _ _
-    (c.in_err-query.ensures.concludes firmware (three_of firmware.longest_write) ready same tt refl refl))
+    (c.in_err-query.ensures.concludes firmware (three_of firmware.longest_write) ready same tt refl refl (λ s. refl)))
 
 pub returns-then-limit-clause-concludes : goal.returns-then-limit-clause-concludes
 returns-then-limit-clause-concludes g c firmware ready same =
-    let done = c.in_ok-query.ensures.concludes firmware (three_of firmware.longest_write) ready same tt refl refl in
+    let done = c.in_ok-query.ensures.concludes firmware (three_of firmware.longest_write) ready same tt refl refl (λ s. refl) in
     let e = c.limit_of-limit.ensures (has_command firmware 0x08) firmware.longest_write firmware.write_fits done.value in
     stops_after 3 None _ _ _ _ _ _ _ done (too_small _ _ 260 (λ (n : ℕ). Faults.WriteLimit n) e c.if-limit.true)
 
 pub returns-clause-concludes : goal.returns-clause-concludes
 returns-clause-concludes g c firmware ready same =
-    let done = c.in_ok-query.ensures.concludes firmware (three_of firmware.longest_write) ready same tt refl refl in
+    let done = c.in_ok-query.ensures.concludes firmware (three_of firmware.longest_write) ready same tt refl refl (λ s. refl) in
     let e = c.limit_of-limit.ensures (has_command firmware 0x08) firmware.longest_write firmware.write_fits done.value in
     goes_on 3 None _ _ _ _ _ _ _ done (large_enough _ _ 260 (λ (n : ℕ). Faults.WriteLimit n) e c.if-limit.false) e

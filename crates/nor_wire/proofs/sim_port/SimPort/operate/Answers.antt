@@ -16,8 +16,9 @@ returns-clause-sent c =
       done = λ whole. record {
         answer = c.transact.new.reply;
         len = search rules;
-        steps = rw sent (c.transact.ensures _ _);
+        steps = rw sent (c.transact.ensures _ _ _);
         begun = refl;
+        settings = refl;
         pending = c.acknowledged-self.ensures
             ∙ sym (ap (λ (before : List ℕ). before ++ 0x06 ∷ c.transact.new.reply) none);
       };
