@@ -1,7 +1,9 @@
 -- The steps of a handshake over an honest port.
-use Rattle.std.proofs.Common.{◌≡◌, ◌∙◌, ◌+◌, ◌<◌, ◌≤◌, ◌≢◌, inl, inr, true, false, ℕ, Bool, List, [], ◌∷◌, refl, sym, subst, ap, arith}
-use Rattle.std.specs.Prelude.{nat_lt, bit_and, not, ◌&&◌, ◌||◌, ◌==◌, IfSome, unwrap_or, option_and_then, slice_index, if◌then◌else◌, Option, None, Some, Result, Ok, Err, ⊤}
+use Rattle.std.proofs.Common.{◌≡◌, ◌∙◌, ◌+◌, ◌<◌, ◌≤◌, ◌≢◌, ◌⊎◌, inl, inr, drop, true, false, ℕ, Bool, List, [], ◌∷◌, refl, sym, subst, ap, arith}
+use Rattle.std.specs.Prelude.{nat_lt, bit_and, not, ◌&&◌, ◌||◌, ◌==◌, IfSome, unwrap_or, option_and_then, slice_index, if◌then◌else◌, Option, None, Some, Result, Ok, Err, IsErrAnd, ⊤}
 use Rattle.std.specs.Option.{option_or}
+use Rattle.nor_model.specs.Chip.{Chip}
+use Rattle.nor_model.specs.Power.{PowerLost}
 use Rattle.nor_serprog.specs.declared.command.Command.{Command}
 use Rattle.nor_serprog.specs.declared.command.Command.TheVariants.{SetBuses, SetFrequency, SetPins}
 use Rattle.std.specs.Int.{w16, w32, from_le_bytes}
@@ -15,37 +17,11 @@ use Rattle.std.proofs.lemmas.Bool.{cases_Bool}
 use Rattle.std.proofs.lemmas.Bool.Decides.{Decides-ltb, Decides-eqb}
 use Rattle.nor_serprog.specs.Firmware.{Firmware, ProgrammerSettings, has_command, is_in_map, queried, reply_of, settings_after, taken, clocked, two_of, nak}
 use Rattle.nor_serprog.specs.Frame.{frame_of, four_of}
-use Rattle.nor_serprog.specs.Link.{is_in_step}
+use Rattle.nor_serprog.specs.Link.{is_in_step, is_cut}
 use Rattle.nor_serprog.specs.Replies.{AwaitsCommand, OnlyAsks}
-use Rattle.nor_serprog.specs.Identify.{Concludes, Asked, IsInStepWith, refused, clock_fault, clock_refused, settings_if_offered, prepared_settings}
-use Rattle.nor_serprog.proofs.Replied.{power_then}
-use Rattle.nor_serprog.proofs.Synchronized.{asks_then}
+use Rattle.nor_serprog.specs.Identify.{Concludes, Asked, IsInStepWith, refused, clock_fault, clock_refused, first_handshake_fault, identify_faults, identify_fault, settings_if_offered, prepared_settings, prepared}
 
 -- ---- one step
-
--- A step that sent nothing.
-pub passes : {T C : Type 0} (calls : ℕ) (fault : Option (HandshakeFault C)) (IsValue : T → Type 0) (value : T)
-    (state : PortState) → AwaitsCommand state → fault ≡ None → IsValue value
-    → Concludes calls fault IsValue (Ok value) state state
-passes calls fault IsValue value state awaits usable is = record {
-  usable = usable;
-  value = is;
-  asks = record { left = omega arith; awaits = awaits; chip = refl; worn = refl; firmware = refl; settings = refl };
-  fails = tt;
-  power = tt;
-}
-
--- A step that sent nothing, and failed.
-pub stops : {T C : Type 0} (calls : ℕ) (fault : Option (HandshakeFault C)) (IsValue : T → Type 0)
-    (error : HandshakeFault C) (state : PortState) → fault ≡ Some error
-    → Concludes calls fault IsValue (Err error) state state
-stops calls fault IsValue error state found = record {
-  usable = tt;
-  value = tt;
-  asks = tt;
-  fails = inl found;
-  power = record { chip = inl refl; worn = λ s. refl };
-}
 
 -- The calls of a step that succeeded.
 pub goes_on : {T T' C : Type 0} (calls : ℕ) (fault fault' : Option (HandshakeFault C)) (IsValue : T → Type 0)
@@ -73,20 +49,7 @@ stops_after calls fault fault' IsValue IsValue' value error old new done found =
   power = record { chip = inl done.asks.chip; worn = λ s. ap (λ (w : ℕ → Bool). w s) done.asks.worn };
 }
 
--- A step that failed because a call in it did.
-pub fails_as : {T T' C : Type 0} (calls : ℕ) (fault fault' : Option (HandshakeFault C)) (IsValue : T → Type 0)
-    (IsValue' : T' → Type 0) (error : HandshakeFault C) (old new : PortState)
-    → Concludes calls fault IsValue (Err error) old new → (fault ≡ Some error → fault' ≡ Some error)
-    → Concludes calls fault' IsValue' (Err error) old new
-fails_as calls fault fault' IsValue IsValue' error old new failed same = record {
-  usable = tt;
-  value = tt;
-  asks = tt;
-  fails = elim failed.fails [ inl found ↦ inl (same found) | inr few ↦ inr few ];
-  power = failed.power;
-}
-
--- A failure says nothing of the settings.
+-- A step that failed because a call in it did. A failure says nothing of the settings.
 pub fails_with : {T T' C : Type 0} (calls : ℕ) (fault fault' : Option (HandshakeFault C)) (IsValue : T → Type 0)
     (IsValue' : T' → Type 0) (error : HandshakeFault C) (old new : PortState) (settings : ProgrammerSettings)
     → Concludes calls fault IsValue (Err error) old new → (fault ≡ Some error → fault' ≡ Some error)
@@ -98,6 +61,21 @@ fails_with calls fault fault' IsValue IsValue' error old new settings failed sam
   fails = elim failed.fails [ inl found ↦ inl (same found) | inr few ↦ inr few ];
   power = record { chip = failed.power.chip; worn = failed.power.worn };
 }
+
+pub fails_as : {T T' C : Type 0} (calls : ℕ) (fault fault' : Option (HandshakeFault C)) (IsValue : T → Type 0)
+    (IsValue' : T' → Type 0) (error : HandshakeFault C) (old new : PortState)
+    → Concludes calls fault IsValue (Err error) old new → (fault ≡ Some error → fault' ≡ Some error)
+    → Concludes calls fault' IsValue' (Err error) old new
+fails_as calls fault fault' IsValue IsValue' error old new failed same =
+    fails_with calls fault fault' IsValue IsValue' error old new old.device.settings failed same
+
+-- The error of a call is returned.
+pub returns_error : {T C : Type 0} {calls : ℕ} {fault : Option (HandshakeFault C)} {IsValue : T → Type 0}
+    {error : HandshakeFault C} {old new : PortState} (result : Result T (HandshakeFault C))
+    → IsErrAnd result (λ found. found ≡ error) → Concludes calls fault IsValue (Err error) old new
+    → Concludes calls fault IsValue result old new
+returns_error (Ok value) is concludes = absurd is
+returns_error (Err found) is concludes = rw is concludes
 
 -- A call that nothing stands against fails only because the port does.
 pub fails_anyhow : {T T' C : Type 0} (calls : ℕ) (fault' : Option (HandshakeFault C)) (IsValue : T → Type 0)
@@ -331,87 +309,104 @@ is_prepared firmware settings bus pins =
 
 -- ---- steps one after another
 
--- These calls were made since the handshake began, and the link is ready.
-pub record HasReached {P C : Type 0} (port : P → PortState) (firmware : Firmware) (calls : ℕ) (old : PortState)
-    (link : Link P C) : Type 0 where
-  pub asks : OnlyAsks calls old (port link.port)
-  pub ready : IsInStepWith port firmware link
+-- The settings before S_BUSTYPE is sent, after it, and after S_PIN_STATE.
+abbrev pub kept : Firmware → ProgrammerSettings → ProgrammerSettings
+kept firmware settings = settings
 
-pub begins : {P C T : Type 0} (port : P → PortState) (old : PortState) (link : Link P C) (IsValue : T → Type 0)
-    (value : T) → Concludes {C = C} 29 None IsValue (Ok value) old (port link.port) → is_in_step link ≡ true
-    → HasReached port old.device.firmware 29 old link
-begins port old link IsValue value done in_step = record {
+abbrev pub spi : Firmware → ProgrammerSettings → ProgrammerSettings
+spi firmware settings = settings_if_offered firmware 0x12 (SetBuses 8) settings
+
+abbrev pub pins : Firmware → ProgrammerSettings → ProgrammerSettings
+pins firmware settings = settings_if_offered firmware 0x15 (SetPins true) settings
+
+-- The first of the errors after the first `done`.
+abbrev pub faults_from : {C : Type 0} → (done : ℕ) → Firmware → Option ℕ → Option (HandshakeFault C)
+faults_from done firmware hertz = first_handshake_fault (drop done (identify_faults firmware hertz))
+
+-- The link is not cut, and the programmer is idle over an honest port.
+abbrev pub Starts : {P C : Type 0} → (P → PortState) → Link P C → Type 0
+Starts port link = AwaitsCommand (port link.port) × (is_cut link ≡ false)
+
+-- A handshake that began at the link `start` made these calls, and none of the first `done` errors was found. The link
+-- is ready, the settings are `after` of those at the start, and `commands` is the programmer's map.
+pub record HasReached {P C : Type 0} (port : P → PortState) (start : Link P C) (hertz : Option ℕ) (calls done : ℕ)
+    (after : Firmware → ProgrammerSettings → ProgrammerSettings) (commands : List ℕ) (link : Link P C) : Type 0 where
+  pub asks : OnlyAsks calls
+      (with_settings (after (port start.port).device.firmware (port start.port).device.settings) (port start.port))
+      (port link.port)
+  pub ready : IsInStepWith port (port start.port).device.firmware link
+  pub is : identify_fault {C = C} (port start.port).device.firmware hertz
+      ≡ faults_from done (port start.port).device.firmware hertz
+  pub map : commands ≡ (port start.port).device.firmware.commands
+
+-- The link was synchronized.
+pub begins : {P C T : Type 0} {port : P → PortState} {start : Link P C} {IsValue : T → Type 0} {value : T}
+    (hertz : Option ℕ) (link : Link P C)
+    → Concludes {C = C} 29 None IsValue (Ok value) (port start.port) (port link.port) → is_in_step link ≡ true
+    → HasReached port start hertz 29 0 kept (port start.port).device.firmware.commands link
+begins hertz link done in_step = record {
   asks = done.asks;
   ready = record { in_step = in_step; awaits = done.asks.awaits; same = done.asks.firmware };
+  is = refl;
+  map = refl;
 }
 
-pub reaches : {P C T : Type 0} (port : P → PortState) (firmware : Firmware) (first second : ℕ) (old : PortState)
-    (link link' : Link P C) (fault : Option (HandshakeFault C)) (IsValue : T → Type 0) (value : T)
-    → HasReached port firmware first old link
-    → Concludes second fault IsValue (Ok value) (port link.port) (port link'.port)
-    → is_in_step link' ≡ true → HasReached port firmware (first + second) old link'
-reaches port firmware first second old link link' fault IsValue value reached done in_step = record {
-  asks = asks_then first second old (port link.port) (port link'.port) reached.asks done.asks;
-  ready = record {
-    in_step = in_step;
-    awaits = done.asks.awaits;
-    same = done.asks.firmware ∙ reached.ready.same;
-  };
-}
-
--- A step that makes a setting.
-pub sets : {P C T : Type 0} (port : P → PortState) (firmware : Firmware) (first second : ℕ) (old : PortState)
-    (link link' : Link P C) (fault : Option (HandshakeFault C)) (IsValue : T → Type 0) (value : T)
-    (after : ProgrammerSettings → ProgrammerSettings) → HasReached port firmware first old link
-    → Concludes second fault IsValue (Ok value)
-    (with_settings (after (port link.port).device.settings) (port link.port)) (port link'.port)
-    → is_in_step link' ≡ true → HasReached port firmware (first + second) (with_settings (after old.device.settings) old) link'
-sets port firmware first second old link link' fault IsValue value after reached done in_step = record {
+-- One more step succeeded, which changes the settings by `sets`.
+pub goes : {P C T : Type 0} {port : P → PortState} {start link : Link P C} {hertz : Option ℕ} {calls done : ℕ}
+    {after : Firmware → ProgrammerSettings → ProgrammerSettings} {commands commands' : List ℕ}
+    {fault : Option (HandshakeFault C)} {IsValue : T → Type 0} {value : T}
+    (sets : Firmware → ProgrammerSettings → ProgrammerSettings) (done' : ℕ) (link' : Link P C)
+    → HasReached port start hertz calls done after commands link
+    → Concludes 3 fault IsValue (Ok value)
+    (with_settings (sets (port start.port).device.firmware (port link.port).device.settings) (port link.port))
+    (port link'.port) → is_in_step link' ≡ true → commands' ≡ (port start.port).device.firmware.commands
+    → faults_from done (port start.port).device.firmware hertz
+    ≡ option_or fault (faults_from done' (port start.port).device.firmware hertz)
+    → HasReached port start hertz (calls + 3) done' (λ firmware settings. sets firmware (after firmware settings)) commands'
+    link'
+goes {port = port} {start = start} {hertz = hertz} sets done' link' reached step in_step map next = record {
   asks = record {
-    left = omega (arith, reached.asks.left, done.asks.left);
-    awaits = done.asks.awaits;
-    chip = done.asks.chip ∙ reached.asks.chip;
-    worn = done.asks.worn ∙ reached.asks.worn;
-    firmware = done.asks.firmware ∙ reached.asks.firmware;
-    settings = done.asks.settings ∙ ap after reached.asks.settings;
+    left = omega (arith, reached.asks.left, step.asks.left);
+    awaits = step.asks.awaits;
+    chip = step.asks.chip ∙ reached.asks.chip;
+    worn = step.asks.worn ∙ reached.asks.worn;
+    firmware = step.asks.firmware ∙ reached.asks.firmware;
+    settings = step.asks.settings ∙ ap (sets (port start.port).device.firmware) reached.asks.settings;
   };
   ready = record {
     in_step = in_step;
-    awaits = done.asks.awaits;
-    same = done.asks.firmware ∙ reached.ready.same;
+    awaits = step.asks.awaits;
+    same = step.asks.firmware ∙ reached.ready.same;
   };
+  is = reached.is ∙ next
+      ∙ ap (λ (o : Option _). option_or o (faults_from done' (port start.port).device.firmware hertz)) step.usable;
+  map = map;
 }
 
--- A step of the handshake failed.
-pub fails_at : {P C T T' : Type 0} (port : P → PortState) (firmware : Firmware) (first second total : ℕ)
-    (old new : PortState) (link : Link P C) (fault whole : Option (HandshakeFault C)) (IsValue : T → Type 0)
-    (IsValue' : T' → Type 0) (error : HandshakeFault C) (tried settings : ProgrammerSettings)
-    → HasReached port firmware first old link
-    → Concludes second fault IsValue (Err error) (with_settings tried (port link.port)) new → first + second ≤ total
-    → (fault ≡ Some error → whole ≡ Some error)
-    → Concludes total whole IsValue' (Err error) (with_settings settings old) new
-fails_at port firmware first second total old new link fault whole IsValue IsValue' error tried settings reached failed within same = record {
+-- One more step failed.
+pub fails_at : {P C T T' : Type 0} {port : P → PortState} {start link : Link P C} {hertz : Option ℕ} {calls done : ℕ}
+    {after : Firmware → ProgrammerSettings → ProgrammerSettings} {commands : List ℕ}
+    {fault : Option (HandshakeFault C)} {IsValue : T → Type 0} {IsValue' : T' → Type 0} {error : HandshakeFault C}
+    {new : PortState} (sets : Firmware → ProgrammerSettings → ProgrammerSettings) (done' : ℕ)
+    → HasReached port start hertz calls done after commands link
+    → Concludes 3 fault IsValue (Err error)
+    (with_settings (sets (port start.port).device.firmware (port link.port).device.settings) (port link.port)) new
+    → calls ≤ 56
+    → faults_from done (port start.port).device.firmware hertz
+    ≡ option_or fault (faults_from done' (port start.port).device.firmware hertz)
+    → Concludes 59 (identify_fault (port start.port).device.firmware hertz) IsValue' (Err error)
+    (prepared (port start.port)) new
+fails_at {port = port} {start = start} {hertz = hertz} {new = new} sets done' reached failed within next = record {
   usable = tt;
   value = tt;
   asks = tt;
   fails = elim failed.fails [
-    | inl found ↦ inl (same found)
+    | inl found ↦ inl (reached.is ∙ next
+        ∙ ap (λ (o : Option _). option_or o (faults_from done' (port start.port).device.firmware hertz)) found)
     | inr few ↦ inr (few.0, omega (arith, few.1, reached.asks.left, within))
   ];
-  power =
-      let p =
-      power_then old.device (with_settings tried (port link.port)).device new.device reached.asks.chip reached.asks.worn
-      failed.power in
-      record { chip = p.chip; worn = p.worn };
+  power = record {
+    chip = subst (λ (c : Chip). (new.device.chip ≡ c) ⊎ PowerLost c new.device.chip) reached.asks.chip failed.power.chip;
+    worn = λ s. failed.power.worn s ∙ ap (λ (w : ℕ → Bool). w s) reached.asks.worn;
+  };
 }
-
--- The first fault is that of a later step if the earlier ones found none.
-pub skip : {F : Type 0} {first rest : Option F} {all : Option F} → first ≡ None → rest ≡ all → option_or first rest ≡ all
-skip {first = first} {rest = rest} none later = ap (λ (o : Option _). option_or o rest) none ∙ later
-
-pub hit : {F : Type 0} (first rest : Option F) (fault : F) → first ≡ Some fault → option_or first rest ≡ Some fault
-hit first rest fault found = ap (λ (o : Option _). option_or o rest) found
-
--- A step that nothing stands against has no fault.
-pub never_none : {F : Type 0} {whole : Option F} {fault : F} → None ≡ Some fault → whole ≡ Some fault
-never_none found = let never : ⊥ = cc in absurd never

@@ -1,6 +1,6 @@
 -- What the handshake with a programmer finds. Over an honest port the firmware of the programmer determines the result.
 -- (serprog protocol version 1, flashrom's Documentation/serprog-protocol.txt.)
-use Rattle.std.specs.Prelude.{◌≡◌, ◌<◌, ◌⊎◌, ◌==◌, ◌&&◌, ◌||◌, not, nat_lt, bit_and, ℕ, Bool, true, List, ◌∷◌, length, slice_index, Option, None, Some, option_and_then, replicate, if◌then◌else◌, Result, IfOk, OnOk, OnErr, IfErr}
+use Rattle.std.specs.Prelude.{◌≡◌, ◌<◌, ◌⊎◌, ◌==◌, ◌&&◌, ◌||◌, not, nat_lt, bit_and, ℕ, Bool, true, List, [], ◌∷◌, length, slice_index, Option, None, Some, option_and_then, replicate, if◌then◌else◌, Result, IfOk, OnOk, OnErr, IfErr}
 use Rattle.std.specs.Option.{option_or}
 use Rattle.nor_serprog.specs.declared.programmer.HandshakeFault.{HandshakeFault}
 use Rattle.nor_serprog.specs.declared.programmer.HandshakeFault.TheVariants.{Failure, Version, Lacks, NotSpi, WriteLimit, ReadLimit, SmallBuffer}
@@ -89,18 +89,29 @@ clock_fault firmware None = None
 clock_fault firmware (Some hertz) =
     if has_command firmware 0x14 then clock_refused (firmware.clock hertz) else Some (Lacks 0x14)
 
--- Why the programmer can't be used: the first of these, in this order. `None` if it can.
+-- The first error of a list of possible errors; `None` if the list has no error.
+abbrev pub first_handshake_fault : {C : Type 0} → List (Option (HandshakeFault C)) → Option (HandshakeFault C)
+first_handshake_fault [] = None
+first_handshake_fault (fault ∷ later) = option_or fault (first_handshake_fault later)
+
+-- The errors that the handshake can find, in the order of its steps; `None` for an error that this firmware doesn't
+-- cause.
+abbrev pub identify_faults : {C : Type 0} → Firmware → (hertz : Option ℕ) → List (Option (HandshakeFault C))
+identify_faults firmware hertz =
+    version_fault firmware
+    ∷ operation_fault firmware
+    ∷ buses_fault firmware
+    ∷ refused 0x12 (has_command firmware 0x12) (firmware.takes_buses 8)
+    ∷ write_fault firmware
+    ∷ read_fault firmware
+    ∷ buffer_fault firmware
+    ∷ clock_fault firmware hertz
+    ∷ refused 0x15 (has_command firmware 0x15) (firmware.takes_pins true)
+    ∷ []
+
+-- Why the programmer can't be used: the first of `identify_faults`. `None` if it can.
 abbrev pub identify_fault : {C : Type 0} → Firmware → (hertz : Option ℕ) → Option (HandshakeFault C)
-identify_fault firmware hertz =
-    option_or (version_fault firmware)
-    (option_or (operation_fault firmware)
-    (option_or (buses_fault firmware)
-    (option_or (refused 0x12 (has_command firmware 0x12) (firmware.takes_buses 8))
-    (option_or (write_fault firmware)
-    (option_or (read_fault firmware)
-    (option_or (buffer_fault firmware)
-    (option_or (clock_fault firmware hertz)
-    (refused 0x15 (has_command firmware 0x15) (firmware.takes_pins true)))))))))
+identify_fault firmware hertz = first_handshake_fault (identify_faults firmware hertz)
 
 -- Why this chip select can't be used. `None` if it can.
 abbrev pub select_fault : {C : Type 0} → Firmware → (number : ℕ) → Option (HandshakeFault C)

@@ -1,16 +1,14 @@
 use Rattle.std.proofs.Common.{◌≡◌, ◌∙◌, List, ℕ, Bool, true, false, None, refl, sym, ap}
 use Rattle.std.specs.Prelude.{if◌then◌else◌}
 use Rattle.std.specs.Int.{w16, from_le_bytes}
-use Rattle.std.proofs.lemmas.Result.{err_from_is_err_and}
 use Rattle.nor_serprog.specs.Firmware.{has_command, two_of}
 use Rattle.nor_serprog.specs.declared.programmer.HandshakeFault.TheVariants as Faults
-use Rattle.nor_serprog.proofs.Handshaken.{fails_anyhow, goes_on, stops_after, offered, lacks_query, replied, buffer_lacks, buffer_other, buffer_small, buffer_large, two_back}
+use Rattle.nor_serprog.proofs.Handshaken.{returns_error, fails_anyhow, goes_on, stops_after, offered, lacks_query, replied, buffer_lacks, buffer_other, buffer_small, buffer_large, two_back}
 use Rattle.nor_serprog.proofs.handshake.query_buffer.Goals as goal
 
 pub returns-in_err-size-clause-concludes : goal.returns-in_err-size-clause-concludes
 returns-in_err-size-clause-concludes g c firmware ready same =
-    let p = err_from_is_err_and c.from_residual.result c.from_residual.ensures.1 in
-    rw (p.1, p.2)
+    returns_error c.from_residual.result c.from_residual.ensures.1
     (fails_anyhow 3 _ _ _ _ _ _
     (c.in_err-size.ensures.concludes firmware (two_of firmware.buffer) ready same tt refl refl (λ s. refl)))
 

@@ -1,14 +1,12 @@
 use Rattle.std.proofs.Common.{◌∙◌, List, ℕ, Bool, [], ◌∷◌, None, refl, sym, ap, get_or}
 use Rattle.std.specs.Prelude.{if◌then◌else◌}
-use Rattle.std.proofs.lemmas.Result.{err_from_is_err_and}
 use Rattle.nor_serprog.specs.Firmware.{has_command}
-use Rattle.nor_serprog.proofs.Handshaken.{fails_anyhow, goes_on, lacks_query, replied}
+use Rattle.nor_serprog.proofs.Handshaken.{returns_error, fails_anyhow, goes_on, lacks_query, replied}
 use Rattle.nor_serprog.proofs.handshake.query_buses.Goals as goal
 
 pub returns-in_err-reply-clause-concludes : goal.returns-in_err-reply-clause-concludes
 returns-in_err-reply-clause-concludes g c firmware ready same =
-    let p = err_from_is_err_and c.from_residual.result c.from_residual.ensures.1 in
-    rw (p.1, p.2)
+    returns_error c.from_residual.result c.from_residual.ensures.1
     (fails_anyhow 3 None _ _ _ _ _
     (c.in_err-reply.ensures.concludes firmware (firmware.buses ∷ []) ready same tt refl refl (λ s. refl)))
 

@@ -1,12 +1,10 @@
 use Rattle.std.proofs.Common.{true, false, None, refl, sym}
-use Rattle.std.proofs.lemmas.Result.{err_from_is_err_and}
-use Rattle.nor_serprog.proofs.Handshaken.{fails_anyhow, goes_on, stops_after, offered, missing, there}
+use Rattle.nor_serprog.proofs.Handshaken.{returns_error, fails_anyhow, goes_on, stops_after, offered, missing, there}
 use Rattle.nor_serprog.proofs.handshake.query_commands.Goals as goal
 
 pub returns-in_err-ask-clause-concludes : goal.returns-in_err-ask-clause-concludes
 returns-in_err-ask-clause-concludes g c firmware ready =
-    let p = err_from_is_err_and c.from_residual.result c.from_residual.ensures.1 in
-    rw (p.1, p.2)
+    returns_error c.from_residual.result c.from_residual.ensures.1
     (fails_anyhow 3 _ _ _ _ _ _
     ((c.in_err-ask.ensures.asked firmware ready tt).acked firmware.commands refl (sym firmware.commands_len)))
 

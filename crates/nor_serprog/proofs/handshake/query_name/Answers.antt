@@ -1,14 +1,12 @@
 use Rattle.std.proofs.Common.{◌∙◌, List, ℕ, Option, None, refl, ap}
 use Rattle.std.specs.Prelude.{replicate, unwrap_or}
-use Rattle.std.proofs.lemmas.Result.{err_from_is_err_and}
 use Rattle.nor_serprog.specs.Firmware.{has_command}
-use Rattle.nor_serprog.proofs.Handshaken.{fails_anyhow, goes_on, or_default}
+use Rattle.nor_serprog.proofs.Handshaken.{returns_error, fails_anyhow, goes_on, or_default}
 use Rattle.nor_serprog.proofs.handshake.query_name.Goals as goal
 
 pub returns-in_err-name-clause-concludes : goal.returns-in_err-name-clause-concludes
 returns-in_err-name-clause-concludes g c firmware ready same =
-    let p = err_from_is_err_and c.from_residual.result c.from_residual.ensures.1 in
-    rw (p.1, p.2)
+    returns_error c.from_residual.result c.from_residual.ensures.1
     (fails_anyhow 3 None _ _ _ _ _
     (c.in_err-name.ensures.concludes firmware firmware.name ready same tt refl firmware.name_len (λ s. refl)))
 

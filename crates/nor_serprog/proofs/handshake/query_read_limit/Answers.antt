@@ -1,15 +1,13 @@
 use Rattle.std.proofs.Common.{ℕ, None, refl}
-use Rattle.std.proofs.lemmas.Result.{err_from_is_err_and}
 use Rattle.nor_serprog.specs.Frame.{three_of}
 use Rattle.nor_serprog.specs.Firmware.{has_command}
 use Rattle.nor_serprog.specs.declared.programmer.HandshakeFault.TheVariants as Faults
-use Rattle.nor_serprog.proofs.Handshaken.{fails_anyhow, goes_on, stops_after, too_small, large_enough}
+use Rattle.nor_serprog.proofs.Handshaken.{returns_error, fails_anyhow, goes_on, stops_after, too_small, large_enough}
 use Rattle.nor_serprog.proofs.handshake.query_read_limit.Goals as goal
 
 pub returns-in_err-query-clause-concludes : goal.returns-in_err-query-clause-concludes
 returns-in_err-query-clause-concludes g c firmware ready same =
-    let p = err_from_is_err_and c.from_residual.result c.from_residual.ensures.1 in
-    rw (p.1, p.2)
+    returns_error c.from_residual.result c.from_residual.ensures.1
     (fails_anyhow 3 _ _ _ _ _ _
     (c.in_err-query.ensures.concludes firmware (three_of firmware.longest_read) ready same tt refl refl (λ s. refl)))
 

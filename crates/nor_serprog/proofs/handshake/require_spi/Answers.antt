@@ -1,13 +1,12 @@
 use Rattle.std.proofs.Common.{ℕ, None, refl}
-use Rattle.std.proofs.lemmas.Result.{err_from_is_err_and}
 use Rattle.nor_serprog.specs.declared.programmer.HandshakeFault.TheVariants as Faults
-use Rattle.nor_serprog.proofs.Handshaken.{fails_anyhow, goes_on, stops_after, offered, spi_missing, spi_there}
+use Rattle.nor_serprog.proofs.Handshaken.{returns_error, fails_anyhow, goes_on, stops_after, offered, spi_missing, spi_there}
 use Rattle.nor_serprog.proofs.handshake.require_spi.Goals as goal
 
 pub returns-in_err-buses-clause-concludes : goal.returns-in_err-buses-clause-concludes
 returns-in_err-buses-clause-concludes g c firmware ready same =
-    let p = err_from_is_err_and c.from_residual.result c.from_residual.ensures.1 in
-    rw (p.1, p.2) (fails_anyhow 3 _ _ _ _ _ _ (c.in_err-buses.ensures.concludes firmware ready same))
+    returns_error c.from_residual.result c.from_residual.ensures.1
+    (fails_anyhow 3 _ _ _ _ _ _ (c.in_err-buses.ensures.concludes firmware ready same))
 
 pub returns-then-not-can_select_spi-clause-concludes : goal.returns-then-not-can_select_spi-clause-concludes
 returns-then-not-can_select_spi-clause-concludes g c firmware ready same =

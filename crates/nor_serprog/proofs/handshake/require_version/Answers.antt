@@ -1,15 +1,13 @@
 use Rattle.std.proofs.Common.{◌≡◌, ◌∙◌, List, ℕ, None, refl, ap}
 use Rattle.std.specs.Int.{w16, from_le_bytes}
-use Rattle.std.proofs.lemmas.Result.{err_from_is_err_and}
 use Rattle.nor_serprog.specs.Firmware.{two_of}
 use Rattle.nor_serprog.specs.declared.programmer.HandshakeFault.TheVariants as Faults
-use Rattle.nor_serprog.proofs.Handshaken.{fails_anyhow, goes_on, stops_after, two_back, version_other, version_same}
+use Rattle.nor_serprog.proofs.Handshaken.{returns_error, fails_anyhow, goes_on, stops_after, two_back, version_other, version_same}
 use Rattle.nor_serprog.proofs.handshake.require_version.Goals as goal
 
 pub returns-in_err-ask-clause-concludes : goal.returns-in_err-ask-clause-concludes
 returns-in_err-ask-clause-concludes g c firmware ready =
-    let p = err_from_is_err_and c.from_residual.result c.from_residual.ensures.1 in
-    rw (p.1, p.2)
+    returns_error c.from_residual.result c.from_residual.ensures.1
     (fails_anyhow 3 _ _ _ _ _ _
     ((c.in_err-ask.ensures.asked firmware ready tt).acked (two_of firmware.version) refl refl))
 

@@ -1,13 +1,11 @@
 use Rattle.std.proofs.Common.{true}
-use Rattle.std.proofs.lemmas.Result.{err_from_is_err_and}
-use Rattle.nor_serprog.proofs.Handshaken.{offered, clock_err, clock_ok}
+use Rattle.nor_serprog.proofs.Handshaken.{returns_error, offered, clock_err, clock_ok}
 use Rattle.nor_serprog.proofs.handshake.set_frequency.Goals as goal
 
 pub returns-in_err-ask-clause-concludes : goal.returns-in_err-ask-clause-concludes
 returns-in_err-ask-clause-concludes g c firmware ready same =
-    let p = err_from_is_err_and c.from_residual.result c.from_residual.ensures.1 in
     let h = offered firmware c.args.commands.now 0x14 _ true c.offers.ensures same c.if-not-offers.false in
-    rw (p.1, p.2)
+    returns_error c.from_residual.result c.from_residual.ensures.1
     (clock_err firmware _ _ _ _ _ _ _ c.in-Some.is h (c.in_err-ask.ensures.asked firmware ready h))
 
 pub returns-clause-concludes : goal.returns-clause-concludes
