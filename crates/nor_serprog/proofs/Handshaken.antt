@@ -1,6 +1,6 @@
 -- The steps of a handshake over an honest port.
 use Rattle.std.proofs.Common.{◌≡◌, ◌∙◌, ◌+◌, ◌<◌, ◌≤◌, ◌≢◌, ◌⊎◌, inl, inr, drop, true, false, ℕ, Bool, List, [], ◌∷◌, refl, sym, subst, ap, arith}
-use Rattle.std.specs.Prelude.{nat_lt, bit_and, not, ◌&&◌, ◌||◌, ◌==◌, IfSome, unwrap_or, option_and_then, slice_index, if◌then◌else◌, Option, None, Some, Result, Ok, Err, IsErrAnd, ⊤}
+use Rattle.std.specs.Prelude.{nat_lt, ◌&&◌, ◌==◌, IfSome, unwrap_or, option_and_then, slice_index, if◌then◌else◌, Option, None, Some, Result, Ok, Err, IsErrAnd, ⊤}
 use Rattle.std.specs.Option.{option_or}
 use Rattle.nor_model.specs.Chip.{Chip}
 use Rattle.nor_model.specs.Power.{PowerLost}
@@ -13,7 +13,6 @@ use Rattle.nor_serprog.specs.declared.programmer.HandshakeFault.TheVariants as F
 use Rattle.nor_serprog.specs.declared.link.Failure.TheVariants.{Refused}
 use Rattle.nor_serprog.specs.declared.link.Link.{Link}
 use Rattle.nor_serprog.specs.Device.{PortState, with_settings}
-use Rattle.std.proofs.lemmas.Bool.{cases_Bool}
 use Rattle.std.proofs.lemmas.Bool.Decides.{Decides-ltb, Decides-eqb}
 use Rattle.nor_serprog.specs.Firmware.{Firmware, ProgrammerSettings, has_command, is_in_map, queried, reply_of, settings_after, taken, clocked, two_of, nak}
 use Rattle.nor_serprog.specs.Frame.{frame_of, four_of}
@@ -24,24 +23,18 @@ use Rattle.nor_serprog.specs.Identify.{Concludes, Asked, IsInStepWith, refused, 
 -- ---- one step
 
 -- The calls of a step that succeeded.
-pub goes_on : {T T' C : Type 0} (calls : ℕ) (fault fault' : Option (HandshakeFault C)) (IsValue : T → Type 0)
-    (IsValue' : T' → Type 0) (value : T) (value' : T') (old new : PortState)
+pub goes_on : {T T' C : Type 0} {calls : ℕ} {fault fault' : Option (HandshakeFault C)} {IsValue : T → Type 0}
+    {IsValue' : T' → Type 0} {value : T} {value' : T'} {old new : PortState}
     → Concludes calls fault IsValue (Ok value) old new → fault' ≡ None → IsValue' value'
     → Concludes calls fault' IsValue' (Ok value') old new
-goes_on calls fault fault' IsValue IsValue' value value' old new done usable is = record {
-  usable = usable;
-  value = is;
-  asks = done.asks;
-  fails = tt;
-  power = tt;
-}
+goes_on done usable is = record { usable = usable; value = is; asks = done.asks; fails = tt; power = tt }
 
 -- A step that failed after calls that succeeded.
-pub stops_after : {T T' C : Type 0} (calls : ℕ) (fault fault' : Option (HandshakeFault C)) (IsValue : T → Type 0)
-    (IsValue' : T' → Type 0) (value : T) (error : HandshakeFault C) (old new : PortState)
+pub stops_after : {T T' C : Type 0} {calls : ℕ} {fault fault' : Option (HandshakeFault C)} {IsValue : T → Type 0}
+    {IsValue' : T' → Type 0} {value : T} {error : HandshakeFault C} {old new : PortState}
     → Concludes calls fault IsValue (Ok value) old new → fault' ≡ Some error
     → Concludes calls fault' IsValue' (Err error) old new
-stops_after calls fault fault' IsValue IsValue' value error old new done found = record {
+stops_after done found = record {
   usable = tt;
   value = tt;
   asks = tt;
@@ -50,24 +43,17 @@ stops_after calls fault fault' IsValue IsValue' value error old new done found =
 }
 
 -- A step that failed because a call in it did. A failure says nothing of the settings.
-pub fails_with : {T T' C : Type 0} (calls : ℕ) (fault fault' : Option (HandshakeFault C)) (IsValue : T → Type 0)
-    (IsValue' : T' → Type 0) (error : HandshakeFault C) (old new : PortState) (settings : ProgrammerSettings)
+pub fails_as : {T T' C : Type 0} {calls : ℕ} {fault fault' : Option (HandshakeFault C)} {IsValue : T → Type 0}
+    {IsValue' : T' → Type 0} {error : HandshakeFault C} {old new : PortState} (settings : ProgrammerSettings)
     → Concludes calls fault IsValue (Err error) old new → (fault ≡ Some error → fault' ≡ Some error)
     → Concludes calls fault' IsValue' (Err error) (with_settings settings old) new
-fails_with calls fault fault' IsValue IsValue' error old new settings failed same = record {
+fails_as settings failed same = record {
   usable = tt;
   value = tt;
   asks = tt;
   fails = elim failed.fails [ inl found ↦ inl (same found) | inr few ↦ inr few ];
   power = record { chip = failed.power.chip; worn = failed.power.worn };
 }
-
-pub fails_as : {T T' C : Type 0} (calls : ℕ) (fault fault' : Option (HandshakeFault C)) (IsValue : T → Type 0)
-    (IsValue' : T' → Type 0) (error : HandshakeFault C) (old new : PortState)
-    → Concludes calls fault IsValue (Err error) old new → (fault ≡ Some error → fault' ≡ Some error)
-    → Concludes calls fault' IsValue' (Err error) old new
-fails_as calls fault fault' IsValue IsValue' error old new failed same =
-    fails_with calls fault fault' IsValue IsValue' error old new old.device.settings failed same
 
 -- The error of a call is returned.
 pub returns_error : {T C : Type 0} {calls : ℕ} {fault : Option (HandshakeFault C)} {IsValue : T → Type 0}
@@ -77,22 +63,22 @@ pub returns_error : {T C : Type 0} {calls : ℕ} {fault : Option (HandshakeFault
 returns_error (Ok value) is concludes = absurd is
 returns_error (Err found) is concludes = rw is concludes
 
--- A call that nothing stands against fails only because the port does.
-pub fails_anyhow : {T T' C : Type 0} (calls : ℕ) (fault' : Option (HandshakeFault C)) (IsValue : T → Type 0)
-    (IsValue' : T' → Type 0) (error : HandshakeFault C) (old new : PortState)
-    → Concludes calls None IsValue (Err error) old new → Concludes calls fault' IsValue' (Err error) old new
-fails_anyhow calls fault' IsValue IsValue' error old new failed =
-    fails_as calls None fault' IsValue IsValue' error old new failed (λ found. let never : ⊥ = cc in absurd never)
+-- A call for which the firmware causes no error failed because the port did, and its error is returned.
+pub port_failed : {T T' C : Type 0} {calls : ℕ} {fault : Option (HandshakeFault C)} {IsValue : T → Type 0}
+    {IsValue' : T' → Type 0} {error : HandshakeFault C} {old new : PortState} (result : Result T' (HandshakeFault C))
+    → IsErrAnd result (λ found. found ≡ error) → Concludes calls None IsValue (Err error) old new
+    → Concludes calls fault IsValue' result old new
+port_failed {old = old} result is failed =
+    returns_error result is
+    (fails_as old.device.settings failed (λ found. let never : ⊥ = cc in absurd never))
 
 -- The same result, of another step.
-pub concludes_as : {T C : Type 0} (calls : ℕ) (fault fault' : Option (HandshakeFault C)) (IsValue IsValue' : T → Type 0)
-    (result : Result T (HandshakeFault C)) (old new : PortState) → fault' ≡ fault
+pub concludes_as : {T C : Type 0} {calls : ℕ} {fault fault' : Option (HandshakeFault C)} {IsValue IsValue' : T → Type 0}
+    {old new : PortState} (result : Result T (HandshakeFault C)) → fault' ≡ fault
     → ((value : T) → IsValue value → IsValue' value) → Concludes calls fault IsValue result old new
     → Concludes calls fault' IsValue' result old new
-concludes_as calls fault fault' IsValue IsValue' (Ok value) old new same weaker c =
-    goes_on calls fault fault' IsValue IsValue' value value old new c (same ∙ c.usable) (weaker value c.value)
-concludes_as calls fault fault' IsValue IsValue' (Err error) old new same weaker c =
-    fails_as calls fault fault' IsValue IsValue' error old new c (λ found. same ∙ found)
+concludes_as (Ok value) same weaker c = goes_on c (same ∙ c.usable) (weaker value c.value)
+concludes_as {old = old} (Err error) same weaker c = fails_as old.device.settings c (λ found. same ∙ found)
 
 -- ---- queries
 
@@ -124,82 +110,20 @@ replied true bytes bytes' reply some is =
 replied false bytes bytes' reply some is =
     let e : Some bytes' ≡ None = sym some ∙ is in let never : ⊥ = cc in absurd never
 
--- A number is found to be too small, or not.
-pub too_small : {F : Type 0} (found limit most : ℕ) (fault : ℕ → F) → found ≡ limit → found < most
-    → (if nat_lt limit most then Some (fault limit) else None) ≡ Some (fault found)
-too_small found limit most fault same less =
-    ap (λ (b : Bool). if b then Some (fault limit) else None) ((Decides-ltb limit most).1 (omega (arith, same, less)))
-    ∙ ap (λ (n : ℕ). Some (fault n)) (sym same)
+-- ---- tests of numbers
 
-pub large_enough : {F : Type 0} (found limit most : ℕ) (fault : ℕ → F) → found ≡ limit → most ≤ found
-    → (if nat_lt limit most then Some (fault limit) else None) ≡ None
-large_enough found limit most fault same more =
-    elim (cases_Bool (nat_lt limit most)) [
-      | inl less ↦ let is = (Decides-ltb limit most).0 less in absurd (omega (arith, is, same, more))
-      | inr not_less ↦ ap (λ (b : Bool). if b then Some (fault limit) else None) not_less
-    ]
+not_true : (test : Bool) → (test ≡ true → ⊥) → test ≡ false
+not_true true never = absurd (never refl)
+not_true false never = refl
 
-pub buffer_lacks : {F : Type 0} (has_it rest : Bool) (fault : F) → has_it ≡ false
-    → (if has_it && rest then Some fault else None) ≡ None
-buffer_lacks has_it rest fault lacks = ap (λ (b : Bool). if b && rest then Some fault else None) lacks
+pub unequal : (m n : ℕ) → m ≢ n → (m == n) ≡ false
+unequal m n differ = not_true (m == n) (λ same. differ ((Decides-eqb m n).0 same))
 
-pub buffer_other : {F : Type 0} (has_it has_limit small : Bool) (fault : F) → has_limit ≡ true
-    → (if has_it && (not has_limit && small) then Some fault else None) ≡ None
-buffer_other true has_limit small fault h = ap (λ (b : Bool). if not b && small then Some fault else None) h
-buffer_other false has_limit small fault h = refl
+pub below : (m n : ℕ) → m < n → nat_lt m n ≡ true
+below m n less = (Decides-ltb m n).1 less
 
-pub buffer_small : {F : Type 0} (has_it has_limit : Bool) (found limit : ℕ) (fault : ℕ → F) → has_it ≡ true
-    → has_limit ≡ false → found ≡ limit → found < 267
-    → (if has_it && (not has_limit && nat_lt limit 267) then Some (fault limit) else None) ≡ Some (fault found)
-buffer_small has_it has_limit found limit fault h none same less =
-    ap (λ (b : Bool). if b && (not has_limit && nat_lt limit 267) then Some (fault limit) else None) h
-    ∙ ap (λ (b : Bool). if not b && nat_lt limit 267 then Some (fault limit) else None) none
-    ∙ too_small found limit 267 fault same less
-
-pub buffer_large : {F : Type 0} (has_it has_limit : Bool) (found limit : ℕ) (fault : ℕ → F) → found ≡ limit
-    → 267 ≤ found → (if has_it && (not has_limit && nat_lt limit 267) then Some (fault limit) else None) ≡ None
-buffer_large false has_limit found limit fault same more = refl
-buffer_large true true found limit fault same more = refl
-buffer_large true false found limit fault same more = large_enough found limit 267 fault same more
-
-pub missing : {F : Type 0} (has_it : Bool) (fault : F) → has_it ≡ false
-    → (if has_it then None else Some fault) ≡ Some fault
-missing has_it fault lacks = ap (λ (b : Bool). if b then None else Some fault) lacks
-
-pub there : {F : Type 0} (has_it : Bool) (fault : F) → has_it ≡ true → (if has_it then None else Some fault) ≡ None
-there has_it fault is = ap (λ (b : Bool). if b then None else Some fault) is
-
--- Whether SPI can be selected.
-abbrev can_select : (buses : ℕ) → (selects : Bool) → Bool
-can_select buses selects = not (bit_and buses 8 == 0) && (buses == 8 || selects)
-
-pub spi_missing : {F : Type 0} (found buses : ℕ) (selects selects' can : Bool) (fault : ℕ → F) → found ≡ buses
-    → selects' ≡ selects → can ≡ can_select found selects → can ≡ false
-    → (if can_select buses selects' then None else Some (fault buses)) ≡ Some (fault found)
-spi_missing found buses selects selects' can fault same same' is never =
-    ap (λ (n : ℕ). if can_select n selects' then None else Some (fault n)) (sym same)
-    ∙ ap (λ (b : Bool). if can_select found b then None else Some (fault found)) same'
-    ∙ missing (can_select found selects) (fault found) (sym is ∙ never)
-
-pub spi_there : {F : Type 0} (found buses : ℕ) (selects selects' can : Bool) (fault : ℕ → F) → found ≡ buses
-    → selects' ≡ selects → can ≡ can_select found selects → can ≡ true
-    → (if can_select buses selects' then None else Some (fault buses)) ≡ None
-spi_there found buses selects selects' can fault same same' is can_be =
-    ap (λ (n : ℕ). if can_select n selects' then None else Some (fault n)) (sym same)
-    ∙ ap (λ (b : Bool). if can_select found b then None else Some (fault found)) same'
-    ∙ there (can_select found selects) (fault found) (sym is ∙ can_be)
-
-pub version_same : {F : Type 0} (found version : ℕ) (fault : ℕ → F) → found ≡ version → found ≡ 1
-    → (if version == 1 then None else Some (fault version)) ≡ None
-version_same found version fault same one = there (version == 1) (fault version) ((Decides-eqb version 1).1 (sym same ∙ one))
-
-pub version_other : {F : Type 0} (found version : ℕ) (fault : ℕ → F) → found ≡ version → found ≢ 1
-    → (if version == 1 then None else Some (fault version)) ≡ Some (fault found)
-version_other found version fault same other =
-    elim (cases_Bool (version == 1)) [
-      | inl one ↦ absurd (other (same ∙ (Decides-eqb version 1).0 one))
-      | inr not_one ↦ missing (version == 1) (fault version) not_one ∙ ap (λ (n : ℕ). Some (fault n)) (sym same)
-    ]
+pub not_below : (m n : ℕ) → n ≤ m → nat_lt m n ≡ false
+not_below m n more = not_true (nat_lt m n) (λ is. let less = (Decides-ltb m n).0 is in omega (arith, more))
 
 -- ---- numbers
 
@@ -227,16 +151,16 @@ clock_err_at : {C : Type 0} (firmware : Firmware) (hertz : ℕ) (reply : List �
     → Asked firmware (SetFrequency hertz) 4 reply (Err error) old new
     → Concludes 3 (clock_refused (firmware.clock hertz)) IsValue (Err error) old new
 clock_err_at firmware hertz reply error old new (Some set) IsValue e a =
-    fails_anyhow 3 _ _ _ _ _ _ (a.acked (four_of set) (ap clocked e) refl)
+    fails_as old.device.settings (a.acked (four_of set) (ap clocked e) refl) (λ found. let never : ⊥ = cc in absurd never)
 clock_err_at firmware hertz reply error old new None IsValue e a =
-    fails_as 3 _ _ _ _ _ _ _ (a.naked (ap clocked e)) (λ found. ap (λ (o : Option ℕ). clock_refused o) e ∙ found)
+    fails_as old.device.settings (a.naked (ap clocked e)) (λ found. ap (λ (o : Option ℕ). clock_refused o) e ∙ found)
 
 pub clock_err : {C : Type 0} (firmware : Firmware) (hertz : ℕ) (asked : Option ℕ) (reply : List ℕ)
     (error : HandshakeFault C) (old new : PortState) (IsValue : Option ℕ → Type 0) → asked ≡ Some hertz
     → has_command firmware 0x14 ≡ true → Asked firmware (SetFrequency hertz) 4 reply (Err error) old new
     → Concludes 3 (clock_fault firmware asked) IsValue (Err error) old new
 clock_err firmware hertz asked reply error old new IsValue is h a =
-    fails_as 3 _ _ _ _ _ _ _ (clock_err_at firmware hertz reply error old new (firmware.clock hertz) IsValue refl a)
+    fails_as old.device.settings (clock_err_at firmware hertz reply error old new (firmware.clock hertz) IsValue refl a)
     (λ found. clock_fault_is firmware hertz asked is h ∙ found)
 
 clock_ok_at : {C : Type 0} (firmware : Firmware) (hertz n : ℕ) (reply : List ℕ) (old new : PortState)
@@ -246,7 +170,7 @@ clock_ok_at : {C : Type 0} (firmware : Firmware) (hertz n : ℕ) (reply : List �
 clock_ok_at firmware hertz n reply old new (Some set) e is a =
     let done = a.acked (four_of set) (ap clocked e) refl in
     let fits : set < 4294967296 = subst (λ (o : Option ℕ). IfSome o (λ s. s < 4294967296)) e (firmware.clock_fits hertz) in
-    goes_on 3 None _ _ _ _ _ _ _ done (ap (λ (o : Option ℕ). clock_refused o) e)
+    goes_on done (ap (λ (o : Option ℕ). clock_refused o) e)
     (ap (λ (m : ℕ). Some m) (is ∙ ap (λ (l : List ℕ). from_le_bytes w32 l) done.value ∙ four_back set fits) ∙ sym e)
 clock_ok_at firmware hertz n reply old new None e is a = absurd (a.naked (ap clocked e)).value
 
@@ -255,7 +179,7 @@ pub clock_ok : {C : Type 0} (firmware : Firmware) (hertz n : ℕ) (asked : Optio
     → n ≡ from_le_bytes w32 reply → Asked {C = C} firmware (SetFrequency hertz) 4 reply (Ok tt) old new
     → Concludes {C = C} 3 (clock_fault firmware asked) (λ o. o ≡ option_and_then firmware.clock asked) (Ok (Some n)) old new
 clock_ok firmware hertz n asked reply old new asks h is a =
-    concludes_as 3 _ _ _ _ _ _ _ (clock_fault_is firmware hertz asked asks h)
+    concludes_as _ (clock_fault_is firmware hertz asked asks h)
     (λ value same. same ∙ sym (ap (λ (o : Option ℕ). option_and_then firmware.clock o) asks))
     (clock_ok_at firmware hertz n reply old new (firmware.clock hertz) refl is a)
 
@@ -273,10 +197,10 @@ set_result {C} true firmware setting reply opcode result old new replies first h
     λ b. Concludes 3 (refused {C = C} opcode b true) (λ _. ⊤) result
     (with_settings (if b then after else old.device.settings) old) new in
     subst P (sym has_it)
-    (concludes_as 3 None None _ (λ _. ⊤) result (with_settings after old) new refl (λ value is. tt) (a.acked [] replies refl))
+    (concludes_as result refl (λ value is. tt) (a.acked [] replies refl))
 set_result false firmware setting reply opcode (Ok value) old new replies first has_it a = absurd (a.naked replies).value
 set_result false firmware setting reply opcode (Err error) old new replies first has_it a =
-    fails_with 3 _ _ _ _ error old new _ (a.naked replies)
+    fails_as _ (a.naked replies)
     (λ found. ap (λ (b : Bool). if b && true then Some (Faults.Failure (Refused opcode)) else None) has_it
     ∙ ap (λ (n : ℕ). Some (Faults.Failure (Refused n))) (sym first) ∙ found)
 

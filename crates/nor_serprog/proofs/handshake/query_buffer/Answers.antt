@@ -1,22 +1,19 @@
-use Rattle.std.proofs.Common.{◌≡◌, ◌∙◌, List, ℕ, Bool, true, false, None, refl, sym, ap}
-use Rattle.std.specs.Prelude.{if◌then◌else◌}
+use Rattle.std.proofs.Common.{◌≡◌, ◌∙◌, List, ℕ, true, false, refl, ap}
 use Rattle.std.specs.Int.{w16, from_le_bytes}
 use Rattle.nor_serprog.specs.Firmware.{has_command, two_of}
-use Rattle.nor_serprog.specs.declared.programmer.HandshakeFault.TheVariants as Faults
-use Rattle.nor_serprog.proofs.Handshaken.{returns_error, fails_anyhow, goes_on, stops_after, offered, lacks_query, replied, buffer_lacks, buffer_other, buffer_small, buffer_large, two_back}
+use Rattle.nor_serprog.proofs.Handshaken.{port_failed, goes_on, stops_after, offered, lacks_query, replied, below, not_below, two_back}
 use Rattle.nor_serprog.proofs.handshake.query_buffer.Goals as goal
 
 pub returns-in_err-size-clause-concludes : goal.returns-in_err-size-clause-concludes
 returns-in_err-size-clause-concludes g c firmware ready same =
-    returns_error c.from_residual.result c.from_residual.ensures.1
-    (fails_anyhow 3 _ _ _ _ _ _
-    (c.in_err-size.ensures.concludes firmware (two_of firmware.buffer) ready same tt refl refl (λ s. refl)))
+    port_failed c.from_residual.result c.from_residual.ensures.1
+    (c.in_err-size.ensures.concludes firmware (two_of firmware.buffer) ready same tt refl refl (λ s. refl))
 
 pub returns-in-None-clause-concludes : goal.returns-in-None-clause-concludes
 returns-in-None-clause-concludes g c firmware ready same =
     let done = c.in_ok-size.ensures.concludes firmware (two_of firmware.buffer) ready same tt refl refl (λ s. refl) in
     let h = lacks_query (has_command firmware 0x04) (two_of firmware.buffer) _ c.in-None.is done.value in
-    goes_on 3 None _ _ _ _ _ _ _ done (buffer_lacks _ _ _ h) (sym (ap (λ (b : Bool). if b then firmware.buffer else 0) h))
+    goes_on done (rw h) (rw h)
 
 pub returns-then-offers-clause-concludes : goal.returns-then-offers-clause-concludes
 returns-then-offers-clause-concludes g c firmware ready same =
@@ -26,8 +23,7 @@ returns-then-offers-clause-concludes g c firmware ready same =
     c.from_le_bytes-size.ensures ∙ ap (λ (l : List ℕ). from_le_bytes w16 l) r.bytes_are
     ∙ two_back firmware.buffer firmware.buffer_fits in
     let h8 = offered firmware c.args.commands.now 0x08 _ true c.offers.ensures same c.if-offers.true in
-    goes_on 3 None _ _ _ _ _ _ _ done (buffer_other (has_command firmware 0x04) _ _ _ h8)
-    (e ∙ sym (ap (λ (b : Bool). if b then firmware.buffer else 0) r.has_query))
+    goes_on done (rw (r.has_query, h8)) (rw r.has_query e)
 
 pub returns-then-size-lt-LONGEST_FRAME-clause-concludes : goal.returns-then-size-lt-LONGEST_FRAME-clause-concludes
 returns-then-size-lt-LONGEST_FRAME-clause-concludes g c firmware ready same =
@@ -37,8 +33,7 @@ returns-then-size-lt-LONGEST_FRAME-clause-concludes g c firmware ready same =
     c.from_le_bytes-size.ensures ∙ ap (λ (l : List ℕ). from_le_bytes w16 l) r.bytes_are
     ∙ two_back firmware.buffer firmware.buffer_fits in
     let h8 = offered firmware c.args.commands.now 0x08 _ false c.offers.ensures same c.if-offers.false in
-    stops_after 3 None _ _ _ _ _ _ _ done
-    (buffer_small (has_command firmware 0x04) (has_command firmware 0x08) _ firmware.buffer (λ (n : ℕ). Faults.SmallBuffer n) r.has_query h8 e c.if-size-lt-LONGEST_FRAME.true)
+    stops_after done (rw (r.has_query, h8, ← e, below _ 267 c.if-size-lt-LONGEST_FRAME.true))
 
 pub returns-clause-concludes : goal.returns-clause-concludes
 returns-clause-concludes g c firmware ready same =
@@ -47,6 +42,5 @@ returns-clause-concludes g c firmware ready same =
     let e : c.from_le_bytes-size.result ≡ firmware.buffer =
     c.from_le_bytes-size.ensures ∙ ap (λ (l : List ℕ). from_le_bytes w16 l) r.bytes_are
     ∙ two_back firmware.buffer firmware.buffer_fits in
-    goes_on 3 None _ _ _ _ _ _ _ done
-    (buffer_large (has_command firmware 0x04) (has_command firmware 0x08) _ firmware.buffer (λ (n : ℕ). Faults.SmallBuffer n) e c.if-size-lt-LONGEST_FRAME.false)
-    (e ∙ sym (ap (λ (b : Bool). if b then firmware.buffer else 0) r.has_query))
+    let h8 = offered firmware c.args.commands.now 0x08 _ false c.offers.ensures same c.if-offers.false in
+    goes_on done (rw (r.has_query, h8, ← e, not_below _ 267 c.if-size-lt-LONGEST_FRAME.false)) (rw r.has_query e)
