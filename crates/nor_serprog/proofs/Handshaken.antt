@@ -1,6 +1,6 @@
 -- The steps of a handshake over an honest port.
 use Rattle.std.proofs.Common.{◌≡◌, ◌∙◌, ◌+◌, ◌<◌, ◌≤◌, ◌≢◌, ◌⊎◌, inl, inr, drop, true, false, ℕ, Bool, List, [], ◌∷◌, refl, sym, subst, ap, arith}
-use Rattle.std.specs.Prelude.{nat_lt, ◌&&◌, ◌==◌, IfSome, unwrap_or, option_and_then, slice_index, if◌then◌else◌, Option, None, Some, Result, Ok, Err, IsErrAnd, ⊤}
+use Rattle.std.specs.Prelude.{nat_lt, ◌&&◌, ◌==◌, IfSome, unwrap_or, slice_index, if◌then◌else◌, Option, None, Some, Result, Ok, Err, IsErrAnd, ⊤}
 use Rattle.std.specs.Option.{option_or}
 use Rattle.nor_model.specs.Chip.{Chip}
 use Rattle.nor_model.specs.Power.{PowerLost}
@@ -18,7 +18,7 @@ use Rattle.nor_serprog.specs.Firmware.{Firmware, ProgrammerSettings, has_command
 use Rattle.nor_serprog.specs.Frame.{frame_of, four_of}
 use Rattle.nor_serprog.specs.Link.{is_in_step, is_cut}
 use Rattle.nor_serprog.specs.Replies.{AwaitsCommand, OnlyAsks}
-use Rattle.nor_serprog.specs.Identify.{Concludes, Asked, IsInStepWith, refused, clock_fault, clock_refused, first_handshake_fault, identify_faults, identify_fault, settings_if_offered, prepared_settings, prepared}
+use Rattle.nor_serprog.specs.Identify.{Concludes, Asked, IsInStepWith, refused, clock_refused, first_handshake_fault, identify_faults, identify_fault, settings_if_offered, prepared_settings, prepared}
 
 -- ---- one step
 
@@ -127,11 +127,11 @@ not_below m n more = not_true (nat_lt m n) (λ is. let less = (Decides-ltb m n).
 
 -- ---- numbers
 
-pub two_back : (n : ℕ) → n < 65536 → from_le_bytes w16 (two_of n) ≡ n
-two_back n fits = from_le_bytes-to_le_bytes_2 n fits
-
-four_back : (n : ℕ) → n < 4294967296 → from_le_bytes w32 (four_of n) ≡ n
-four_back n fits = from_le_bytes-to_le_bytes_4 n fits
+-- A number that was read from the two bytes of a reply.
+pub two_read : (n value : ℕ) (reply : List ℕ) → value ≡ from_le_bytes w16 reply → reply ≡ two_of n → n < 65536
+    → value ≡ n
+two_read n value reply is same fits =
+    is ∙ ap (λ (l : List ℕ). from_le_bytes w16 l) same ∙ from_le_bytes-to_le_bytes_2 n fits
 
 pub or_default : (has_it : Bool) (bytes default : List ℕ)
     → unwrap_or (if has_it then Some bytes else None) default ≡ (if has_it then bytes else default)
@@ -140,48 +140,27 @@ or_default false bytes default = refl
 
 -- ---- the clock
 
-clock_fault_is : {C : Type 0} (firmware : Firmware) (hertz : ℕ) (asked : Option ℕ) → asked ≡ Some hertz
-    → has_command firmware 0x14 ≡ true → clock_fault {C = C} firmware asked ≡ clock_refused (firmware.clock hertz)
-clock_fault_is {C} firmware hertz asked is h =
-    ap (λ (o : Option ℕ). clock_fault {C = C} firmware o) is
-    ∙ ap (λ (b : Bool). if b then clock_refused (firmware.clock hertz) else Some (Faults.Lacks 0x14)) h
-
-clock_err_at : {C : Type 0} (firmware : Firmware) (hertz : ℕ) (reply : List ℕ) (error : HandshakeFault C)
+pub clock_err : {C : Type 0} (firmware : Firmware) (hertz : ℕ) (reply : List ℕ) (error : HandshakeFault C)
     (old new : PortState) (set : Option ℕ) (IsValue : Option ℕ → Type 0) → firmware.clock hertz ≡ set
     → Asked firmware (SetFrequency hertz) 4 reply (Err error) old new
     → Concludes 3 (clock_refused (firmware.clock hertz)) IsValue (Err error) old new
-clock_err_at firmware hertz reply error old new (Some set) IsValue e a =
+clock_err firmware hertz reply error old new (Some set) IsValue e a =
     fails_as old.device.settings (a.acked (four_of set) (ap clocked e) refl) (λ found. let never : ⊥ = cc in absurd never)
-clock_err_at firmware hertz reply error old new None IsValue e a =
+clock_err firmware hertz reply error old new None IsValue e a =
     fails_as old.device.settings (a.naked (ap clocked e)) (λ found. ap (λ (o : Option ℕ). clock_refused o) e ∙ found)
 
-pub clock_err : {C : Type 0} (firmware : Firmware) (hertz : ℕ) (asked : Option ℕ) (reply : List ℕ)
-    (error : HandshakeFault C) (old new : PortState) (IsValue : Option ℕ → Type 0) → asked ≡ Some hertz
-    → has_command firmware 0x14 ≡ true → Asked firmware (SetFrequency hertz) 4 reply (Err error) old new
-    → Concludes 3 (clock_fault firmware asked) IsValue (Err error) old new
-clock_err firmware hertz asked reply error old new IsValue is h a =
-    fails_as old.device.settings (clock_err_at firmware hertz reply error old new (firmware.clock hertz) IsValue refl a)
-    (λ found. clock_fault_is firmware hertz asked is h ∙ found)
-
-clock_ok_at : {C : Type 0} (firmware : Firmware) (hertz n : ℕ) (reply : List ℕ) (old new : PortState)
+pub clock_ok : {C : Type 0} (firmware : Firmware) (hertz n : ℕ) (reply : List ℕ) (old new : PortState)
     (set : Option ℕ) → firmware.clock hertz ≡ set → n ≡ from_le_bytes w32 reply
     → Asked {C = C} firmware (SetFrequency hertz) 4 reply (Ok tt) old new
     → Concludes {C = C} 3 (clock_refused (firmware.clock hertz)) (λ o. o ≡ firmware.clock hertz) (Ok (Some n)) old new
-clock_ok_at firmware hertz n reply old new (Some set) e is a =
+clock_ok firmware hertz n reply old new (Some set) e is a =
     let done = a.acked (four_of set) (ap clocked e) refl in
     let fits : set < 4294967296 = subst (λ (o : Option ℕ). IfSome o (λ s. s < 4294967296)) e (firmware.clock_fits hertz) in
     goes_on done (ap (λ (o : Option ℕ). clock_refused o) e)
-    (ap (λ (m : ℕ). Some m) (is ∙ ap (λ (l : List ℕ). from_le_bytes w32 l) done.value ∙ four_back set fits) ∙ sym e)
-clock_ok_at firmware hertz n reply old new None e is a = absurd (a.naked (ap clocked e)).value
-
-pub clock_ok : {C : Type 0} (firmware : Firmware) (hertz n : ℕ) (asked : Option ℕ) (reply : List ℕ)
-    (old new : PortState) → asked ≡ Some hertz → has_command firmware 0x14 ≡ true
-    → n ≡ from_le_bytes w32 reply → Asked {C = C} firmware (SetFrequency hertz) 4 reply (Ok tt) old new
-    → Concludes {C = C} 3 (clock_fault firmware asked) (λ o. o ≡ option_and_then firmware.clock asked) (Ok (Some n)) old new
-clock_ok firmware hertz n asked reply old new asks h is a =
-    concludes_as _ (clock_fault_is firmware hertz asked asks h)
-    (λ value same. same ∙ sym (ap (λ (o : Option ℕ). option_and_then firmware.clock o) asks))
-    (clock_ok_at firmware hertz n reply old new (firmware.clock hertz) refl is a)
+    (ap (λ (m : ℕ). Some m)
+    (is ∙ ap (λ (l : List ℕ). from_le_bytes w32 l) done.value ∙ from_le_bytes-to_le_bytes_4 set fits)
+    ∙ sym e)
+clock_ok firmware hertz n reply old new None e is a = absurd (a.naked (ap clocked e)).value
 
 -- ---- settings
 

@@ -1,6 +1,6 @@
 -- A link is synchronized over an honest port to an idle programmer.
 use Rattle.std.proofs.Common.{◌≡◌, ◌≢◌, ◌∙◌, ◌+◌, ◌<◌, ◌≤◌, ◌++◌, ℕ, List, [], ◌∷◌, length, refl, ap, arith}
-use Rattle.std.specs.Prelude.{slice_index, Err}
+use Rattle.std.specs.Prelude.{slice_index, Ok, Err}
 use Rattle.nor_serprog.specs.declared.command.Command.{Command}
 use Rattle.nor_serprog.specs.declared.command.Command.TheVariants.{Nop, SyncNop}
 use Rattle.nor_serprog.specs.Firmware.{Firmware, ProgrammerSettings, frames_of, replies_of, settings_after_all, HaveReplies}
@@ -64,7 +64,7 @@ asks_row commands bytes answers old is awaits = record {
 }
 
 -- A row was sent, and the replies to it are pending.
-pub pending_row : (commands : List Command) (bytes answers : List ℕ) (old new : PortState)
+pending_row : (commands : List Command) (bytes answers : List ℕ) (old new : PortState)
     → IsRow commands bytes answers → AwaitsCommand old → new.honest ≡ old.honest → IsSent bytes old new
     → IsPending answers new
 pending_row commands bytes answers old new is awaits nature s =
@@ -81,11 +81,12 @@ pending_row commands bytes answers old new is awaits nature s =
     }
 
 -- The replies to a row that was sent were received.
-pub row_done : (commands : List Command) (bytes answers : List ℕ) (calls : ℕ) (old sent new : PortState)
-    → IsRow commands bytes answers → AwaitsCommand old → IsSent bytes old sent → OnlyAsks calls sent new
-    → OnlyAsks (calls + 1) old new
-row_done commands bytes answers calls old sent new is awaits s asks =
+pub row_done : {C : Type 0} (commands : List Command) (bytes answers : List ℕ) (calls : ℕ) (old sent new : PortState)
+    → IsRow commands bytes answers → AwaitsCommand old → sent.honest ≡ old.honest → IsSent bytes old sent
+    → (IsPending answers sent → AsksUnlessFew {C = C} calls (Ok tt) sent new) → OnlyAsks (calls + 1) old new
+row_done commands bytes answers calls old sent new is awaits nature s skips =
     let r = s.replies commands (asks_row commands bytes answers old is awaits) in
+    let asks = (skips (pending_row commands bytes answers old sent is awaits nature s)).done in
     record {
       left = omega (arith, s.left, asks.left);
       awaits = asks.awaits;
@@ -126,10 +127,12 @@ row_cut commands bytes answers calls failure old new is awaits cut failed some =
 
 -- The port failed when the replies to a row were to be received.
 pub row_missed : {C : Type 0} (commands : List Command) (bytes answers : List ℕ) (calls : ℕ) (failure : Failure C)
-    (old sent new : PortState) → IsRow commands bytes answers → AwaitsCommand old → IsSent bytes old sent
-    → AsksUnlessFew calls (Err failure) sent new → AsksUnlessFew (calls + 1) (Err failure) old new
-row_missed commands bytes answers calls failure old sent new is awaits s missed =
+    (old sent new : PortState) → IsRow commands bytes answers → AwaitsCommand old → sent.honest ≡ old.honest
+    → IsSent bytes old sent → (IsPending answers sent → AsksUnlessFew calls (Err failure) sent new)
+    → AsksUnlessFew (calls + 1) (Err failure) old new
+row_missed commands bytes answers calls failure old sent new is awaits nature s misses =
     let r = s.replies commands (asks_row commands bytes answers old is awaits) in
+    let missed = misses (pending_row commands bytes answers old sent is awaits nature s) in
     record {
       done = tt;
       few_left = (missed.few_left.0, omega (arith, s.left, missed.few_left.1));

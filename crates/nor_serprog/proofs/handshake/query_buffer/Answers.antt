@@ -1,7 +1,6 @@
-use Rattle.std.proofs.Common.{◌≡◌, ◌∙◌, List, ℕ, true, false, refl, ap}
-use Rattle.std.specs.Int.{w16, from_le_bytes}
+use Rattle.std.proofs.Common.{true, false, refl}
 use Rattle.nor_serprog.specs.Firmware.{has_command, two_of}
-use Rattle.nor_serprog.proofs.Handshaken.{port_failed, goes_on, stops_after, offered, lacks_query, replied, below, not_below, two_back}
+use Rattle.nor_serprog.proofs.Handshaken.{port_failed, goes_on, stops_after, offered, lacks_query, replied, below, not_below, two_read}
 use Rattle.nor_serprog.proofs.handshake.query_buffer.Goals as goal
 
 pub returns-in_err-size-clause-concludes : goal.returns-in_err-size-clause-concludes
@@ -19,9 +18,7 @@ pub returns-then-offers-clause-concludes : goal.returns-then-offers-clause-concl
 returns-then-offers-clause-concludes g c firmware ready same =
     let done = c.in_ok-size.ensures.concludes firmware (two_of firmware.buffer) ready same tt refl refl (λ s. refl) in
     let r = replied (has_command firmware 0x04) (two_of firmware.buffer) _ _ c.in-Some.is done.value in
-    let e : c.from_le_bytes-size.result ≡ firmware.buffer =
-    c.from_le_bytes-size.ensures ∙ ap (λ (l : List ℕ). from_le_bytes w16 l) r.bytes_are
-    ∙ two_back firmware.buffer firmware.buffer_fits in
+    let e = two_read firmware.buffer _ _ c.from_le_bytes-size.ensures r.bytes_are firmware.buffer_fits in
     let h8 = offered firmware c.args.commands.now 0x08 _ true c.offers.ensures same c.if-offers.true in
     goes_on done (rw (r.has_query, h8)) (rw r.has_query e)
 
@@ -29,9 +26,7 @@ pub returns-then-size-lt-LONGEST_FRAME-clause-concludes : goal.returns-then-size
 returns-then-size-lt-LONGEST_FRAME-clause-concludes g c firmware ready same =
     let done = c.in_ok-size.ensures.concludes firmware (two_of firmware.buffer) ready same tt refl refl (λ s. refl) in
     let r = replied (has_command firmware 0x04) (two_of firmware.buffer) _ _ c.in-Some.is done.value in
-    let e : c.from_le_bytes-size.result ≡ firmware.buffer =
-    c.from_le_bytes-size.ensures ∙ ap (λ (l : List ℕ). from_le_bytes w16 l) r.bytes_are
-    ∙ two_back firmware.buffer firmware.buffer_fits in
+    let e = two_read firmware.buffer _ _ c.from_le_bytes-size.ensures r.bytes_are firmware.buffer_fits in
     let h8 = offered firmware c.args.commands.now 0x08 _ false c.offers.ensures same c.if-offers.false in
     stops_after done (rw (r.has_query, h8, ← e, below _ 267 c.if-size-lt-LONGEST_FRAME.true))
 
@@ -39,8 +34,6 @@ pub returns-clause-concludes : goal.returns-clause-concludes
 returns-clause-concludes g c firmware ready same =
     let done = c.in_ok-size.ensures.concludes firmware (two_of firmware.buffer) ready same tt refl refl (λ s. refl) in
     let r = replied (has_command firmware 0x04) (two_of firmware.buffer) _ _ c.in-Some.is done.value in
-    let e : c.from_le_bytes-size.result ≡ firmware.buffer =
-    c.from_le_bytes-size.ensures ∙ ap (λ (l : List ℕ). from_le_bytes w16 l) r.bytes_are
-    ∙ two_back firmware.buffer firmware.buffer_fits in
+    let e = two_read firmware.buffer _ _ c.from_le_bytes-size.ensures r.bytes_are firmware.buffer_fits in
     let h8 = offered firmware c.args.commands.now 0x08 _ false c.offers.ensures same c.if-offers.false in
     goes_on done (rw (r.has_query, h8, ← e, not_below _ 267 c.if-size-lt-LONGEST_FRAME.false)) (rw r.has_query e)

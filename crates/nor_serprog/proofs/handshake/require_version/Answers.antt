@@ -1,7 +1,6 @@
-use Rattle.std.proofs.Common.{◌≡◌, ◌∙◌, List, ℕ, refl, ap}
-use Rattle.std.specs.Int.{w16, from_le_bytes}
+use Rattle.std.proofs.Common.{refl}
 use Rattle.nor_serprog.specs.Firmware.{two_of}
-use Rattle.nor_serprog.proofs.Handshaken.{port_failed, goes_on, stops_after, two_back, unequal}
+use Rattle.nor_serprog.proofs.Handshaken.{port_failed, goes_on, stops_after, two_read, unequal}
 use Rattle.nor_serprog.proofs.handshake.require_version.Goals as goal
 
 pub returns-in_err-ask-clause-concludes : goal.returns-in_err-ask-clause-concludes
@@ -12,15 +11,11 @@ returns-in_err-ask-clause-concludes g c firmware ready =
 pub returns-then-version-ne1-clause-concludes : goal.returns-then-version-ne1-clause-concludes
 returns-then-version-ne1-clause-concludes g c firmware ready =
     let done = (c.in_ok-ask.ensures.asked firmware ready tt).acked (two_of firmware.version) refl refl in
-    let e : c.from_le_bytes-version.result ≡ firmware.version =
-    c.from_le_bytes-version.ensures ∙ ap (λ (l : List ℕ). from_le_bytes w16 l) done.value
-    ∙ two_back firmware.version firmware.version_fits in
+    let e = two_read firmware.version _ _ c.from_le_bytes-version.ensures done.value firmware.version_fits in
     stops_after done (rw (← e, unequal _ 1 c.if-version-ne1.true))
 
 pub returns-clause-concludes : goal.returns-clause-concludes
 returns-clause-concludes g c firmware ready =
     let done = (c.in_ok-ask.ensures.asked firmware ready tt).acked (two_of firmware.version) refl refl in
-    let e : c.from_le_bytes-version.result ≡ firmware.version =
-    c.from_le_bytes-version.ensures ∙ ap (λ (l : List ℕ). from_le_bytes w16 l) done.value
-    ∙ two_back firmware.version firmware.version_fits in
+    let e = two_read firmware.version _ _ c.from_le_bytes-version.ensures done.value firmware.version_fits in
     goes_on done (rw (← e, c.if-version-ne1.false)) tt

@@ -1,7 +1,9 @@
 use Rattle.std.proofs.Common.{[], ◌∷◌, arith}
 use Rattle.std.proofs.lemmas.Result.{err_from_is_err_and}
 use Rattle.nor_serprog.specs.declared.command.Command.TheVariants.{SyncNop}
-use Rattle.nor_serprog.proofs.Synchronized.{row, sync_row, whole_row, pending_row, row_done, asks_then, row_cut, row_missed, few_then, few_of_more}
+use Rattle.nor_serprog.specs.Replies.{AwaitsCommand, OnlyAsks}
+use Rattle.nor_serprog.proofs.Synchronized.{row, sync_row, whole_row, row_done, asks_then, row_cut, row_missed, few_then, few_of_more}
+use Rattle.nor_serprog.proofs.link.Link.synchronize.Goals.{After-send_all-2}
 use Rattle.nor_serprog.proofs.link.Link.synchronize.Goals as goal
 
 pub returns-in_err-send_all-clause-synchronized : goal.returns-in_err-send_all-clause-synchronized
@@ -15,62 +17,53 @@ pub returns-in_err-skip_past-clause-synchronized : goal.returns-in_err-skip_past
 returns-in_err-skip_past-clause-synchronized g c awaits whole =
     let p = err_from_is_err_and c.from_residual-in_err-skip_past.result c.from_residual-in_err-skip_past.ensures.1 in
     let old = g.P.Port.state c.args.self.now.port in
-    let sent = g.P.Port.state c.send_all.new.port in
     let new = g.P.Port.state c.skip_past.new.port in
-    let s = c.in_ok-send_all.ensures.sent awaits.honest in
-    let pending = pending_row (SyncNop ∷ []) _ _ old sent sync_row awaits c.send_all.ensures.nature s in
     rw (p.1, p.2)
     (few_of_more 3 29 _ old new (omega arith)
-    (row_missed (SyncNop ∷ []) _ _ 2 _ old sent new sync_row awaits s (c.in_err-skip_past.ensures.skips pending)))
+    (row_missed (SyncNop ∷ []) _ _ 2 _ old (g.P.Port.state c.send_all.new.port) new sync_row awaits
+    c.send_all.ensures.nature (c.in_ok-send_all.ensures.sent awaits.honest) c.in_err-skip_past.ensures.skips))
+
+-- The reply to SYNCNOP was received.
+first : (g : _) (c : After-send_all-2 g) → AwaitsCommand (g.P.Port.state c.args.self.now.port)
+    → OnlyAsks 3 (g.P.Port.state c.args.self.now.port) (g.P.Port.state c.skip_past.new.port)
+first g c awaits =
+    row_done (SyncNop ∷ []) _ _ 2 (g.P.Port.state c.args.self.now.port) (g.P.Port.state c.send_all.new.port)
+    (g.P.Port.state c.skip_past.new.port) sync_row awaits c.send_all.ensures.nature
+    (c.in_ok-send_all.ensures.sent awaits.honest) c.in_ok-skip_past.ensures.skips
 
 pub returns-in_err-send_all-2-clause-synchronized : goal.returns-in_err-send_all-2-clause-synchronized
 returns-in_err-send_all-2-clause-synchronized g c awaits whole =
     let p = err_from_is_err_and c.from_residual-in_err-send_all-2.result c.from_residual-in_err-send_all-2.ensures.1 in
-    let old = g.P.Port.state c.args.self.now.port in
-    let sent = g.P.Port.state c.send_all.new.port in
     let mid = g.P.Port.state c.skip_past.new.port in
     let new = g.P.Port.state c.send_all-2.new.port in
-    let s = c.in_ok-send_all.ensures.sent awaits.honest in
-    let pending = pending_row (SyncNop ∷ []) _ _ old sent sync_row awaits c.send_all.ensures.nature s in
-    let first = row_done (SyncNop ∷ []) _ _ 2 old sent mid sync_row awaits s (c.in_ok-skip_past.ensures.skips pending).done in
+    let f = first g (goal.at.returns-in_err-send_all-2-clause-synchronized g c).After-send_all-2 awaits in
     rw (p.1, p.2)
-    (few_then 3 26 _ old mid new first
-    (row_cut row _ _ 26 _ mid new whole_row first.awaits (c.in_err-send_all-2.ensures.cut_off first.awaits.honest)
+    (few_then 3 26 _ (g.P.Port.state c.args.self.now.port) mid new f
+    (row_cut row _ _ 26 _ mid new whole_row f.awaits (c.in_err-send_all-2.ensures.cut_off f.awaits.honest)
     c.in_err-send_all-2.ensures.cause (omega arith)))
 
 pub returns-in_err-skip_past-2-clause-synchronized : goal.returns-in_err-skip_past-2-clause-synchronized
 returns-in_err-skip_past-2-clause-synchronized g c awaits whole =
     let p = err_from_is_err_and c.from_residual-in_err-skip_past-2.result
     c.from_residual-in_err-skip_past-2.ensures.1 in
-    let old = g.P.Port.state c.args.self.now.port in
-    let sent = g.P.Port.state c.send_all.new.port in
     let mid = g.P.Port.state c.skip_past.new.port in
-    let sent' = g.P.Port.state c.send_all-2.new.port in
     let new = g.P.Port.state c.skip_past-2.new.port in
-    let s = c.in_ok-send_all.ensures.sent awaits.honest in
-    let pending = pending_row (SyncNop ∷ []) _ _ old sent sync_row awaits c.send_all.ensures.nature s in
-    let first = row_done (SyncNop ∷ []) _ _ 2 old sent mid sync_row awaits s (c.in_ok-skip_past.ensures.skips pending).done in
-    let s' = c.in_ok-send_all-2.ensures.sent first.awaits.honest in
-    let pending' = pending_row row _ _ mid sent' whole_row first.awaits c.send_all-2.ensures.nature s' in
+    let f = first g (goal.at.returns-in_err-skip_past-2-clause-synchronized g c).After-send_all-2 awaits in
     rw (p.1, p.2)
-    (few_then 3 26 _ old mid new first
-    (row_missed row _ _ 25 _ mid sent' new whole_row first.awaits s' (c.in_err-skip_past-2.ensures.skips pending')))
+    (few_then 3 26 _ (g.P.Port.state c.args.self.now.port) mid new f
+    (row_missed row _ _ 25 _ mid (g.P.Port.state c.send_all-2.new.port) new whole_row f.awaits
+    c.send_all-2.ensures.nature (c.in_ok-send_all-2.ensures.sent f.awaits.honest) c.in_err-skip_past-2.ensures.skips))
 
 pub returns-clause-synchronized : goal.returns-clause-synchronized
 returns-clause-synchronized g c awaits whole =
-    let old = g.P.Port.state c.args.self.now.port in
-    let sent = g.P.Port.state c.send_all.new.port in
     let mid = g.P.Port.state c.skip_past.new.port in
-    let sent' = g.P.Port.state c.send_all-2.new.port in
     let new = g.P.Port.state c.skip_past-2.new.port in
-    let s = c.in_ok-send_all.ensures.sent awaits.honest in
-    let pending = pending_row (SyncNop ∷ []) _ _ old sent sync_row awaits c.send_all.ensures.nature s in
-    let first = row_done (SyncNop ∷ []) _ _ 2 old sent mid sync_row awaits s (c.in_ok-skip_past.ensures.skips pending).done in
-    let s' = c.in_ok-send_all-2.ensures.sent first.awaits.honest in
-    let pending' = pending_row row _ _ mid sent' whole_row first.awaits c.send_all-2.ensures.nature s' in
-    let second = row_done row _ _ 25 mid sent' new whole_row first.awaits s' (c.in_ok-skip_past-2.ensures.skips pending').done in
+    let f = first g (goal.at.returns-clause-synchronized g c).After-send_all-2 awaits in
     record {
-      done = asks_then 3 26 old mid new first second;
+      done = asks_then 3 26 (g.P.Port.state c.args.self.now.port) mid new f
+          (row_done row _ _ 25 mid (g.P.Port.state c.send_all-2.new.port) new whole_row f.awaits
+          c.send_all-2.ensures.nature (c.in_ok-send_all-2.ensures.sent f.awaits.honest)
+          c.in_ok-skip_past-2.ensures.skips);
       few_left = tt;
       power = tt;
     }
