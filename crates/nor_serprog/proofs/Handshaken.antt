@@ -1,6 +1,6 @@
 -- The steps of a handshake over an honest port.
-use Rattle.std.proofs.Common.{◌≡◌, ◌∙◌, ◌+◌, ◌<◌, ◌≤◌, ◌≢◌, ◌⊎◌, inl, inr, drop, true, false, ℕ, Bool, List, [], ◌∷◌, refl, sym, subst, ap, arith}
-use Rattle.std.specs.Prelude.{nat_lt, ◌&&◌, ◌==◌, IfSome, unwrap_or, slice_index, if◌then◌else◌, Option, None, Some, Result, Ok, Err, IsErrAnd, ⊤}
+use Rattle.std.proofs.Common.{◌≡◌, ◌∙◌, ◌+◌, ◌<◌, ◌≤◌, ◌≢◌, ◌⊎◌, inl, inr, drop, true, false, ℕ, Bool, List, [], refl, sym, subst, ap, arith}
+use Rattle.std.specs.Prelude.{nat_lt, ◌==◌, IfSome, unwrap_or, slice_index, if◌then◌else◌, Option, None, Some, Result, Ok, Err, IsErrAnd, ⊤}
 use Rattle.std.specs.Option.{option_or}
 use Rattle.nor_model.specs.Chip.{Chip}
 use Rattle.nor_model.specs.Power.{PowerLost}
@@ -14,7 +14,7 @@ use Rattle.nor_serprog.specs.declared.link.Failure.TheVariants.{Refused}
 use Rattle.nor_serprog.specs.declared.link.Link.{Link}
 use Rattle.nor_serprog.specs.Device.{PortState, with_settings}
 use Rattle.std.proofs.lemmas.Bool.Decides.{Decides-ltb, Decides-eqb}
-use Rattle.nor_serprog.specs.Firmware.{Firmware, ProgrammerSettings, has_command, is_in_map, queried, reply_of, settings_after, taken, clocked, two_of, nak}
+use Rattle.nor_serprog.specs.Firmware.{Firmware, ProgrammerSettings, has_command, is_in_map, reply_of, settings_after, taken, clocked, two_of}
 use Rattle.nor_serprog.specs.Frame.{frame_of, four_of}
 use Rattle.nor_serprog.specs.Link.{is_in_step, is_cut}
 use Rattle.nor_serprog.specs.Replies.{AwaitsCommand, OnlyAsks}
@@ -87,11 +87,6 @@ pub offered : (firmware : Firmware) (commands : List ℕ) (opcode : ℕ) (found 
     → found ≡ is_in_map commands opcode → commands ≡ firmware.commands → found ≡ value → has_command firmware opcode ≡ value
 offered firmware commands opcode found value is same known =
     sym (ap (λ (m : List ℕ). is_in_map m opcode) same) ∙ sym is ∙ known
-
--- The reply to a query that the programmer has.
-pub queried_has : (firmware : Firmware) (opcode : ℕ) (bytes : List ℕ) → has_command firmware opcode ≡ true
-    → queried firmware opcode bytes ≡ 0x06 ∷ bytes
-queried_has firmware opcode bytes has_it = ap (λ (b : Bool). if b then 0x06 ∷ bytes else nak) has_it
 
 pub lacks_query : (has_it : Bool) (bytes : List ℕ) (reply : Option (List ℕ)) → reply ≡ None
     → reply ≡ (if has_it then Some bytes else None) → has_it ≡ false
@@ -167,21 +162,14 @@ clock_ok firmware hertz n reply old new None e is a = absurd (a.naked (ap clocke
 pub set_result : {C : Type 0} (accepts : Bool) (firmware : Firmware) (setting : Command) (reply : List ℕ)
     (opcode : ℕ) (result : Result Unit (HandshakeFault C)) (old new : PortState)
     → reply_of firmware setting ≡ taken accepts → slice_index (frame_of setting) 0 ≡ opcode
-    → has_command firmware opcode ≡ true → Asked firmware setting 0 reply result old new
-    → Concludes 3 (refused opcode (has_command firmware opcode) accepts) (λ _. ⊤) result
-    (with_settings (settings_if_offered firmware opcode setting old.device.settings) old) new
-set_result {C} true firmware setting reply opcode result old new replies first has_it a =
-    let after = settings_after firmware setting old.device.settings in
-    let P : Bool → Type 0 =
-    λ b. Concludes 3 (refused {C = C} opcode b true) (λ _. ⊤) result
-    (with_settings (if b then after else old.device.settings) old) new in
-    subst P (sym has_it)
-    (concludes_as result refl (λ value is. tt) (a.acked [] replies refl))
-set_result false firmware setting reply opcode (Ok value) old new replies first has_it a = absurd (a.naked replies).value
-set_result false firmware setting reply opcode (Err error) old new replies first has_it a =
-    fails_as _ (a.naked replies)
-    (λ found. ap (λ (b : Bool). if b && true then Some (Faults.Failure (Refused opcode)) else None) has_it
-    ∙ ap (λ (n : ℕ). Some (Faults.Failure (Refused n))) (sym first) ∙ found)
+    → Asked firmware setting 0 reply result old new
+    → Concludes 3 (refused opcode true accepts) (λ _. ⊤) result
+    (with_settings (settings_after firmware setting old.device.settings) old) new
+set_result true firmware setting reply opcode result old new replies first a =
+    concludes_as result refl (λ value is. tt) (a.acked [] replies refl)
+set_result false firmware setting reply opcode (Ok value) old new replies first a = absurd (a.naked replies).value
+set_result false firmware setting reply opcode (Err error) old new replies first a =
+    fails_as _ (a.naked replies) (λ found. ap (λ (n : ℕ). Some (Faults.Failure (Refused n))) (sym first) ∙ found)
 
 -- The settings of the handshake, if the programmer refuses none of them.
 bus_selected : {C : Type 0} (has_it takes : Bool) (settings : ProgrammerSettings)
