@@ -72,7 +72,7 @@ port_failed {old = old} result is failed =
     returns_error result is
     (fails_as old.device.settings failed (λ found. let never : ⊥ = cc in absurd never))
 
--- The same result, of another step.
+-- The result of a step is also that of one with an equal fault, and with a fact about its value that follows.
 pub concludes_as : {T C : Type 0} {calls : ℕ} {fault fault' : Option (HandshakeFault C)} {IsValue IsValue' : T → Type 0}
     {old new : PortState} (result : Result T (HandshakeFault C)) → fault' ≡ fault
     → ((value : T) → IsValue value → IsValue' value) → Concludes calls fault IsValue result old new
@@ -82,7 +82,7 @@ concludes_as {old = old} (Err error) same weaker c = fails_as old.device.setting
 
 -- ---- queries
 
--- What the map says of a command is what the firmware has.
+-- If the map has a command, so does the firmware; if the map lacks it, so does the firmware.
 pub offered : (firmware : Firmware) (commands : List ℕ) (opcode : ℕ) (found value : Bool)
     → found ≡ is_in_map commands opcode → commands ≡ firmware.commands → found ≡ value → has_command firmware opcode ≡ value
 offered firmware commands opcode found value is same known =
@@ -93,7 +93,7 @@ pub lacks_query : (has_it : Bool) (bytes : List ℕ) (reply : Option (List ℕ))
 lacks_query true bytes reply none is = let e : None ≡ Some bytes = sym none ∙ is in let never : ⊥ = cc in absurd never
 lacks_query false bytes reply none is = refl
 
--- What a query returned that was replied to.
+-- The reply to a query that the programmer has.
 pub record Replied (has_it : Bool) (bytes reply : List ℕ) : Type 0 where
   pub has_query : has_it ≡ true
   pub bytes_are : reply ≡ bytes
@@ -200,7 +200,7 @@ is_prepared firmware settings bus pins =
 
 -- ---- steps one after another
 
--- The settings before S_BUSTYPE is sent, after it, and after S_PIN_STATE.
+-- The effect of a step on the settings: none, that of S_BUSTYPE, and that of S_PIN_STATE.
 abbrev pub kept : Firmware → ProgrammerSettings → ProgrammerSettings
 kept firmware settings = settings
 
