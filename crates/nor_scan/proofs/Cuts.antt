@@ -22,6 +22,7 @@ use Rattle.nor_request.specs.declared.refusal.Refusal.TheVariants.{StatusLocked,
 use Rattle.nor_scan.specs.Scanning.{Scans, AreRight, HoldsCut, HasKeptBelow, wanted_at}
 use Rattle.nor_scan.specs.Saving.{IsIdentityOf, HasIdleChip, header_of, kept_read}
 use Rattle.nor_scan.specs.Verdict.{IsVerdict}
+use Rattle.nor_scan.proofs.Begun.{put_alike}
 use Rattle.nor_scan.specs.Judging.{IsScanRefusal, OfTouched}
 use Rattle.nor_scan.proofs.Planned.{only_inside, touched_past, raised_past}
 use Rattle.nor_model.proofs.Sizes.{sized_bounds}
@@ -49,14 +50,7 @@ module _ {V : Type 0} {state : V → VaultState} {writer : Writer V} {head : Con
     {scanned : Scanned} (right : AreRight target_bytes chip n scanned)
     (kept : HasPutSectors state writer head chip (has scanned.touched) n) where
   pub kept_touched : HasPutSectors state writer head chip (λ s. nat_lt s n && is_touched chip target_bytes s) n
-  kept_touched = record {
-    content = kept.content;
-    written = kept.written;
-    same = kept.same;
-    saves = Saves-same chip (has scanned.touched) (λ s. nat_lt s n && is_touched chip target_bytes s) kept.content
-        (λ s. sym (right.touched s)) kept.saves;
-    next = kept.next;
-  }
+  kept_touched = put_alike (λ s i is below. refl) (λ s. sym (right.touched s)) (omega arith) kept
 
   pub kept_below : {total : ℕ} → n ≤ total → HasKeptBelow state writer head chip (is_touched chip target_bytes) total
   kept_below inside = record { bound = n; inside = inside; kept = kept_touched }

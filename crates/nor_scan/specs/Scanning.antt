@@ -1,13 +1,13 @@
 -- The effect of scans: which sectors are touched and raised, and what is written to the journal.
-use Rattle.std.specs.Prelude.{◌≡◌, ◌≢◌, ◌<◌, ◌≤◌, ◌+◌, ◌*◌, ◌/◌, ◌==◌, ◌&&◌, ◌||◌, ℕ, Bool, true, false, nat_lt, Result, Ok, Err, List, slice_index, if◌then◌else◌, ⊤}
+use Rattle.std.specs.Prelude.{◌≡◌, ◌<◌, ◌≤◌, ◌+◌, ◌*◌, ◌/◌, ◌==◌, ◌&&◌, ◌||◌, ℕ, Bool, true, false, nat_lt, Result, Err, List, slice_index, if◌then◌else◌, ⊤}
 use Rattle.nor_model.specs.History.{Answered, names}
 use Rattle.nor_model.specs.Bus.{BusState}
 use Rattle.nor_driver.specs.OnlyReads.{Rested, HasStopped, IsOpen}
 use Rattle.nor_journal.specs.declared.writer.Writer.{Writer}
-use Rattle.nor_journal.specs.Text.{Content, SameHeader, next_number}
-use Rattle.nor_journal.specs.Saved.{is_saved, IsJournalPrefix}
+use Rattle.nor_journal.specs.Text.{Content}
+use Rattle.nor_journal.specs.Saved.{IsJournalPrefix}
 use Rattle.nor_journal.specs.Vault.{VaultState, Refused, Accepted}
-use Rattle.nor_journal.specs.Writer.{HasWritten, HasPutSectors}
+use Rattle.nor_journal.specs.Writer.{HasPutSectors}
 use Rattle.nor_driver.specs.Ready.{StaysReady}
 use Rattle.nor_driver.specs.Reads.{HasRead, IsSectorOf}
 use Rattle.nor_plan.specs.declared.plan.SectorPlan.{SectorPlan}
@@ -100,25 +100,6 @@ ScanErrors most old new _ = ⊥
 abbrev pub ScanPuts : {T : Type 0} → Result T Refusal → (old new : VaultState) → Type 0
 ScanPuts (Err Vault) old new = Refused old new
 ScanPuts _ old new = Accepted old new
-
--- Holds if the writer was given exactly this header of a journal and then records of sectors below `n`. Unlike
--- `HasPutSectors`, it doesn't say which bytes the records have.
-pub record HasBegun {V : Type 0} (state : V → VaultState) (writer : Writer V) (head : Content) (n : ℕ) : Type 0 where
-  pub content : Content
-  pub written : HasWritten state writer content
-  pub same : SameHeader head content
-  pub next : next_number content ≤ n
-
--- Holds if `HasBegun` does, and the records are those of exactly these sectors.
-pub record HasBegunWith {V : Type 0} (state : V → VaultState) (writer : Writer V) (head : Content) (n : ℕ)
-    (sectors : ℕ → Bool) : Type 0 where
-  pub begun : HasBegun state writer head n
-  pub saved : (s : ℕ) → is_saved begun.content s ≡ sectors s
-
--- Holds if the promise is true, or the result is error 11.
-abbrev pub UnlessVault : {T : Type 0} → Result T Refusal → Type 0 → Type 0
-UnlessVault (Ok _) promise = promise
-UnlessVault (Err refusal) promise = refusal ≢ Vault → promise
 
 -- Holds if a `telling` vault has a prefix of the journal with this header that saves exactly the touched ones of the
 -- first `total` sectors, with the bytes that these sectors have in `old`.

@@ -1,6 +1,6 @@
 //! Reads the sectors of a chip before anything is changed, finds those that a session will change, and writes these to
 //! the journal.
-ghost use Rattle.std.specs.Prelude.{◌≡◌, ◌≢◌, ◌<◌, ◌≤◌, ◌+◌, ◌*◌, ◌/◌, true, false, length, IfOk, IfErr, OnOk, OnErr, IsTrue};
+ghost use Rattle.std.specs.Prelude.{◌≡◌, ◌≢◌, ◌<◌, ◌≤◌, ◌+◌, ◌*◌, ◌/◌, ℕ, Bool, true, false, length, IfOk, IfErr, OnOk, OnErr, IsTrue};
 ghost use Rattle.nor_model.specs.Size.{is_chip_size};
 ghost use Rattle.nor_model.specs.History.{KeepsReplies, begins_with};
 ghost use Rattle.nor_scan.specs.Replied.{bytes_read};
@@ -11,7 +11,7 @@ ghost use Rattle.nor_plan.specs.SectorSet.{has, none};
 ghost use Rattle.nor_request.specs.Request.{scanned_sectors, is_data};
 ghost use Rattle.nor_plan.specs.Content.{is_touched};
 ghost use Rattle.nor_scan.specs.Scanning.{HasMarked, IsBlank, ScansSector, Scans, ScanErrors, ScanPuts};
-ghost use Rattle.nor_scan.specs.Scanning.{HasBegun, HasBegunWith, UnlessVault, HoldsCut, HasKeptBelow, wanted_at};
+ghost use Rattle.nor_scan.specs.Scanning.{HoldsCut, HasKeptBelow, wanted_at};
 ghost use Rattle.nor_request.specs.declared.refusal.Refusal.TheVariants as Refusals;
 
 use nor_driver::read_sector;
@@ -131,15 +131,16 @@ pub fn scan_all<B: Bus, V: Vault>(
         → OnErr result (HoldsCut (vault_seen V.state writer.new) head (B.state bus.old).chip.bytes
         (is_touched (B.state bus.old).chip.bytes
         (wanted_at request.now image.old size (B.state bus.old).chip.bytes)) (size / 4096)) }
-    ensures writes { (head : Content) → head.size ≡ size → HasBegun V.state writer.old head 0
-        → UnlessVault result (HasBegun V.state writer.new head (size / 4096)) }
+    ensures writes { (head : Content) (bytes : ℕ → ℕ) → head.size ≡ size
+        → HasPutSectors V.state writer.old head bytes none 0
+        → IfErr result (λ refusal. refusal ≢ Refusals.Vault → (read : ℕ → ℕ) × (sectors : ℕ → Bool)
+        × HasPutSectors V.state writer.new head read sectors (size / 4096)) }
     ensures replies { OnOk result
         (KeepsReplies (begins_with 0x03) (B.state bus.old).history (B.state bus.new).history) }
-    ensures replied { (head : Content) → head.size ≡ size → HasBegunWith V.state writer.old head 0 none
+    ensures replied { (head : Content) → head.size ≡ size
+        → HasPutSectors V.state writer.old head (bytes_read (B.state bus.new).history) none 0
         → IfOk result (λ scanned. HasPutSectors V.state writer.new head (bytes_read (B.state bus.new).history)
         (has scanned.touched) (size / 4096)) }
-    ensures saves { (head : Content) → head.size ≡ size → HasBegunWith V.state writer.old head 0 none
-        → IfOk result (λ scanned. HasBegunWith V.state writer.new head (size / 4096) (has scanned.touched)) }
 {
     let mut scanned = Scanned::none();
     let mut bytes = [0; SECTOR_LEN as usize];

@@ -1,10 +1,13 @@
-use Rattle.std.proofs.Common.{◌≡◌, refl, rules, arith}
+use Rattle.std.proofs.Common.{◌≡◌, Some, refl, sym, rules, arith}
 use Rattle.std.proofs.lemmas.Grind.{common_steps}
 use Rattle.nor_journal.specs.Writer.{vault_seen}
-use Rattle.nor_scan.specs.Saving.{header_of, kept_read}
+use Rattle.nor_journal.proofs.Saves.{HasKept-none, Saves-set}
+use Rattle.nor_plan.specs.SectorSet.{none}
+use Rattle.nor_scan.specs.Replied.{bytes_read}
+use Rattle.nor_scan.specs.Saving.{header_found, header_of, kept_read}
 use Rattle.nor_scan.proofs.Cuts.{same_bytes, is_open, touched_right, raised_right, head_put, judged_errors}
 use Rattle.nor_scan.proofs.Cuts.{cut_in_head, cut_in_scan, begins_scan, all_put, cut_at_end, begins_all}
-use Rattle.nor_scan.proofs.Begun.{with_none, is_err}
+use Rattle.nor_scan.proofs.Begun.{is_err}
 use Rattle.nor_scan.proofs.saving.save.Goals as goal
 
 pub returns-in_err-unlock-clause-errors : goal.returns-in_err-unlock-clause-errors
@@ -33,27 +36,32 @@ returns-clause-keeps g c =
       };
     }
 
-pub returns-clause-holds : goal.returns-clause-holds
-returns-clause-holds g c = λ sealed telling.
-    let head = with_none (c.in_ok-header.ensures.written c.on-writer.ensures.nothing) in
-    let begun = c.in_ok-scanned.ensures.writes _ refl head.begun in
-    let done = c.in_ok-end.ensures.written begun.content begun.written in
-    record { content = begun.content; is = begun.written.is; same = search rules }
+pub returns-clause-replied : goal.returns-clause-replied
+returns-clause-replied g c = λ telling.
+    let read : c.bytes.result ≡ kept_read c.args.identity.now = grind (arith, common_steps) in
+    let identity = c.args.identity.now in
+    let reads = bytes_read (g.B.Bus.state c.scan_all.new.bus).history in
+    let head = HasKept-none g.V.Vault.state _ identity.found.id (Some identity.unique) (kept_read identity)
+    identity.found.size reads none 0 (rw read at (c.in_ok-header.ensures.written c.on-writer.ensures.nothing)) (λ s. refl) in
+    let put = c.in_ok-scanned.ensures.replied (header_found identity) refl head in
+    let done = c.in_ok-end.ensures.kept (header_found identity) reads _ _ put in
+    search rules
 
 pub returns-clause-saves : goal.returns-clause-saves
 returns-clause-saves g c = λ telling.
-    let read : c.bytes.result ≡ kept_read c.args.identity.now = grind (arith, common_steps) in
-    let held = c.in_ok-scanned.ensures.saves _ refl
-    (with_none (rw read at (c.in_ok-header.ensures.written c.on-writer.ensures.nothing))) in
-    let begun = held.begun in
-    let done = c.in_ok-end.ensures.written begun.content begun.written in
+    let journal = returns-clause-replied g c telling in
     record {
-      content = begun.content;
-      is = begun.written.is;
-      same = search rules;
-      head_same = begun.same;
-      saved = held.saved;
+      content = journal.content;
+      is = journal.saves.is;
+      same = journal.is;
+      head_same = journal.same;
+      saved = λ s. sym (Saves-set _ _ journal.content s journal.saves);
     }
+
+pub returns-clause-holds : goal.returns-clause-holds
+returns-clause-holds g c = λ sealed telling.
+    let journal = returns-clause-replied g c telling in
+    record { content = journal.content; is = journal.saves.is; same = journal.is }
 
 pub returns-in_err-scanned-clause-begins : goal.returns-in_err-scanned-clause-begins
 returns-in_err-scanned-clause-begins g c =
@@ -109,16 +117,3 @@ returns-in_err-end-clause-cut g c =
     let all = all_put head c.in_ok-scanned.ensures.scans c.in_ok-scanned.ensures.keeps chip is shows in
     let holds = c.in_err-end.ensures.cut all.content all.written in
     record { content = all.content; same = all.same; saves = all.saves; begins = search rules })
-
-pub returns-clause-replied : goal.returns-clause-replied
-returns-clause-replied g c = λ telling.
-    let read : c.bytes.result ≡ kept_read c.args.identity.now = grind (arith, common_steps) in
-    let put = c.in_ok-scanned.ensures.replied _ refl
-    (with_none (rw read at (c.in_ok-header.ensures.written c.on-writer.ensures.nothing))) in
-    let done = c.in_ok-end.ensures.written put.content put.written in
-    record {
-      content = put.content;
-      same = put.same;
-      saves = put.saves;
-      is = search rules;
-    }

@@ -1,4 +1,6 @@
-use Rattle.std.proofs.Common.{◌≡◌, ◌+◌, ◌-◌, ◌*◌, ◌∙◌, length, refl, sym, arith, rules}
+use Rattle.std.proofs.Common.{◌≡◌, ◌<◌, ◌+◌, ◌-◌, ◌*◌, ◌∙◌, ℕ, true, length, refl, sym, arith, rules}
+use Rattle.nor_plan.specs.SectorSet.{has}
+use Rattle.nor_scan.specs.Replied.{bytes_read}
 use Rattle.nor_journal.specs.Writer.{vault_seen}
 use Rattle.nor_geometry.proofs.Counting.{at_most_one}
 use Rattle.nor_driver.proofs.RestsInTurn.{only_reads_after, runs_out}
@@ -6,8 +8,7 @@ use Rattle.nor_plan.proofs.Parts.{part_long}
 use Rattle.nor_request.specs.declared.refusal.Refusal.TheVariants.{Vault, Stopped}
 use Rattle.nor_scan.proofs.Scans.{is_at, nothing_scanned, skipped, scanned_more, planned_before, read_before, room}
 use Rattle.nor_scan.proofs.Scans.{marked_more, marked_none, all_scanned, none_to_scan}
-use Rattle.nor_scan.proofs.Begun.{journalled_none, journalled_later, journalled_more, begun_on, with_on, kept_on}
-use Rattle.nor_scan.proofs.Begun.{journalled_read, replied_on, is_err}
+use Rattle.nor_scan.proofs.Begun.{journalled_none, journalled_later, journalled_more, kept_on, replied_on, is_err}
 use Rattle.nor_scan.proofs.Replied.{read_others, read_whole, read_keeps}
 use Rattle.nor_model.proofs.Histories.{keeps_replies_none, keeps_replies_then}
 use Rattle.nor_scan.proofs.Cuts.{kept_touched, kept_below, cut_between, cut_in_record}
@@ -42,8 +43,10 @@ loop-sector-preserved g c =
           c.loop-sector.auto.image ∙ c.requires.whole targets.0 in
           let width : 4096 * sector + 4096 - 4096 * sector ≡ 4096 = omega arith in
           let answered = w.in_ok-plan.ensures.scans.answered in
-          let journal = journalled_read here.journal (λ s i saved below.
-          read_others sector answered s i (λ same. absurd (omega (arith, same, here.scanned.marks.below s saved))) below) in
+          let others : (s i : ℕ) → has c.loop-sector.scanned.touched s ≡ true → i < 4096
+          → bytes_read (g.B.Bus.state w.scan_sector.new.bus).history (4096 * s + i)
+          ≡ bytes_read (g.B.Bus.state c.loop-sector.bus).history (4096 * s + i) = λ s i saved below.
+          read_others sector answered s i (λ same. absurd (omega (arith, same, here.scanned.marks.below s saved))) below in
           let part = w.scan_sector.auto.part ∙ part_long c.loop-sector.image (4096 * sector) _ width (omega arith) in
           record {
             targets = here.targets;
@@ -56,14 +59,14 @@ loop-sector-preserved g c =
             replies = rw w.bus-is (keeps_replies_then here.replies (read_keeps sector answered));
             journal = rw (w.writer-is, w.scanned-is, w.bus-is) (elim w.if-plan.branch [
               | then-plan+in_ok-add v ↦ rw v.writer-is
-                  (journalled_more journal at.below v.add.ensures.same_vault v.in_ok-add.ensures.vault
-                  v.in_ok-add.ensures.written
+                  (journalled_more (journalled_later here.journal (omega arith) (λ s. refl) others) at.below
+                  v.add.ensures.same_vault v.in_ok-add.ensures.vault v.in_ok-add.ensures.kept
                   (marked_more sector plan c.loop-sector.scanned w.mark.new.self v.if-plan.true w.mark.ensures)
                   (read_before here.scanned at w.in_ok-plan.ensures.scans width (omega arith))
                   (read_whole sector answered (omega arith)))
               | else-plan v ↦ rw v.writer-is
-                  (journalled_later journal (omega arith)
-                  (marked_none sector plan c.loop-sector.scanned w.mark.new.self v.if-plan.false w.mark.ensures))
+                  (journalled_later here.journal (omega arith)
+                  (marked_none sector plan c.loop-sector.scanned w.mark.new.self v.if-plan.false w.mark.ensures) others)
             ]);
           }
       | else-includes_in_sector w ↦
@@ -76,7 +79,7 @@ loop-sector-preserved g c =
             below = rw w.scanned-is (omega (arith, here.below));
             scanned = rw (w.image-is, w.bus-is, w.scanned-is) (skipped here.scanned at none);
             replies = rw w.bus-is here.replies;
-            journal = rw (w.writer-is, w.scanned-is, w.bus-is) (journalled_later here.journal (omega arith) (λ s. refl));
+            journal = rw (w.writer-is, w.scanned-is, w.bus-is) (journalled_later here.journal (omega arith) (λ s. refl) (λ s i saved below. refl));
           }
     ]
 
@@ -94,14 +97,12 @@ returns-in_err-plan g c =
       errors = runs_out _ _ _ _ _ more here.scanned.honest_reads c.in_err-plan.ensures.stops;
       keeps = λ is_open head sized kept. tt;
       begins = λ is_open head sized kept other.
-          kept_below (here.scanned.right is_open) (kept_on here.journal is_open sized kept) (omega arith);
+          kept_below (here.scanned.right is_open) (kept_on here.journal (omega arith) is_open sized kept) (omega arith);
       cut = λ is_open head sized kept. cut_between c.args.size sized
-          (kept_below (here.scanned.right is_open) (kept_on here.journal is_open sized kept) (omega arith));
-      writes = λ head sized begun other.
-          begun_on (journalled_later here.journal (omega arith) (λ s. refl)) head sized begun;
+          (kept_below (here.scanned.right is_open) (kept_on here.journal (omega arith) is_open sized kept) (omega arith));
+      writes = λ head bytes sized put other. (_, _, replied_on here.journal (omega arith) sized put);
       replies = tt;
-      replied = λ head sized held. tt;
-      saves = λ head sized held. tt;
+      replied = λ head sized put. tt;
     })
 
 pub returns-in_err-add : goal.returns-in_err-add
@@ -121,15 +122,14 @@ returns-in_err-add g c =
       keeps = λ is_open head sized kept. tt;
       begins = λ is_open head sized kept other. absurd (other refl);
       cut = λ is_open head sized kept.
-          let held = kept_touched (here.scanned.right is_open) (kept_on here.journal is_open sized kept) in
+          let held = kept_touched (here.scanned.right is_open) (kept_on here.journal (omega arith) is_open sized kept) in
           cut_in_record (vault_seen g.V.Vault.state c.add.new.self) _ c.args.size held sized at.below
           (sym (planned_before here.scanned at scans (omega arith) is_open).0 ∙ c.if-plan.true)
           (read_before here.scanned at scans (omega arith) (omega arith) is_open)
           (c.in_err-add.ensures.cut held.content held.written);
-      writes = λ head sized begun other. absurd (other refl);
+      writes = λ head bytes sized put other. absurd (other refl);
       replies = tt;
-      replied = λ head sized held. tt;
-      saves = λ head sized held. tt;
+      replied = λ head sized put. tt;
     })
 
 pub returns-clause-scans : goal.returns-clause-scans
@@ -141,24 +141,12 @@ returns-clause-scans g c =
     ]
 
 pub returns-clause-keeps : goal.returns-clause-keeps
-returns-clause-keeps g c = λ is_open head size kept.
-    let here = c.loop-sector.invariant in
-    kept_on (journalled_later here.journal (grind (arith, here.targets)) (λ s. refl)) is_open size kept
-
-pub returns-clause-writes : goal.returns-clause-writes
-returns-clause-writes g c = λ head sized begun.
-    let here = c.loop-sector.invariant in
-    begun_on (journalled_later here.journal (grind (arith, here.targets)) (λ s. refl)) head sized begun
-
-pub returns-clause-saves : goal.returns-clause-saves
-returns-clause-saves g c = λ head sized held.
-    let here = c.loop-sector.invariant in
-    with_on (journalled_later here.journal (grind (arith, here.targets)) (λ s. refl)) head sized held
+returns-clause-keeps g c = λ is_open head sized kept.
+    let here = c.loop-sector.invariant in kept_on here.journal (grind (arith, here.targets)) is_open sized kept
 
 pub returns-clause-replies : goal.returns-clause-replies
 returns-clause-replies g c = c.loop-sector.invariant.replies
 
 pub returns-clause-replied : goal.returns-clause-replied
-returns-clause-replied g c = λ head sized held.
-    let here = c.loop-sector.invariant in
-    replied_on (journalled_later here.journal (grind (arith, here.targets)) (λ s. refl)) head sized held
+returns-clause-replied g c = λ head sized put.
+    let here = c.loop-sector.invariant in replied_on here.journal (grind (arith, here.targets)) sized put
