@@ -1,23 +1,15 @@
 -- Reads that succeed one after another, and a stop after them.
 use Rattle.std.proofs.Common.{◌≡◌, ◌<◌, ◌≤◌, ◌+◌, ℕ, true, arith}
-use Rattle.nor_model.specs.Bus.{BusState, KeepsNature}
+use mathlib.Core.Path.{fun_ext}
+use Rattle.nor_model.specs.Bus.{BusState}
 use Rattle.nor_model.proofs.Nature.{nature_refl, nature_then}
-use Rattle.nor_driver.specs.OnlyReads.{Rested, OnlyReads, HasStopped}
+use Rattle.nor_driver.specs.OnlyReads.{Rested, OnlyReads, HasStopped, IsOpen}
 use Rattle.nor_driver.specs.Ready.{StaysReady}
 use Rattle.nor_driver.specs.Reads.{HasRead}
+pub use Rattle.nor_driver.specs.ReadsInTurn.{HasOnlyRead}
 use Rattle.nor_driver.proofs.ReadsInTurn.{only_reads_then, only_reads_more}
 use Rattle.nor_driver.proofs.Readings.{honest_reads_by}
 pub use Rattle.nor_driver.proofs.Readings.{rested_none, rested_then}
-
--- Holds after `reads` transactions that only read succeeded, if none of them was a poll that showed BUSY. On every bus,
--- no transaction that may modify a chip was sent, and `KeepsNature` and `StaysReady` hold. On an honest bus the chip is
--- as `Rested` says, and exactly `reads` fewer transactions are left.
-pub record HasOnlyRead (reads : ℕ) (old new : BusState) : Type 0 where
-  pub nature : KeepsNature old new
-  pub same_sent : new.sent ≡ old.sent
-  pub polled_ready : StaysReady old new
-  pub rested : old.honest ≡ true → Rested old new
-  pub sent : old.honest ≡ true → old.left ≡ new.left + reads
 
 pub has_only_read-none : (state : BusState) → HasOnlyRead 0 state state
 has_only_read-none state = search (arith, nature_refl state, rested_none state)
@@ -37,7 +29,22 @@ only_reads_after reads more most old mid new few has only_reads =
 pub runs_out : (reads most : ℕ) (old mid new : BusState) → reads < most → HasOnlyRead reads old mid → HasStopped 1 mid new → HasStopped most old new
 runs_out reads most old mid new few has out = grind (arith, has.sent, has.nature.honest, out)
 
--- if the next read succeeds too, `reads + 1` have succeeded
-pub has_only_read-more : (reads : ℕ) (old mid new : BusState) → HasOnlyRead reads old mid → OnlyReads 1 mid new → (mid.honest ≡ true → HasRead mid new) → StaysReady mid new → HasOnlyRead (reads + 1) old new
-has_only_read-more reads old mid new has only_reads read polled_ready =
-    grind (arith, nature_then old mid new only_reads.nature has.nature, rested_then old mid new)
+-- a read that succeeded
+pub has_only_read-one : {old new : BusState} → OnlyReads 1 old new → (old.honest ≡ true → HasRead old new)
+    → StaysReady old new → HasOnlyRead 1 old new
+has_only_read-one only_reads read polled_ready = grind arith
+
+-- if `HasOnlyRead` holds for each of two successive calls, it holds for both together, with the sum of their reads
+pub has_only_read-then : {reads more : ℕ} {old mid new : BusState} → HasOnlyRead reads old mid
+    → HasOnlyRead more mid new → HasOnlyRead (reads + more) old new
+has_only_read-then {old = old} {mid = mid} {new = new} has next =
+    grind (arith, nature_then old mid new next.nature has.nature, rested_then old mid new)
+
+-- ---- the chip after the reads, on an honest bus
+
+pub same_bytes : {old new : BusState} → Rested old new → new.chip.bytes ≡ old.chip.bytes
+same_bytes rested = fun_ext rested.unchanged.same.bytes
+
+-- an idle chip is still idle, and has the same size
+pub open_later : {size reads : ℕ} {old mid : BusState} → HasOnlyRead reads old mid → IsOpen size old → IsOpen size mid
+open_later has is_open = let was = (has.rested is_open.honest).unchanged in search arith

@@ -2,6 +2,7 @@ pub mod OnlyReads
 pub mod Ready
 pub mod Waits
 pub mod Reads
+pub mod ReadsInTurn
 pub mod Units
 pub mod Limits
 pub mod Operations

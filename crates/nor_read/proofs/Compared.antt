@@ -1,7 +1,7 @@
 -- The promises of `verify` at each exit follow from those of the probe and of the comparison.
 use Rattle.std.proofs.Common.{◌≡◌, ◌≢◌, ◌∙◌, ℕ, true, List, length, Option, Some, None, Result, Ok, Err}
 use Rattle.std.proofs.Common.{arith}
-use Rattle.std.specs.Prelude.{◌/◌}
+use Rattle.std.specs.Prelude.{◌/◌, ◌*◌}
 use Rattle.nor_model.specs.Bus.{BusState}
 use Rattle.nor_driver.specs.OnlyReads.{OnlyReads, HasStopped}
 use Rattle.nor_layout.specs.declared.ranges.Span.{Span}
@@ -16,8 +16,9 @@ use Rattle.nor_request.specs.Errors.{IdentificationErrors}
 use Rattle.nor_read.specs.declared.verifying.Compared.{Compared}
 use Rattle.nor_read.specs.Finding.{IsModelled, HasFound, ReadingErrors, most_read}
 use Rattle.nor_read.specs.Verifying.{VerifyAlways, VerifyHonest, VerifyModelled, VerifyErrors, IsVerifyRefusal}
-use Rattle.nor_read.specs.Verifying.{FindsFirst, ComparesAll, VerifyEnds}
-use Rattle.nor_read.proofs.Onward.{has_only_read, same_bytes, read_after}
+use Rattle.nor_read.specs.Verifying.{FindsFirst, ComparesBelow, VerifyEnds}
+use Rattle.nor_driver.proofs.RestsInTurn.{same_bytes}
+use Rattle.nor_read.proofs.Onward.{read_after}
 use Rattle.nor_read.proofs.Whole.{Sends, find_errors, sends_probe, sends_on, fails, report_of, reported}
 use Rattle.nor_read.proofs.Whole.{rested_on, size_of, open_after, has_name, is_taken, is_passed}
 
@@ -74,19 +75,21 @@ module _ (named : Option ChipName) (included : Option (List Span)) (image : List
 
       -- the exits after all sectors were compared
       module _ (whole : length image ≡ probed.found.size) (fits : FitsInto included probed.found.size)
-          {compared : Compared} (all : ComparesAll included image probed.found.size mid new compared) where
+          {compared : Compared} (all : ComparesBelow included image probed.found.size (probed.found.size / 4096) mid new compared) where
         -- On a modelled bus the first difference that was found is the first one between the image and the chip as it
         -- was before the probe.
         first_before : (first : Option ℕ) → compared.first ≡ first → IsModelled old
             → FindsFirst included image old.chip.bytes 0 old.chip.config.size first
         first_before first is known =
-            rw (size_of found only_reads known, same_bytes (found.rested known.honest), is)
+            let blocks = found.is.part.in_blocks in
+            let end : 4096 * (probed.found.size / 4096) ≡ probed.found.size = omega arith in
+            rw (end, size_of found only_reads known, same_bytes (found.rested known.honest), is)
             at (all.errors (open_after found only_reads known))
 
         pub mismatch : (address : ℕ) → compared.first ≡ Some address
             → Verified named included image old new (Err (Mismatch address))
         mismatch address is = refused _ (sends_on found only_reads after) tt
-            (read_after only_reads.nature.history (rw is at all.replied)) (rested_on found only_reads all.rested)
+            (read_after only_reads.nature.history (rw is at all.replied)) (rested_on found only_reads all.honest_reads.rested)
             (λ known. search (
               is_taken found only_reads fits,
               whole ∙ size_of found only_reads known,
@@ -97,6 +100,6 @@ module _ (named : Option ChipName) (included : Option (List Span)) (image : List
             → Verified named included image old new (Ok (report_of probed compared.reads))
         equal none =
             let sends = sends_on found only_reads after in
-            let reports = reported found only_reads (has_only_read after all.rested all.fell all.polled_ready) all.counted in
+            let reports = reported found only_reads all.honest_reads all.counted in
             let first = first_before None none in
             search (sends.own, reports.reads, reports.config)

@@ -5,17 +5,16 @@ use Rattle.std.specs.Prelude.{◌/◌}
 use Rattle.std.proofs.lemmas.Bool.{cases_lt}
 use Rattle.std.proofs.lemmas.List.{get_or_append_left, get_or-append_right, get_or-take, length-take-le}
 use Rattle.nor_model.specs.Bus.{BusState}
-use Rattle.nor_driver.specs.OnlyReads.{OnlyReads, IsOpen}
+use Rattle.nor_driver.specs.OnlyReads.{IsOpen}
 use Rattle.nor_journal.specs.Vault.{VaultState, Accepted, Took}
 use Rattle.nor_layout.specs.declared.ranges.Span.{Span}
 use Rattle.nor_geometry.specs.Below.{count_below}
 use Rattle.nor_layout.specs.Sectors.{includes, has_in_sector, sectors_included}
 use Rattle.nor_geometry.proofs.Below.{count_below-zero}
-use Rattle.nor_driver.proofs.RestsInTurn.{HasOnlyRead, has_only_read-none}
+use Rattle.nor_driver.proofs.RestsInTurn.{HasOnlyRead, has_only_read-none, has_only_read-then, open_later, same_bytes}
 use Rattle.nor_request.specs.declared.refusal.Refusal.{Refusal}
 use Rattle.nor_request.specs.declared.refusal.Refusal.TheVariants.{Output}
 use Rattle.nor_read.specs.Reading.{copied, Grows, Copies, ReadsPiece, ReadsAll, CopyErrors, PutErrors}
-use Rattle.nor_read.proofs.Onward.{has_only_read, has_only_read-then, open_on, same_bytes}
 
 -- Holds if the vault has `count` bytes more. If `known` holds, these are the first ones of the copy.
 pub record CopiesIf (known : Type 0) (included : Option (List Span)) (content : ℕ → ℕ) (count : ℕ)
@@ -78,16 +77,16 @@ module _ {known : Type 0} {included : Option (List Span)} {content : ℕ → ℕ
 
 module _ {included : Option (List Span)} {size n reads more : ℕ} {bytes : List ℕ} {old mid new : BusState}
     {vault now : VaultState} (below : n < size / 65536) (long : length bytes ≡ 65536)
-    (has : HasCopied included size n old mid vault now reads) (only_reads : OnlyReads 16 mid new)
-    (piece : ReadsPiece included n bytes mid new more) where
+    (has : HasCopied included size n old mid vault now reads)
+    (piece : ReadsPiece included n 16 bytes mid new more) where
   has_only_read-all : HasOnlyRead (reads + more) old new
-  has_only_read-all = has_only_read-then has.honest_reads (has_only_read only_reads piece.rested piece.fell piece.polled_ready)
+  has_only_read-all = has_only_read-then has.honest_reads piece.honest_reads
 
   -- On a well-behaved bus with an idle chip of this size, the piece has the bytes of the copy.
   piece_right : IsOpen size old → (i : ℕ) → i < 65536
       → slice_index bytes i ≡ copied included old.chip.bytes (65536 * n + i)
   piece_right is_open i small =
-      let now = open_on is_open has.honest_reads in
+      let now = open_later has.honest_reads is_open in
       let same = now.same in
       rw (same_bytes (has.honest_reads.rested is_open.honest)) at (piece.right now.honest now.idle (omega arith) i small)
 

@@ -8,18 +8,17 @@ use Rattle.nor_model.specs.Exchange.{Exchange}
 use Rattle.nor_model.specs.History.{Continues, replied}
 use Rattle.nor_model.specs.Bus.{BusState}
 use Rattle.nor_model.proofs.Histories.{continues_refl}
-use Rattle.nor_driver.specs.OnlyReads.{OnlyReads, IsOpen}
+use Rattle.nor_driver.specs.OnlyReads.{OnlyReads}
 use Rattle.nor_driver.specs.Reads.{ReadsSector}
 use Rattle.nor_layout.specs.declared.ranges.Span.{Span}
-use Rattle.nor_geometry.specs.Below.{count_below}
 use Rattle.nor_layout.specs.Sectors.{includes, has_in_sector, AreOfSector, SomeInSector, NoneInSector}
 use Rattle.nor_geometry.proofs.Below.{count_below-zero, count_below-more}
 use Rattle.nor_plan.specs.Bytes.{AllAgree, IsFirstDifference}
-use Rattle.nor_driver.proofs.RestsInTurn.{HasOnlyRead, has_only_read-none, rested_none}
+use Rattle.nor_driver.proofs.RestsInTurn.{has_only_read-none, has_only_read-one, has_only_read-then, open_later, same_bytes}
 use Rattle.nor_read.specs.declared.verifying.Compared.{Compared}
 use Rattle.nor_read.specs.Verifying.{AgreeIn, IsFirstOther, FindsFirst, IsSectorRead, AddsSectorReads}
-use Rattle.nor_read.specs.Verifying.{ReadsDifference, ComparesPart}
-use Rattle.nor_read.proofs.Onward.{has_only_read, has_only_read-then, open_on, same_bytes, read_after, read_then}
+use Rattle.nor_read.specs.Verifying.{ReadsDifference, ComparesPart, ComparesBelow}
+use Rattle.nor_read.proofs.Onward.{read_after, read_then}
 
 -- ---- one sector
 
@@ -83,9 +82,7 @@ part_skipped included image sector false state out test none = record {
   counted = rw (← test);
   only_sectors = adds_none state.history;
   replied = tt;
-  polled_ready = λ ready. ready;
-  rested = λ honest. rested_none state;
-  fell = λ honest. omega arith;
+  honest_reads = has_only_read-none state;
   errors = λ honest idle inside.
       in_sector (λ a. includes included a ≡ true → slice_index image a ≡ state.chip.bytes a) sector
       (λ i small inside. let outside = none i small in absurd (cc));
@@ -94,7 +91,7 @@ part_skipped included image sector false state out test none = record {
 -- Lemmas on a sector that was read and compared. Its first difference, if there is one, has an address in it. If the
 -- chip of a well-behaved bus was idle and has the sector, the bytes that were compared are the chip's.
 module _ (included : Option (List Span)) (image : List ℕ) {bytes : List ℕ} {sector : ℕ} {old new : BusState}
-    (reads : ReadsSector sector old new bytes) where
+    (only_reads : OnlyReads 1 old new) (reads : ReadsSector sector old new bytes) where
   read_at : (first : Option ℕ) → ((content : ℕ → ℕ) → AreOfSector content sector bytes
       → FindsFirst included image content (4096 * sector) (4096 * (sector + 1)) first)
       → ReadsDifference old.history new.history first
@@ -131,9 +128,7 @@ module _ (included : Option (List Span)) (image : List ℕ) {bytes : List ℕ} {
           (record { sector = sector; bytes = bytes; reads = read.asks; replied = refl }) (All-nil IsSectorRead);
     };
     replied = read_at first finds;
-    polled_ready = λ ready. same ∙ ready;
-    rested = λ honest. (reads.read honest).rested;
-    fell = λ honest. (reads.read honest).count;
+    honest_reads = has_only_read-one only_reads reads.read (λ ready. same ∙ ready);
     errors = λ honest idle inside. finds old.chip.bytes (reads.replied honest idle inside).byte;
   }
 
@@ -161,35 +156,26 @@ others_more None None low high has more = tt
 others_more None (Some address) low high has more = read_after low more
 others_more (Some address) second low high has more = read_then has high
 
--- Holds if the sectors below `n` were compared. The first difference is known to be right on a well-behaved bus whose
--- chip was idle at the start and has this size.
-pub record HasCompared (included : Option (List Span)) (image : List ℕ) (size n : ℕ) (old new : BusState)
-    (first : Option ℕ) (reads : ℕ) : Type 0 where
-  pub few : reads ≤ n
-  pub counted : reads ≡ count_below n (has_in_sector (includes included))
-  pub honest_reads : HasOnlyRead reads old new
-  pub replied : ReadsDifference old.history new.history first
-  pub errors : IsOpen size old → FindsFirst included image old.chip.bytes 0 (4096 * n) first
-
 pub compared_none : (included : Option (List Span)) (image : List ℕ) (size : ℕ) (state : BusState)
-    → HasCompared included image size 0 state state None 0
+    → ComparesBelow included image size 0 state state (record { first = None; reads = 0 })
 compared_none included image size state = grind (arith, count_below-zero, has_only_read-none state)
 
-module _ {included : Option (List Span)} {image : List ℕ} {size n reads : ℕ} {old mid new : BusState}
-    {first : Option ℕ} {part : Compared} where
-  pub compared_more : n < size / 4096 → HasCompared included image size n old mid first reads → OnlyReads 1 mid new
+module _ {included : Option (List Span)} {image : List ℕ} {size n : ℕ} {old mid new : BusState}
+    {before part : Compared} where
+  pub compared_more : n < size / 4096 → ComparesBelow included image size n old mid before
       → ComparesPart included image n mid new part
-      → HasCompared included image size (n + 1) old new (option_or first part.first) (reads + part.reads)
-  compared_more below has only_reads compares = record {
-    few = grind arith;
+      → ComparesBelow included image size (n + 1) old new
+      (record { first = option_or before.first part.first; reads = before.reads + part.reads })
+  compared_more below has compares = record {
+    most = grind arith;
     counted = let next = count_below-more n (has_in_sector (includes included)) in grind arith;
-    honest_reads = has_only_read-then has.honest_reads (has_only_read only_reads compares.rested compares.fell compares.polled_ready);
-    replied = others_more first part.first has.honest_reads.nature.history compares.only_sectors has.replied
+    honest_reads = has_only_read-then has.honest_reads compares.honest_reads;
+    replied = others_more before.first part.first has.honest_reads.nature.history compares.only_sectors has.replied
         compares.replied;
     errors = λ is_open.
-        let now = open_on is_open has.honest_reads in
+        let now = open_later has.honest_reads is_open in
         let same = now.same in
-        finds_first_more included image old.chip.bytes 0 (4096 * n) (4096 * (n + 1)) first part.first (omega arith)
-        (omega arith) (has.errors is_open) (rw (same_bytes (has.honest_reads.rested is_open.honest))
+        finds_first_more included image old.chip.bytes 0 (4096 * n) (4096 * (n + 1)) before.first part.first
+        (omega arith) (omega arith) (has.errors is_open) (rw (same_bytes (has.honest_reads.rested is_open.honest))
         at (compares.errors now.honest now.idle (omega arith)));
   }

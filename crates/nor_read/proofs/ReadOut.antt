@@ -16,7 +16,7 @@ use Rattle.nor_request.specs.Errors.{IdentificationErrors, EndsAtError}
 use Rattle.nor_read.specs.Finding.{IsModelled, HasFound, ReadingErrors, most_read}
 use Rattle.nor_read.specs.Reading.{ReadOutAlways, ReadOutHonest, ReadOutModelled, IsReadRefusal, ReadOutErrors}
 use Rattle.nor_read.specs.Reading.{Copies, ReadsAll, CopyErrors}
-use Rattle.nor_read.proofs.Onward.{has_only_read, same_bytes}
+use Rattle.nor_driver.proofs.RestsInTurn.{same_bytes}
 use Rattle.nor_read.proofs.Whole.{Sends, find_errors, find_ends, sends_probe, sends_on, fails, report_of, reported}
 use Rattle.nor_read.proofs.Whole.{rested_on, size_of, open_after, is_taken, is_passed}
 
@@ -81,7 +81,7 @@ module _ (named : Option ChipName) (included : Option (List Span)) (vault : Vaul
           → HasReadOut named included old new vault vault' (Ok (report_of probed reads))
       copied_whole all =
           let sends = sends_on found only_reads after in
-          let reports = reported found only_reads (has_only_read after all.rested all.fell all.polled_ready) all.counted in
+          let reports = reported found only_reads all.honest_reads all.counted in
           let took = all.took in
           let copy : IsModelled old → vault.telling ≡ true
           → Copies included old.chip.bytes old.chip.config.size vault vault'

@@ -4,7 +4,7 @@ use Rattle.std.specs.Prelude.{Option, Result, IfOk, IfErr, OnOk, List, length, s
 use Rattle.nor_model.specs.Bus.{BusState}
 use Rattle.nor_driver.specs.OnlyReads.{OnlyReads, Rested, RanOut, HasStopped, IsOpen}
 use Rattle.nor_journal.specs.Vault.{VaultState, PutRefused, Refused, Accepted}
-use Rattle.nor_driver.specs.Ready.{StaysReady}
+use Rattle.nor_driver.specs.ReadsInTurn.{HasOnlyRead}
 use Rattle.nor_layout.specs.declared.ranges.Span.{Span}
 use Rattle.nor_geometry.specs.Below.{count_below}
 use Rattle.nor_layout.specs.Sectors.{includes, has_in_sector, sectors_included, AreOfSector, FitsInto}
@@ -128,33 +128,28 @@ pub record ReadOutModelled (named : Option ChipName) (included : Option (List Sp
 pub record ReadsPart (included : Option (List Span)) (sector : ℕ) (bytes : List ℕ) (old new : BusState)
     (reads : ℕ) : Type 0 where
   pub counted : reads ≡ (if has_in_sector (includes included) sector then 1 else 0)
-  pub polled_ready : StaysReady old new
-  pub rested : old.honest ≡ true → Rested old new
-  pub fell : old.honest ≡ true → old.left ≡ new.left + reads
+  pub honest_reads : HasOnlyRead reads old new
   pub right : old.honest ≡ true → old.chip.busy ≡ 0 → 4096 * (sector + 1) ≤ old.chip.config.size
       → AreOfSector (copied included old.chip.bytes) sector bytes
 
--- Holds after a piece of the copy, of sixteen sectors, was made with one transaction for each sector that has an
--- included address. The piece is known to be right on a well-behaved bus with an idle chip that has these sectors.
-pub record ReadsPiece (included : Option (List Span)) (piece : ℕ) (bytes : List ℕ) (old new : BusState)
+-- Holds after the first `n` sectors of a piece of the copy were made, with one transaction for each of them that has an
+-- included address. A whole piece has sixteen sectors. The sectors are known to be right on a well-behaved bus with an
+-- idle chip that has the whole piece.
+pub record ReadsPiece (included : Option (List Span)) (piece n : ℕ) (bytes : List ℕ) (old new : BusState)
     (reads : ℕ) : Type 0 where
-  pub counted : count_below (16 * piece + 16) (has_in_sector (includes included))
+  pub counted : count_below (16 * piece + n) (has_in_sector (includes included))
       ≡ count_below (16 * piece) (has_in_sector (includes included)) + reads
-  pub most : reads ≤ 16
-  pub polled_ready : StaysReady old new
-  pub rested : old.honest ≡ true → Rested old new
-  pub fell : old.honest ≡ true → old.left ≡ new.left + reads
+  pub most : reads ≤ n
+  pub honest_reads : HasOnlyRead reads old new
   pub right : old.honest ≡ true → old.chip.busy ≡ 0 → 65536 * (piece + 1) ≤ old.chip.config.size
-      → (i : ℕ) → i < 65536 → slice_index bytes i ≡ copied included old.chip.bytes (65536 * piece + i)
+      → (i : ℕ) → i < 4096 * n → slice_index bytes i ≡ copied included old.chip.bytes (65536 * piece + i)
 
 -- Holds after all pieces of the copy were made and appended. The copy in a `telling` vault is known to be right on a
 -- well-behaved bus with an idle chip of this size.
 pub record ReadsAll (included : Option (List Span)) (size : ℕ) (old new : BusState) (vault vault' : VaultState)
     (reads : ℕ) : Type 0 where
   pub counted : reads ≡ sectors_included included size
-  pub polled_ready : StaysReady old new
-  pub rested : old.honest ≡ true → Rested old new
-  pub fell : old.honest ≡ true → old.left ≡ new.left + reads
+  pub honest_reads : HasOnlyRead reads old new
   pub took : TakesWhole size vault vault'
   pub copy : IsOpen size old → vault.telling ≡ true → Copies included old.chip.bytes size vault vault'
 

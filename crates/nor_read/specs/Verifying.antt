@@ -7,9 +7,10 @@ use Rattle.nor_model.specs.Chip.{Chip}
 use Rattle.nor_model.specs.Exchange.{Exchange}
 use Rattle.nor_model.specs.History.{Continues, EndsReading, names}
 use Rattle.nor_model.specs.Bus.{BusState}
-use Rattle.nor_driver.specs.OnlyReads.{OnlyReads, Rested, RanOut, IsOpen}
-use Rattle.nor_driver.specs.Ready.{StaysReady}
+use Rattle.nor_driver.specs.OnlyReads.{OnlyReads, RanOut, IsOpen}
+use Rattle.nor_driver.specs.ReadsInTurn.{HasOnlyRead}
 use Rattle.nor_layout.specs.declared.ranges.Span.{Span}
+use Rattle.nor_geometry.specs.Below.{count_below}
 use Rattle.nor_layout.specs.Sectors.{includes, has_in_sector, sectors_included, FitsInto}
 use Rattle.nor_probe.specs.declared.table.ChipName.{ChipName}
 use Rattle.nor_probe.specs.Found.{IsConfigOf}
@@ -162,19 +163,16 @@ pub record ComparesPart (included : Option (List Span)) (image : List ℕ) (sect
   pub counted : compared.reads ≡ (if has_in_sector (includes included) sector then 1 else 0)
   pub only_sectors : AddsSectorReads old.history new.history
   pub replied : ReadsDifference old.history new.history compared.first
-  pub polled_ready : StaysReady old new
-  pub rested : old.honest ≡ true → Rested old new
-  pub fell : old.honest ≡ true → old.left ≡ new.left + compared.reads
+  pub honest_reads : HasOnlyRead compared.reads old new
   pub errors : old.honest ≡ true → old.chip.busy ≡ 0 → 4096 * (sector + 1) ≤ old.chip.config.size
       → FindsFirst included image old.chip.bytes (4096 * sector) (4096 * (sector + 1)) compared.first
 
--- Holds after all sectors were compared. The first difference is known to be right on a well-behaved bus with an idle
--- chip of this size.
-pub record ComparesAll (included : Option (List Span)) (image : List ℕ) (size : ℕ) (old new : BusState)
+-- Holds after the sectors below `n` were compared. The first difference is known to be right on a well-behaved bus with
+-- an idle chip of this size.
+pub record ComparesBelow (included : Option (List Span)) (image : List ℕ) (size n : ℕ) (old new : BusState)
     (compared : Compared) : Type 0 where
-  pub counted : compared.reads ≡ sectors_included included size
+  pub counted : compared.reads ≡ count_below n (has_in_sector (includes included))
+  pub most : compared.reads ≤ n
+  pub honest_reads : HasOnlyRead compared.reads old new
   pub replied : ReadsDifference old.history new.history compared.first
-  pub polled_ready : StaysReady old new
-  pub rested : old.honest ≡ true → Rested old new
-  pub fell : old.honest ≡ true → old.left ≡ new.left + compared.reads
-  pub errors : IsOpen size old → FindsFirst included image old.chip.bytes 0 size compared.first
+  pub errors : IsOpen size old → FindsFirst included image old.chip.bytes 0 (4096 * n) compared.first

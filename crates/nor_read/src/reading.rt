@@ -86,7 +86,7 @@ fn read_piece<B: Bus>(
     requires { piece < 256 }
     ensures leaves { OnlyReads 16 (B.state bus.old) (B.state bus.new) }
     ensures reads { IfOk result
-        (ReadsPiece (option_copied included.entry) piece bytes.new (B.state bus.old) (B.state bus.new)) }
+        (ReadsPiece (option_copied included.entry) piece 16 bytes.new (B.state bus.old) (B.state bus.new)) }
     ensures stops { OnErr result (HasStopped 16 (B.state bus.old) (B.state bus.new)) }
 {
     let mut reads = 0;

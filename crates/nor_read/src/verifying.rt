@@ -5,7 +5,7 @@ ghost use Rattle.nor_driver.specs.OnlyReads.{OnlyReads, HasStopped};
 ghost use Rattle.nor_layout.specs.Sectors.{AreOfSector};
 ghost use Rattle.nor_read.specs.Finding.{IsModelled};
 ghost use Rattle.nor_read.specs.Verifying.{VerifyAlways, VerifyHonest, VerifyModelled};
-ghost use Rattle.nor_read.specs.Verifying.{ComparesPart, ComparesAll, FindsFirst};
+ghost use Rattle.nor_read.specs.Verifying.{ComparesPart, ComparesBelow, FindsFirst};
 
 use crate::finding::{find, report};
 use nor_driver::read_sector;
@@ -74,7 +74,8 @@ fn compare_all<B: Bus>(
     requires whole { length image.now ≡ size }
     ensures leaves { OnlyReads (size / 4096) (B.state bus.old) (B.state bus.new) }
     ensures compares { IfOk result
-        (ComparesAll (option_copied included.entry) image.now size (B.state bus.old) (B.state bus.new)) }
+        (ComparesBelow (option_copied included.entry) image.now size (size / 4096)
+        (B.state bus.old) (B.state bus.new)) }
     ensures stops { OnErr result (HasStopped (size / 4096) (B.state bus.old) (B.state bus.new)) }
 {
     let mut first = None;

@@ -19,7 +19,7 @@ use Rattle.nor_scan.specs.declared.scanning.Scanned.{Scanned}
 use Rattle.nor_request.specs.declared.request.Request.{Request}
 use Rattle.nor_request.specs.declared.refusal.Refusal.{Refusal}
 use Rattle.nor_request.specs.declared.refusal.Refusal.TheVariants.{StatusLocked, Protected, Vault}
-use Rattle.nor_scan.specs.Scanning.{Scans, AreRight, HoldsCut, HasKeptBelow, wanted_at}
+use Rattle.nor_scan.specs.Scanning.{Scans, AreRight, sectors_below, HoldsCut, HasKeptBelow, wanted_at}
 use Rattle.nor_scan.specs.Saving.{IsIdentityOf, HasIdleChip, header_of, kept_read}
 use Rattle.nor_scan.specs.Verdict.{IsVerdict}
 use Rattle.nor_scan.proofs.Begun.{put_alike}
@@ -47,7 +47,7 @@ put_begins {c = c} written faithful = rw (written.put.held faithful) (take_all (
 -- If the marks are right, and the records so far are those of the marked sectors, the records are those of the touched
 -- sectors below `n`, the next sector.
 module _ {V : Type 0} {state : V → VaultState} {writer : Writer V} {head : Content} {chip target_bytes : ℕ → ℕ} {n : ℕ}
-    {scanned : Scanned} (right : AreRight target_bytes chip n scanned)
+    {scanned : Scanned} (right : AreRight target_bytes chip (sectors_below n) scanned)
     (kept : HasPutSectors state writer head chip (has scanned.touched) n) where
   pub kept_touched : HasPutSectors state writer head chip (λ s. nat_lt s n && is_touched chip target_bytes s) n
   kept_touched = put_alike (λ s i is below. refl) (λ s. sym (right.touched s)) (omega arith) kept

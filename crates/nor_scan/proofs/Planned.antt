@@ -6,7 +6,7 @@ use Rattle.std.specs.Prelude.{if◌then◌else◌, ◌==◌, nat_lt}
 use Rattle.std.proofs.Math.Bool.{and-false}
 use Rattle.std.proofs.lemmas.Bool.{both_ways, cases_lt, ne_eqb, eq-eqb, le-ltb, lt-ltb, not_from_false, not_from_true}
 use Rattle.nor_model.specs.Bus.{BusState}
-use Rattle.nor_driver.specs.Ready.{StaysReady}
+use Rattle.nor_driver.specs.ReadsInTurn.{HasOnlyRead}
 use Rattle.nor_driver.specs.Reads.{ReadsSector}
 use Rattle.nor_layout.specs.declared.ranges.Span.{Span}
 use Rattle.nor_layout.specs.Sectors.{includes}
@@ -111,10 +111,10 @@ pub scans_sector : (request : Request) (size sector : ℕ) (included : Option (L
     → is_data request.what ≡ true → 4096 * sector + 4096 ≤ size → included ≡ request.included → length bytes ≡ 4096 → length part' ≡ 4096
     → ((image : List ℕ) (a i : ℕ) → i < 4096 → slice_index part i ≡ slice_index image a → slice_index filled i ≡ target request.what image a)
     → ((i : ℕ) → i < 4096 → slice_index part' i ≡ (if includes included (4096 * sector + i) then slice_index filled i else slice_index bytes i))
-    → ReadsSector sector old new bytes → StaysReady old new → (plan.raised ≡ true → plan.touched ≡ true)
+    → ReadsSector sector old new bytes → HasOnlyRead 1 old new → (plan.raised ≡ true → plan.touched ≡ true)
     → ((content target_bytes : ℕ → ℕ) → AreBytesOf content bytes → AreBytesOf target_bytes part' → IsPlan content target_bytes (length bytes) plan)
     → ScansSector request size sector part part' bytes old new plan
-scans_sector request size sector included part filled part' bytes old new plan about_bytes fits is_included long long' targets fills reads polled_ready needed plans =
+scans_sector request size sector included part filled part' bytes old new plan about_bytes fits is_included long long' targets fills reads honest_reads needed plans =
     let shown = λ (is_open : IsOpen size old). reads.replied is_open.honest is_open.idle (let s = is_open.same in omega arith) in
     let merged : IsOpen size old → (image : List ℕ) → ((i : ℕ) → i < 4096 → slice_index part i ≡ slice_index image (4096 * sector + i))
     → (i : ℕ) → i < 4096 → slice_index part' i ≡ wanted_at request image size old.chip.bytes (4096 * sector + i) =
@@ -125,8 +125,7 @@ scans_sector request size sector included part filled part' bytes old new plan a
     record {
       needed = needed;
       answered = reads.answered;
-      polled_ready = polled_ready;
-      read = reads.read;
+      honest_reads = honest_reads;
       shown = shown;
       merged = merged;
       planned = λ is_open image same.

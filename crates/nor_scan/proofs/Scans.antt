@@ -5,9 +5,8 @@ use Rattle.std.specs.Prelude.{if◌then◌else◌, ◌==◌, nat_lt}
 use Rattle.std.proofs.lemmas.Bool.{cases_eq, eq-eqb, ne_eqb, or_left, and_left, both_ways, false_from_ne_true}
 use Rattle.std.proofs.lemmas.Bool.Decides.{nat_tests}
 use Rattle.std.proofs.Math.Bool.{and-false}
-use Rattle.nor_model.specs.declared.config.Config.{Config}
 use Rattle.nor_model.specs.Bus.{BusState}
-use Rattle.nor_driver.specs.OnlyReads.{OnlyReads, IsOpen}
+use Rattle.nor_driver.specs.OnlyReads.{IsOpen}
 use Rattle.nor_geometry.specs.Below.{count_below}
 use Rattle.nor_layout.specs.Sectors.{includes, has_in_sector, NoneInSector}
 use Rattle.nor_journal.specs.Saved.{IsWholeSector, HasOneMore}
@@ -18,13 +17,12 @@ use Rattle.nor_geometry.specs.Counts.{sector_count}
 use Rattle.nor_request.specs.declared.request.Request.{Request}
 use Rattle.nor_scan.specs.declared.scanning.Scanned.{Scanned}
 use Rattle.nor_request.specs.Request.{is_data, scanned_sectors}
-use Rattle.nor_scan.specs.Scanning.{wanted_at, AreMarks, AreRight, IsBlank, HasMarked, ScansSector, Scans}
+use Rattle.nor_scan.specs.Scanning.{wanted_at, AreMarks, AreRight, sectors_below, IsBlank, HasMarked, ScansSector, Scans}
 use Rattle.nor_geometry.proofs.Counting.{count_below-zero, count_below-with, count_below-without, count_below-add}
 use Rattle.nor_geometry.proofs.Counting.{count_below-none, count_below-same}
 use Rattle.nor_geometry.proofs.Verdicts.{count_below-insert}
 use Rattle.nor_scan.proofs.Planned.{may_change-included, wanted-kept, untouched, unraised}
-use mathlib.Core.Path.{fun_ext}
-use Rattle.nor_driver.proofs.RestsInTurn.{HasOnlyRead, has_only_read-none, has_only_read-more}
+use Rattle.nor_driver.proofs.RestsInTurn.{HasOnlyRead, has_only_read-none, has_only_read-then, open_later, same_bytes}
 use Rattle.nor_plan.proofs.Parts.{cut_out, put_back}
 use Rattle.nor_model.specs.Size.{is_chip_size}
 use Rattle.nor_model.proofs.Sizes.{is_chip_size-in_blocks}
@@ -39,18 +37,31 @@ pub record HasScanned (request : Request) (size n : ℕ) (image image' : List �
   pub marks : AreMarks n scanned
   pub reads : scanned.reads ≡ count_below n (has_in_sector (includes request.included))
   pub honest_reads : HasOnlyRead scanned.reads old new
-  pub right : IsOpen size old → AreRight (wanted_at request image size old.chip.bytes) old.chip.bytes n scanned
+  pub right : IsOpen size old → AreRight (wanted_at request image size old.chip.bytes) old.chip.bytes (sectors_below n) scanned
   pub merged : IsOpen size old → (a : ℕ) → has scanned.touched (a / 4096) ≡ true
       → slice_index image' a ≡ wanted_at request image size old.chip.bytes a
   pub rest : (a : ℕ) → 4096 * n ≤ a → slice_index image' a ≡ slice_index image a
 
 -- ---- marks
 
--- If a set has exactly those sectors below `n` that pass a test, and `n` is added if and only if it passes, the set has
--- exactly those sectors below `n + 1` that pass.
-tested : (n s : ℕ) (test : ℕ → Bool) {verdict old new : Bool} → verdict ≡ test n → old ≡ (nat_lt s n && test s)
-    → new ≡ ((verdict && (s == n)) || old) → new ≡ (nat_lt s (n + 1) && test s)
-tested n s test {verdict} {old} {new} is was inserted = grind (arith, nat_tests)
+-- If a set has exactly those of the sectors `seen` that pass a test, and `n` is added if and only if it passes, the set
+-- has exactly those of `seen` and `n` that pass.
+tested : (n s : ℕ) (test : ℕ → Bool) (seen more : Bool) {verdict old new : Bool} → verdict ≡ test n → more ≡ ((s == n) || seen)
+    → old ≡ (seen && test s) → new ≡ ((verdict && (s == n)) || old) → new ≡ (more && test s)
+tested n s test seen more is one was inserted = grind (arith, nat_tests)
+
+below_more : (n s : ℕ) → sectors_below (n + 1) s ≡ ((s == n) || sectors_below n s)
+below_more n s = grind (arith, nat_tests)
+
+-- The marks are right for one sector more, after it was marked by a plan that is right.
+pub right_more : {wanted content : ℕ → ℕ} {seen more : ℕ → Bool} {n : ℕ} {plan : SectorPlan} {old new : Scanned}
+    → (plan.touched ≡ is_touched content wanted n) × (plan.raised ≡ is_raised content wanted n)
+    → ((s : ℕ) → more s ≡ ((s == n) || seen s)) → HasMarked n plan old new → AreRight wanted content seen old
+    → AreRight wanted content more new
+right_more {wanted = wanted} {content = content} {n = n} is one marked was = record {
+  touched = λ s. tested n s (is_touched content wanted) _ _ is.0 (one s) (was.touched s) (marked.touched s);
+  raised = λ s. tested n s (is_raised content wanted) _ _ is.1 (one s) (was.raised s) (marked.raised s);
+}
 
 absent : (n : ℕ) (scanned : Scanned) → AreMarks n scanned → (s : ℕ) → n ≤ s → has scanned.touched s ≡ false
 absent n scanned are s above = false_from_ne_true _ (λ marked. let below = are.below s marked in absurd (omega arith))
@@ -133,15 +144,6 @@ nothing_scanned request size image state scanned blank = record {
   rest = λ a above. refl;
 }
 
-pub opened_later : (size reads : ℕ) (old mid : BusState) → IsOpen size old → HasOnlyRead reads old mid → IsOpen size mid
-opened_later size reads old mid is_open honest_reads =
-    let was = (honest_reads.rested is_open.honest).unchanged in let busy = was.busy in let idle = is_open.idle in
-    record {
-      honest = honest_reads.nature.honest ∙ is_open.honest;
-      idle = omega arith;
-      same = ap (λ (config : Config). config.size) was.same.config ∙ is_open.same;
-    }
-
 -- ---- what follows from the sectors scanned so far
 
 module _ {request : Request} {size n : ℕ} {image image' : List ℕ} {old mid : BusState} {scanned : Scanned}
@@ -165,20 +167,20 @@ module _ {request : Request} {size n : ℕ} {image image' : List ℕ} {old mid :
         reads = was.reads ∙ sym (count_below-without n (has_in_sector (includes request.included)) at.included);
         honest_reads = was.honest_reads;
         right = λ is_open. record {
-          touched = λ s. tested n s (is_touched content target_bytes) (sym (untouched content target_bytes n kept))
-              ((was.right is_open).touched s) refl;
-          raised = λ s. tested n s (is_raised content target_bytes) (sym (unraised content target_bytes n kept))
-              ((was.right is_open).raised s) refl;
+          touched = λ s. tested n s (is_touched content target_bytes) _ _ (sym (untouched content target_bytes n kept))
+              (below_more n s) ((was.right is_open).touched s) refl;
+          raised = λ s. tested n s (is_raised content target_bytes) _ _ (sym (unraised content target_bytes n kept))
+              (below_more n s) ((was.right is_open).raised s) refl;
         };
         merged = was.merged;
         rest = λ a above. was.rest a (omega arith);
       }
 
   later : IsOpen size old → IsOpen size mid
-  later is_open = opened_later size scanned.reads old mid is_open was.honest_reads
+  later = open_later was.honest_reads
 
   same_before : IsOpen size old → mid.chip.bytes ≡ old.chip.bytes
-  same_before is_open = fun_ext (was.honest_reads.rested is_open.honest).unchanged.same.bytes
+  same_before is_open = same_bytes (was.honest_reads.rested is_open.honest)
 
   -- a sector was read, and its part of the image filled
   module _ {width : ℕ} {part' bytes : List ℕ} {plan : SectorPlan} {new : BusState} (at : IsAt request size n true)
@@ -203,10 +205,10 @@ module _ {request : Request} {size n : ℕ} {image image' : List ℕ} {old mid :
     }
 
     -- `HasScanned` still holds after one more sector was scanned.
-    pub scanned_more : {next : Scanned} → OnlyReads 1 mid new → HasMarked n plan scanned next → length part' ≡ 4096
+    pub scanned_more : {next : Scanned} → HasMarked n plan scanned next → length part' ≡ 4096
         → length image' ≡ size
         → HasScanned request size (n + 1) image (put_mid (4096 * n) width image' part') old new next
-    scanned_more {next = next} only_reads marked whole long =
+    scanned_more {next = next} marked whole long =
         let within = at.below in let small = at.small in
         let put = put_back n width image' part' exact whole (omega arith) in
         let content = old.chip.bytes in
@@ -216,15 +218,8 @@ module _ {request : Request} {size n : ℕ} {image image' : List ℕ} {old mid :
           reads =
               let next = count_below-with n (has_in_sector (includes request.included)) at.included in
               omega (arith, was.reads, marked.reads);
-          honest_reads = rw marked.reads (has_only_read-more scanned.reads old mid new was.honest_reads only_reads scans.read scans.polled_ready);
-          right = λ is_open.
-              let plans = planned_before is_open in
-              record {
-                touched = λ s.
-                    tested n s (is_touched content target_bytes) plans.0 ((was.right is_open).touched s) (marked.touched s);
-                raised = λ s.
-                    tested n s (is_raised content target_bytes) plans.1 ((was.right is_open).raised s) (marked.raised s);
-              };
+          honest_reads = rw marked.reads (has_only_read-then was.honest_reads scans.honest_reads);
+          right = λ is_open. right_more (planned_before is_open) (below_more n) marked (was.right is_open);
           merged = λ is_open a is. elim (cases_eq (a / 4096) n) [
             | inl here ↦
                 let place : 4096 * n + a % 4096 ≡ a = omega arith in
@@ -258,7 +253,7 @@ module _ {request : Request} {size n : ℕ} {image image' : List ℕ} {old mid :
   -- those of the whole chip.
   scans_of : scanned.count ≤ scanned.reads → AreMarks (size / 4096) scanned
       → scanned.reads ≡ scanned_sectors request size → (IsOpen size old
-      → AreRight (wanted_at request image size old.chip.bytes) old.chip.bytes (size / 4096) scanned)
+      → AreRight (wanted_at request image size old.chip.bytes) old.chip.bytes (sectors_below (size / 4096)) scanned)
       → Scans request size image image' old mid scanned
   scans_of few marks reads right = record {
     marks = marks;

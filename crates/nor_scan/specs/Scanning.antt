@@ -9,7 +9,8 @@ use Rattle.nor_journal.specs.Saved.{IsJournalPrefix}
 use Rattle.nor_journal.specs.Vault.{VaultState, Refused, Accepted}
 use Rattle.nor_journal.specs.Writer.{HasPutSectors}
 use Rattle.nor_driver.specs.Ready.{StaysReady}
-use Rattle.nor_driver.specs.Reads.{HasRead, IsSectorOf}
+use Rattle.nor_driver.specs.Reads.{IsSectorOf}
+use Rattle.nor_driver.specs.ReadsInTurn.{HasOnlyRead}
 use Rattle.nor_plan.specs.declared.plan.SectorPlan.{SectorPlan}
 use Rattle.nor_plan.specs.SectorSet.{has}
 use Rattle.nor_geometry.specs.Counts.{sector_count}
@@ -47,11 +48,15 @@ pub record AreMarks (n : ℕ) (scanned : Scanned) : Type 0 where
   pub inside : (s : ℕ) → has scanned.raised s ≡ true → has scanned.touched s ≡ true
   pub count : scanned.count ≡ sector_count (has scanned.touched)
 
--- Holds if the marks of the sectors below `n` are right: touched if some byte differs from the target, raised if some
+-- Holds if the marks of the sectors in `seen` are right: touched if some byte differs from the target, raised if some
 -- bit must go from 0 to 1. No other sector is marked.
-pub record AreRight (wanted content : ℕ → ℕ) (n : ℕ) (scanned : Scanned) : Type 0 where
-  pub touched : (s : ℕ) → has scanned.touched s ≡ (nat_lt s n && is_touched content wanted s)
-  pub raised : (s : ℕ) → has scanned.raised s ≡ (nat_lt s n && is_raised content wanted s)
+pub record AreRight (wanted content : ℕ → ℕ) (seen : ℕ → Bool) (scanned : Scanned) : Type 0 where
+  pub touched : (s : ℕ) → has scanned.touched s ≡ (seen s && is_touched content wanted s)
+  pub raised : (s : ℕ) → has scanned.raised s ≡ (seen s && is_raised content wanted s)
+
+-- true for the numbers below `n`
+abbrev pub sectors_below : (n s : ℕ) → Bool
+sectors_below n s = nat_lt s n
 
 -- Holds after one sector was scanned. On every bus `bytes` is the reply to the only transaction, a read of this sector,
 -- and a raised sector is touched. On a well-behaved bus with an idle chip of this size, `bytes` are the chip's, the
@@ -60,8 +65,7 @@ pub record ScansSector (request : Request) (size sector : ℕ) (part part' bytes
     (old new : BusState) (plan : SectorPlan) : Type 0 where
   pub needed : plan.raised ≡ true → plan.touched ≡ true
   pub answered : Answered (names 0x03 (4096 * sector)) old.history new.history bytes
-  pub polled_ready : StaysReady old new
-  pub read : old.honest ≡ true → HasRead old new
+  pub honest_reads : HasOnlyRead 1 old new
   pub shown : IsOpen size old → IsSectorOf old.chip.bytes sector bytes
   pub merged : IsOpen size old → (image : List ℕ)
       → ((i : ℕ) → i < 4096 → slice_index part i ≡ slice_index image (4096 * sector + i))
@@ -84,7 +88,7 @@ pub record Scans (request : Request) (size : ℕ) (image image' : List ℕ) (old
   pub rested : old.honest ≡ true → Rested old new
   pub sent : old.honest ≡ true → old.left ≡ new.left + scanned.reads
   pub right : IsOpen size old
-      → AreRight (wanted_at request image size old.chip.bytes) old.chip.bytes (size / 4096) scanned
+      → AreRight (wanted_at request image size old.chip.bytes) old.chip.bytes (sectors_below (size / 4096)) scanned
   pub merged : IsOpen size old → (a : ℕ) → has scanned.touched (a / 4096) ≡ true
       → slice_index image' a ≡ wanted_at request image size old.chip.bytes a
 

@@ -54,7 +54,7 @@ module _ {journal : Content} {identity : Identity} {scanned : Scanned} {old mid 
     (read : AreRead journal identity scanned old mid new) where
   rested_all : old.honest ≡ true → Rested old new
   rested_all honest =
-      rested_then old mid new (read.opens.rested honest) (read.scans.rested (read.only_reads.nature.honest ∙ honest))
+      rested_then old mid new (read.opens.rested honest) (read.scans.honest_reads.rested (read.only_reads.nature.honest ∙ honest))
 
   -- on a modelled bus the scan's marks are right for the chip as it was before the restore
   marks_old : IsModelled old
@@ -127,7 +127,7 @@ module _ {journal : Content} {identity : Identity} {scanned : Scanned} {changes 
       let can : CanApply changes (saved_byte journal) new.chip = record {
         idle =
             let idle = read.opens.idle modelled.honest in
-            let rested = read.scans.rested (read.only_reads.nature.honest ∙ modelled.honest) in
+            let rested = read.scans.honest_reads.rested (read.only_reads.nature.honest ∙ modelled.honest) in
             omega arith;
         sized = record { same = cc; same_kinds = cc };
         kept = same.kept
@@ -158,7 +158,7 @@ module _ {journal : Content} {identity : Identity} {scanned : Scanned} {changes 
   idle_now : old.honest ≡ true → new.chip.busy ≡ 0
   idle_now honest =
       let idle = read.opens.idle honest in
-      let rested = read.scans.rested (read.only_reads.nature.honest ∙ honest) in
+      let rested = read.scans.honest_reads.rested (read.only_reads.nature.honest ∙ honest) in
       omega arith
 
   touched_if : old.honest ≡ true → old.chip.config.size ≡ journal.size → (s : ℕ)
@@ -179,10 +179,10 @@ module _ {journal : Content} {identity : Identity} {scanned : Scanned} {changes 
       let part = read.opens.part.at_most in
       let count : scanned.count ≡ touched_count changes
       = read.scans.marks.count ∙ ap (λ (t : SectorSet). sector_count (has t)) (sym are.touched) in
-      let polled_ready = read.scans.polled_ready read.opens.polled_ready in
+      let polled_ready = read.scans.honest_reads.polled_ready read.opens.polled_ready in
       let left : old.honest ≡ true → old.left ≡ new.left + sent = λ honest.
       let opened = read.opens.count honest in
-      let left = read.scans.sent (read.only_reads.nature.honest ∙ honest) in
+      let left = read.scans.honest_reads.sent (read.only_reads.nature.honest ∙ honest) in
       omega arith in
       let fixed : fixed_of (kept_in (bytes_of changes.status)) ≡ fixed_of (kept_in journal.status)
       = rw (are.one, are.two) read.fixed in

@@ -6,11 +6,9 @@ use Rattle.nor_geometry.specs.Counts.{sector_count}
 use Rattle.nor_geometry.proofs.Counting.{count_below-zero, count_below-with, count_below-without}
 use Rattle.nor_model.specs.History.{Answered, EndsReading, names}
 use Rattle.nor_model.specs.Bus.{BusState}
-use Rattle.nor_model.proofs.Nature.{nature_then}
 use Rattle.nor_driver.specs.OnlyReads.{OnlyReads, HasStopped}
-use Rattle.nor_driver.specs.Ready.{StaysReady}
 use Rattle.nor_driver.specs.Reads.{IsSectorOf, ReadsSector}
-use Rattle.nor_driver.proofs.RestsInTurn.{HasOnlyRead, has_only_read-none, only_reads_after, runs_out, rested_then}
+use Rattle.nor_driver.proofs.RestsInTurn.{HasOnlyRead, has_only_read-none, has_only_read-then, only_reads_after, runs_out}
 use Rattle.nor_plan.specs.Bytes.{AllAgree, IsFirstDifference}
 use Rattle.nor_apply.specs.Change.{only, byte_of}
 use Rattle.nor_session.specs.Checking.{CanCheck, DoesChecks, CheckErrors, NamesDifference}
@@ -45,10 +43,10 @@ module _ {sector : ℕ} {bytes : List ℕ} {old new : BusState} (long : length b
       → old.chip.bytes a ≡ slice_index bytes (a - 4096 * sector)
   read_at honest can a is = old_byte sector bytes old.chip.bytes a (only-is is) (replied honest can)
 
-  pub agrees : (wanted : List ℕ) → sector < 4096 → StaysReady old new → AllAgree bytes wanted
+  pub agrees : (wanted : List ℕ) → sector < 4096 → HasOnlyRead 1 old new → AllAgree bytes wanted
       → DoesChecks (only sector) (byte_of sector wanted) old new 1
-  agrees wanted below polled_ready agree =
-      grind (arith, sector_count-only sector below, polled_ready, reads.read, read_at, agree, nat_tests)
+  agrees wanted below honest_reads agree =
+      grind (arith, sector_count-only sector below, honest_reads, read_at, agree, nat_tests)
 
   pub differs : (wanted : List ℕ) {first : ℕ} → IsFirstDifference bytes wanted first
       → CheckErrors (only sector) (byte_of sector wanted) old new (Mismatch (4096 * sector + first))
@@ -94,12 +92,11 @@ module _ {t : ℕ → Bool} {w : ℕ → ℕ} {n sent : ℕ} {old mid : BusState
     wanted_at : (a : ℕ) → a / 4096 ≡ n → byte_of n bytes a ≡ w a
     wanted_at a here = shown_byte n a bytes w here are
 
-    pub checked_with : {new : BusState} → OnlyReads 1 mid new → DoesChecks (only n) (byte_of n bytes) mid new 1
+    pub checked_with : {new : BusState} → DoesChecks (only n) (byte_of n bytes) mid new 1
         → HasChecked t w (n + 1) old new (sent + 1)
-    checked_with {new} only_reads does =
-        let nature = nature_then old mid new only_reads.nature has.honest_reads.nature in
-        let rested = rested_then old mid new in
-        grind (arith, nature, rested, count_below-with n t is, does.same, can_one, wanted_at, has.same, nat_tests)
+    checked_with does =
+        let honest_reads = has_only_read-then has.honest_reads does.honest_reads in
+        grind (arith, honest_reads, count_below-with n t is, does.same, can_one, wanted_at, has.same, nat_tests)
 
     -- the verification of sector `n` failed
     module _ (below : n < 4096) where

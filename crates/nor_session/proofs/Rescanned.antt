@@ -1,12 +1,12 @@
 -- The state of a restore's scan between two sectors.
-use Rattle.std.proofs.Common.{◌≡◌, ◌<◌, ◌≤◌, ◌+◌, ◌*◌, ◌/◌, ◌&&◌, ◌||◌, ◌∙◌, ℕ, Bool, true, false, List, [], length, take, slice_index, refl, ap, sym, subst, arith}
+use Rattle.std.proofs.Common.{◌≡◌, ◌<◌, ◌≤◌, ◌+◌, ◌*◌, ◌/◌, ◌||◌, ◌∙◌, ℕ, Bool, true, false, List, [], length, take, slice_index, refl, ap, sym, subst, arith}
 use Rattle.std.specs.Prelude.{◌==◌, Option, Some, slice_get}
 use Rattle.std.specs.Option.{is_some, unwrap_or}
 use Rattle.std.proofs.lemmas.Bool.{and_left, both_ways}
 use Rattle.std.proofs.lemmas.Bool.Decides.{nat_tests}
 use Rattle.nor_model.proofs.Sizes.{is_chip_size-in_blocks}
 use Rattle.nor_model.specs.Bus.{BusState}
-use Rattle.nor_driver.specs.OnlyReads.{OnlyReads, IsOpen}
+use Rattle.nor_driver.specs.OnlyReads.{IsOpen}
 use Rattle.nor_journal.specs.Text.{SavedSector, Content, IsContent, least_after}
 use Rattle.nor_journal.specs.Saved.{saved_in, is_saved, saved_byte}
 use Rattle.nor_journal.proofs.Saved.{saved_in-nil, saved_in-take_more, saved_in-at, rising_at, take-next, take-all_sectors, least_within, saved_few}
@@ -15,10 +15,10 @@ use Rattle.nor_plan.specs.declared.plan.SectorPlan.{SectorPlan}
 use Rattle.nor_plan.specs.Content.{is_touched, is_raised}
 use Rattle.nor_geometry.proofs.Counting.{at_most_one, count_below-none}
 use Rattle.nor_scan.specs.declared.scanning.Scanned.{Scanned}
-use Rattle.nor_scan.specs.Scanning.{AreMarks, IsBlank, HasMarked}
+use Rattle.nor_scan.specs.Scanning.{AreMarks, AreRight, IsBlank, HasMarked}
 use Rattle.nor_scan.proofs.Planned.{planned, untouched, unraised}
-use Rattle.nor_driver.proofs.RestsInTurn.{HasOnlyRead, has_only_read-none, has_only_read-more}
-use Rattle.nor_scan.proofs.Scans.{marks_more, opened_later}
+use Rattle.nor_driver.proofs.RestsInTurn.{HasOnlyRead, has_only_read-none, has_only_read-then, open_later}
+use Rattle.nor_scan.proofs.Scans.{marks_more, right_more}
 use Rattle.nor_session.specs.Restore.{restored}
 use Rattle.nor_session.specs.PrepareRestore.{PlansSaved, ScansSaved}
 use Rattle.nor_session.proofs.SavedBytes.{sector_at, byte_at, is_saved-some}
@@ -36,8 +36,8 @@ pub record HasRescanned (journal : Content) (i : ℕ) (old new : BusState) (scan
   pub honest_reads : HasOnlyRead i old new
   pub saved : (s : ℕ) → has scanned.touched s ≡ true → saved_before journal i s ≡ true
   pub bytes : (s : ℕ) (bytes : List ℕ) → saved_in (take i journal.saved) s ≡ Some bytes → (k : ℕ) → slice_index bytes k < 256
-  pub touched : IsOpen journal.size old → (s : ℕ) → has scanned.touched s ≡ (saved_before journal i s && is_touched old.chip.bytes (restored journal old.chip.bytes) s)
-  pub raised : IsOpen journal.size old → (s : ℕ) → has scanned.raised s ≡ (saved_before journal i s && is_raised old.chip.bytes (restored journal old.chip.bytes) s)
+  pub right : IsOpen journal.size old
+      → AreRight (restored journal old.chip.bytes) old.chip.bytes (saved_before journal i) scanned
 
 -- ---- before the first sector
 
@@ -58,13 +58,6 @@ more_before journal i number saved s is at =
     let more = saved_in-take_more journal i (record { number = number; bytes = saved }) s is at in
     grind (arith, nat_tests)
 
--- if a set has exactly those of the sectors so far that pass a test, and the next sector `n` is inserted if and only if
--- it passes, the set then has exactly those of the sectors so far and `n` that pass
-tested : (n s : ℕ) (test : ℕ → Bool) (verdict before after old new : Bool) → verdict ≡ test n
-    → after ≡ ((s == n) || before) → old ≡ (before && test s) → new ≡ ((verdict && (s == n)) || old)
-    → new ≡ (after && test s)
-tested n s test verdict before after old new is more was inserted = grind (arith, nat_tests)
-
 -- the target bytes of a saved sector are the saved ones (`restored_saved`); those of any other sector are the present
 -- ones (`restored_other`)
 pub restored_saved : (journal : Content) (content : ℕ → ℕ) (a : ℕ) → is_saved journal (a / 4096) ≡ true → restored journal content a ≡ saved_byte journal a
@@ -83,7 +76,7 @@ planned_from : (journal : Content) (s : ℕ) (saved bytes : List ℕ) (old mid n
     → (plan.touched ≡ is_touched old.chip.bytes (restored journal old.chip.bytes) s) × (plan.raised ≡ is_raised old.chip.bytes (restored journal old.chip.bytes) s)
 planned_from journal s saved bytes old mid new plan i is place whole is_open honest_reads plans =
     let long = plans.whole in
-    let later = opened_later journal.size i old mid is_open honest_reads in
+    let later = open_later honest_reads is_open in
     let same = (honest_reads.rested is_open.honest).unchanged.same.bytes in
     let shown = plans.read.replied later.honest later.idle (let size = later.same in omega arith) in
     let content = old.chip.bytes in
@@ -96,10 +89,10 @@ planned_from journal s saved bytes old mid new plan i is place whole is_open hon
 pub rescanned_more : {journal : Content} {i s : ℕ} {saved bytes : List ℕ} {old mid new : BusState} {plan : SectorPlan}
     {scanned next : Scanned} → IsContent journal
     → slice_get journal.saved i ≡ Some (record { number = s; bytes = saved }) → length saved ≡ 4096
-    → HasRescanned journal i old mid scanned → OnlyReads 1 mid new → PlansSaved s saved bytes mid new plan
+    → HasRescanned journal i old mid scanned → PlansSaved s saved bytes mid new plan
     → HasMarked s plan scanned next → HasRescanned journal (i + 1) old new next
 rescanned_more {journal = journal} {i = i} {s = s} {saved = saved} {bytes = bytes} {old = old} {mid = mid} {new = new}
-    {plan = plan} {scanned = scanned} {next = next} is at whole was only_reads plans marked =
+    {plan = plan} {scanned = scanned} {next = next} is at whole was plans marked =
     let one : SavedSector = record { number = s; bytes = saved } in
     let is_in = saved_in-at (journal.size / 4096) 0 journal.saved i one is.saved at in
     let place = (rising_at (journal.size / 4096) 0 journal.saved i one is.saved at).0.place in
@@ -113,7 +106,7 @@ rescanned_more {journal = journal} {i = i} {s = s} {saved = saved} {bytes = byte
           (marks_more s plan scanned next (omega arith) plans.needed (later_marks next_least.0 was.marks) marked);
       reads = marked.reads ∙ ap (λ (n : ℕ). n + 1) was.reads;
       few = let count = at_most_one plan.touched in omega arith;
-      honest_reads = has_only_read-more i old mid new was.honest_reads only_reads plans.read.read plans.polled_ready;
+      honest_reads = has_only_read-then was.honest_reads plans.honest_reads;
       saved = λ t hit.
           let now = more t in let mark = marked.touched t in let before = was.saved t in
           grind (arith, nat_tests);
@@ -122,12 +115,7 @@ rescanned_more {journal = journal} {i = i} {s = s} {saved = saved} {bytes = byte
           let before = λ (had : saved_in (take i journal.saved) t ≡ Some these). was.bytes t these had k in
           let small = plans.small k in
           grind (arith, nat_tests);
-      touched = λ is_open t.
-          tested s t (is_touched old.chip.bytes (restored journal old.chip.bytes)) _ _ _ _ _ (plans_are is_open).0 (more t)
-          (was.touched is_open t) (marked.touched t);
-      raised = λ is_open t.
-          tested s t (is_raised old.chip.bytes (restored journal old.chip.bytes)) _ _ _ _ _ (plans_are is_open).1 (more t)
-          (was.raised is_open t) (marked.raised t);
+      right = λ is_open. right_more (plans_are is_open) more marked (was.right is_open);
     }
 
 -- ---- the end

@@ -3,8 +3,8 @@ use Rattle.std.specs.Prelude.{◌≡◌, ◌≢◌, ◌≤◌, ◌<◌, ◌+◌,
 use Rattle.nor_model.specs.Chip.{Chip}
 use Rattle.nor_model.specs.History.{EndsReading}
 use Rattle.nor_model.specs.Bus.{BusState}
-use Rattle.nor_driver.specs.OnlyReads.{Rested, HasStopped}
-use Rattle.nor_driver.specs.Ready.{StaysReady}
+use Rattle.nor_driver.specs.OnlyReads.{HasStopped}
+use Rattle.nor_driver.specs.ReadsInTurn.{HasOnlyRead}
 use Rattle.nor_request.specs.declared.refusal.Refusal.{Refusal}
 use Rattle.nor_request.specs.declared.refusal.Refusal.TheVariants as Refusals
 use Rattle.nor_session.specs.declared.checks.CheckFault.{CheckFault}
@@ -27,9 +27,7 @@ pub record IsFirstMismatch (sectors : ℕ → Bool) (wanted content : ℕ → �
 -- is the target one.
 pub record DoesChecks (sectors : ℕ → Bool) (wanted : ℕ → ℕ) (old new : BusState) (sent : ℕ) : Type 0 where
   pub reads : sent ≡ sector_count sectors
-  pub polled_ready : StaysReady old new
-  pub count : old.honest ≡ true → old.left ≡ new.left + sent
-  pub rested : old.honest ≡ true → Rested old new
+  pub honest_reads : HasOnlyRead sent old new
   pub same : old.honest ≡ true → CanCheck sectors old.chip
       → (a : ℕ) → sectors (a / 4096) ≡ true → old.chip.bytes a ≡ wanted a
 

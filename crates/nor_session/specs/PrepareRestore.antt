@@ -6,7 +6,7 @@ use Rattle.nor_model.specs.Status.{bytes_of}
 use Rattle.nor_model.specs.History.{EndsBusy}
 use Rattle.nor_model.specs.Bus.{BusState}
 use Rattle.nor_driver.specs.OnlyReads.{Rested, HasStopped, IsOpen}
-use Rattle.nor_driver.specs.Ready.{StaysReady}
+use Rattle.nor_driver.specs.ReadsInTurn.{HasOnlyRead}
 use Rattle.nor_driver.specs.StatusWrites.{fixed_of}
 use Rattle.nor_driver.specs.Reads.{ReadsSector}
 use Rattle.nor_plan.specs.Content.{is_touched, is_raised}
@@ -118,7 +118,7 @@ pub record PlansSaved (sector : ℕ) (saved bytes : List ℕ) (old new : BusStat
   pub small : (k : ℕ) → slice_index saved k < 256
   pub read : ReadsSector sector old new bytes
   pub whole : length bytes ≡ 4096
-  pub polled_ready : StaysReady old new
+  pub honest_reads : HasOnlyRead 1 old new
   pub needed : plan.raised ≡ true → plan.touched ≡ true
   pub planned : (content wanted : ℕ → ℕ) → AreBytesOf content bytes → AreBytesOf wanted saved
       → IsPlan content wanted 4096 plan
@@ -133,9 +133,7 @@ pub record ScansSaved (journal : Content) (old new : BusState) (scanned : Scanne
   pub reads : scanned.reads ≡ length journal.saved
   pub few : scanned.count ≤ scanned.reads
   pub room : length journal.saved ≤ 4096
-  pub polled_ready : StaysReady old new
-  pub rested : old.honest ≡ true → Rested old new
-  pub sent : old.honest ≡ true → old.left ≡ new.left + length journal.saved
+  pub honest_reads : HasOnlyRead (length journal.saved) old new
   pub touched : IsOpen journal.size old → (s : ℕ)
       → has scanned.touched s ≡ is_touched old.chip.bytes (restored journal old.chip.bytes) s
   pub raised : IsOpen journal.size old → (s : ℕ)

@@ -8,7 +8,7 @@ pub loop-piece-init : goal.loop-piece-init
 loop-piece-init g c = search (rules, copied_none)
 
 pub loop-piece-preserved : goal.loop-piece-preserved
-loop-piece-preserved g c = copied_more (omega arith) (omega arith) c.loop-piece.invariant c.read_piece.ensures.leaves
+loop-piece-preserved g c = copied_more (omega arith) (omega arith) c.loop-piece.invariant
     c.in_ok-reads.ensures.reads c.in_ok-put_piece.ensures.takes
 
 pub returns-in_err-reads-clause-leaves : goal.returns-in_err-reads-clause-leaves
@@ -21,7 +21,7 @@ returns-in_err-put_piece-clause-leaves g c = only_reads_after c.loop-piece.reads
 
 pub returns-in_err-put_piece-clause-errors : goal.returns-in_err-put_piece-clause-errors
 returns-in_err-put_piece-clause-errors g c =
-    let before = copy_fails (omega arith) (omega arith) c.loop-piece.invariant c.read_piece.ensures.leaves
+    let before = copy_fails (omega arith) (omega arith) c.loop-piece.invariant
     c.in_ok-reads.ensures.reads _ c.in_err-put_piece.field-0.0 c.in_err-put_piece.ensures.errors in
     search (rules, before)
 

@@ -8,7 +8,7 @@ loop-sector-init g c = search (rules, compared_none)
 
 pub loop-sector-preserved : goal.loop-sector-preserved
 loop-sector-preserved g c = rw c.or-first.ensures (compared_more (omega arith) c.loop-sector.invariant
-    c.compare_part.ensures.leaves c.in_ok-part.ensures.compares)
+    c.in_ok-part.ensures.compares)
 
 pub returns-in_err-part-clause-leaves : goal.returns-in_err-part-clause-leaves
 returns-in_err-part-clause-leaves g c = only_reads_after c.loop-sector.reads 1 (c.args.size / 4096) _ _ _ (omega arith)

@@ -54,8 +54,7 @@ loop-sector-preserved g c =
                 (omega (arith, at_most_one plan.touched, w.mark.ensures.count, w.mark.ensures.reads, here.few));
             below = rw w.scanned-is (omega (arith, w.mark.ensures.reads, here.below));
             scanned = rw (w.image-is, w.bus-is, w.scanned-is)
-                (scanned_more here.scanned at w.in_ok-plan.ensures.scans width w.scan_sector.ensures.leaves
-                w.mark.ensures part image);
+                (scanned_more here.scanned at w.in_ok-plan.ensures.scans width w.mark.ensures part image);
             replies = rw w.bus-is (keeps_replies_then here.replies (read_keeps sector answered));
             journal = rw (w.writer-is, w.scanned-is, w.bus-is) (elim w.if-plan.branch [
               | then-plan+in_ok-add v ↦ rw v.writer-is

@@ -1,6 +1,7 @@
 use Rattle.std.proofs.Common.{◌≡◌, ◌<◌, ◌∙◌, ℕ, List, slice_index, option_copied, refl, ap, sym, arith}
 use Rattle.nor_request.specs.declared.request.What.{What}
 use Rattle.nor_request.specs.Request.{target}
+use Rattle.nor_driver.proofs.RestsInTurn.{has_only_read-one}
 use Rattle.nor_scan.proofs.Planned.{scans_sector, target-write}
 use Rattle.nor_scan.proofs.scanning.scan_sector.Goals as goal
 use Rattle.nor_scan.proofs.scanning.scan_sector.Goals.{in-Erase, in_default}
@@ -18,4 +19,5 @@ returns-clause-scans g c =
     ] in
     scans_sector c.args.request.now c.args.size c.args.sector (option_copied c.as_ref.result) c.args.part.now c.match-request.part c.fill_excluded.new.bytes c.read_sector.new.bytes
     (g.B.Bus.state c.args.bus.now) (g.B.Bus.state c.read_sector.new.bus) c.of.result
-    c.requires.«data» c.requires.inside c.as_ref.ensures.value (omega arith) (omega arith) targets c.fill_excluded.ensures.bytes c.in_ok-read_sector.ensures.does (λ ready. c.read_sector.ensures.polled_ready ∙ ready) c.of.ensures.needed c.of.ensures.anywhere
+    c.requires.«data» c.requires.inside c.as_ref.ensures.value (omega arith) (omega arith) targets c.fill_excluded.ensures.bytes c.in_ok-read_sector.ensures.does
+    (has_only_read-one c.read_sector.ensures.leaves c.in_ok-read_sector.ensures.does.read (λ ready. c.read_sector.ensures.polled_ready ∙ ready)) c.of.ensures.needed c.of.ensures.anywhere

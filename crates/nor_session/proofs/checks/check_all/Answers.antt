@@ -18,7 +18,7 @@ pub loop-sector-preserved : goal.loop-sector-preserved
 loop-sector-preserved g c = elim c.if-contains.branch [
   | then-contains+in_ok-check_sector w ↦
       rw (w.bus-is, w.sent-is) (checked_with c.loop-sector.invariant (sym c.contains.ensures ∙ w.if-contains.true)
-      _ w.sector.ensures.bytes w.check_sector.ensures.leaves w.in_ok-check_sector.ensures.does)
+      _ w.sector.ensures.bytes w.in_ok-check_sector.ensures.does)
   | else-contains w ↦
       rw (w.bus-is, w.sent-is) (checked_without c.loop-sector.invariant (sym c.contains.ensures ∙ w.if-contains.false))
 ]

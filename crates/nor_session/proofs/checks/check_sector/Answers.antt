@@ -1,5 +1,6 @@
 use Rattle.std.proofs.Common.{◌∙◌, arith}
 use Rattle.std.proofs.lemmas.Result.{err_from_is_err_and}
+use Rattle.nor_driver.proofs.RestsInTurn.{has_only_read-one}
 use Rattle.nor_session.proofs.CheckingSteps.{agrees, differs, stops}
 use Rattle.nor_apply.proofs.Alone.{only-here}
 use Rattle.nor_session.proofs.checks.check_sector.Goals as goal
@@ -13,7 +14,8 @@ pub returns-in-None-clause-does : goal.returns-in-None-clause-does
 returns-in-None-clause-does g c =
     agrees (omega (arith, c.read_sector.auto.bytes)) c.in_ok-read_sector.ensures.does c.args.wanted.now
     c.requires.reachable
-    (λ ready. c.read_sector.ensures.polled_ready ∙ ready) c.in-None.ensures.none
+    (has_only_read-one c.read_sector.ensures.leaves c.in_ok-read_sector.ensures.does.read
+    (λ ready. c.read_sector.ensures.polled_ready ∙ ready)) c.in-None.ensures.none
 
 pub returns-in-Some-clause-errors : goal.returns-in-Some-clause-errors
 returns-in-Some-clause-errors g c =
