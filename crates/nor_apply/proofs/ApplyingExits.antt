@@ -1,5 +1,5 @@
 -- The exits of `apply`, part by part: the unlock, the erases, the programs and the last status write.
-use Rattle.std.proofs.Common.{ℕ, ◌≡◌, ◌<◌, ◌≤◌, ◌+◌, ◌*◌, ◌/◌, ◌∙◌, Bool, true, false, refl, sym, ap, arith, true≢false}
+use Rattle.std.proofs.Common.{ℕ, ◌≡◌, ◌<◌, ◌≤◌, ◌+◌, ◌*◌, ◌/◌, ◌∙◌, Bool, true, refl, sym, ap, arith, true≢false}
 use Rattle.std.specs.Prelude.{◌&&◌, ◌||◌, if◌then◌else◌}
 use Rattle.std.proofs.lemmas.Bool.{or_right}
 use Rattle.nor_geometry.specs.Below.{count_below}
@@ -26,7 +26,7 @@ use Rattle.nor_apply.proofs.InTurn.{ran_none, ran_leaves, honest_now}
 use Rattle.nor_apply.proofs.Targeting.{target_here, target_wider}
 use Rattle.nor_apply.proofs.Changing.{change_as, same_change}
 use Rattle.nor_apply.proofs.ApplyingSteps.{code_read, code_once, intermediate_first, intermediate_changed, can_erase_all, can_program_all, applied}
-use Rattle.nor_apply.proofs.ApplyingInTurn.{raised_few, Numbers, SoFar, EndsInError, ends_in_error, goes_on, code_leaves, code_written, names_writing, names_sectors}
+use Rattle.nor_apply.proofs.ApplyingInTurn.{raised_few, Numbers, SoFar, EndsInError, ends_in_error, goes_on, code_then, code_written, names_writing, names_sectors}
 
 -- ---- the four parts
 
@@ -50,7 +50,7 @@ names_lifting changes error = names_writing changes changes.unlock error (λ lif
 pub lifted : (changes : Changes) {old new : BusState} {sent : ℕ} (wanted : ℕ → ℕ)
     → LeavesCode changes.status 0 changes.unlock old new → DoesCode changes.status 0 changes.unlock old new sent
     → Lifted changes wanted old new (record { count = if changes.unlock then 1 else 0; transactions = sent })
-lifted changes {old} wanted leaves does =
+lifted changes {old} {new} wanted leaves does =
     let nothing : SoFar changes wanted old.chip.bytes old.worn (code_read changes)
     (record { erases = 0; programs = 0; status_writes = 0 }) 0 0 old old
     (record { count = 0; transactions = 0 }) = record {
@@ -59,7 +59,7 @@ lifted changes {old} wanted leaves does =
       may = λ honest can. same_change (search) can.idle (λ s. refl);
       intermediate = λ honest can. intermediate_first can;
     } in
-    code_written nothing (λ lifts can. can.writable (rw lifts refl)) leaves does (grind arith) (omega arith)
+    code_written nothing 0 new (λ lifts can. can.writable (rw lifts refl)) leaves does (grind arith) (omega arith)
     (omega arith) (omega arith)
 
 -- States `SoFar` for the first two parts: the protection bits were cleared, if that was requested, and the raised
@@ -91,7 +91,7 @@ module _ {changes : Changes} {wanted : ℕ → ℕ} {old mid new : BusState} {do
   pub erases_failed : {error : OperationError} → OperationFails (most_operation * sector_count (raised_in changes)) mid new error
       → NamesTimeoutIn (raised_in changes) error → EndsInError changes wanted old new error
   erases_failed {error} fails names =
-      ends_in_error so leaves erase_then (grind (arith, targets_raised)) (omega (arith, raised_few changes inside)) fails
+      ends_in_error so leaves erase_then (grind (arith, targets_raised)) (omega (arith, raised_few changes inside)) (omega (arith, raised_few changes inside)) fails
       (names_sectors changes (raised_in changes) error inside names)
 
   pub erased : {more : Tally} → DoesErases (raised_in changes) changes.kinds changes.size mid new more
@@ -133,7 +133,7 @@ module _ {changes : Changes} {wanted : ℕ → ℕ} (erases : ℕ) {old mid new 
       → OperationFails (most_sector * sector_count (touched_in changes)) mid new error
       → NamesTimeoutIn (touched_in changes) error → EndsInError changes wanted old new error
   programs_failed {error} fits fails names =
-      ends_in_error so leaves program_then (grind (arith, targets_touched)) (omega arith) fails
+      ends_in_error so leaves program_then (grind (arith, targets_touched)) (omega arith) (omega arith) fails
       (names_sectors changes (touched_in changes) error (λ s is. is) names)
 
   pub programmed : {more : Tally} → DoesPrograms (touched_in changes) (raised_in changes) wanted mid new more
@@ -190,8 +190,8 @@ module _ {changes : Changes} {wanted : ℕ → ℕ} {old free mid made : BusStat
     pub last_failed : {error : OperationError} → OperationFails most_operation made new error → FailsWriting needed error
         → EndsInError changes wanted old new error
     last_failed {error} fails names =
-        ends_in_error third (code_leaves third last_writable leaves) (λ honest can. ((honest, can), λ may. may))
-        (grind (arith, last_asked, parts.erase.fewer, parts.program.fewer)) (omega arith) fails
+        ends_in_error third leaves (code_then third changes.code new last_writable)
+        (grind (arith, last_asked, parts.erase.fewer, parts.program.fewer)) (grind arith) (omega arith) fails
         (names_writing changes needed error (λ writes. rw (sym is ∙ writes) (omega arith)) names)
 
     pub does_applied : {last : ℕ} {work : Work} → DoesCode changes.status changes.code needed made new last
@@ -205,7 +205,7 @@ module _ {changes : Changes} {wanted : ℕ → ℕ} {old free mid made : BusStat
         (record { erases = work.erases; programs = work.programs; status_writes = status_writes changes })
         (sector_count (touched_in changes)) (most_applied (sector_count (touched_in changes)))
         old new all =
-        code_written third last_writable leaves does (grind (arith, last_asked))
+        code_written third changes.code new last_writable leaves does (grind (arith, last_asked))
         (rw is (omega (arith, erase_count, program_count))) sum (omega arith) in (
           ran_leaves fourth.ran (grind (arith, parts.erase.fewer, parts.program.fewer)) fourth.few fourth.may,
           record {
@@ -220,12 +220,8 @@ module _ {changes : Changes} {wanted : ℕ → ℕ} {old free mid made : BusStat
             sent = fourth.ran.tallies.sent;
             unsent = λ nothing.
                 let few = raised_few changes parts.inside in
-                let shut = not_set changes.unlock (omega (arith, nothing)) in
-                let plain = is ∙ not_set (writes_code changes) (omega (arith, nothing)) in
-                ap (λ (state : BusState). state.sent) (leaves.unsent plain)
-                ∙ parts.program.unsent (omega (arith, nothing))
-                ∙ parts.erase.unsent (omega (arith, nothing, few, parts.erase.fewer))
-                ∙ ap (λ (state : BusState). state.sent) (parts.lift_leaves.unsent shut);
+                fourth.ran.tallies.unsent
+                (omega (arith, nothing, few, erase_count, program_count, parts.erase.fewer, parts.program.fewer));
             done = λ honest can. applied can (sym is) (fourth.intermediate honest can);
             programs = λ honest can.
                 let is = second.intermediate honest can in
@@ -234,7 +230,3 @@ module _ {changes : Changes} {wanted : ℕ → ℕ} {old free mid made : BusStat
                 ∙ ap (λ (x : ℕ → ℕ). count_below 65536 (is_programmed (touched_in changes) x wanted)) bytes;
           },
         )
-      where
-        not_set : (b : Bool) → (if b then 1 else 0) ≤ 0 → b ≡ false
-        not_set true few = absurd (omega (arith, few))
-        not_set false few = refl

@@ -1,14 +1,13 @@
 -- The parts of `apply` one after another: the effect of the parts so far, and the number of their transactions.
-use Rattle.std.proofs.Common.{ℕ, zero, suc, ◌≡◌, ◌≤◌, ◌+◌, Bool, true, arith, inl, inr}
-use Rattle.std.specs.Prelude.{◌&&◌, if◌then◌else◌}
-use Rattle.std.proofs.lemmas.Bool.{cases_Bool}
+use Rattle.std.proofs.Common.{ℕ, zero, suc, ◌≡◌, ◌≤◌, ◌+◌, Bool, true, arith}
+use Rattle.std.specs.Prelude.{◌&&◌, if◌then◌else◌, MatchBool}
 use Rattle.nor_geometry.specs.Below.{count_below}
 use Rattle.nor_geometry.specs.Counts.{sector_count}
 use Rattle.nor_model.specs.Chip.{Chip}
 use Rattle.nor_model.specs.Bus.{BusState}
 use Rattle.nor_driver.specs.declared.waits.OperationError.{OperationError}
 use Rattle.nor_driver.specs.Waits.{OperationFails}
-use Rattle.nor_driver.specs.StatusWrites.{is_status_with_code}
+use Rattle.nor_driver.specs.StatusWrites.{is_status_with_code, CanWriteStatus, MayWriteStatus}
 use Rattle.nor_driver.specs.Limits.{Limits, writing, SendsExactly, Leaves}
 use Rattle.nor_driver.specs.Operations.{most_operation}
 use Rattle.nor_driver.proofs.Limits.{AreParts, IsSum}
@@ -21,7 +20,7 @@ use Rattle.nor_apply.specs.Protecting.{LeavesCode, DoesCode, FailsWriting}
 use Rattle.nor_apply.specs.Applying.{touched_in, raised_in, status_writes, sending, most_sent, most_applied, CanApply, LeavesApply, NamesChange}
 use Rattle.nor_apply.proofs.InTurn.{Ran, ran_part, ran_after, honest_now, leaves_after, fails_after}
 use Rattle.nor_apply.proofs.Changing.{change_then}
-use Rattle.nor_apply.proofs.ApplyingSteps.{IsIntermediate, code_change, intermediate_code}
+use Rattle.nor_apply.proofs.ApplyingSteps.{IsIntermediate, can_write, code_change, intermediate_code}
 
 -- ---- counts
 
@@ -38,7 +37,7 @@ pub raised_few : (changes : Changes) → ((s : ℕ) → raised_in changes s ≡ 
     → sector_count (raised_in changes) ≤ sector_count (touched_in changes)
 raised_few changes inside = count_below-fewer 4096 (raised_in changes) (touched_in changes) inside
 
-pub write_most : (b : Bool) → (if b then most_operation else 0) ≤ most_operation
+pub write_most : (b : Bool) → (if b then 1 else 0) ≤ 1
 write_most b = grind arith
 
 -- ---- limits
@@ -92,10 +91,11 @@ module _ {changes : Changes} {wanted bytes : ℕ → ℕ} {worn : ℕ → Bool} 
         let next = follows honest can in
         (next.0, λ may. change_then so.ran.nature.steady (so.may honest can) (next.1 may))
 
-    pub ends_in_error : {error : OperationError} → AreParts (sending_these changes numbers) limits (most_sent changes)
-        → spent + part ≤ most_applied (sector_count (touched_in changes)) → OperationFails part mid new error
+    pub ends_in_error : {last : ℕ} {error : OperationError} → AreParts (sending_these changes numbers) limits (most_sent changes)
+        → spent + part ≤ most_applied (sector_count (touched_in changes))
+        → spent + last ≤ most_applied (sector_count (touched_in changes)) → OperationFails last mid new error
         → NamesChange changes error → EndsInError changes wanted old new error
-    ends_in_error parts fits fails names = (
+    ends_in_error parts fits fails_fit fails names = (
       leaves_after so.ran leaves parts (omega (arith, so.few)) then_may,
       fails_after so.ran fails (omega (arith, so.few)),
       names,
@@ -118,40 +118,27 @@ module _ {changes : Changes} {wanted bytes : ℕ → ℕ} {worn : ℕ → Bool} 
     }
 
   -- For a part that is a status write.
-  module _ {needed : Bool} {code' : ℕ} {new : BusState}
-      (writable : needed ≡ true → CanApply changes wanted old.chip → is_writable old.chip ≡ true)
-      (leaves : LeavesCode changes.status code' needed mid new) where
-    pub code_leaves : Leaves most_operation (code_limits changes needed code')
-        (λ chip. (old.honest ≡ true) × CanApply changes wanted old.chip)
-        (MayChange (touched_in changes) (raised_in changes) wanted) mid new
-    code_leaves = record {
-      spends = record {
-        nature = leaves.leaves.spends.nature;
-        falls = λ honest. let falls = leaves.leaves.spends.falls honest in omega (arith, write_most needed);
-      };
-      sends = leaves.leaves.sends;
-      reached = λ honest can.
-          code_change can.1 (λ writes. writable writes can.1) (so.intermediate can.0 can.1) honest leaves;
-    }
+  module _ {needed : Bool} (code' : ℕ) (new : BusState)
+      (writable : needed ≡ true → CanApply changes wanted old.chip → is_writable old.chip ≡ true) where
+    pub code_then : old.honest ≡ true → CanApply changes wanted old.chip
+        → (needed ≡ true → CanWriteStatus changes.status mid.chip)
+        × (MatchBool needed (MayWriteStatus code' mid new) (new ≡ mid)
+        → MayChange (touched_in changes) (raised_in changes) wanted mid new)
+    code_then honest can =
+        let is = so.intermediate honest can in
+        let writes = λ (needs : needed ≡ true). writable needs can in (can_write can writes is, code_change can writes is code' new)
 
     pub code_written : {sent most : ℕ} {numbers' : Numbers} {all : Tally}
-        → DoesCode changes.status code' needed mid new sent
+        → LeavesCode changes.status code' needed mid new → DoesCode changes.status code' needed mid new sent
         → IsSum (sending_these changes numbers) (code_limits changes needed code') (sending_these changes numbers')
         → all.count ≡ done.count + (if needed then 1 else 0)
         → all.transactions ≡ done.transactions + sent → spent + most_operation ≤ most
         → SoFar changes wanted bytes worn (if needed then code' else code) numbers' readings most old new all
-    code_written {sent} does sum count transactions fits =
-        let idle : mid.honest ≡ true → mid.chip.busy ≡ 0 → new.chip.busy ≡ 0 = λ honest idle. elim (cases_Bool needed) [
-          | inl writes ↦ does.idle writes honest
-          | inr spared ↦ rw (leaves.unsent spared) idle
-        ] in
-        let tallies : Tallies 0 mid new (record { count = if needed then 1 else 0; transactions = sent }) =
-        grind (arith, does.polled_ready, does.count, idle) in
-        goes_on code_leaves (λ honest can. ((honest, can), λ may. may)) does.exactly tallies sum (omega arith) count
-        transactions
-        (omega (arith, so.few, does.few, write_most needed))
+    code_written leaves does sum count transactions fits =
+        goes_on leaves code_then does.exactly does.tallies sum (omega arith) count transactions
+        (omega (arith, so.few, does.tallies.few, write_most needed))
         (λ honest can.
-        intermediate_code can (λ writes. writable writes can) (so.intermediate honest can) (honest_now so.ran honest) leaves does)
+        intermediate_code can (λ writes. writable writes can) (so.intermediate honest can) (honest_now so.ran honest) does)
 
 -- For a status write, `NamesChange` follows from `FailsWriting`, if the changes need a status write whenever this part
 -- sends one.

@@ -1,6 +1,6 @@
 -- The steps of `apply`: unlock, erases, programs, and the status write at the end.
 use Rattle.std.proofs.Common.{ℕ, ◌≡◌, ◌<◌, ◌/◌, Bool, true, false, inl, inr, refl, ap, sym, ◌∙◌, arith}
-use Rattle.std.specs.Prelude.{◌||◌, bit_and, if◌then◌else◌}
+use Rattle.std.specs.Prelude.{◌||◌, bit_and, if◌then◌else◌, MatchBool}
 use Rattle.std.proofs.lemmas.Nat.{and_mask}
 use Rattle.std.proofs.lemmas.Bool.{cases_Bool}
 use Rattle.std.proofs.lemmas.Bool.Decides.{nat_tests}
@@ -10,13 +10,13 @@ use Rattle.nor_model.specs.Chip.{Chip, kept_in}
 use Rattle.nor_model.specs.Guard.{is_protected, code_of}
 use Rattle.nor_model.specs.Bus.{BusState}
 use Rattle.nor_model.proofs.ProtectedBlocks.{is_protected-zero, is_protected-same}
-use Rattle.nor_driver.specs.StatusWrites.{fixed_of, with_code, CanWriteStatus}
+use Rattle.nor_driver.specs.StatusWrites.{fixed_of, with_code, CanWriteStatus, MayWriteStatus}
 use Rattle.nor_apply.specs.declared.changes.Changes.{Changes}
 use Rattle.nor_plan.specs.Content.{once_erased}
 use Rattle.nor_apply.specs.Within.{is_writable}
 use Rattle.nor_apply.specs.Change.{CanChange, MayChange, HasMade}
 use Rattle.nor_plan.specs.SectorSet.{none}
-use Rattle.nor_apply.specs.Protecting.{LeavesCode, DoesCode}
+use Rattle.nor_apply.specs.Protecting.{DoesCode}
 use Rattle.nor_apply.specs.Erasing.{CanEraseAll}
 use Rattle.nor_apply.specs.Programming.{CanProgramAll}
 use Rattle.nor_apply.specs.Applying.{touched_in, raised_in, writes_code, CanApply, HasApplied}
@@ -67,32 +67,30 @@ module _ {changes : Changes} {wanted : ℕ → ℕ} {old : BusState} (can : CanA
 
   -- ---- a status write, at the start or at the end
 
-  module _ {code new_code : ℕ} {needed : Bool} {bytes : ℕ → ℕ} {worn : ℕ → Bool} {mid new : BusState}
-      (writable : needed ≡ true → is_writable old.chip ≡ true) (is : IsIntermediate bytes worn code old mid)
-      (honest : mid.honest ≡ true) (leaves : LeavesCode changes.status new_code needed mid new) where
+  module _ {code : ℕ} {needed : Bool} {bytes : ℕ → ℕ} {worn : ℕ → Bool} {mid : BusState}
+      (writable : needed ≡ true → is_writable old.chip ≡ true) (is : IsIntermediate bytes worn code old mid) where
     fixed : fixed_of mid.chip.kept ≡ fixed_of old.chip.kept
     fixed = ap fixed_of is.kept ∙ fixed_coded code old.chip.kept
 
     -- the chip accepts a needed status write in each state between the steps: it is idle, its status isn't locked, and
     -- its bits that are never changed are those that were read
-    can_write : needed ≡ true → CanWriteStatus changes.status mid.chip
+    pub can_write : needed ≡ true → CanWriteStatus changes.status mid.chip
     can_write writes =
         let lock = locked_same old.chip.kept mid.chip.kept fixed in
         grind (arith, lock, writable writes, fixed ∙ ap fixed_of can.kept)
 
-    pub code_change : MayChange (touched_in changes) (raised_in changes) wanted mid new
-    code_change = elim (cases_Bool needed) [
+    pub code_change : (new_code : ℕ) (new : BusState) → MatchBool needed (MayWriteStatus new_code mid new) (new ≡ mid)
+        → MayChange (touched_in changes) (raised_in changes) wanted mid new
+    code_change new_code new may = elim (cases_Bool needed) [
       | inl writes ↦
-          status_change (writable_same old.chip mid.chip is.config fixed ∙ writable writes)
-          (leaves.leaves.reached honest (writes, can_write writes))
-      | inr spared ↦
-          rw (leaves.unsent spared) (same_change (search) is.idle (λ s. refl))
+          status_change (writable_same old.chip mid.chip is.config fixed ∙ writable writes) (rw writes at may)
+      | inr spared ↦ let same : new ≡ mid = rw spared at may in rw same (same_change (search) is.idle (λ s. refl))
     ]
 
-    pub intermediate_code : {sent : ℕ} → DoesCode changes.status new_code needed mid new sent
+    pub intermediate_code : {new_code sent : ℕ} {new : BusState} → mid.honest ≡ true → DoesCode changes.status new_code needed mid new sent
         → IsIntermediate bytes worn (if needed then new_code else code) old new
-    intermediate_code does = elim (cases_Bool needed) [
-      | inr spared ↦ rw (leaves.unsent spared, spared) is
+    intermediate_code {new_code} honest does = elim (cases_Bool needed) [
+      | inr spared ↦ rw (does.unsent spared, spared) is
       | inl writes ↦
           let has = does.done writes honest (can_write writes) in
           let again : with_code new_code mid.chip.kept ≡ with_code new_code old.chip.kept =

@@ -97,7 +97,6 @@ pub record ErasesSoFar (kinds : Kinds) (size : ℕ) (set : ℕ → Bool) (units 
   pub covers : Covers kinds (size / 4096) (planned kinds (size / 4096) set) set
   pub few : length (planned kinds (size / 4096) set) ≤ sector_count set
   pub listed : Listed (planned kinds (size / 4096) set) units left (erasing (may_target set size)) old new tally
-  pub unsent : tally.count ≡ 0 → new.sent ≡ old.sent
   pub done : old.honest ≡ true → CanEraseAll set kinds size old.chip
       → HasMade (addresses_of (erased_by (size / 4096) units)) blank (erased_by (size / 4096) units) old new
 
@@ -110,7 +109,6 @@ none_so_far state below same covers few all = record {
   covers = rw (← same) covers;
   few = rw (← same) few;
   listed = listed_none state (refl, refl, refl) (all ∙ same);
-  unsent = λ none. refl;
   done = λ honest can. made_none state (λ a. refl) (λ s. refl) can.can.idle;
 }
 
@@ -130,7 +128,6 @@ module _ {kinds : Kinds} {size : ℕ} {set : ℕ → Bool} {units left : List Er
         let same : (s : ℕ) → erased_by (size / 4096) units s ≡ set s = λ s. rw all (so.covers.union s) in
         record {
           count = so.listed.count ∙ ap length all;
-          unsent = so.unsent;
           fewer = omega (arith, so.few, so.listed.count, ap length all);
           exactly = so.listed.ran.exactly;
           tallies = so.listed.ran.tallies;
@@ -212,7 +209,6 @@ module _ {kinds : Kinds} {size : ℕ} {set : ℕ → Bool} {units left : List Er
             few = so.few;
             listed = listed_more so.listed next leaves.leaves (erasing_sum targets_next (sym count)) erases.sends
                 erases.ends count transactions;
-            unsent = λ none. absurd (omega arith);
             done = λ honest can.
                 let has = so.done honest can in
                 let now = honest_now so.listed.ran honest in

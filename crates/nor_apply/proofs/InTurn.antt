@@ -95,7 +95,7 @@ module _ {first : Limits} {r : ℕ} {old mid new : BusState} {done : Tally} (ran
         nature = nature;
         sends = sends_then first second both old mid new (sum_parts first second both sum) ran.sends after.sends;
         exactly = exactly_then sum.erases sum.programs sum.status_writes ran.exactly after.exactly;
-        tallies = grind (arith, ran.nature.honest, ran.tallies.sent, after.tallies.sent, ran.tallies.idle, after.tallies.idle);
+        tallies = grind (arith, ran.nature.honest, ran.tallies.sent, after.tallies.sent, ran.tallies.idle, after.tallies.idle, ran.tallies.unsent, after.tallies.unsent);
       }
 
 -- ---- exits

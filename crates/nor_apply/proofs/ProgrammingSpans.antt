@@ -16,7 +16,7 @@ use Rattle.nor_plan.specs.declared.page.PageSpan.{PageSpan}
 use Rattle.nor_plan.specs.SpanFacts.{IsSpan, AreSpans, is_within_span, spanned_by}
 use Rattle.nor_plan.specs.SectorSet.{none}
 use Rattle.nor_apply.specs.Change.{MayChange, HasMade, HasChanged, only, byte_of}
-use Rattle.nor_apply.specs.Programming.{CanProgramSpans, LeavesSpans, DoesSpans, most_pages}
+use Rattle.nor_apply.specs.Programming.{CanProgramSpans, LeavesSector, DoesSector, most_pages}
 use Rattle.nor_apply.proofs.Alone.{only-here, only-is, old_byte}
 use Rattle.nor_apply.proofs.Changing.{can_after, change_then, either_byte, made_may, made_then, changed_may, made_none}
 use Rattle.std.specs.List.{list_any, range_with_len}
@@ -254,7 +254,7 @@ module _ {sector : ℕ} {old wanted : List ℕ} {spans left : List PageSpan} {fi
     (so : SpansSoFar sector old wanted spans left first now tally) where
   -- For the exit at which every span was programmed.
   module _ (none : left ≡ []) where
-    pub does_ended : DoesSpans sector old wanted first now tally
+    pub does_ended : DoesSector 0 (CanProgramSpans sector old wanted) sector wanted first now tally
     does_ended =
         let all = listed_all so.listed none in
         let counted : tally.count ≡ pages_changed old wanted = so.listed.count ∙ ap length all ∙ so.are.count in
@@ -266,7 +266,7 @@ module _ {sector : ℕ} {old wanted : List ℕ} {spans left : List PageSpan} {fi
           counted = λ honest can. counted ∙ pages_other first.chip.bytes sector old wanted so.whole can.shown;
         }
 
-    pub leaves_ended : LeavesSpans sector old wanted first now
+    pub leaves_ended : LeavesSector most_pages (CanProgramSpans sector old wanted) sector wanted first now
     leaves_ended =
         ran_leaves so.listed.ran (programming_more does_ended.fewer) (omega (arith, does_ended.fewer))
         (λ honest can. changed_may (does_ended.done honest can))
@@ -302,7 +302,7 @@ module _ {sector : ℕ} {old wanted : List ℕ} {spans left : List PageSpan} {fi
         (leaves : LeavesOperation (page_program (4096 * sector + span.first) (part wanted span)) now new) where
       pub spans_failed : {error : OperationError} → OperationFails most_operation now new error
           → NamesTimeout (4096 * sector + span.first) error
-          → LeavesSpans sector old wanted first new × OperationFails most_pages first new error
+          → LeavesSector most_pages (CanProgramSpans sector old wanted) sector wanted first new × OperationFails most_pages first new error
           × NamesTimeoutIn (only sector) error
       spans_failed {error} fails names =
           let few = pages_most old wanted so.whole in

@@ -1,6 +1,6 @@
 -- Lemmas about a sector that is read, unless it was erased, and then programmed; and about the loop over all sectors:
 -- what holds after the sectors below a number, and at each exit.
-use Rattle.std.proofs.Common.{◌≡◌, ◌<◌, ◌≤◌, ◌+◌, ◌*◌, ◌/◌, ◌∙◌, ℕ, Bool, true, false, List, slice_index, refl, ap, sym, arith, inl, inr, Ok, true≢false}
+use Rattle.std.proofs.Common.{◌≡◌, ◌<◌, ◌≤◌, ◌+◌, ◌*◌, ◌/◌, ◌∙◌, ℕ, Bool, true, false, List, slice_index, refl, ap, sym, arith, inl, inr, true≢false}
 use Rattle.std.specs.Prelude.{◌&&◌, ◌||◌, nat_lt}
 use Rattle.std.proofs.lemmas.Bool.{cases_Bool, and_parts, lt-ltb, le-ltb}
 use Rattle.std.proofs.lemmas.Bool.Decides.{nat_tests}
@@ -21,7 +21,7 @@ use Rattle.nor_apply.specs.declared.tally.Tally.{Tally}
 use Rattle.nor_apply.specs.Within.{addresses_of}
 use Rattle.nor_apply.specs.Change.{HasMade, only, byte_of}
 use Rattle.nor_apply.specs.Spending.{NamesTimeoutIn}
-use Rattle.nor_apply.specs.Programming.{CanProgramSpans, LeavesSpans, DoesSpans, CanProgramSector, Loads, LeavesSector, DoesSector, CanProgramAll, LeavesPrograms, DoesPrograms, most_sector}
+use Rattle.nor_apply.specs.Programming.{CanProgramSpans, CanProgramSector, LoadsOk, LeavesSector, DoesSector, CanProgramAll, LeavesPrograms, DoesPrograms, most_pages, most_sector}
 use Rattle.nor_apply.proofs.InTurn.{programming_sum, programming_parts, programming_more, Ran, ran_part, ran_after, ran_none, ran_leaves, honest_now, leaves_after, fails_after}
 use Rattle.nor_apply.proofs.Alone.{only-here, count_below-next, only-is, shown_byte}
 use Rattle.nor_apply.proofs.Changing.{can_after, change_then, change_as, made_may, changed_may, made_none, made_same, made_then}
@@ -29,16 +29,16 @@ use Rattle.nor_apply.proofs.Changing.{can_after, change_then, change_as, made_ma
 -- ---- a sector that is read, or known to be blank, and then programmed
 
 module _ {sector : ℕ} {erased : Bool} {bytes bytes' : List ℕ} {reads : ℕ} {first mid : BusState}
-    (loads : Loads sector erased bytes bytes' (Ok reads) first mid) where
+    (loads : LoadsOk sector erased bytes bytes' first mid reads) where
   -- loading a sector takes at most one transaction and no operation
   loads_ran : Ran (programming (only sector) 0) 1 first mid (record { count = 0; transactions = reads })
   loads_ran =
-      let ends = loads.ends in
+      let read = loads.honest_reads in
       record {
-        nature = loads.only_reads.nature;
-        sends = sends_none (programming (only sector) 0) first mid loads.only_reads.sent;
-        exactly = exactly_none first mid loads.only_reads.sent;
-        tallies = grind (arith, ends.reads_once, ends.polled_ready, ends.kept, ends.read);
+        nature = read.nature;
+        sends = sends_none (programming (only sector) 0) first mid read.same_sent;
+        exactly = exactly_none first mid read.same_sent;
+        tallies = grind (arith, loads.reads_once, read.same_sent, read.polled_ready, read.rested, read.sent);
       }
 
   module _ {wanted : List ℕ} (blank : (i : ℕ) → i < 4096 → slice_index bytes i ≡ 255) (honest : first.honest ≡ true)
@@ -46,25 +46,21 @@ module _ {sector : ℕ} {erased : Bool} {bytes bytes' : List ℕ} {reads : ℕ} 
     -- On a well-behaved bus, if `CanProgramSector` held and the buffer was blank: after loading, the buffer has the
     -- sector's bytes, and the chip is as it was.
     has_loaded : HasMade (λ a. false) (byte_of sector wanted) none first mid × IsSectorOf mid.chip.bytes sector bytes'
-    has_loaded = elim (cases_Bool erased) [
-      | inl is ↦
-          let kept = loads.ends.kept is in
-          rw kept.1 (
-            made_none first (λ a. refl) (λ s. refl) can.can.idle,
-            record {
-              byte = λ i small. rw kept.0
-                  (blank i small ∙ sym (can.blank is (4096 * sector + i) (omega arith)));
-            },
-          )
-      | inr is ↦
-          let inside = can.can.inside sector (only-here refl) in
-          let read = loads.ends.read is honest in
-          let unchanged = read.rested.unchanged in
-          let of = loads.ends.replied is honest can.can.idle (omega arith) in
-          let worn = λ (s : ℕ). unchanged.worn s ∙ sym (or-false (first.worn s)) in
-          let idle : mid.chip.busy ≡ 0 = read.busy ∙ can.can.idle in
-          (assumption, record { byte = λ i small. of.byte i small ∙ sym (unchanged.same.bytes (4096 * sector + i)) })
-    ]
+    has_loaded =
+        let rested = loads.honest_reads.rested honest in
+        let unchanged = rested.unchanged in
+        let inside = can.can.inside sector (only-here refl) in
+        let worn = λ (s : ℕ). unchanged.worn s ∙ sym (or-false (first.worn s)) in
+        let idle : mid.chip.busy ≡ 0 = omega (arith, unchanged.busy, can.can.idle) in
+        let of : IsSectorOf first.chip.bytes sector bytes' = elim (cases_Bool erased) [
+          | inl is ↦ record {
+            byte = λ i small. rw (loads.kept is)
+                (blank i small ∙ sym (can.blank is (4096 * sector + i) (omega arith)));
+          }
+          | inr is ↦ loads.replied is honest can.can.idle (omega arith)
+        ] in
+        let same = unchanged.same.bytes in
+        (assumption, record { byte = λ i small. of.byte i small ∙ sym (same (4096 * sector + i)) })
 
     can_spans : CanProgramSpans sector bytes' wanted mid.chip
     can_spans =
@@ -73,18 +69,19 @@ module _ {sector : ℕ} {erased : Bool} {bytes bytes' : List ℕ} {reads : ℕ} 
         grind (arith, loaded.1.byte, loaded.0.bytes, can.falls, nat_tests)
 
   module _ {wanted : List ℕ} {new : BusState} (blank : (i : ℕ) → i < 4096 → slice_index bytes i ≡ 255)
-      (leaves : LeavesSpans sector bytes' wanted mid new) where
-    pub sector_leaves : LeavesSector sector wanted erased first new
+      (leaves : LeavesSector most_pages (CanProgramSpans sector bytes' wanted) sector wanted mid new) where
+    pub sector_leaves : LeavesSector most_sector (CanProgramSector sector wanted erased) sector wanted first new
     sector_leaves =
         leaves_after loads_ran leaves (programming_parts (λ s is. is) (omega arith))
         (omega (arith, loads_ran.tallies.few)) (λ honest can. (
           can_spans blank honest can,
-          change_then loads.only_reads.nature.steady
+          change_then loads.honest_reads.nature.steady
               (made_may (λ a no. absurd (true≢false (sym no))) (λ s no. no) (has_loaded blank honest can).0),
         ))
 
-    pub sector_does : {tally all : Tally} → DoesSpans sector bytes' wanted mid new tally → all.count ≡ tally.count
-        → all.transactions ≡ tally.transactions + reads → DoesSector sector wanted erased first new all
+    pub sector_does : {tally all : Tally} → DoesSector 0 (CanProgramSpans sector bytes' wanted) sector wanted mid new tally
+        → all.count ≡ tally.count → all.transactions ≡ tally.transactions + reads
+        → DoesSector 1 (CanProgramSector sector wanted erased) sector wanted first new all
     sector_does {tally} {all} does count transactions =
         let ran : Ran (programming (only sector) tally.count) 1 first new all =
         ran_after loads_ran (programming_sum (λ s is. is) (omega arith)) (ran_part leaves does.exactly does.tallies)
@@ -124,7 +121,6 @@ pub record SectorsSoFar (touched raised : ℕ → Bool) (wanted : ℕ → ℕ) (
     (tally : Tally) : Type 0 where
   pub ran : Ran (programming touched tally.count) (count_below n touched) first now tally
   pub fewer : tally.count ≤ 16 * count_below n touched
-  pub unsent : count_below n touched ≡ 0 → now.sent ≡ first.sent
   pub done : first.honest ≡ true → CanProgramAll touched raised wanted first.chip
       → HasMade (addresses_of (before touched n)) wanted none first now
   pub counted : first.honest ≡ true → CanProgramAll touched raised wanted first.chip
@@ -135,7 +131,6 @@ pub sectors_none : {touched raised : ℕ → Bool} {wanted : ℕ → ℕ} (state
 sectors_none {touched} {wanted = wanted} state = record {
   ran = ran_none state (refl, refl, refl);
   fewer = omega arith;
-  unsent = λ none. refl;
   done = λ honest can. made_none state (λ a. grind (arith, nat_tests)) (λ s. refl) can.can.idle;
   counted = λ honest can. sym (count_below-zero (is_programmed touched state.chip.bytes wanted));
 }
@@ -186,7 +181,6 @@ module _ {touched raised : ℕ → Bool} {wanted : ℕ → ℕ} {n : ℕ} {first
       record {
         ran = rw count so.ran;
         fewer = rw count so.fewer;
-        unsent = rw count so.unsent;
         done = λ honest can.
             made_same (λ a. before_skip touched n free (a / 4096)) (λ s. refl) (so.done honest can);
         counted = λ honest can.
@@ -205,7 +199,7 @@ module _ {touched raised : ℕ → Bool} {wanted : ℕ → ℕ} {n : ℕ} {first
     names_member error returned = grind (arith, only_touched)
 
     module _ {erased : Bool} {new : BusState} (erased_is : erased ≡ raised n)
-        (leaves : LeavesSector n bytes erased now new) where
+        (leaves : LeavesSector most_sector (CanProgramSector n bytes erased) n bytes now new) where
       -- on a well-behaved bus, if `CanProgramAll` held at the start, the bytes of sector `n` are still those from then
       module _ (honest : first.honest ≡ true) (can : CanProgramAll touched raised wanted first.chip) where
         still_old : (a : ℕ) → only n (a / 4096) ≡ true → now.chip.bytes a ≡ first.chip.bytes a
@@ -238,7 +232,7 @@ module _ {touched raised : ℕ → Bool} {wanted : ℕ → ℕ} {n : ℕ} {first
             names_member error names,
           )
 
-      pub sectors_more : {more all : Tally} → DoesSector n bytes erased now new more
+      pub sectors_more : {more all : Tally} → DoesSector 1 (CanProgramSector n bytes erased) n bytes now new more
           → all.count ≡ tally.count + more.count
           → all.transactions ≡ tally.transactions + more.transactions
           → SectorsSoFar touched raised wanted (n + 1) first new all
@@ -248,7 +242,6 @@ module _ {touched raised : ℕ → Bool} {wanted : ℕ → ℕ} {n : ℕ} {first
             ran = ran_after so.ran (programming_sum only_touched (sym count))
                 (ran_part leaves does.exactly does.tallies) (omega arith) count transactions;
             fewer = omega (arith, so.fewer, does.fewer);
-            unsent = λ none. absurd (omega arith);
             done = λ honest can.
                 made_then (λ a. before_more touched n is.is (a / 4096)) (λ s. refl) wanted_byte
                 (so.done honest can)
@@ -278,7 +271,6 @@ module _ {touched raised : ℕ → Bool} {wanted : ℕ → ℕ} {n : ℕ} {first
       record {
         fewer = so.fewer;
         exactly = so.ran.exactly;
-        unsent = so.unsent;
         tallies = so.ran.tallies;
         done = λ honest can.
             let small = (sized_bounds first.chip.config).small in

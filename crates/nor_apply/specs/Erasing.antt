@@ -27,13 +27,12 @@ LeavesErases sectors kinds size =
     (CanEraseAll sectors kinds size) (MayChange sectors sectors blank)
 
 -- Holds after the erases succeeded. On every bus exactly `tally.count` erases were sent, which is the length of the
--- planned list; if it is 0, the record of modifying commands is as it was. On a well-behaved bus, if `CanEraseAll` held
--- at the start, all bytes of the sectors are FFh and all else is as `HasChanged` says. nor_plan's `fewest_is_least`
--- proves that no shorter list erases exactly these sectors, if they lie on a chip of at most 4,096 sectors.
+-- planned list. On a well-behaved bus, if `CanEraseAll` held at the start, all bytes of the sectors are FFh and all
+-- else is as `HasChanged` says. nor_plan's `fewest_is_least` proves that no shorter list erases exactly these sectors,
+-- if they lie on a chip of at most 4,096 sectors.
 pub record DoesErases (sectors : ℕ → Bool) (kinds : Kinds) (size : ℕ) (old new : BusState)
     (tally : Tally) : Type 0 where
   pub count : tally.count ≡ length (planned kinds (size / 4096) sectors)
-  pub unsent : tally.count ≡ 0 → new.sent ≡ old.sent
   pub fewer : tally.count ≤ sector_count sectors
   pub exactly : SendsExactly tally.count 0 0 old new
   pub tallies : Tallies 0 old new tally

@@ -22,11 +22,12 @@ NamesTimeoutIn sectors (Timeout address) = sectors (address / 4096) ≡ true
 
 -- Holds after a part succeeded, with `tally.count` operations and at most `readings` reads. It took at least 3
 -- transactions per operation, and at most 65,538 per operation and one per read. If the last poll before it showed that
--- the chip is ready, so does the last poll after it. On a well-behaved bus `tally.transactions` fewer transactions are
--- left, and a chip that was idle is idle again.
+-- the chip is ready, so does the last poll after it. Without operations the record of modifying commands is as it was.
+-- On a well-behaved bus `tally.transactions` fewer transactions are left, and a chip that was idle is idle again.
 pub record Tallies (readings : ℕ) (old new : BusState) (tally : Tally) : Type 0 where
   pub least : 3 * tally.count ≤ tally.transactions
   pub few : tally.transactions ≤ readings + most_operation * tally.count
   pub polled_ready : StaysReady old new
+  pub unsent : tally.count ≡ 0 → new.sent ≡ old.sent
   pub idle : old.honest ≡ true → old.chip.busy ≡ 0 → new.chip.busy ≡ 0
   pub sent : old.honest ≡ true → old.left ≡ new.left + tally.transactions

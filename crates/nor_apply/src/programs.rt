@@ -1,11 +1,13 @@
 //! Page programs of a set of sectors.
-ghost use Rattle.std.specs.Prelude.{◌≡◌, ◌<◌, ◌*◌, ℕ, true, IfOk, IfErr};
+ghost use Rattle.std.specs.Prelude.{◌≡◌, ◌<◌, ◌*◌, ℕ, true, IfOk, IfErr, OnErr};
 ghost use Rattle.nor_plan.specs.SectorSet.{has};
 ghost use Rattle.nor_geometry.specs.Counts.{sector_count};
 ghost use Rattle.nor_driver.specs.Waits.{OperationFails};
 ghost use Rattle.nor_apply.specs.Spending.{NamesTimeoutIn};
 ghost use Rattle.nor_apply.specs.Change.{only};
-ghost use Rattle.nor_apply.specs.Programming.{LeavesSpans, DoesSpans, LeavesSector, DoesSector, LeavesPrograms, DoesPrograms, Loads, most_pages, most_sector};
+ghost use Rattle.nor_driver.specs.OnlyReads.{OnlyReads, HasStopped};
+ghost use Rattle.nor_apply.specs.Programming.{CanProgramSpans, CanProgramSector, LeavesSector, DoesSector, LoadsOk};
+ghost use Rattle.nor_apply.specs.Programming.{LeavesPrograms, DoesPrograms, most_pages, most_sector};
 
 use crate::Source;
 use crate::tally::Tally;
@@ -58,8 +60,10 @@ fn program_sector<B: Bus>(
     erased: bool,
 ) -> Result<Tally, OperationError>
     requires { sector < 4096 }
-    ensures leaves { LeavesSector sector wanted.now erased (B.state bus.old) (B.state bus.new) }
-    ensures does { IfOk result (DoesSector sector wanted.now erased (B.state bus.old) (B.state bus.new)) }
+    ensures leaves { LeavesSector most_sector (CanProgramSector sector wanted.now erased) sector wanted.now
+        (B.state bus.old) (B.state bus.new) }
+    ensures does { IfOk result (DoesSector 1 (CanProgramSector sector wanted.now erased) sector wanted.now
+        (B.state bus.old) (B.state bus.new)) }
     ensures fails { IfErr result (OperationFails most_sector (B.state bus.old) (B.state bus.new)) }
     ensures names { IfErr result (NamesTimeoutIn (only sector)) }
 {
@@ -80,7 +84,9 @@ fn load<B: Bus>(
     bytes: &mut [u8; SECTOR_LEN as usize],
 ) -> Result<u64, Stopped>
     requires { sector < 4096 }
-    ensures { Loads sector erased bytes.old bytes.new result (B.state bus.old) (B.state bus.new) }
+    ensures leaves { OnlyReads 1 (B.state bus.old) (B.state bus.new) }
+    ensures loads { IfOk result (LoadsOk sector erased bytes.old bytes.new (B.state bus.old) (B.state bus.new)) }
+    ensures stops { OnErr result (HasStopped 1 (B.state bus.old) (B.state bus.new)) }
 {
     if erased {
         return Ok(0);
@@ -97,8 +103,10 @@ fn program_spans<B: Bus>(
     wanted: &[u8; SECTOR_LEN as usize],
 ) -> Result<Tally, OperationError>
     requires { sector < 4096 }
-    ensures leaves { LeavesSpans sector old.now wanted.now (B.state bus.old) (B.state bus.new) }
-    ensures does { IfOk result (DoesSpans sector old.now wanted.now (B.state bus.old) (B.state bus.new)) }
+    ensures leaves { LeavesSector most_pages (CanProgramSpans sector old.now wanted.now) sector wanted.now
+        (B.state bus.old) (B.state bus.new) }
+    ensures does { IfOk result (DoesSector 0 (CanProgramSpans sector old.now wanted.now) sector wanted.now
+        (B.state bus.old) (B.state bus.new)) }
     ensures fails { IfErr result (OperationFails most_pages (B.state bus.old) (B.state bus.new)) }
     ensures names { IfErr result (NamesTimeoutIn (only sector)) }
 {

@@ -56,7 +56,7 @@ overflow_add-result-2 g c =
 pub overflow_add-result-3 : goal.overflow_add-result-3
 overflow_add-result-3 g c =
     let few = few_sent (all_done g (goal.at.overflow_add-result-3 g c).In_ok-programmed) in
-    omega (arith, few, c.in_ok-written.ensures.does.few, write_most c.writes_code.result)
+    omega (arith, few, c.in_ok-written.ensures.does.tallies.few, write_most c.writes_code.result)
 
 pub returns : goal.returns
 returns g c =
