@@ -1,45 +1,28 @@
 -- Lemmas about the copy of a chip, which is made piece by piece until it is whole or the vault refuses a piece.
-use Rattle.std.proofs.Common.{◌≡◌, ◌≤◌, ◌<◌, ◌+◌, ◌-◌, ◌*◌, ◌++◌, ◌∙◌, ℕ, true, List, [], length, slice_index, take}
+use Rattle.std.proofs.Common.{◌≡◌, ◌<◌, ◌+◌, ◌-◌, ◌*◌, ◌++◌, ◌∙◌, ℕ, true, List, [], length, slice_index, take}
 use Rattle.std.proofs.Common.{Option, refl, ap, sym, arith, inl, inr, append_assoc, append-nil, length-append}
 use Rattle.std.specs.Prelude.{◌/◌}
 use Rattle.std.proofs.lemmas.Bool.{cases_lt}
 use Rattle.std.proofs.lemmas.List.{get_or_append_left, get_or-append_right, get_or-take, length-take-le}
 use Rattle.nor_model.specs.Bus.{BusState}
 use Rattle.nor_driver.specs.OnlyReads.{IsOpen}
-use Rattle.nor_journal.specs.Vault.{VaultState, Accepted, Took}
+use Rattle.nor_journal.specs.Vault.{VaultState, Took}
 use Rattle.nor_layout.specs.declared.ranges.Span.{Span}
-use Rattle.nor_geometry.specs.Below.{count_below}
-use Rattle.nor_layout.specs.Sectors.{includes, has_in_sector, sectors_included}
+use Rattle.nor_layout.specs.Sectors.{includes, has_in_sector}
 use Rattle.nor_geometry.proofs.Below.{count_below-zero}
 use Rattle.nor_driver.proofs.RestsInTurn.{HasOnlyRead, has_only_read-none, has_only_read-then, open_later, same_bytes}
 use Rattle.nor_request.specs.declared.refusal.Refusal.{Refusal}
 use Rattle.nor_request.specs.declared.refusal.Refusal.TheVariants.{Output}
-use Rattle.nor_read.specs.Reading.{copied, Grows, Copies, ReadsPiece, ReadsAll, CopyErrors, PutErrors}
+use Rattle.nor_read.specs.Reading.{copied, Copies, CopiesIf, ReadsPiece, ReadsPieces, CopyErrors, PutErrors}
 
--- Holds if the vault has `count` bytes more. If `known` holds, these are the first ones of the copy.
-pub record CopiesIf (known : Type 0) (included : Option (List Span)) (content : ℕ → ℕ) (count : ℕ)
-    (old new : VaultState) : Type 0 where
-  pub grows : Grows count old new
-  pub right : known → (a : ℕ) → a < count → slice_index grows.bytes a ≡ copied included content a
-
-copies_if : {known : Type 0} {included : Option (List Span)} {content : ℕ → ℕ} {count : ℕ} {old new : VaultState}
+pub copies_if : {known : Type 0} {included : Option (List Span)} {content : ℕ → ℕ} {count : ℕ} {old new : VaultState}
     → CopiesIf known included content count old new → known → Copies included content count old new
 copies_if has is = let right = has.right is in search right
 
--- Holds if the pieces below `n` were copied to the vault, which refused nothing. The copy in a `telling` vault is known
--- to be right on a well-behaved bus whose chip was idle at the start and has this size.
-pub record HasCopied (included : Option (List Span)) (size n : ℕ) (old new : BusState) (vault vault' : VaultState)
-    (reads : ℕ) : Type 0 where
-  pub few : reads ≤ 16 * n
-  pub counted : reads ≡ count_below (16 * n) (has_in_sector (includes included))
-  pub honest_reads : HasOnlyRead reads old new
-  pub accepted : Accepted vault vault'
-  pub copy : vault.telling ≡ true → CopiesIf (IsOpen size old) included old.chip.bytes (65536 * n) vault vault'
-
 pub copied_none : (included : Option (List Span)) (size : ℕ) (state : BusState) (vault : VaultState)
-    → HasCopied included size 0 state state vault vault 0
+    → ReadsPieces included size 0 state state vault vault 0
 copied_none included size state vault = record {
-  few = omega arith;
+  most = omega arith;
   counted = sym (count_below-zero (has_in_sector (includes included)));
   honest_reads = has_only_read-none state;
   accepted = assumption;
@@ -77,7 +60,7 @@ module _ {known : Type 0} {included : Option (List Span)} {content : ℕ → ℕ
 
 module _ {included : Option (List Span)} {size n reads more : ℕ} {bytes : List ℕ} {old mid new : BusState}
     {vault now : VaultState} (below : n < size / 65536) (long : length bytes ≡ 65536)
-    (has : HasCopied included size n old mid vault now reads)
+    (has : ReadsPieces included size n old mid vault now reads)
     (piece : ReadsPiece included n 16 bytes mid new more) where
   has_only_read-all : HasOnlyRead (reads + more) old new
   has_only_read-all = has_only_read-then has.honest_reads piece.honest_reads
@@ -90,11 +73,11 @@ module _ {included : Option (List Span)} {size n reads more : ℕ} {bytes : List
       let same = now.same in
       rw (same_bytes (has.honest_reads.rested is_open.honest)) at (piece.right now.honest now.idle (omega arith) i small)
 
-  -- `HasCopied` holds for one piece more, after the vault accepted it.
+  -- `ReadsPieces` holds for one piece more, after the vault accepted it.
   pub copied_more : {later : VaultState} → Took now bytes later
-      → HasCopied included size (n + 1) old new vault later (reads + more)
+      → ReadsPieces included size (n + 1) old new vault later (reads + more)
   copied_more took = record {
-    few = grind arith;
+    most = grind arith;
     counted = grind arith;
     honest_reads = has_only_read-all;
     accepted = grind arith;
@@ -124,13 +107,3 @@ module _ {included : Option (List Span)} {size n reads more : ℕ} {bytes : List
         copy = λ is_open telling. copies_if (so_far telling) is_open;
       }
   copy_fails later _ put = absurd put
-
--- After the last piece the copy is whole (`ReadsAll`).
-pub copied_all : {included : Option (List Span)} {size n reads : ℕ} {old new : BusState} {vault vault' : VaultState}
-    → 65536 * n ≡ size → HasCopied included size n old new vault vault' reads → reads ≡ sectors_included included size
-    → ReadsAll included size old new vault vault' reads
-copied_all {included} {size} {old = old} {vault = vault} {vault' = vault'} whole has counted =
-    let grows : vault.telling ≡ true → Grows size vault vault' = λ telling. rw whole at (has.copy telling).grows in
-    let copy : IsOpen size old → vault.telling ≡ true → Copies included old.chip.bytes size vault vault'
-    = λ is_open telling. rw whole at (copies_if (has.copy telling) is_open) in
-    search

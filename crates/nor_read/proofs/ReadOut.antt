@@ -1,6 +1,6 @@
 -- The promises of `read_out` at each exit follow from those of the probe and of the copy.
 use Rattle.std.proofs.Common.{◌≡◌, ℕ, true, List, Option, Result, Ok, Err, arith}
-use Rattle.std.specs.Prelude.{◌/◌}
+use Rattle.std.specs.Prelude.{◌/◌, ◌*◌}
 use Rattle.nor_model.specs.Bus.{BusState}
 use Rattle.nor_driver.specs.OnlyReads.{OnlyReads}
 use Rattle.nor_journal.specs.Vault.{VaultState}
@@ -15,8 +15,9 @@ use Rattle.nor_request.specs.declared.report.Report.{Report}
 use Rattle.nor_request.specs.Errors.{IdentificationErrors, EndsAtError}
 use Rattle.nor_read.specs.Finding.{IsModelled, HasFound, ReadingErrors, most_read}
 use Rattle.nor_read.specs.Reading.{ReadOutAlways, ReadOutHonest, ReadOutModelled, IsReadRefusal, ReadOutErrors}
-use Rattle.nor_read.specs.Reading.{Copies, ReadsAll, CopyErrors}
+use Rattle.nor_read.specs.Reading.{TakesWhole, Copies, ReadsPieces, CopyErrors}
 use Rattle.nor_driver.proofs.RestsInTurn.{same_bytes}
+use Rattle.nor_read.proofs.Copied.{copies_if}
 use Rattle.nor_read.proofs.Whole.{Sends, find_errors, find_ends, sends_probe, sends_on, fails, report_of, reported}
 use Rattle.nor_read.proofs.Whole.{rested_on, size_of, open_after, is_taken, is_passed}
 
@@ -77,14 +78,20 @@ module _ (named : Option ChipName) (included : Option (List Span)) (vault : Vaul
       broken _ errors = absurd errors
 
       -- the exit after the whole copy
-      pub copied_whole : {reads : ℕ} → ReadsAll included probed.found.size mid new vault vault' reads
+      pub copied_whole : {reads : ℕ}
+          → ReadsPieces included probed.found.size (probed.found.size / 65536) mid new vault vault' reads
           → HasReadOut named included old new vault vault' (Ok (report_of probed reads))
       copied_whole all =
+          let blocks = found.is.part.in_blocks in
+          let size : 65536 * (probed.found.size / 65536) ≡ probed.found.size = omega arith in
+          let sectors : 16 * (probed.found.size / 65536) ≡ probed.found.size / 4096 = omega arith in
           let sends = sends_on found only_reads after in
-          let reports = reported found only_reads all.honest_reads all.counted in
-          let took = all.took in
+          let reports = reported found only_reads all.honest_reads (rw sectors at all.counted) in
+          let copies = λ (telling : vault.telling ≡ true). rw size at (all.copy telling) in
+          let took : TakesWhole probed.found.size vault vault' =
+          record { accepted = all.accepted; grows = λ telling. (copies telling).grows } in
           let copy : IsModelled old → vault.telling ≡ true
           → Copies included old.chip.bytes old.chip.config.size vault vault'
           = λ known telling. rw (size_of found only_reads known, same_bytes (found.rested known.honest))
-          at (all.copy (open_after found only_reads known) telling) in
+          at (copies_if (copies telling) (open_after found only_reads known)) in
           search (sends.own, reports.reads, reports.config)

@@ -144,14 +144,21 @@ pub record ReadsPiece (included : Option (List Span)) (piece n : ℕ) (bytes : L
   pub right : old.honest ≡ true → old.chip.busy ≡ 0 → 65536 * (piece + 1) ≤ old.chip.config.size
       → (i : ℕ) → i < 4096 * n → slice_index bytes i ≡ copied included old.chip.bytes (65536 * piece + i)
 
--- Holds after all pieces of the copy were made and appended. The copy in a `telling` vault is known to be right on a
--- well-behaved bus with an idle chip of this size.
-pub record ReadsAll (included : Option (List Span)) (size : ℕ) (old new : BusState) (vault vault' : VaultState)
+-- Holds if the vault has `count` bytes more. If `known` holds, these are the first ones of the copy.
+pub record CopiesIf (known : Type 0) (included : Option (List Span)) (content : ℕ → ℕ) (count : ℕ)
+    (old new : VaultState) : Type 0 where
+  pub grows : Grows count old new
+  pub right : known → (a : ℕ) → a < count → slice_index grows.bytes a ≡ copied included content a
+
+-- Holds after the pieces below `n` were made and appended to the vault, which refused nothing. The copy in a `telling`
+-- vault is known to be right on a well-behaved bus with an idle chip of this size.
+pub record ReadsPieces (included : Option (List Span)) (size n : ℕ) (old new : BusState) (vault vault' : VaultState)
     (reads : ℕ) : Type 0 where
-  pub counted : reads ≡ sectors_included included size
+  pub counted : reads ≡ count_below (16 * n) (has_in_sector (includes included))
+  pub most : reads ≤ 16 * n
   pub honest_reads : HasOnlyRead reads old new
-  pub took : TakesWhole size vault vault'
-  pub copy : IsOpen size old → vault.telling ≡ true → Copies included old.chip.bytes size vault vault'
+  pub accepted : Accepted vault vault'
+  pub copy : vault.telling ≡ true → CopiesIf (IsOpen size old) included old.chip.bytes (65536 * n) vault vault'
 
 -- Holds after the vault refused a piece of the copy. A `telling` vault accepted `written` bytes in all. On a
 -- well-behaved bus with an idle chip of this size, these are the first bytes of the copy.

@@ -5,7 +5,7 @@ ghost use Rattle.nor_driver.specs.OnlyReads.{OnlyReads, HasStopped};
 ghost use Rattle.nor_journal.specs.Vault.{Took};
 ghost use Rattle.nor_read.specs.Finding.{IsModelled};
 ghost use Rattle.nor_read.specs.Reading.{ReadOutAlways, ReadOutHonest, ReadOutModelled};
-ghost use Rattle.nor_read.specs.Reading.{ReadsPart, ReadsPiece, ReadsAll, CopyErrors, PutErrors};
+ghost use Rattle.nor_read.specs.Reading.{ReadsPart, ReadsPiece, ReadsPieces, CopyErrors, PutErrors};
 
 use crate::finding::{find, report};
 use nor_driver::read_sector;
@@ -62,7 +62,7 @@ fn copy_all<B: Bus, V: Vault>(
     requires sized { IsTrue (is_chip_size size) }
     requires unsealed { (V.state out.old).sealed ≡ false }
     ensures leaves { OnlyReads (size / 4096) (B.state bus.old) (B.state bus.new) }
-    ensures reads { IfOk result (ReadsAll (option_copied included.entry) size
+    ensures reads { IfOk result (ReadsPieces (option_copied included.entry) size (size / 65536)
         (B.state bus.old) (B.state bus.new) (V.state out.old) (V.state out.new)) }
     ensures errors { IfErr result (CopyErrors (option_copied included.entry) size
         (B.state bus.old) (B.state bus.new) (V.state out.old) (V.state out.new)) }

@@ -1,7 +1,6 @@
-use Rattle.std.proofs.Common.{◌/◌, arith, rules}
+use Rattle.std.proofs.Common.{◌≡◌, ◌/◌, arith, rules}
 use Rattle.nor_driver.proofs.RestsInTurn.{only_reads_after}
-use Rattle.nor_model.proofs.Sizes.{is_chip_size-in_blocks}
-use Rattle.nor_read.proofs.Copied.{copied_none, copied_more, copy_fails, copied_all}
+use Rattle.nor_read.proofs.Copied.{copied_none, copied_more, copy_fails}
 use Rattle.nor_read.proofs.reading.copy_all.Goals as goal
 
 pub loop-piece-init : goal.loop-piece-init
@@ -27,4 +26,4 @@ returns-in_err-put_piece-clause-errors g c =
 
 pub returns-clause-reads : goal.returns-clause-reads
 returns-clause-reads g c =
-    let blocks = (is_chip_size-in_blocks c.args.size c.requires.sized).blocks in search (rules, copied_all)
+    let end : c.loop-piece.piece ≡ c.args.size / 65536 = omega arith in rw end at c.loop-piece.invariant
