@@ -26,7 +26,7 @@ use Rattle.nor_apply.specs.Within.{addresses_of}
 use Rattle.nor_apply.specs.Change.{MayChange, HasMade, blank}
 use Rattle.nor_apply.specs.Spending.{may_target, NamesTimeoutIn}
 use Rattle.nor_apply.specs.Erasing.{CanEraseAll, LeavesErases, DoesErases}
-use Rattle.nor_apply.proofs.InTurn.{ran_leaves, erasing_sum, erasing_parts, erasing_more, honest_now, Listed, listed_none, listed_after, listed_fails, listed_more, listed_all, listed_split, listed_next, listed_fewer}
+use Rattle.nor_apply.proofs.InTurn.{ran_leaves, honest_now, Listed, listed_none, listed_after, listed_fails, listed_more, listed_all, listed_split, listed_next, listed_fewer}
 use Rattle.nor_apply.proofs.Changing.{can_after, change_then, made_may, made_none, made_same, made_then}
 use Rattle.nor_apply.proofs.Targeting.{unit_targets}
 
@@ -136,7 +136,7 @@ module _ {kinds : Kinds} {size : ℕ} {set : ℕ → Bool} {units left : List Er
 
     pub leaves_ended : LeavesErases set kinds size old mid
     leaves_ended =
-        ran_leaves so.listed.ran (erasing_more does_ended.fewer) (omega (arith, does_ended.fewer))
+        ran_leaves so.listed.ran (grind (arith, does_ended.fewer)) (omega (arith, does_ended.fewer))
         (λ honest can. made_may (λ a. erased_inside (a / 4096)) erased_inside (so.done honest can))
 
   -- For the point at which `unit` is the next erase.
@@ -184,7 +184,7 @@ module _ {kinds : Kinds} {size : ℕ} {set : ℕ → Bool} {units left : List Er
           let most : most_operation * length (planned kinds (size / 4096) set) ≤ most_operation * sector_count set =
           omega (arith, so.few) in (
             listed_after so.listed next leaves.leaves
-                (erasing_parts targets_next (omega (arith, so.few, listed_fewer so.listed next))) most
+                (grind (arith, targets_next, so.few, listed_fewer so.listed next)) most
                 (λ honest can.
                 let has = so.done honest can in (
                   can_erase of_plan can has,
@@ -207,7 +207,7 @@ module _ {kinds : Kinds} {size : ℕ} {set : ℕ → Bool} {units left : List Er
             below = so.below;
             covers = so.covers;
             few = so.few;
-            listed = listed_more so.listed next leaves.leaves (erasing_sum targets_next (sym count)) erases.sends
+            listed = listed_more so.listed next leaves.leaves (grind (arith, targets_next, count)) erases.sends
                 erases.ends count transactions;
             done = λ honest can.
                 let has = so.done honest can in

@@ -1,6 +1,6 @@
 -- Lemmas about successive parts of a change, on every bus: which sectors they target, how many transactions they take,
 -- and what holds at each exit.
-use Rattle.std.proofs.Common.{◌≡◌, ◌≤◌, ◌+◌, ◌*◌, ◌∙◌, ℕ, Bool, true, List, [], ◌∷◌, ◌++◌, length, sym, ap, refl, arith}
+use Rattle.std.proofs.Common.{◌≡◌, ◌≤◌, ◌+◌, ◌*◌, ◌∙◌, ℕ, true, List, [], ◌∷◌, ◌++◌, length, sym, ap, refl, arith}
 use Rattle.std.proofs.lemmas.List.{length-append, length_push, append_assoc, append-nil}
 use Rattle.std.specs.List.{All}
 use Rattle.std.proofs.lemmas.List.Elements.{All-head, All-tail}
@@ -9,37 +9,11 @@ use Rattle.nor_model.specs.Bus.{BusState, KeepsNature}
 use Rattle.nor_model.proofs.Nature.{nature_refl, nature_then}
 use Rattle.nor_driver.specs.declared.waits.OperationError.{OperationError}
 use Rattle.nor_driver.specs.Waits.{OperationFails}
-use Rattle.nor_driver.specs.Limits.{Limits, erasing, programming, SendsWithin, SendsExactly, Leaves}
+use Rattle.nor_driver.specs.Limits.{Limits, SendsWithin, SendsExactly, Leaves}
 use Rattle.nor_driver.specs.Operations.{EndsWaiting, most_operation}
 use Rattle.nor_driver.proofs.Limits.{IsPartOf, AreParts, IsSum, sum_parts, sends_none, sends_more, sends_then, sends_exactly, exactly_none, exactly_then}
 use Rattle.nor_apply.specs.declared.tally.Tally.{Tally}
 use Rattle.nor_apply.specs.Spending.{Tallies}
-
--- ---- limits
-
--- Limits of `n` and then `m` erases add up to those of `n + m` erases of the first sectors, if these include the second.
-pub erasing_sum : {all part : ℕ → Bool} {n m k : ℕ} → ((s : ℕ) → part s ≡ true → all s ≡ true) → n + m ≡ k
-    → IsSum (erasing all n) (erasing part m) (erasing all k)
-erasing_sum inside sum = grind (arith, inside, sum)
-
-pub erasing_parts : {all part : ℕ → Bool} {n m k : ℕ} → ((s : ℕ) → part s ≡ true → all s ≡ true) → n + m ≤ k
-    → AreParts (erasing all n) (erasing part m) (erasing all k)
-erasing_parts inside fits = grind (arith, inside, fits)
-
-pub erasing_more : {sectors : ℕ → Bool} {n k : ℕ} → n ≤ k → IsPartOf (erasing sectors n) (erasing sectors k)
-erasing_more few = grind (arith, few)
-
--- Limits of page programs add up as those of erases do.
-pub programming_sum : {all part : ℕ → Bool} {n m k : ℕ} → ((s : ℕ) → part s ≡ true → all s ≡ true) → n + m ≡ k
-    → IsSum (programming all n) (programming part m) (programming all k)
-programming_sum inside sum = grind (arith, inside, sum)
-
-pub programming_parts : {all part : ℕ → Bool} {n m k : ℕ} → ((s : ℕ) → part s ≡ true → all s ≡ true) → n + m ≤ k
-    → AreParts (programming all n) (programming part m) (programming all k)
-programming_parts inside fits = grind (arith, inside, fits)
-
-pub programming_more : {sectors : ℕ → Bool} {n k : ℕ} → n ≤ k → IsPartOf (programming sectors n) (programming sectors k)
-programming_more few = grind (arith, few)
 
 -- ---- parts that ran
 

@@ -31,7 +31,7 @@ use Rattle.nor_plan.specs.Content.{is_other, is_page_other}
 use Rattle.nor_plan.specs.Span.{page_differs, pages_changed, page_count, spans_of}
 use Rattle.nor_apply.specs.declared.tally.Tally.{Tally}
 use Rattle.nor_apply.specs.Spending.{NamesTimeoutIn}
-use Rattle.nor_apply.proofs.InTurn.{ran_leaves, programming_sum, programming_parts, programming_more, honest_now, Listed, listed_none, listed_after, listed_fails, listed_more, listed_all, listed_next, listed_fewer}
+use Rattle.nor_apply.proofs.InTurn.{ran_leaves, honest_now, Listed, listed_none, listed_after, listed_fails, listed_more, listed_all, listed_next, listed_fewer}
 use Rattle.nor_apply.proofs.Targeting.{named_in}
 
 -- true at the addresses of these spans of the sector
@@ -268,7 +268,7 @@ module _ {sector : ℕ} {old wanted : List ℕ} {spans left : List PageSpan} {fi
 
     pub leaves_ended : LeavesSector most_pages (CanProgramSpans sector old wanted) sector wanted first now
     leaves_ended =
-        ran_leaves so.listed.ran (programming_more does_ended.fewer) (omega (arith, does_ended.fewer))
+        ran_leaves so.listed.ran (grind (arith, does_ended.fewer)) (omega (arith, does_ended.fewer))
         (λ honest can. changed_may (does_ended.done honest can))
 
   -- For the point at which `span` is the next span.
@@ -308,7 +308,7 @@ module _ {sector : ℕ} {old wanted : List ℕ} {spans left : List PageSpan} {fi
           let few = pages_most old wanted so.whole in
           let most : most_operation * length (spans_of old wanted) ≤ most_pages = omega (arith, so.are.count, few) in (
             listed_after so.listed next leaves.leaves
-                (programming_parts targets_next (omega (arith, few_spans.0))) most
+                (grind (arith, targets_next, few_spans.0)) most
                 (λ honest can.
                 let filled = so.done honest can in
                 (can_span spanned spans can filled, span_may spanned spans can filled so.listed.ran.nature.steady)),
@@ -324,7 +324,7 @@ module _ {sector : ℕ} {old wanted : List ℕ} {spans left : List PageSpan} {fi
         whole = so.whole;
         wanted_whole = so.wanted_whole;
         are = so.are;
-        listed = listed_more so.listed next leaves.leaves (programming_sum targets_next (sym count)) programs.sends
+        listed = listed_more so.listed next leaves.leaves (grind (arith, targets_next, count)) programs.sends
             programs.ends count transactions;
         done = λ honest can.
             let filled = so.done honest can in

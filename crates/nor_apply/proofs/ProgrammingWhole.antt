@@ -22,7 +22,7 @@ use Rattle.nor_apply.specs.Within.{addresses_of}
 use Rattle.nor_apply.specs.Change.{HasMade, only, byte_of}
 use Rattle.nor_apply.specs.Spending.{NamesTimeoutIn}
 use Rattle.nor_apply.specs.Programming.{CanProgramSpans, CanProgramSector, LoadsOk, LeavesSector, DoesSector, CanProgramAll, LeavesPrograms, DoesPrograms, most_pages, most_sector}
-use Rattle.nor_apply.proofs.InTurn.{programming_sum, programming_parts, programming_more, Ran, ran_part, ran_after, ran_none, ran_leaves, honest_now, leaves_after, fails_after}
+use Rattle.nor_apply.proofs.InTurn.{Ran, ran_part, ran_after, ran_none, ran_leaves, honest_now, leaves_after, fails_after}
 use Rattle.nor_apply.proofs.Alone.{only-here, count_below-next, only-is, shown_byte}
 use Rattle.nor_apply.proofs.Changing.{can_after, change_then, change_as, made_may, changed_may, made_none, made_same, made_then}
 
@@ -72,7 +72,7 @@ module _ {sector : ℕ} {erased : Bool} {bytes bytes' : List ℕ} {reads : ℕ} 
       (leaves : LeavesSector most_pages (CanProgramSpans sector bytes' wanted) sector wanted mid new) where
     pub sector_leaves : LeavesSector most_sector (CanProgramSector sector wanted erased) sector wanted first new
     sector_leaves =
-        leaves_after loads_ran leaves (programming_parts (λ s is. is) (omega arith))
+        leaves_after loads_ran leaves (grind arith)
         (omega (arith, loads_ran.tallies.few)) (λ honest can. (
           can_spans blank honest can,
           change_then loads.honest_reads.nature.steady
@@ -84,7 +84,7 @@ module _ {sector : ℕ} {erased : Bool} {bytes bytes' : List ℕ} {reads : ℕ} 
         → DoesSector 1 (CanProgramSector sector wanted erased) sector wanted first new all
     sector_does {tally} {all} does count transactions =
         let ran : Ran (programming (only sector) tally.count) 1 first new all =
-        ran_after loads_ran (programming_sum (λ s is. is) (omega arith)) (ran_part leaves does.exactly does.tallies)
+        ran_after loads_ran (grind arith) (ran_part leaves does.exactly does.tallies)
         (omega arith) (omega arith) (omega arith) in
         record {
           fewer = omega (arith, does.fewer);
@@ -220,7 +220,7 @@ module _ {touched raised : ℕ → Bool} {wanted : ℕ → ℕ} {n : ℕ} {first
           let fits : tally.transactions + most_sector ≤ most_sector * sector_count touched =
           omega (arith, so.fewer, room touched n is.below is.is) in (
             leaves_after so.ran leaves
-                (programming_parts only_touched (omega (arith, so.fewer, room touched n is.below is.is))) fits
+                (grind (arith, only_touched, so.fewer, room touched n is.below is.is)) fits
                 (λ honest can. (
                   can_sector honest can,
                   λ may.
@@ -239,7 +239,7 @@ module _ {touched raised : ℕ → Bool} {wanted : ℕ → ℕ} {n : ℕ} {first
       sectors_more {more} does count transactions =
           let one = count_below-with n touched is.is in
           record {
-            ran = ran_after so.ran (programming_sum only_touched (sym count))
+            ran = ran_after so.ran (grind (arith, only_touched, count))
                 (ran_part leaves does.exactly does.tallies) (omega arith) count transactions;
             fewer = omega (arith, so.fewer, does.fewer);
             done = λ honest can.
@@ -284,5 +284,5 @@ module _ {touched raised : ℕ → Bool} {wanted : ℕ → ℕ} {n : ℕ} {first
 
   pub leaves_ended : LeavesPrograms touched raised wanted first now
   leaves_ended =
-      ran_leaves so_far.ran (programming_more does_ended.fewer)
+      ran_leaves so_far.ran (grind (arith, does_ended.fewer))
       (omega (arith, does_ended.fewer, does_ended.tallies.few)) (λ honest can. changed_may (does_ended.done honest can))

@@ -14,29 +14,25 @@ loop-unit-init g c =
     let few = listed.counted (λ n. count_below n set) 4096
     (record { begins = count_below-zero set; goes = λ n. count_below-more n set })
     (λ s is. omega (arith, c.requires.inside s is)) in
-    record {
-      so_far = none_so_far _ c.requires.inside listed.planned listed.covers few
-          (ap erases_left c.into_iter-unit-iterator.ensures.into_iter_gives);
-    }
+    none_so_far _ c.requires.inside listed.planned listed.covers few
+        (ap erases_left c.into_iter-unit-iterator.ensures.into_iter_gives)
 
 pub loop-unit-preserved : goal.loop-unit-preserved
 loop-unit-preserved g c =
-    record {
-      so_far = erases_more c.loop-unit.invariant.so_far c.in-Some.ensures.steps c.erase.ensures.leaves
-          c.in_ok-sent.ensures.does refl (ap (λ (n : ℕ). c.loop-unit.tally.transactions + n) c.from.ensures);
-    }
+    erases_more c.loop-unit.invariant c.in-Some.ensures.steps c.erase.ensures.leaves
+        c.in_ok-sent.ensures.does refl (ap (λ (n : ℕ). c.loop-unit.tally.transactions + n) c.from.ensures)
 
 pub overflow_add-tally : goal.overflow_add-tally
-overflow_add-tally g c = omega (arith, few_units c.loop-unit.invariant.so_far c.in-Some.ensures.steps)
+overflow_add-tally g c = omega (arith, few_units c.loop-unit.invariant c.in-Some.ensures.steps)
 
 pub returns-in_err-sent : goal.returns-in_err-sent
 returns-in_err-sent g c =
-    let ends_in_error = erases_failed c.loop-unit.invariant.so_far c.in-Some.ensures.steps c.erase.ensures.leaves
+    let ends_in_error = erases_failed c.loop-unit.invariant c.in-Some.ensures.steps c.erase.ensures.leaves
     c.in_err-sent.ensures.fails c.in_err-sent.ensures.names in
     grind (arith, common_steps, ends_in_error)
 
 pub returns-clause-leaves : goal.returns-clause-leaves
-returns-clause-leaves g c = leaves_ended c.loop-unit.invariant.so_far c.in-None.ensures.steps.0
+returns-clause-leaves g c = leaves_ended c.loop-unit.invariant c.in-None.ensures.steps.0
 
 pub returns-clause-does : goal.returns-clause-does
-returns-clause-does g c = does_ended c.loop-unit.invariant.so_far c.in-None.ensures.steps.0
+returns-clause-does g c = does_ended c.loop-unit.invariant c.in-None.ensures.steps.0

@@ -5,7 +5,6 @@ use Rattle.nor_apply.proofs.erases.erase_all.Given as goal
 
 -- the planned erases that the iterator yielded so far were sent and succeeded, and the iterator has the others
 abbrev pub invariant-loop-unit : goal.invariant-loop-unit
-invariant-loop-unit g l = record {
-  so_far : ErasesSoFar l.fn.kinds l.fn.size (has l.fn.raised) l.yielded (erases_left l.unit-iterator)
-      (g.B.Bus.state l.fn.bus) (g.B.Bus.state l.bus) l.tally;
-}
+invariant-loop-unit g l =
+    ErasesSoFar l.fn.kinds l.fn.size (has l.fn.raised) l.yielded (erases_left l.unit-iterator)
+    (g.B.Bus.state l.fn.bus) (g.B.Bus.state l.bus) l.tally

@@ -4,7 +4,6 @@ use Rattle.nor_apply.proofs.programs.program_spans.Given as goal
 
 -- the loop has programmed the spans that its iterator yielded so far, and the iterator has the others of the sector
 abbrev pub invariant-loop-span : goal.invariant-loop-span
-invariant-loop-span g l = record {
-  so_far : SpansSoFar l.fn.sector l.fn.old l.fn.wanted l.yielded (spans_left l.span-iterator) (g.B.Bus.state l.fn.bus)
-      (g.B.Bus.state l.bus) l.tally;
-}
+invariant-loop-span g l =
+    SpansSoFar l.fn.sector l.fn.old l.fn.wanted l.yielded (spans_left l.span-iterator) (g.B.Bus.state l.fn.bus)
+    (g.B.Bus.state l.bus) l.tally
