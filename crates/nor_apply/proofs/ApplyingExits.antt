@@ -212,16 +212,8 @@ module _ {changes : Changes} {wanted : ℕ → ℕ} {old free mid made : BusStat
             erases = erase_count ∙ parts.erase.count;
             fewer_erases = omega (arith, erase_count, parts.erase.fewer);
             fewer_programs = omega (arith, program_count, parts.program.fewer);
-            few = fourth.ran.tallies.few;
-            least = fourth.ran.tallies.least;
             exactly = fourth.ran.exactly;
-            polled_ready = fourth.ran.tallies.polled_ready;
-            idle = fourth.ran.tallies.idle;
-            sent = fourth.ran.tallies.sent;
-            unsent = λ nothing.
-                let few = raised_few changes parts.inside in
-                fourth.ran.tallies.unsent
-                (omega (arith, nothing, few, erase_count, program_count, parts.erase.fewer, parts.program.fewer));
+            tallies = fourth.ran.tallies;
             done = λ honest can. applied can (sym is) (fourth.intermediate honest can);
             programs = λ honest can.
                 let is = second.intermediate honest can in

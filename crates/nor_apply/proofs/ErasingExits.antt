@@ -26,8 +26,8 @@ use Rattle.nor_apply.specs.Within.{addresses_of}
 use Rattle.nor_apply.specs.Change.{MayChange, HasMade, blank}
 use Rattle.nor_apply.specs.Spending.{may_target, NamesTimeoutIn}
 use Rattle.nor_apply.specs.Erasing.{CanEraseAll, LeavesErases, DoesErases}
-use Rattle.nor_apply.proofs.InTurn.{ran_leaves, honest_now, Listed, listed_none, listed_after, listed_fails, listed_more, listed_all, listed_split, listed_next, listed_fewer}
-use Rattle.nor_apply.proofs.Changing.{can_after, change_then, made_may, made_none, made_same, made_then}
+use Rattle.nor_apply.proofs.InTurn.{ran_leaves, honest_now, Listed, listed_after, listed_fails, listed_more, listed_all, listed_split, listed_next, listed_fewer}
+use Rattle.nor_apply.proofs.Changing.{can_after, change_then, made_may, made_same, made_then}
 use Rattle.nor_apply.proofs.Targeting.{unit_targets}
 
 -- Holds for an erase of the plan on a chip of `total` sectors: it is one that the chip offers (`IsErase`), erases at
@@ -99,18 +99,6 @@ pub record ErasesSoFar (kinds : Kinds) (size : ℕ) (set : ℕ → Bool) (units 
   pub listed : Listed (planned kinds (size / 4096) set) units left (erasing (may_target set size)) old new tally
   pub done : old.honest ≡ true → CanEraseAll set kinds size old.chip
       → HasMade (addresses_of (erased_by (size / 4096) units)) blank (erased_by (size / 4096) units) old new
-
-pub none_so_far : {kinds : Kinds} {size : ℕ} {set : ℕ → Bool} {list left : List Erase} (state : BusState)
-    → ((s : ℕ) → set s ≡ true → s < size / 4096) → list ≡ planned kinds (size / 4096) set
-    → Covers kinds (size / 4096) list set → length list ≤ sector_count set → left ≡ list
-    → ErasesSoFar kinds size set [] left state state (record { count = 0; transactions = 0 })
-none_so_far state below same covers few all = record {
-  below = below;
-  covers = rw (← same) covers;
-  few = rw (← same) few;
-  listed = listed_none state (refl, refl, refl) (all ∙ same);
-  done = λ honest can. made_none state (λ a. refl) (λ s. refl) can.can.idle;
-}
 
 module _ {kinds : Kinds} {size : ℕ} {set : ℕ → Bool} {units left : List Erase} {old mid : BusState} {tally : Tally}
     (so : ErasesSoFar kinds size set units left old mid tally) where

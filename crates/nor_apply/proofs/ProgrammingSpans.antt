@@ -18,7 +18,7 @@ use Rattle.nor_plan.specs.SectorSet.{none}
 use Rattle.nor_apply.specs.Change.{MayChange, HasMade, HasChanged, only, byte_of}
 use Rattle.nor_apply.specs.Programming.{CanProgramSpans, LeavesSector, DoesSector, most_pages}
 use Rattle.nor_apply.proofs.Alone.{only-here, only-is, old_byte}
-use Rattle.nor_apply.proofs.Changing.{can_after, change_then, either_byte, made_may, made_then, changed_may, made_none}
+use Rattle.nor_apply.proofs.Changing.{can_after, change_then, either_byte, made_may, made_then, changed_may}
 use Rattle.std.specs.List.{list_any, range_with_len}
 use Rattle.nor_geometry.specs.Below.{any_below, count_below}
 use Rattle.nor_geometry.proofs.Counting.{any_below-zero, any_below-more, any_below-same, count_below-zero, count_below-more, count_below-most, count_below-same}
@@ -31,7 +31,7 @@ use Rattle.nor_plan.specs.Content.{is_other, is_page_other}
 use Rattle.nor_plan.specs.Span.{page_differs, pages_changed, page_count, spans_of}
 use Rattle.nor_apply.specs.declared.tally.Tally.{Tally}
 use Rattle.nor_apply.specs.Spending.{NamesTimeoutIn}
-use Rattle.nor_apply.proofs.InTurn.{ran_leaves, honest_now, Listed, listed_none, listed_after, listed_fails, listed_more, listed_all, listed_next, listed_fewer}
+use Rattle.nor_apply.proofs.InTurn.{ran_leaves, honest_now, Listed, listed_after, listed_fails, listed_more, listed_all, listed_next, listed_fewer}
 use Rattle.nor_apply.proofs.Targeting.{named_in}
 
 -- true at the addresses of these spans of the sector
@@ -238,17 +238,6 @@ pub record SpansSoFar (sector : ℕ) (old wanted : List ℕ) (spans left : List 
   pub listed : Listed (spans_of old wanted) spans left (programming (only sector)) first now tally
   pub done : first.honest ≡ true → CanProgramSpans sector old wanted first.chip
       → HasFilled sector wanted spans first now
-
-pub spans_none : {sector : ℕ} {old wanted : List ℕ} {list left : List PageSpan} (state : BusState) → length old ≡ 4096
-    → length wanted ≡ 4096 → list ≡ spans_of old wanted → AreSpans old wanted list → left ≡ list
-    → SpansSoFar sector old wanted [] left state state (record { count = 0; transactions = 0 })
-spans_none state whole wanted_whole same are all = record {
-  whole = whole;
-  wanted_whole = wanted_whole;
-  are = rw (← same) are;
-  listed = listed_none state (refl, refl, refl) (all ∙ same);
-  done = λ honest can. made_none state (λ a. refl) (λ s. refl) can.can.idle;
-}
 
 module _ {sector : ℕ} {old wanted : List ℕ} {spans left : List PageSpan} {first now : BusState} {tally : Tally}
     (so : SpansSoFar sector old wanted spans left first now tally) where

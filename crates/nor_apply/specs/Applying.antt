@@ -7,7 +7,6 @@ use Rattle.nor_model.specs.Bus.{BusState}
 use Rattle.nor_driver.specs.declared.waits.OperationError.{OperationError}
 use Rattle.nor_driver.specs.declared.waits.OperationError.TheVariants.{Stopped, Timeout}
 use Rattle.nor_driver.specs.StatusWrites.{is_status_with_code, with_code}
-use Rattle.nor_driver.specs.Ready.{StaysReady}
 use Rattle.nor_driver.specs.Limits.{Limits, SendsExactly, Leaves}
 use Rattle.nor_driver.specs.Operations.{most_operation}
 use Rattle.nor_plan.specs.Planned.{planned}
@@ -19,7 +18,7 @@ use Rattle.nor_geometry.specs.Counts.{sector_count}
 use Rattle.nor_plan.specs.Content.{once_erased, is_programmed}
 use Rattle.nor_apply.specs.Within.{is_writable}
 use Rattle.nor_apply.specs.Change.{IsSized, MayChange}
-use Rattle.nor_apply.specs.Spending.{may_target}
+use Rattle.nor_apply.specs.Spending.{Tallies, may_target}
 
 -- the sectors that the changes touch, as a Boolean function
 abbrev pub touched_in : Changes → ℕ → Bool
@@ -115,22 +114,17 @@ LeavesApply changes wanted =
     (MayChange (touched_in changes) (raised_in changes) wanted)
 
 -- Holds if `apply` returned the counts `work`. On every bus it sent exactly these numbers of erases and page programs,
--- and the status writes that the changes need. If the changes touch no sector and need no status write, it sent no
--- modifying command. The number of erases is that of the plan. On a well-behaved bus, if `CanApply` held at the start,
+-- and the status writes that the changes need. The number of transactions includes at most one read for each touched
+-- sector (`Tallies`). The number of erases is that of the plan. On a well-behaved bus, if `CanApply` held at the start,
 -- the changes are complete, and one program was sent for each page of a touched sector that differed from the target
 -- after the erases.
 pub record DoesApply (changes : Changes) (wanted : ℕ → ℕ) (old new : BusState) (work : Work) : Type 0 where
   pub erases : work.erases ≡ length (planned changes.kinds (changes.size / 4096) (raised_in changes))
   pub fewer_erases : work.erases ≤ sector_count (raised_in changes)
   pub fewer_programs : work.programs ≤ 16 * sector_count (touched_in changes)
-  pub few : work.transactions
-      ≤ sector_count (touched_in changes) + most_operation * (work.erases + work.programs + status_writes changes)
-  pub least : 3 * (work.erases + work.programs + status_writes changes) ≤ work.transactions
   pub exactly : SendsExactly work.erases work.programs (status_writes changes) old new
-  pub polled_ready : StaysReady old new
-  pub idle : old.honest ≡ true → old.chip.busy ≡ 0 → new.chip.busy ≡ 0
-  pub sent : old.honest ≡ true → old.left ≡ new.left + work.transactions
-  pub unsent : sector_count (touched_in changes) + status_writes changes ≡ 0 → new.sent ≡ old.sent
+  pub tallies : Tallies (sector_count (touched_in changes)) old new
+      (record { count = work.erases + work.programs + status_writes changes; transactions = work.transactions })
   pub done : old.honest ≡ true → CanApply changes wanted old.chip → HasApplied changes wanted old new
   pub programs : old.honest ≡ true → CanApply changes wanted old.chip
       → work.programs ≡ count_below 65536

@@ -72,8 +72,9 @@ checked changes wanted verify old mid new written work inside leaves does checki
     let read : verify ≡ true → old.honest ≡ true → CanCheck (touched_in changes) old.chip
     → HasBytes (touched_in changes) wanted new.chip = λ verifies honest can a hit.
     let still_can : CanCheck (touched_in changes) mid.chip = record {
-      idle = does.idle honest can.idle;
+      idle = does.tallies.idle honest can.idle;
       inside = λ s is. rw (leaves.spends.nature.config honest) (can.inside s is);
     } in
     (checking.rested (same_honest ∙ honest)).unchanged.same.bytes a ∙ checking.same verifies (same_honest ∙ honest) still_can a hit in
-    grind (arith, applied, read)
+    let tallies = does.tallies in
+    grind (arith, applied, read, tallies.unsent, tallies.polled_ready, tallies.sent)

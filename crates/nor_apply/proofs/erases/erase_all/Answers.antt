@@ -1,10 +1,12 @@
-use Rattle.std.proofs.Common.{ℕ, ◌+◌, ap, refl, arith}
+use Rattle.std.proofs.Common.{ℕ, ◌+◌, ◌∙◌, ap, refl, arith}
 use Rattle.std.proofs.lemmas.Grind.{common_steps}
 use Rattle.nor_geometry.specs.Below.{count_below}
 use Rattle.nor_geometry.proofs.Counting.{count_below-zero, count_below-more}
 use Rattle.nor_plan.specs.Erases.{erases_left}
 use Rattle.nor_plan.specs.SectorSet.{has}
-use Rattle.nor_apply.proofs.ErasingExits.{none_so_far, erases_more, few_units, erases_failed, leaves_ended, does_ended}
+use Rattle.nor_apply.proofs.InTurn.{listed_none}
+use Rattle.nor_apply.proofs.Changing.{made_none}
+use Rattle.nor_apply.proofs.ErasingExits.{erases_more, few_units, erases_failed, leaves_ended, does_ended}
 use Rattle.nor_apply.proofs.erases.erase_all.Goals as goal
 
 pub loop-unit-init : goal.loop-unit-init
@@ -14,13 +16,19 @@ loop-unit-init g c =
     let few = listed.counted (λ n. count_below n set) 4096
     (record { begins = count_below-zero set; goes = λ n. count_below-more n set })
     (λ s is. omega (arith, c.requires.inside s is)) in
-    none_so_far _ c.requires.inside listed.planned listed.covers few
-        (ap erases_left c.into_iter-unit-iterator.ensures.into_iter_gives)
+    record {
+      below = c.requires.inside;
+      covers = rw (← listed.planned) listed.covers;
+      few = rw (← listed.planned) few;
+      listed = listed_none _ (refl, refl, refl)
+          (ap erases_left c.into_iter-unit-iterator.ensures.into_iter_gives ∙ listed.planned);
+      done = λ honest can. made_none _ (λ a. refl) (λ s. refl) can.can.idle;
+    }
 
 pub loop-unit-preserved : goal.loop-unit-preserved
 loop-unit-preserved g c =
     erases_more c.loop-unit.invariant c.in-Some.ensures.steps c.erase.ensures.leaves
-        c.in_ok-sent.ensures.does refl (ap (λ (n : ℕ). c.loop-unit.tally.transactions + n) c.from.ensures)
+    c.in_ok-sent.ensures.does refl (ap (λ (n : ℕ). c.loop-unit.tally.transactions + n) c.from.ensures)
 
 pub overflow_add-tally : goal.overflow_add-tally
 overflow_add-tally g c = omega (arith, few_units c.loop-unit.invariant c.in-Some.ensures.steps)

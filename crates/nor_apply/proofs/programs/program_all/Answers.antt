@@ -23,8 +23,8 @@ touched_here g c = record {
 pub loop-sector-preserved : goal.loop-sector-preserved
 loop-sector-preserved g c =
     sectors_more c.loop-sector.invariant
-        (touched_here g (goal.at.loop-sector-preserved g c).After-sector) c.contains-in-loop-sector.ensures
-        c.program_sector.ensures.leaves c.in_ok-more.ensures.does refl refl
+    (touched_here g (goal.at.loop-sector-preserved g c).After-sector) c.contains-in-loop-sector.ensures
+    c.program_sector.ensures.leaves c.in_ok-more.ensures.does refl refl
 
 pub overflow_add-tally : goal.overflow_add-tally
 overflow_add-tally g c =

@@ -1,19 +1,27 @@
-use Rattle.std.proofs.Common.{ℕ, ◌+◌, refl, ap, arith, rules}
+use Rattle.std.proofs.Common.{ℕ, ◌+◌, ◌∙◌, refl, ap, arith, rules}
 use Rattle.std.proofs.lemmas.Grind.{common_steps}
 use Rattle.nor_plan.specs.Spans.{spans_left}
-use Rattle.nor_apply.proofs.ProgrammingSpans.{spans_none, spans_more, few_spans, spans_failed, does_ended, leaves_ended}
+use Rattle.nor_apply.proofs.InTurn.{listed_none}
+use Rattle.nor_apply.proofs.Changing.{made_none}
+use Rattle.nor_apply.proofs.ProgrammingSpans.{spans_more, few_spans, spans_failed, does_ended, leaves_ended}
 use Rattle.nor_apply.proofs.programs.program_spans.Goals as goal
 
 pub loop-span-init : goal.loop-span-init
 loop-span-init g c =
     let listed = c.spans-span-items.ensures in
-    spans_none _ (search rules) (search rules) listed.pages listed.spans
-        (ap spans_left c.into_iter-span-iterator.ensures.into_iter_gives)
+    record {
+      whole = search rules;
+      wanted_whole = search rules;
+      are = rw (← listed.pages) listed.spans;
+      listed = listed_none _ (refl, refl, refl)
+          (ap spans_left c.into_iter-span-iterator.ensures.into_iter_gives ∙ listed.pages);
+      done = λ honest can. made_none _ (λ a. refl) (λ s. refl) can.can.idle;
+    }
 
 pub loop-span-preserved : goal.loop-span-preserved
 loop-span-preserved g c =
     spans_more c.loop-span.invariant c.in-Some.ensures.steps c.program_page.ensures.leaves
-        c.in_ok-sent.ensures.does refl (ap (λ (n : ℕ). c.loop-span.tally.transactions + n) c.from.ensures)
+    c.in_ok-sent.ensures.does refl (ap (λ (n : ℕ). c.loop-span.tally.transactions + n) c.from.ensures)
 
 pub overflow_add-tally : goal.overflow_add-tally
 overflow_add-tally g c = omega (arith, (few_spans c.loop-span.invariant c.in-Some.ensures.steps).0)
