@@ -5,6 +5,7 @@ pub mod ReadsInTurn
 pub mod Sends
 pub mod Readings
 pub mod RestsInTurn
+pub mod Passed
 pub mod Waiting
 pub mod ReplyBytes
 pub mod Torn

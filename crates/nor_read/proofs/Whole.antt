@@ -1,6 +1,6 @@
 -- Lemmas about the probe and the reads after it, for all three calls of this crate.
-use Rattle.std.proofs.Common.{◌≡◌, ◌≤◌, ◌+◌, ◌∙◌, ℕ, true, List, Option, Result, Ok, Err, ap, sym, arith}
-use Rattle.std.specs.Prelude.{◌/◌, IsErrAnd}
+use Rattle.std.proofs.Common.{◌≡◌, ◌≤◌, ◌+◌, ◌∙◌, ℕ, true, List, Option, sym, arith}
+use Rattle.std.specs.Prelude.{◌/◌}
 use Rattle.nor_model.specs.Chip.{status1_of}
 use Rattle.nor_model.specs.History.{EndsStopped}
 use Rattle.nor_model.specs.Bus.{BusState}
@@ -19,12 +19,6 @@ use Rattle.nor_request.specs.declared.report.Report.{Report}
 use Rattle.nor_request.specs.Errors.{IdentificationErrors, EndsAtError}
 use Rattle.nor_read.specs.Finding.{IsModelled, HasFound, IsNamed, IsPassed, IsTaken}
 use Rattle.nor_read.specs.Finding.{ReportsPart, ReportsReads, ReadingErrors, most_read}
-
--- The outcome is the error that `?` passed on.
-pub is_err : {T : Type 0} (outcome : Result T Refusal) (refusal : Refusal)
-    → IsErrAnd outcome (λ passed. passed ≡ refusal) → outcome ≡ Err refusal
-is_err (Ok value) refusal is = absurd is
-is_err (Err passed) refusal is = ap Err is
 
 -- Holds if no modifying command was sent. On a well-behaved bus the transactions sent are within the bound for the
 -- largest chip, and on a modelled bus within the bound for this chip.

@@ -1,7 +1,6 @@
 -- The records that a scan has written to a journal so far, on every bus.
-use Rattle.std.proofs.Common.{◌≡◌, ◌≤◌, ◌<◌, ◌+◌, ◌*◌, ◌/◌, ◌∙◌, ℕ, Bool, true, false, true≢false, inl, inr, List, Option, None, Some, refl, ap, sym, arith}
+use Rattle.std.proofs.Common.{◌≡◌, ◌≤◌, ◌<◌, ◌+◌, ◌*◌, ◌/◌, ◌∙◌, ℕ, Bool, true, false, true≢false, inl, inr, List, Option, None, Some, refl, sym, arith}
 use Rattle.std.proofs.lemmas.Bool.{cases_eq}
-use Rattle.std.specs.Prelude.{Result, Ok, Err, IsErrAnd}
 use Rattle.std.specs.Option.{IsSomeAnd}
 use Rattle.nor_journal.specs.declared.writer.Writer.{Writer}
 use Rattle.nor_journal.specs.Text.{Content}
@@ -9,7 +8,6 @@ use Rattle.nor_journal.specs.Vault.{VaultState, Accepted}
 use Rattle.nor_journal.specs.Saved.{HasOneMore, IsWholeSector, saved_in}
 use Rattle.nor_journal.specs.Writer.{vault_of, vault_seen, HasPutSectors}
 use Rattle.nor_journal.proofs.Saves.{Saves-same}
-use Rattle.nor_request.specs.declared.refusal.Refusal.{Refusal}
 use Rattle.nor_model.specs.Bus.{BusState}
 use Rattle.nor_driver.specs.OnlyReads.{IsOpen}
 use Rattle.nor_plan.specs.SectorSet.{none}
@@ -114,11 +112,3 @@ module _ {V : Type 0} {state : V → VaultState} {old new : Writer V} {size n : 
     put = λ head sized put.
         adds head read saved more n (was.put head sized put) (omega arith) (rw sized below) replied one;
   }
-
--- ---- errors
-
--- The outcome is the error that `?` passed on.
-pub is_err : {T : Type 0} (outcome : Result T Refusal) (refusal : Refusal)
-    → IsErrAnd outcome (λ passed. passed ≡ refusal) → outcome ≡ Err refusal
-is_err (Ok value) refusal is = absurd is
-is_err (Err passed) refusal is = ap Err is

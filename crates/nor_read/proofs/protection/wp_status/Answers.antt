@@ -1,5 +1,5 @@
 use Rattle.std.proofs.Common.{rules}
-use Rattle.nor_read.proofs.Whole.{is_err}
+use Rattle.nor_driver.proofs.Passed.{is_err}
 use Rattle.nor_read.proofs.ProtectionReports.{unfound, stopped, plain, returned}
 use Rattle.nor_read.proofs.protection.wp_status.Goals as goal
 

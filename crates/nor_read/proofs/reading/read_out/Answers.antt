@@ -1,5 +1,6 @@
 use Rattle.std.proofs.Common.{◌≡◌, option_copied, rules}
-use Rattle.nor_read.proofs.Whole.{is_err, report_is, report_of}
+use Rattle.nor_driver.proofs.Passed.{is_err}
+use Rattle.nor_read.proofs.Whole.{report_is, report_of}
 use Rattle.nor_read.proofs.ReadOut.{unfound, past, broken, copied_whole}
 use Rattle.nor_read.proofs.reading.read_out.Goals as goal
 

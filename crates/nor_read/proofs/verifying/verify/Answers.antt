@@ -1,5 +1,6 @@
 use Rattle.std.proofs.Common.{◌≡◌, option_copied, rules}
-use Rattle.nor_read.proofs.Whole.{is_err, report_is, report_of}
+use Rattle.nor_driver.proofs.Passed.{is_err}
+use Rattle.nor_read.proofs.Whole.{report_is, report_of}
 use Rattle.nor_read.proofs.Compared.{unfound, other_size, past, stopped, mismatch, equal}
 use Rattle.nor_read.proofs.verifying.verify.Goals as goal
 

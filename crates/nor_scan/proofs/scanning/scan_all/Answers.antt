@@ -1,4 +1,5 @@
 use Rattle.std.proofs.Common.{◌≡◌, ◌<◌, ◌+◌, ◌-◌, ◌*◌, ◌∙◌, ℕ, true, length, refl, sym, arith, rules}
+use Rattle.nor_driver.proofs.Passed.{is_err}
 use Rattle.nor_plan.specs.SectorSet.{has}
 use Rattle.nor_scan.specs.Replied.{bytes_read}
 use Rattle.nor_journal.specs.Writer.{vault_seen}
@@ -8,7 +9,7 @@ use Rattle.nor_plan.proofs.Parts.{part_long}
 use Rattle.nor_request.specs.declared.refusal.Refusal.TheVariants.{Vault, Stopped}
 use Rattle.nor_scan.proofs.Scans.{is_at, nothing_scanned, skipped, scanned_more, planned_before, read_before, room}
 use Rattle.nor_scan.proofs.Scans.{marked_more, marked_none, all_scanned, none_to_scan}
-use Rattle.nor_scan.proofs.Begun.{journalled_none, journalled_later, journalled_more, kept_on, replied_on, is_err}
+use Rattle.nor_scan.proofs.Begun.{journalled_none, journalled_later, journalled_more, kept_on, replied_on}
 use Rattle.nor_scan.proofs.Replied.{read_others, read_whole, read_keeps}
 use Rattle.nor_model.proofs.Histories.{keeps_replies_none, keeps_replies_then}
 use Rattle.nor_scan.proofs.Cuts.{kept_touched, kept_below, cut_between, cut_in_record}
