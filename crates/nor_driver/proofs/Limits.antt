@@ -1,5 +1,5 @@
 -- How limits on modifying commands (`Limits`) add up over transactions and calls that follow one another.
-use Rattle.std.proofs.Common.{◌≡◌, ◌≤◌, ◌+◌, ℕ, Bool, true, false, cond, List, [], ◌∷◌, ap, arith, refl, ◌∙◌}
+use Rattle.std.proofs.Common.{◌≡◌, ◌≤◌, ◌+◌, ℕ, Bool, true, false, cond, List, [], ◌∷◌, arith, refl}
 use Rattle.std.proofs.lemmas.Bool.Decides.{nat_tests}
 use Rattle.std.proofs.Math.Bool.{or-false}
 use Rattle.nor_model.specs.Sent.{none_targeted, is_in_targeted, begins_erase, begins_program, begins_status_write, is_stirred, is_unknown_to_model, erases_of, programs_of, status_writes_of, counted_once}
@@ -36,15 +36,7 @@ pub record IsSum (first second all : Limits) : Type 0 where
   pub status_writes : first.status_writes + second.status_writes ≡ all.status_writes
 
 pub sum_parts : (first second all : Limits) → IsSum first second all → AreParts first second all
-sum_parts first second all sum = record {
-  sectors = sum.sectors;
-  sectors' = sum.sectors';
-  status = sum.status;
-  status' = sum.status';
-  erases = omega (arith, sum.erases);
-  programs = omega (arith, sum.programs);
-  status_writes = omega (arith, sum.status_writes);
-}
+sum_parts first second all sum = search arith
 
 pub sends_none : (limits : Limits) (old new : BusState) → new.sent ≡ old.sent → SendsWithin limits old new
 sends_none limits old new same = grind arith
@@ -70,33 +62,18 @@ exactly_none old new same = grind arith
 
 pub exactly_same : {e p w : ℕ} {old mid new : BusState} → new.sent ≡ mid.sent → SendsExactly e p w old mid
     → SendsExactly e p w old new
-exactly_same {e} {p} {w} {old} {mid} {new} same exactly = record {
-  erased = ap erases_of same ∙ exactly.erased;
-  programmed = ap programs_of same ∙ exactly.programmed;
-  wrote_status = ap status_writes_of same ∙ exactly.wrote_status;
-}
+exactly_same same exactly = grind arith
 
 pub exactly_then : {e p w e' p' w' e'' p'' w'' : ℕ} {old mid new : BusState} → e + e' ≡ e'' → p + p' ≡ p''
     → w + w' ≡ w'' → SendsExactly e p w old mid → SendsExactly e' p' w' mid new → SendsExactly e'' p'' w'' old new
-exactly_then erases programs status before after = record {
-  erased = omega (arith, erases, before.erased, after.erased);
-  programmed = omega (arith, programs, before.programmed, after.programmed);
-  wrote_status = omega (arith, status, before.wrote_status, after.wrote_status);
-}
+exactly_then erases programs status before after = search arith
 
 -- limits are still kept if their numbers are replaced by the exact numbers of erases, page programs and status writes
 -- that were sent
 pub sends_exactly : {limits : Limits} {e p w : ℕ} {old new : BusState} → SendsWithin limits old new
     → SendsExactly e p w old new
     → SendsWithin (record limits { erases = e; programs = p; status_writes = w }) old new
-sends_exactly sends exactly = record {
-  targeted = sends.targeted;
-  written = sends.written;
-  erases = omega (arith, exactly.erased);
-  programs = omega (arith, exactly.programmed);
-  status_writes = omega (arith, exactly.wrote_status);
-  unknown = sends.unknown;
-}
+sends_exactly sends exactly = search arith
 
 -- ---- one transaction
 
@@ -135,13 +112,7 @@ pub in_none : (s : ℕ) → is_in_targeted none_targeted s ≡ true → ⊥
 in_none s is = grind (arith, nat_tests)
 
 enable_part : (limits : Limits) → IsPartOf (limits_of (6 ∷ [])) limits
-enable_part limits = record {
-  sectors = λ s is. absurd (in_none s is);
-  status = λ one two is. grind arith;
-  erases = omega arith;
-  programs = omega arith;
-  status_writes = omega arith;
-}
+enable_part limits = grind (arith, in_none)
 
 pub enable_sends : (limits : Limits) (old new : BusState) → Sends (6 ∷ []) old new → SendsWithin limits old new
 enable_sends limits old new sends =
@@ -150,15 +121,10 @@ enable_sends limits old new sends =
 pub command_sends : (out : List ℕ) (old ready new : BusState) → is_unknown_to_model out ≡ false
     → Sends (6 ∷ []) old ready → Sends out ready new → SendsWithin (limits_of out) old new
 command_sends out old ready new known enables sends =
-    sends_then (limits_of (6 ∷ [])) (limits_of out) (limits_of out) old ready new (record {
-      sectors = (enable_part (limits_of out)).sectors;
-      sectors' = λ s is. is;
-      status = (enable_part (limits_of out)).status;
-      status' = λ one two is. is;
-      erases = omega arith;
-      programs = omega arith;
-      status_writes = omega arith;
-    }) (sends_one (6 ∷ []) old ready refl enables) (sends_one out ready new known sends)
+    let enable = enable_part (limits_of out) in
+    sends_then (limits_of (6 ∷ [])) (limits_of out) (limits_of out) old ready new
+    (grind (arith, enable.sectors, enable.status)) (sends_one (6 ∷ []) old ready refl enables)
+    (sends_one out ready new known sends)
 
 pub command_exactly : (out : List ℕ) (old ready new : BusState) → Sends (6 ∷ []) old ready → Sends out ready new
     → SendsExactly (limits_of out).erases (limits_of out).programs (limits_of out).status_writes old new
