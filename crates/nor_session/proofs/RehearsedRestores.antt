@@ -82,12 +82,7 @@ same_nature keeps =
     record { honest = keeps.honest; steady = keeps.steady; unlimited = keeps.unlimited; config = keeps.config }
 
 pub same_nature_then : {old mid new : BusState} → SameNature mid new → SameNature old mid → SameNature old new
-same_nature_then later earlier = record {
-  honest = later.honest ∙ earlier.honest;
-  steady = later.steady ∙ earlier.steady;
-  unlimited = later.unlimited ∙ earlier.unlimited;
-  config = λ honest. later.config (earlier.honest ∙ honest) ∙ earlier.config honest;
-}
+same_nature_then later earlier = grind (arith, later.config, earlier.config)
 
 -- ---- one restore
 

@@ -86,17 +86,7 @@ can_restore_after_reads journal first most old new honest only_reads can =
 -- what the bus replied to the identification stays in its history, so the journal still fits it after the changes
 pub changed_fits : {journal : Content} {old mid new : BusState} → FitsReplies journal old mid → KeepsNature mid new
     → FitsReplies journal old new
-changed_fits fits later = record {
-  read = fits.read;
-  before = fits.before;
-  after = continues_then fits.after later.history;
-  identity = fits.identity;
-  part = fits.part;
-  replied = fits.replied;
-  kind = fits.kind;
-  device = fits.device;
-  fixed = fits.fixed;
-}
+changed_fits fits later = search (continues_then fits.after later.history)
 
 -- The result of a restore's preparation (from `old` to `mid`), and what its changes left (from `mid` to `new`).
 pub record AreChanged (journal : Content) (prepared : PreparedRestore) (old mid new : BusState) : Type 0 where

@@ -48,32 +48,18 @@ few_none old new same = record {
 pub sends_then : (IsCode : ℕ → Type 0) (m n : ℕ) (journal : Content) (old mid new : BusState)
     → SendsSaved IsCode m journal old mid → SendsSaved IsCode n journal mid new
     → SendsSaved IsCode (m + n) journal old new
-sends_then IsCode m n journal old mid new before after = record {
-  targeted = λ s. let earlier = before.targeted s in let later = after.targeted s in grind arith;
-  written = λ one two. let earlier = before.written one two in let later = after.written one two in grind arith;
-  erases =
-      let first = before.erases in let second = after.erases in
-      let sum = add-mul m n (sector_count (is_saved journal)) in
-      omega (arith, first, second, sum);
-  programs =
-      let first = before.programs in let second = after.programs in
-      let sum = add-mul m n (16 * sector_count (is_saved journal)) in
-      omega (arith, first, second, sum);
-  unknown = after.unknown ∙ before.unknown;
-}
+sends_then IsCode m n journal old mid new before after =
+    let erases = add-mul m n (sector_count (is_saved journal)) in
+    let programs = add-mul m n (16 * sector_count (is_saved journal)) in
+    grind (arith, before.targeted, after.targeted, before.written, after.written, erases, programs)
 
 -- limits for `n` calls with a journal are also limits for more calls
 pub sends_most : (IsCode : ℕ → Type 0) (n most : ℕ) (journal : Content) (old new : BusState) → n ≤ most
     → SendsSaved IsCode n journal old new → SendsSaved IsCode most journal old new
-sends_most IsCode n most journal old new few sends = record {
-  targeted = sends.targeted;
-  written = sends.written;
-  erases = let some = sends.erases in let more = times_more (sector_count (is_saved journal)) in omega (arith, some, more);
-  programs =
-      let some = sends.programs in let more = times_more (16 * sector_count (is_saved journal)) in
-      omega (arith, some, more);
-  unknown = sends.unknown;
-}
+sends_most IsCode n most journal old new few sends =
+    let erases = times_more (sector_count (is_saved journal)) in
+    let programs = times_more (16 * sector_count (is_saved journal)) in
+    search (arith, sends.targeted, sends.written)
   where
     times_more : (k : ℕ) → n * k ≤ most * k
     times_more k =
@@ -85,21 +71,7 @@ sends_most IsCode n most journal old new few sends = record {
 pub sends_wider : (IsCode IsWider : ℕ → Type 0) (calls : ℕ) (journal : Content) (old new : BusState)
     → ((code : ℕ) → IsCode code → IsWider code) → SendsSaved IsCode calls journal old new
     → SendsSaved IsWider calls journal old new
-sends_wider IsCode IsWider calls journal old new wider sends = record {
-  targeted = sends.targeted;
-  written = λ one two. elim (sends.written one two) [
-    | inl same ↦ inl same
-    | inr writes ↦ inr record {
-      fixed = writes.fixed;
-      code = wider _ writes.code;
-      clear1 = writes.clear1;
-      clear2 = writes.clear2;
-    }
-  ];
-  erases = sends.erases;
-  programs = sends.programs;
-  unknown = sends.unknown;
-}
+sends_wider IsCode IsWider calls journal old new wider sends = grind (arith, sends.targeted, sends.written, wider)
 
 -- ---- the bytes of a status write
 
