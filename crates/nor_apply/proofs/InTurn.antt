@@ -42,12 +42,7 @@ ran_none {limits} state none = record {
 pub ran_part : {most r e p w : ℕ} {limits : Limits} {Can : Chip → Type 0} {May : BusState → BusState → Type 0}
     {old new : BusState} {tally : Tally} → Leaves most limits Can May old new → SendsExactly e p w old new
     → Tallies r old new tally → Ran (record limits { erases = e; programs = p; status_writes = w }) r old new tally
-ran_part leaves exactly tallies = record {
-  nature = leaves.spends.nature;
-  sends = sends_exactly leaves.sends exactly;
-  exactly = exactly;
-  tallies = tallies;
-}
+ran_part leaves exactly tallies = let sends = sends_exactly leaves.sends exactly in search arith
 
 -- a single operation that succeeded is a part (`Ran`) without reads
 pub ran_one : {e p w sent : ℕ} {limits : Limits} {Can : Chip → Type 0} {May : BusState → BusState → Type 0}

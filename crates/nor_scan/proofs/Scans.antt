@@ -255,16 +255,7 @@ module _ {request : Request} {size n : ℕ} {image image' : List ℕ} {old mid :
       → scanned.reads ≡ scanned_sectors request size → (IsOpen size old
       → AreRight (wanted_at request image size old.chip.bytes) old.chip.bytes (sectors_below (size / 4096)) scanned)
       → Scans request size image image' old mid scanned
-  scans_of few marks reads right = record {
-    marks = marks;
-    reads = reads;
-    few = few;
-    polled_ready = was.honest_reads.polled_ready;
-    rested = was.honest_reads.rested;
-    sent = was.honest_reads.sent;
-    right = right;
-    merged = was.merged;
-  }
+  scans_of few marks reads right = search (was.honest_reads.rested, was.honest_reads.sent, was.merged)
 
   -- For a write or an erase, `Scans` holds when the loop is at the end of the chip.
   pub all_scanned : is_data request.what ≡ true → n ≡ size / 4096 → scanned.count ≤ scanned.reads

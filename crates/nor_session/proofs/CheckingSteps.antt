@@ -1,5 +1,5 @@
 -- The result of the read and comparison of a sector, for that sector and for all sectors up to it.
-use Rattle.std.proofs.Common.{◌≡◌, ◌≤◌, ◌<◌, ◌+◌, ◌-◌, ◌*◌, ◌/◌, ◌∙◌, ℕ, Bool, true, false, sym, refl, arith, List, length, slice_index}
+use Rattle.std.proofs.Common.{◌≡◌, ◌≤◌, ◌<◌, ◌+◌, ◌-◌, ◌*◌, ◌/◌, ◌∙◌, ℕ, Bool, true, false, refl, arith, List, length, slice_index}
 use Rattle.std.proofs.lemmas.Bool.Decides.{nat_tests}
 use Rattle.nor_geometry.specs.Below.{count_below}
 use Rattle.nor_geometry.specs.Counts.{sector_count}
@@ -70,12 +70,7 @@ pub record HasChecked (sectors : ℕ → Bool) (wanted : ℕ → ℕ) (n : ℕ) 
       → (a : ℕ) → a / 4096 < n → sectors (a / 4096) ≡ true → old.chip.bytes a ≡ wanted a
 
 pub checked_none : {t : ℕ → Bool} {w : ℕ → ℕ} (state : BusState) → HasChecked t w 0 state state 0
-checked_none {t} state = record {
-  honest_reads = has_only_read-none state;
-  few = omega arith;
-  counted = sym (count_below-zero t);
-  same = λ honest can a below is. absurd (omega arith);
-}
+checked_none {t} state = grind (arith, has_only_read-none state, count_below-zero t)
 
 module _ {t : ℕ → Bool} {w : ℕ → ℕ} {n sent : ℕ} {old mid : BusState} (has : HasChecked t w n old mid sent) where
   -- `HasChecked` holds below `n + 1`, too, if sector `n` isn't in the set

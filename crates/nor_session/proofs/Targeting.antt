@@ -28,20 +28,10 @@ none_written most old new same = let count = ap status_writes_of same in omega (
 
 pub none_sent : (IsCode : ℕ → Type 0) (calls : ℕ) (journal : Content) (old new : BusState) → new.sent ≡ old.sent
     → SendsSaved IsCode calls journal old new
-none_sent IsCode calls journal old new same = record {
-  targeted = λ s. inl (ap (λ (sent : Sent). is_targeted sent s) same);
-  written = λ one two. inl (ap (λ (sent : Sent). has_written sent one two) same);
-  erases = let count = ap erases_of same in omega (arith, count);
-  programs = let count = ap programs_of same in omega (arith, count);
-  unknown = ap has_unknown same;
-}
+none_sent IsCode calls journal old new same = grind arith
 
 pub few_none : (old new : BusState) → new.sent ≡ old.sent → SendsFew old new
-few_none old new same = record {
-  erases = let count = ap erases_of same in omega (arith, count);
-  programs = let count = ap programs_of same in omega (arith, count);
-  unknown = ap has_unknown same;
-}
+few_none old new same = grind arith
 
 -- ---- calls with one journal, one after another
 
