@@ -6,6 +6,6 @@ pub mod Begins
 pub mod Taken
 pub mod Asked
 pub mod Sound
-pub mod Wrong
+pub mod OptionValues
 pub mod Hardware
 pub mod Emulating

@@ -144,7 +144,7 @@ impl<'a> Given<'a> {
     }
 
     // Returns the programmer that `-p` describes, or `None` if `-p` is missing or describes none.
-    #[tactic(auto, using(crate::proofs::Wrong::means_read))]
+    #[tactic(auto, using(crate::proofs::OptionValues::means_read))]
     fn parsed_programmer(&self) -> Option<Programmer<'a>>
         ensures { MatchOption result (passes_test is_programmer_text (texts_of self.now).programmer ≡ false)
             (λ programmer. IsSomeAnd (texts_of self.now).programmer (λ text. IsProgrammer text programmer)) }
@@ -161,7 +161,7 @@ impl<'a> Given<'a> {
     }
 
     // Returns the stops that `--rehearse` gives, or `None` if the option is missing or its value can't be parsed.
-    #[tactic(auto, using(crate::proofs::Wrong::viewed_read))]
+    #[tactic(auto, using(crate::proofs::OptionValues::viewed_read))]
     fn parsed_stops(&self) -> Option<ArrayVec<u64, MOST_STOPS>>
         ensures { option_and_then stops_of (texts_of self.now).rehearse ≡ option_map (λ stops. stops.items) result }
     {

@@ -1,4 +1,4 @@
--- The value of an option, parsed by `and_then` with a parser.
+-- The value of an option, as its parser reads it.
 use Rattle.std.proofs.Common.{◌≡◌, false, Option, None, arith, option_map}
 use Rattle.std.specs.Prelude.{option_and_then}
 use Rattle.std.specs.Borrow.{Bor}
