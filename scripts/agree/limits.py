@@ -47,7 +47,7 @@ def bound(path, name):
 def limits():
     """Returns the name, the value and the words of each number."""
     chip, files, region = "nor_geometry/src/limits.rt", "nor_lines/src/files.rt", "nor_layout/src/region.rt"
-    sector, digest = constant(chip, "SECTOR_LEN"), constant("nor_journal/src/records.rt", "DIGEST")
+    sector, digest = constant(chip, "SECTOR_LEN"), constant("nor_journal/src/records.rt", "DIGEST_LEN")
     image, polls = constant(files, "MOST_IMAGE_BYTES"), constant("nor_driver/src/waits.rt", "MOST_POLLS")
     unique = rust.number_after(item("nor_words/src/numbers.rt", "read_unique"), "[u8;")
     few = re.search(r"\bfew\s*:\s*ending\.status\s*≤\s*(\d+)", (CRATES / "flashnor/specs/Run.antt").read_text("utf-8"))
@@ -62,7 +62,7 @@ def limits():
         ("bytes of a sector", sector, r"(?:sector \(|sector\*? is |number and its |multiple of )#"),
         ("greatest sector", constant(chip, "MOST_SECTORS") - 1, "a number past #"),
         ("bytes of a record", sector + mark, "# (?:for )?each"),
-        ("bytes of an empty journal", constant("nor_journal/src/head.rt", "HEAD") + mark + digest, "takes # bytes"),
+        ("bytes of an empty journal", constant("nor_journal/src/head.rt", "HEADER_LEN") + mark + digest, "takes # bytes"),
         ("stops", constant("nor_words/src/stops.rt", "MOST_STOPS"), "1 to # (?:of them|numbers)"),
         ("digits of a stop", numeral("text", "10"), "1 to # decimal digits up to 18"),
         ("greatest stop", 2**64 - 1, "1 to 20 decimal digits up to #"),

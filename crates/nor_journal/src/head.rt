@@ -16,10 +16,10 @@ pub const MAGIC: [u8; 8] = *b"NORUNDO2";
 pub const FIRST_MAGIC: [u8; 8] = *b"NORUNDO1";
 
 /// The length of a header of format 2 in bytes.
-pub const HEAD: usize = 25;
+pub const HEADER_LEN: usize = 25;
 
 /// The length of a header of format 1 in bytes.
-const FIRST_HEAD: usize = 17;
+const FIRST_HEADER_LEN: usize = 17;
 
 /// The fields of a header: the chip's ID, unique ID (only in format 2), status 1 and 2, and size in bytes.
 #[derive(Clone, Copy)]
@@ -31,10 +31,10 @@ pub struct Head {
 }
 
 /// Encodes a header of format 2. `status` has status 1 and 2, and `size` is in bytes.
-pub fn head_bytes(id: [u8; 3], unique: [u8; 8], status: [u8; 2], size: u32) -> [u8; HEAD]
+pub fn head_bytes(id: [u8; 3], unique: [u8; 8], status: [u8; 2], size: u32) -> [u8; HEADER_LEN]
     ensures { result ≡ head (empty_content id (Some unique) status size) }
 {
-    let mut bytes = [0; HEAD];
+    let mut bytes = [0; HEADER_LEN];
     bytes[..8].copy_from_slice(&MAGIC);
     bytes[8..11].copy_from_slice(&id);
     bytes[11..19].copy_from_slice(&unique);
@@ -55,10 +55,10 @@ pub fn read_head(bytes: &[u8]) -> Result<(Head, &[u8]), JournalFault>
         return Err(JournalFault::Short);
     }
     if bytes[..8] == FIRST_MAGIC[..] {
-        return read_form(bytes, FIRST_HEAD);
+        return read_form(bytes, FIRST_HEADER_LEN);
     }
     if bytes[..8] == MAGIC[..] {
-        return read_form(bytes, HEAD);
+        return read_form(bytes, HEADER_LEN);
     }
     Err(JournalFault::Magic)
 }

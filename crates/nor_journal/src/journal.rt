@@ -8,8 +8,8 @@ ghost use Rattle.nor_journal.specs.Fault.{HasFault};
 ghost use Rattle.nor_journal.specs.declared.fault.JournalFault.{JournalFault};
 
 use crate::fault::JournalFault;
-use crate::head::{HEAD, Head, read_head};
-use crate::records::{DIGEST, END_MARK, RECORD, check_end, count_records, record_at};
+use crate::head::{HEADER_LEN, Head, read_head};
+use crate::records::{DIGEST_LEN, END_MARK, RECORD_LEN, check_end, count_records, record_at};
 use std::marker::Model;
 
 /// A journal that was read. The saved sectors are borrowed from its bytes.
@@ -66,7 +66,7 @@ impl<'a> Journal<'a> {
     {
         let (head, records) = read_head(bytes)?;
         let count = count_records(&head, records)?;
-        check_end(bytes, bytes.len() - records.len() + RECORD * count)?;
+        check_end(bytes, bytes.len() - records.len() + RECORD_LEN * count)?;
         Ok(Journal {
             head,
             count,
@@ -168,8 +168,8 @@ pub fn journal_len(sectors: u32) -> u64
     ensures { (c : Content) (unique : List ℕ) → IsContent c → c.unique ≡ Some unique → length c.saved ≡ sectors
         → length (text c) ≡ result }
 {
-    let fixed = HEAD + END_MARK.len() + DIGEST;
-    fixed as u64 + RECORD as u64 * u64::from(sectors)
+    let fixed = HEADER_LEN + END_MARK.len() + DIGEST_LEN;
+    fixed as u64 + RECORD_LEN as u64 * u64::from(sectors)
 }
 
 /// A law: bytes have at most one first fault (`HasFault`).

@@ -12,13 +12,13 @@ use nor_geometry::SECTOR_LEN;
 use sha2::{Digest, Sha256};
 
 /// The length of a record in bytes: a sector's number and its bytes.
-pub const RECORD: usize = 4 + SECTOR_LEN as usize;
+pub const RECORD_LEN: usize = 4 + SECTOR_LEN as usize;
 
 /// The four bytes after the last record.
 pub const END_MARK: [u8; 4] = [0xFF; 4];
 
 /// The length of a digest in bytes.
-pub const DIGEST: usize = 32;
+pub const DIGEST_LEN: usize = 32;
 
 /// Returns the sector number of the record at the beginning of `bytes`, or `None` if the end mark is there.
 ///
@@ -43,7 +43,7 @@ fn next_record(sectors: u32, least: u32, bytes: &[u8]) -> Result<Option<u32>, Jo
     if number < least {
         return Err(JournalFault::Order);
     }
-    if bytes.len() < RECORD {
+    if bytes.len() < RECORD_LEN {
         return Err(JournalFault::Short);
     }
     Ok(Some(number))
@@ -61,7 +61,7 @@ pub fn count_records(head: &Head, bytes: &[u8]) -> Result<usize, JournalFault>
     let mut least = 0;
     let mut rest = bytes;
     while let Some(number) = next_record(sectors, least, rest)? {
-        let (_, following) = rest.split_at(RECORD);
+        let (_, following) = rest.split_at(RECORD_LEN);
         rest = following;
         least = number + 1;
         count += 1;
@@ -70,10 +70,10 @@ pub fn count_records(head: &Head, bytes: &[u8]) -> Result<usize, JournalFault>
 }
 
 /// Encodes a record: the sector's number and its bytes.
-pub fn record_bytes(number: u32, bytes: &[u8; SECTOR_LEN as usize]) -> [u8; RECORD]
+pub fn record_bytes(number: u32, bytes: &[u8; SECTOR_LEN as usize]) -> [u8; RECORD_LEN]
     ensures { result ≡ record_text (record { number = number; bytes = bytes.now }) }
 {
-    let mut record = [0; RECORD];
+    let mut record = [0; RECORD_LEN];
     record[..4].copy_from_slice(&number_bytes(number));
     record[4..].copy_from_slice(bytes);
     record
@@ -85,8 +85,8 @@ pub fn record_at(records: &[u8], i: usize) -> (u32, &[u8])
     requires { 4100 * i + 4100 ≤ length records.now }
     ensures { record { number = result.0; bytes = result.1.now } ≡ sector_at records.now i }
 {
-    let record = &records[RECORD * i..];
-    (number_of(record), &record[4..RECORD])
+    let record = &records[RECORD_LEN * i..];
+    (number_of(record), &record[4..RECORD_LEN])
 }
 
 /// Checks that the correct digest, and no further byte, follows the end mark at index `mark`.
@@ -100,10 +100,10 @@ pub fn check_end(bytes: &[u8], mark: usize) -> Result<(), JournalFault>
     ensures found { OnOk result (drop (mark + 4) bytes.now ≡ sha256 (take (mark + 4) bytes.now)) }
 {
     let (body, digest) = bytes.split_at(mark + END_MARK.len());
-    if digest.len() < DIGEST {
+    if digest.len() < DIGEST_LEN {
         return Err(JournalFault::Short);
     }
-    if digest.len() > DIGEST {
+    if digest.len() > DIGEST_LEN {
         return Err(JournalFault::Long);
     }
     if digest != Sha256::digest(body).as_slice() {
