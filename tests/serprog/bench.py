@@ -122,7 +122,7 @@ class Bench:
         return got
 
     def expect_at_terminal(self, *words, lines):
-        """Runs the program with standard error at a terminal, and checks that it succeeds and the lines there."""
+        """Runs the program with standard error at a terminal, and checks that it succeeds and prints these lines."""
         terminal, slave = os.openpty()
         self.server.begin({})
         process = self.start(words, err=slave)

@@ -348,7 +348,7 @@ def shows_progress(start):
 
 
 def shows_long_progress(start):
-    """Each 256th sector and each 16th erase has a line, too. A status write is a step of its own."""
+    """After the first one, each 256th sector or page and each 16th erase has a line. Status writes are a step, too."""
     old = bytearray(b"\x5a" * (1 << 23))
     bench = start("W25Q64FV", data=bytes(old))
     for number in range(0, 34 * 32, 32):

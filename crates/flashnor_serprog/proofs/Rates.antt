@@ -34,7 +34,7 @@ rateless_without_colon text none = λ device rate has.
     let at = colon_at text device rate has in
     NoCharPasses-char 58 text (length device) none (omega arith) at.0 at.1
 
--- the colon before a rate isn't before another colon
+-- no colon follows the colon before a rate
 not_earlier : (text device rate : Text) (i : ℕ) → HasRate text device rate → i < length text → get_or text i 0 ≡ 58
     → length device < i → ⊥
 not_earlier text device rate i has inside colon earlier =

@@ -51,12 +51,12 @@ used taken all left given key read place valid before refused same is =
 
 -- ---- every key
 
--- if `a` is equal to `b` for a valid value of each of the three keys, it is for a valid value of any known key
+-- if `a` equals `b` for a valid value of each of the three keys, then `a` equals `b` for a valid value of any known key
 any-key : (key value : Text) (a b : Bool) → EachSerprogKey (λ T name is_value read place. bytes_eq key name ≡ true
     → is_value value ≡ true → a ≡ b) → may_have_value key value ≡ true → a ≡ b
 any-key key value a b each known = grind arith
 
--- Holds after some settings of `all`, with the keys `taken`, were stored in `settings`, and those of `left` remain.
+-- Holds after some settings of `all`, with the keys `taken`, were stored in `settings`, and the settings `left` remain.
 pub record SettingsSoFar (all left : List Text) (settings : Settings) : Type 0 where
   pub taken : List Text
   pub keys : EachSerprogKey (λ T key is_value read place. FieldSoFar taken all left key read (place settings))
@@ -100,7 +100,7 @@ wrong_is text setting wrong same begins = elim (cases_Bool (names_network settin
   | inr is ↦ let other : wrong ≡ Other = rw is at same in rw other (inr (inl (setting, begins, is)))
 ]
 
--- a device that ends with a colon and a number is refused
+-- if no setting is wrong and the value of `dev=` ends with a colon and a number, the error is `BaudRate`
 pub rate_is : (text value : Text) (wrong : WrongSetting) → IsDeviceOf text value
     → first_wrong [] (serprog_settings text) ≡ None → EndsWithRate value wrong → IsWrongSetting text wrong
 rate_is text value (BaudRate device rate) is none ends = (value, is, none, ends)

@@ -1,7 +1,7 @@
 //! Opens the device of a programmer and identifies the programmer.
 
 use crate::port::DevicePort;
-use crate::progress::{Screen, Shown};
+use crate::progress::{Shown, Terminal};
 use crate::setting::Setting;
 use crate::trouble::ProgrammerFault;
 use nor_files::LockFile;
@@ -43,7 +43,7 @@ pub fn connect<'a>(
         Some(image) => ReadTwice::expecting(bus, image),
         None => ReadTwice::new(bus),
     };
-    Ok(Shown::new(ReadAhead::new(bus, longest_read), Screen::new(rt)))
+    Ok(Shown::new(ReadAhead::new(bus, longest_read), Terminal::new(rt)))
 }
 
 // Opens the device, and locks it against a second run. Returns `NoDevice` and opens nothing if the file is no character

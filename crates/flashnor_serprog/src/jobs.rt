@@ -8,7 +8,7 @@ ghost use Rattle.flashnor_serprog.specs.Jobs.{DoesTask, FailsBefore, FailsToChan
 ghost use Rattle.flashnor_serprog.specs.Jobs.{HasChangedBy, HasIdentified, HasLookedUp, HasReadChip, HasRestored};
 ghost use Rattle.flashnor_serprog.specs.Jobs.{HasRunRestore, IsBufferOf, IsNamedFirst, IsNoJournal, ReportsFound, ReportsSize};
 
-use crate::progress::{Progress, Screen};
+use crate::progress::{Progress, Terminal};
 use crate::sources::Sources;
 use nor_chip::Bus;
 use nor_files::Store;
@@ -31,12 +31,14 @@ use std::alloc::Global;
 /// commands sent until then (`FailsBefore`). If the files obey the contract of `Store`, each file is as it was whose
 /// name is apart from that of the file that the task creates or truncates.
 ///
+/// `terminal` receives the line that says what a session or restore will change.
+///
 /// A read identifies the chip before it empties its file, so a file is kept if there is no chip. An erase identifies
 /// the chip to know its size, before its journal is created.
 pub fn perform<'a, R: Store, B: Progress>(
     rt: &mut R,
     bus: &mut B,
-    screen: Screen<'_>,
+    terminal: Terminal<'_>,
     operation: &Operation<'a>,
     sources: Sources,
 ) -> Result<Outcome, Fault<'a>>
@@ -56,8 +58,8 @@ pub fn perform<'a, R: Store, B: Progress>(
         Task::WpList => Ok(list_ranges(bus, named)),
         Task::Read { file, .. } => read_chip(rt, bus, named, *file, sources.included.as_ref()),
         Task::Verify { .. } => Ok(verify_chip(bus, named, sources)),
-        Task::Change(change) => change_chip(rt, bus, screen, named, change, sources),
-        Task::Restore { .. } => restore_chip(bus, screen, named, &sources.bytes),
+        Task::Change(change) => change_chip(rt, bus, terminal, named, change, sources),
+        Task::Restore { .. } => restore_chip(bus, terminal, named, &sources.bytes),
     }
 }
 
@@ -126,7 +128,7 @@ fn verify_chip<B: Progress>(bus: &mut B, named: Option<ChipName>, sources: Sourc
 fn change_chip<'a, R: Store, B: Progress>(
     rt: &mut R,
     bus: &mut B,
-    screen: Screen<'_>,
+    terminal: Terminal<'_>,
     named: Option<ChipName>,
     change: &Change<'a>,
     sources: Sources,
@@ -147,7 +149,7 @@ fn change_chip<'a, R: Store, B: Progress>(
     let mut image = fill_buffer(bus, named, change.wanted, bytes, rt.alloc())?;
     bus.expect_reads(sectors_to_read(image.len(), request.included.as_ref()));
     session_in_file(rt, bus, *file, &mut image, &request, |announcement| {
-        screen.show_session(announcement)
+        terminal.print_session(announcement)
     })
 }
 
@@ -176,7 +178,8 @@ fn fill_buffer<'a, B: Bus>(
 // Returns the number of sectors with an included address on a chip of `size` bytes. If `included` is `None`, these are
 // all sectors.
 fn sectors_to_read(size: usize, included: Option<&Ranges>) -> usize {
-    // no chip is so large that this number isn't a `u32`
+    // `size` may be the length of an image that fits no chip. The call then returns its error before it reads a sector,
+    // so no line has this number.
     let sectors = u32::try_from(size / SECTOR_LEN as usize).unwrap_or(0);
     (0..sectors)
         .filter(|sector| includes_in_sector(included, *sector))
@@ -187,7 +190,7 @@ fn sectors_to_read(size: usize, included: Option<&Ranges>) -> usize {
 // the bytes are no journal.
 fn restore_chip<'a, B: Progress>(
     bus: &mut B,
-    screen: Screen<'_>,
+    terminal: Terminal<'_>,
     named: Option<ChipName>,
     bytes: &[u8],
 ) -> Result<Outcome, Fault<'a>>
@@ -201,7 +204,7 @@ fn restore_chip<'a, B: Progress>(
     };
     check_name(bus, named)?;
     bus.expect_reads(journal.count());
-    Ok(run_restore(bus, screen, &journal))
+    Ok(run_restore(bus, terminal, &journal))
 }
 
 // If `named` is given, identifies the chip and checks that it has that name. If not, sends nothing.
@@ -215,11 +218,11 @@ fn check_name<'a, B: Bus>(bus: &mut B, named: Option<ChipName>) -> Result<(), Fa
     Ok(())
 }
 
-fn run_restore<B: Bus>(bus: &mut B, screen: Screen<'_>, journal: &Journal<'_>) -> Outcome
+fn run_restore<B: Bus>(bus: &mut B, terminal: Terminal<'_>, journal: &Journal<'_>) -> Outcome
     ensures { HasRunRestore journal.now (B.state bus.old) (B.state bus.new) result }
 {
     let report = restore_announced(bus, journal, |announcement| {
-        screen.show_restore(announcement)
+        terminal.print_restore(announcement)
     })?;
     Ok(Answer::Done(report))
 }

@@ -59,8 +59,8 @@ impl Step {
         }
     }
 
-    // Returns the number of transactions from one printed line to the next. An erase takes up to some seconds, so the
-    // erases have more lines.
+    // Returns the number of transactions from one printed line to the next. An erase takes longer than a read or a page
+    // program (a 64 KiB erase up to 2 seconds, W25Q64FV datasheet), so erases have more lines.
     fn stride(self) -> u64
         ensures { 1 ≤ result }
     {
@@ -78,22 +78,22 @@ const CHANGED: &str = "The chip is changed from here on.";
 
 /// Standard error, on which progress is printed if it is a character device.
 #[derive(Clone, Copy)]
-pub struct Screen<'a> {
+pub struct Terminal<'a> {
     rt: &'a HostRuntime,
     visible: bool,
 }
 
-impl<'a> Screen<'a> {
-    /// Returns the standard error of this program.
-    pub fn new(rt: &'a HostRuntime) -> Screen<'a> {
-        Screen {
+impl<'a> Terminal<'a> {
+    /// Returns the terminal at standard error, visible only if standard error is a character device.
+    pub fn new(rt: &'a HostRuntime) -> Terminal<'a> {
+        Terminal {
             rt,
             visible: is_terminal(rt),
         }
     }
 
-    /// Prints what a session is about to change, and the length of its journal.
-    pub fn show_session(&self, announcement: Announcement) {
+    /// If standard error is a character device, prints what a session will change, and the length of its journal.
+    pub fn print_session(&self, announcement: Announcement) {
         if self.visible {
             let Announcement { touched, erases } = announcement;
             let len = journal_len(touched);
@@ -103,8 +103,8 @@ impl<'a> Screen<'a> {
         }
     }
 
-    /// Prints what a restore is about to change.
-    pub fn show_restore(&self, announcement: Announcement) {
+    /// If standard error is a character device, prints what a restore will change.
+    pub fn print_restore(&self, announcement: Announcement) {
         if self.visible {
             let Announcement { touched, erases } = announcement;
             let _ = eprintln!(self.rt; "Sectors to change: {touched}. Erases: {erases}.");
@@ -122,13 +122,14 @@ fn is_terminal(rt: &HostRuntime) -> bool {
 
 /// A bus that shows the progress of a job.
 pub trait Progress: Bus {
-    /// Records how many sectors the job will read before it changes anything. In contracts nothing changes.
+    /// Records how many sectors the scan of the job will read, for its progress lines. The state of the bus, as
+    /// contracts see it, stays the same.
     fn expect_reads(&mut self, sectors: usize)
         ensures { Self.state self.new ≡ Self.state self.old };
 }
 
-/// A bus that prints a line to standard error for the first transaction of each step, and for every later one after a
-/// fixed number of them (`Step::stride`). It prints nothing if standard error is not a character device.
+/// A bus that prints a line to standard error for the first transaction of each step, and then one for each
+/// `Step::stride` further transactions of that step. It prints nothing if standard error is not a character device.
 ///
 /// A step is recognized by the opcode of a transaction. Before the first modifying command a line says that the chip is
 /// changed from here on. In a session that line begins with `SEALED`, since a session sends no modifying command before
@@ -136,7 +137,7 @@ pub trait Progress: Bus {
 #[derive(Drop)]
 pub struct Shown<'a, B> {
     bus: B,
-    screen: Screen<'a>,
+    terminal: Terminal<'a>,
     in_session: bool,
     changing: bool,
     // the number of sectors that the job reads before it changes anything, if it is known
@@ -145,11 +146,11 @@ pub struct Shown<'a, B> {
 }
 
 impl<'a, B: Bus + Drop> Shown<'a, B> {
-    /// Returns a bus that prints the progress of the job on `bus` to `screen`.
-    pub fn new(bus: B, screen: Screen<'a>) -> Shown<'a, B> {
+    /// Returns a bus that prints the progress of the job on `bus` to `terminal`.
+    pub fn new(bus: B, terminal: Terminal<'a>) -> Shown<'a, B> {
         Shown {
             bus,
-            screen,
+            terminal,
             in_session: false,
             changing: false,
             expected: None,
@@ -162,9 +163,9 @@ impl<'a, B: Bus + Drop> Shown<'a, B> {
         &self.bus
     }
 
-    /// Returns the screen that the progress is printed to.
-    pub fn screen(&self) -> Screen<'a> {
-        self.screen
+    /// Returns the terminal that the progress is printed to.
+    pub fn terminal(&self) -> Terminal<'a> {
+        self.terminal
     }
 
     /// Marks the transactions from now on as those of a session, whose journal is sealed before the first change.
@@ -174,18 +175,18 @@ impl<'a, B: Bus + Drop> Shown<'a, B> {
 }
 
 impl<B> Shown<'_, B> {
-    // Prints a line before the first modifying command, and one if this transaction is the first of its step or
-    // follows the last printed one by the step's stride.
+    // Prints nothing if the terminal is not visible. Otherwise prints a line if this transaction is the first modifying
+    // command, and another if it is number 1, 1 + `stride`, 1 + 2 * `stride`, .. of its step.
     fn show(&mut self, out: &[u8])
         ensures { self.new.bus ≡ self.old.bus }
     {
-        if !self.screen.visible {
+        if !self.terminal.visible {
             return;
         }
         if is_changing(out) && !self.changing {
             self.changing = true;
             let what = if self.in_session { SEALED } else { CHANGED };
-            let _ = eprintln!(self.screen.rt; "{what}");
+            let _ = eprintln!(self.terminal.rt; "{what}");
         }
         let Some(step) = step_of(out, self.changing) else {
             return;
@@ -201,9 +202,9 @@ impl<B> Shown<'_, B> {
         let text = step.as_str();
         let _ = match (step, self.expected) {
             (Step::Scan, Some(expected)) => {
-                eprintln!(self.screen.rt; "{text} {count} of {expected}")
+                eprintln!(self.terminal.rt; "{text} {count} of {expected}")
             }
-            _ => eprintln!(self.screen.rt; "{text} {count}"),
+            _ => eprintln!(self.terminal.rt; "{text} {count}"),
         };
     }
 }

@@ -12,7 +12,7 @@ ghost use Rattle.flashnor_serprog.specs.Sends.{SendsOnly, changes};
 use crate::connect::{ChipBus, connect};
 use crate::help::HELP;
 use crate::jobs::perform;
-use crate::progress::{Progress, Screen};
+use crate::progress::{Progress, Terminal};
 use crate::roles::have_one_role;
 use crate::setting::Setting;
 use crate::sources::{Sources, read_sources};
@@ -187,8 +187,8 @@ fn run_prepared<R: Store, O: Write, E: Write>(
     if let Task::Change(_) = &operation.task {
         bus.begin_session();
     }
-    let screen = bus.screen();
-    match end_job(files, &mut bus, screen, &operation, sources) {
+    let terminal = bus.terminal();
+    match end_job(files, &mut bus, terminal, &operation, sources) {
         Ok(answer) => end_well(output, answer),
         Err(fault) => {
             let status = end_badly(errors, &fault);
@@ -204,7 +204,7 @@ fn run_prepared<R: Store, O: Write, E: Write>(
 fn end_job<'a, R: Store, B: Progress>(
     files: &mut R,
     bus: &mut B,
-    screen: Screen<'_>,
+    terminal: Terminal<'_>,
     operation: &Operation<'a>,
     sources: Sources,
 ) -> Result<Answer, Fault<'a>>
@@ -213,7 +213,7 @@ fn end_job<'a, R: Store, B: Progress>(
     ensures sends { SendsOnly operation.now.task sources.bytes.items (B.state bus.old) (B.state bus.new)
         (R.state files.new) }
 {
-    let outcome = perform(files, bus, screen, operation, sources)?;
+    let outcome = perform(files, bus, terminal, operation, sources)?;
     or_fault(outcome)
 }
 

@@ -46,8 +46,8 @@ impl<'a> Setting<'a> {
     /// Parses the value of `-p`. A `KEY=VALUE` pair ends at the next comma, and its key at the first `=`.
     ///
     /// If the text begins with `serprog:`, returns `Network` if the first wrong setting is `ip=..`, and `BaudRate` if
-    /// no setting is wrong but the device ends with a colon and a number. Returns `Other` for all other texts that
-    /// describe no programmer.
+    /// no setting is wrong but the device ends with a colon and a decimal number (at most 20 digits, below 2^64).
+    /// Returns `Other` for all other texts that describe no programmer.
     pub fn read(text: &'a str) -> Result<Setting<'a>, WrongSetting<'a>>
         ensures { MatchResult result (IsSetting text.now) (IsWrongSetting text.now) }
     {

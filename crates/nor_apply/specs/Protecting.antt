@@ -9,10 +9,10 @@ use Rattle.nor_driver.specs.Limits.{writing, SendsExactly, Leaves}
 use Rattle.nor_driver.specs.Operations.{most_operation}
 use Rattle.nor_apply.specs.Spending.{Tallies}
 
--- Holds at every exit of `write_code`. If a status write is needed, on every bus at most one was sent, with these
--- protection bits and the bits of `status` that are never changed (`SendsWithin` says this exactly). On a well-behaved
--- bus, if `CanWriteStatus` held at the start, the chip then changes only as `MayWriteStatus` allows. If no status write
--- is needed, none was sent, and nothing changed.
+-- Holds at every exit of `write_code`. On every bus at most one status write was sent if it is needed, with these
+-- protection bits and the bits of `status` that are never changed (`SendsWithin` says this exactly), and otherwise
+-- none. On a well-behaved bus: if none is needed, nothing changed; if one is needed and `CanWriteStatus` held at the
+-- start, the chip changes only as `MayWriteStatus` allows.
 abbrev pub LeavesCode : Status → (code : ℕ) → (needed : Bool) → (old new : BusState) → Type 0
 LeavesCode status code needed =
     Leaves (if needed then most_operation else 0)

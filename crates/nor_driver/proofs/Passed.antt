@@ -2,7 +2,7 @@
 use Rattle.std.proofs.Common.{◌≡◌, ap}
 use Rattle.std.specs.Prelude.{Result, Ok, Err, IsErrAnd}
 
--- The outcome is the error that `?` passed on.
+-- If `?` passed on this error, the outcome is `Err` of this error.
 pub is_err : {T E : Type 0} (outcome : Result T E) (error : E) → IsErrAnd outcome (λ passed. passed ≡ error)
     → outcome ≡ Err error
 is_err (Ok value) error is = absurd is

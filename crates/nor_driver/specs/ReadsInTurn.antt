@@ -5,8 +5,8 @@ use Rattle.nor_driver.specs.OnlyReads.{Rested}
 use Rattle.nor_driver.specs.Ready.{StaysReady}
 
 -- Holds after `reads` transactions that only read succeeded, if none of them was a poll that showed BUSY. On every bus,
--- no transaction that may modify a chip was sent, and `KeepsNature` and `StaysReady` hold. On an honest bus the chip is
--- as `Rested` says, and exactly `reads` fewer transactions are left.
+-- no transaction that may modify a chip was sent, and `KeepsNature` and `StaysReady` hold. On a well-behaved bus
+-- the chip is as `Rested` says, and exactly `reads` fewer transactions are left.
 pub record HasOnlyRead (reads : ℕ) (old new : BusState) : Type 0 where
   pub nature : KeepsNature old new
   pub same_sent : new.sent ≡ old.sent

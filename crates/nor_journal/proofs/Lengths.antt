@@ -7,7 +7,7 @@ use Rattle.nor_journal.specs.Fault.{header_length}
 use Rattle.nor_journal.proofs.SectorRecords.{length-number_text}
 use Rattle.nor_journal.proofs.OneForm.{length-head, length-end_mark}
 
--- each record of whole sectors has 4,100 bytes
+-- the records of whole sectors have 4,100 bytes each
 long_records : (sectors least : ℕ) (saved : List SavedSector) → AreRising sectors least saved
     → length (records_text saved) ≡ 4100 * length saved
 unfolding records_text record_text

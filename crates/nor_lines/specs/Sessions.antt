@@ -33,8 +33,8 @@ pub record HasRunSession (request : Request) (image : List ℕ) (old new : BusSt
   pub modelled : IsModelled old → SessionModelled request image old new vault vault' result
   pub returned : AnswersCall ReportsDone result outcome
 
--- The job called `session_announced` or `restore_announced`. The call made its announcement before it changed the chip
--- (`Announces`), and the job returned its report or its error.
+-- Holds if a job returned the report or the error of a call of `session_announced` or `restore_announced`, and
+-- `Announces` holds for that call: an announcement was made, or no modifying command was sent.
 pub record HasAnnounced (Was : Announcement → Type 0) (old new : BusState)
     (outcome : Result Answer Refusal) : Type 0 where
   pub result : Result Report Refusal

@@ -102,9 +102,8 @@ pub fn erased(alloc: Global, size: u32) -> Result<Vec<u8>, AllocError>
 
 /// Runs the session of a request with its journal in the file of this name, which must not exist.
 ///
-/// `image` and `announce` are the arguments of `session_announced` with these names, whose documentation describes
-/// them. The outer error is one of `make`, which occurred before the first transaction. The inner error is one of
-/// `session`.
+/// `image` is described at `session`, and `announce` at `session_announced`. `announce` must accept every announcement.
+/// The outer error is one of `make`, which occurred before the first transaction. The inner error is one of `session`.
 pub fn session_in_file<'a, R: Store, B: Bus, F: FnOnce(Announcement) + Drop>(
     rt: &mut R,
     bus: &mut B,

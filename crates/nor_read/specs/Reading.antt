@@ -132,9 +132,8 @@ pub record ReadsPart (included : Option (List Span)) (sector : ℕ) (bytes : Lis
   pub right : old.honest ≡ true → old.chip.busy ≡ 0 → 4096 * (sector + 1) ≤ old.chip.config.size
       → AreOfSector (copied included old.chip.bytes) sector bytes
 
--- Holds after the first `n` sectors of a piece of the copy were made, with one transaction for each of them that has an
--- included address. A whole piece has sixteen sectors. The sectors are known to be right on a well-behaved bus with an
--- idle chip that has the whole piece.
+-- Holds after the first `n` of a piece's sixteen sectors were copied, with one transaction for each of them that has an
+-- included address. On a well-behaved bus with an idle chip that has the whole piece, the copied bytes are right.
 pub record ReadsPiece (included : Option (List Span)) (piece n : ℕ) (bytes : List ℕ) (old new : BusState)
     (reads : ℕ) : Type 0 where
   pub counted : count_below (16 * piece + n) (has_in_sector (includes included))
@@ -144,7 +143,8 @@ pub record ReadsPiece (included : Option (List Span)) (piece n : ℕ) (bytes : L
   pub right : old.honest ≡ true → old.chip.busy ≡ 0 → 65536 * (piece + 1) ≤ old.chip.config.size
       → (i : ℕ) → i < 4096 * n → slice_index bytes i ≡ copied included old.chip.bytes (65536 * piece + i)
 
--- Holds if the vault has `count` bytes more. If `known` holds, these are the first ones of the copy.
+-- Holds if the vault has the bytes from before, and `count` bytes after them. If `known` holds, these bytes are the
+-- first `count` bytes of the copy of a chip with this content.
 pub record CopiesIf (known : Type 0) (included : Option (List Span)) (content : ℕ → ℕ) (count : ℕ)
     (old new : VaultState) : Type 0 where
   pub grows : Grows count old new

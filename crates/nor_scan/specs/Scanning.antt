@@ -54,7 +54,7 @@ pub record AreRight (wanted content : ℕ → ℕ) (seen : ℕ → Bool) (scanne
   pub touched : (s : ℕ) → has scanned.touched s ≡ (seen s && is_touched content wanted s)
   pub raised : (s : ℕ) → has scanned.raised s ≡ (seen s && is_raised content wanted s)
 
--- true for the numbers below `n`
+-- true if `s` is below `n`
 abbrev pub sectors_below : (n s : ℕ) → Bool
 sectors_below n s = nat_lt s n
 

@@ -18,7 +18,7 @@ use Rattle.nor_serprog.specs.Firmware.{Firmware, ProgrammerSettings, has_command
 use Rattle.nor_serprog.specs.Frame.{frame_of, four_of}
 use Rattle.nor_serprog.specs.Link.{is_in_step, is_cut}
 use Rattle.nor_serprog.specs.Replies.{AwaitsCommand, OnlyAsks}
-use Rattle.nor_serprog.specs.Identify.{Concludes, Asked, IsInStepWith, refused, clock_refused, first_handshake_fault, identify_faults, identify_fault, settings_if_offered, prepared_settings, prepared}
+use Rattle.nor_serprog.specs.Identify.{Concludes, Asked, IsInStepWith, refused, clock_refused, first_handshake_fault, identify_faults, identify_fault, settings_if_offered, prepared_settings, prepared_port}
 
 -- ---- one step
 
@@ -42,7 +42,7 @@ stops_after done found = record {
   power = record { chip = inl done.asks.chip; worn = λ s. ap (λ (w : ℕ → Bool). w s) done.asks.worn };
 }
 
--- A step that failed because a call in it did. A failure says nothing of the settings.
+-- If a call in a step failed, the step failed with that error. `Concludes` states no settings after an error.
 pub fails_as : {T T' C : Type 0} {calls : ℕ} {fault fault' : Option (HandshakeFault C)} {IsValue : T → Type 0}
     {IsValue' : T' → Type 0} {error : HandshakeFault C} {old new : PortState} (settings : ProgrammerSettings)
     → Concludes calls fault IsValue (Err error) old new → (fault ≡ Some error → fault' ≡ Some error)
@@ -55,7 +55,7 @@ fails_as settings failed same = record {
   power = record { chip = failed.power.chip; worn = failed.power.worn };
 }
 
--- The error of a call is returned.
+-- `Concludes` holds for a result that is the error of a failed call.
 pub returns_error : {T C : Type 0} {calls : ℕ} {fault : Option (HandshakeFault C)} {IsValue : T → Type 0}
     {error : HandshakeFault C} {old new : PortState} (result : Result T (HandshakeFault C))
     → IsErrAnd result (λ found. found ≡ error) → Concludes calls fault IsValue (Err error) old new
@@ -72,7 +72,7 @@ port_failed {old = old} result is failed =
     returns_error result is
     (fails_as old.device.settings failed (λ found. let never : ⊥ = cc in absurd never))
 
--- The result of a step is also that of one with an equal fault, and with a fact about its value that follows.
+-- `Concludes` stays true for an equal `fault`, and for a fact about the value that follows from `IsValue`.
 pub concludes_as : {T C : Type 0} {calls : ℕ} {fault fault' : Option (HandshakeFault C)} {IsValue IsValue' : T → Type 0}
     {old new : PortState} (result : Result T (HandshakeFault C)) → fault' ≡ fault
     → ((value : T) → IsValue value → IsValue' value) → Concludes calls fault IsValue result old new
@@ -171,7 +171,7 @@ set_result false firmware setting reply opcode (Ok value) old new replies first 
 set_result false firmware setting reply opcode (Err error) old new replies first a =
     fails_as _ (a.naked replies) (λ found. ap (λ (n : ℕ). Some (Faults.Failure (Refused n))) (sym first) ∙ found)
 
--- The settings of the handshake, if the programmer refuses none of them.
+-- S_BUSTYPE selects SPI, if the programmer doesn't refuse the command.
 bus_selected : {C : Type 0} (has_it takes : Bool) (settings : ProgrammerSettings)
     → refused {C = C} 0x12 has_it takes ≡ None
     → (if has_it then (if takes then record settings { bus_type = Some 8 } else settings) else settings)
@@ -180,6 +180,7 @@ bus_selected true true settings none = refl
 bus_selected true false settings none = let never : ⊥ = cc in absurd never
 bus_selected false takes settings none = refl
 
+-- S_PIN_STATE switches the pin drivers on, if the programmer doesn't refuse the command.
 pins_switched : {C : Type 0} (has_it takes : Bool) (settings : ProgrammerSettings)
     → refused {C = C} 0x15 has_it takes ≡ None
     → (if has_it then (if takes then record settings { pins_on = true } else settings) else settings)
@@ -188,6 +189,7 @@ pins_switched true true settings none = refl
 pins_switched true false settings none = let never : ⊥ = cc in absurd never
 pins_switched false takes settings none = refl
 
+-- Both commands make the settings of a programmer that was prepared for SPI, if the programmer refuses neither.
 pub is_prepared : {C : Type 0} (firmware : Firmware) (settings : ProgrammerSettings)
     → refused {C = C} 0x12 (has_command firmware 0x12) (firmware.takes_buses 8) ≡ None
     → refused {C = C} 0x15 (has_command firmware 0x15) (firmware.takes_pins true) ≡ None
@@ -200,17 +202,19 @@ is_prepared firmware settings bus pins =
 
 -- ---- steps one after another
 
--- The effect of a step on the settings: none, that of S_BUSTYPE, and that of S_PIN_STATE.
-abbrev pub kept : Firmware → ProgrammerSettings → ProgrammerSettings
-kept firmware settings = settings
+-- the settings after a step that makes none
+abbrev pub unchanged : Firmware → ProgrammerSettings → ProgrammerSettings
+unchanged firmware settings = settings
 
-abbrev pub spi : Firmware → ProgrammerSettings → ProgrammerSettings
-spi firmware settings = settings_if_offered firmware 0x12 (SetBuses 8) settings
+-- the settings after the step that selects SPI
+abbrev pub after_bus_type : Firmware → ProgrammerSettings → ProgrammerSettings
+after_bus_type firmware settings = settings_if_offered firmware 0x12 (SetBuses 8) settings
 
-abbrev pub pins : Firmware → ProgrammerSettings → ProgrammerSettings
-pins firmware settings = settings_if_offered firmware 0x15 (SetPins true) settings
+-- the settings after the step that switches the pin drivers on
+abbrev pub after_pins : Firmware → ProgrammerSettings → ProgrammerSettings
+after_pins firmware settings = settings_if_offered firmware 0x15 (SetPins true) settings
 
--- The first of the errors after the first `done`.
+-- The first error of `identify_faults` after the first `done` entries of that list.
 abbrev pub faults_from : {C : Type 0} → (done : ℕ) → Firmware → Option ℕ → Option (HandshakeFault C)
 faults_from done firmware hertz = first_handshake_fault (drop done (identify_faults firmware hertz))
 
@@ -218,8 +222,9 @@ faults_from done firmware hertz = first_handshake_fault (drop done (identify_fau
 abbrev pub Starts : {P C : Type 0} → (P → PortState) → Link P C → Type 0
 Starts port link = AwaitsCommand (port link.port) × (is_cut link ≡ false)
 
--- A handshake that began at the link `start` made these calls, and none of the first `done` errors was found. The link
--- is ready, the settings are `after` of those at the start, and `commands` is the programmer's map.
+-- Holds after steps of a handshake that began at the link `start`. The steps made at most `calls` calls, and found none
+-- of the first `done` errors of `identify_faults`. The link is in step and the programmer is idle, with the settings
+-- that `after` makes of those at the start. `commands` is the programmer's map.
 pub record HasReached {P C : Type 0} (port : P → PortState) (start : Link P C) (hertz : Option ℕ) (calls done : ℕ)
     (after : Firmware → ProgrammerSettings → ProgrammerSettings) (commands : List ℕ) (link : Link P C) : Type 0 where
   pub asks : OnlyAsks calls
@@ -234,7 +239,7 @@ pub record HasReached {P C : Type 0} (port : P → PortState) (start : Link P C)
 pub begins : {P C T : Type 0} {port : P → PortState} {start : Link P C} {IsValue : T → Type 0} {value : T}
     (hertz : Option ℕ) (link : Link P C)
     → Concludes {C = C} 29 None IsValue (Ok value) (port start.port) (port link.port) → is_in_step link ≡ true
-    → HasReached port start hertz 29 0 kept (port start.port).device.firmware.commands link
+    → HasReached port start hertz 29 0 unchanged (port start.port).device.firmware.commands link
 begins hertz link done in_step = record {
   asks = done.asks;
   ready = record { in_step = in_step; awaits = done.asks.awaits; same = done.asks.firmware };
@@ -242,7 +247,7 @@ begins hertz link done in_step = record {
   map = refl;
 }
 
--- One more step succeeded, which changes the settings by `sets`.
+-- `HasReached` holds after one more step that succeeded. `sets` is the effect of the step on the settings.
 pub goes : {P C T : Type 0} {port : P → PortState} {start link : Link P C} {hertz : Option ℕ} {calls done : ℕ}
     {after : Firmware → ProgrammerSettings → ProgrammerSettings} {commands commands' : List ℕ}
     {fault : Option (HandshakeFault C)} {IsValue : T → Type 0} {value : T}
@@ -274,7 +279,7 @@ goes {port = port} {start = start} {hertz = hertz} sets done' link' reached step
   map = map;
 }
 
--- One more step failed.
+-- If one more step failed, the handshake ends with the error of that step (`Concludes`).
 pub fails_at : {P C T T' : Type 0} {port : P → PortState} {start link : Link P C} {hertz : Option ℕ} {calls done : ℕ}
     {after : Firmware → ProgrammerSettings → ProgrammerSettings} {commands : List ℕ}
     {fault : Option (HandshakeFault C)} {IsValue : T → Type 0} {IsValue' : T' → Type 0} {error : HandshakeFault C}
@@ -286,7 +291,7 @@ pub fails_at : {P C T T' : Type 0} {port : P → PortState} {start link : Link P
     → faults_from done (port start.port).device.firmware hertz
     ≡ option_or fault (faults_from done' (port start.port).device.firmware hertz)
     → Concludes 59 (identify_fault (port start.port).device.firmware hertz) IsValue' (Err error)
-    (prepared (port start.port)) new
+    (prepared_port (port start.port)) new
 fails_at {port = port} {start = start} {hertz = hertz} {new = new} sets done' reached failed within next = record {
   usable = tt;
   value = tt;

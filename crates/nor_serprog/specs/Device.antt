@@ -18,7 +18,8 @@ pub record Device : Type 0 where
   pub worn : ℕ → Bool
   -- what the programmer replies to queries and settings
   pub firmware : Firmware
-  -- the type of bus that was selected, and the state of the pin drivers; not specified after a failure of the port
+  -- the type of bus that is selected, and the state of the pin drivers; no clause states them after a failure of the
+  -- port, or after bytes whose effect is not specified (`IsSent`)
   pub settings : ProgrammerSettings
   -- the bytes that the programmer received of a command that is not complete yet
   pub begun : List ℕ

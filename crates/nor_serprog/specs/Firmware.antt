@@ -95,12 +95,13 @@ HasReply firmware (SelectChip number) = has_command firmware 0x16 ≡ true
 HasReply firmware (Operate out replies) = ⊥
 HasReply firmware _ = ⊤
 
--- The settings of a programmer that the commands of this crate change.
+-- Two settings of a programmer: the type of bus that is selected, and the state of its pin drivers. The clock and the
+-- chip select, which S_SPI_FREQ and S_SPI_CS set, are not part of this record.
 pub record ProgrammerSettings : Type 0 where
   -- the flags of the last S_BUSTYPE that the programmer acknowledged; `None` if it acknowledged none
   pub bus_type : Option ℕ
-  -- whether the pin drivers are on: true if the last S_PIN_STATE that the programmer acknowledged switched them on, and
-  -- false if it acknowledged none
+  -- true if the last S_PIN_STATE that the programmer acknowledged switched the pin drivers on; false if it switched
+  -- them off, or if no S_PIN_STATE was acknowledged (a programmer that lacks the command may drive its pins always)
   pub pins_on : Bool
 
 -- The settings after a whole frame of a command. Only S_BUSTYPE and S_PIN_STATE change them, and only if the programmer

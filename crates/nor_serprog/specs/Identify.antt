@@ -120,8 +120,7 @@ select_fault firmware number =
 
 -- ---- the settings that the handshake makes
 
--- The settings after a command that makes one, if the programmer has this command, which has this opcode. Without the
--- command, they are as they were.
+-- The settings after `command`, whose opcode is `opcode`, if the programmer has that opcode; otherwise `settings`.
 abbrev pub settings_if_offered : Firmware → (opcode : ℕ) → Command → ProgrammerSettings → ProgrammerSettings
 settings_if_offered firmware opcode command settings =
     if has_command firmware opcode then settings_after firmware command settings else settings
@@ -135,8 +134,8 @@ prepared_settings firmware settings = record {
 }
 
 -- The state of a port whose programmer was prepared for SPI (`prepared_settings`).
-abbrev pub prepared : PortState → PortState
-prepared port = with_settings (prepared_settings port.device.firmware port.device.settings) port
+abbrev pub prepared_port : PortState → PortState
+prepared_port port = with_settings (prepared_settings port.device.firmware port.device.settings) port
 
 -- ---- the result of the handshake
 
@@ -145,9 +144,9 @@ abbrev pub IsPortFault : {C : Type 0} → HandshakeFault C → Type 0
 IsPortFault (Failure failure) = IsPortFailure failure
 IsPortFault _ = ⊥
 
--- The result of the handshake, or of a part of it that takes at most this number of calls, over an honest port to a
--- programmer that is idle. `fault` is the error that the firmware causes, if any. `old` is the state of the port before
--- it, with the settings that the programmer has after success.
+-- The result of the handshake, or of a part of it that takes at most this number of calls, over an honest port to an
+-- idle programmer. `fault` is the error that the firmware causes, if any. `old` is the state of the port before the
+-- part, except that its settings are those that the programmer has after success.
 pub record Concludes {T C : Type 0} (calls : ℕ) (fault : Option (HandshakeFault C)) (IsValue : T → Type 0)
     (result : Result T (HandshakeFault C)) (old new : PortState) : Type 0 where
   -- after success the firmware causes no error, the value is the right one, the programmer is idle and has the settings

@@ -58,8 +58,8 @@ IsRefused opcode calls left failure = IsRefusal opcode failure ⊎ (IsPortFailur
 -- other than O_SPIOP whose reply is specified. For SYNCNOP, whose reply is NAK and ACK, only `power` says something.
 pub record EndsExchange {C : Type 0} (command : Command) (count : ℕ) (reply : List ℕ) (result : Result Unit (Failure C))
     (old new : PortState) : Type 0 where
-  -- if the programmer replies ACK and `count` bytes: success with these bytes, and the programmer is idle and has made
-  -- the setting of the command, if the command is one; or the port failed because fewer than three calls were left
+  -- if the programmer replies ACK and `count` bytes: success with these bytes, and the programmer is idle, with the
+  -- settings after the command (`settings_after`); or the port failed because fewer than three calls were left
   pub acked : (bytes : List ℕ) → reply_of old.device.firmware command ≡ 0x06 ∷ bytes → count ≡ length bytes
       → OnOk result ((reply ≡ bytes) × OnlyAsks 3
       (with_settings (settings_after old.device.firmware command old.device.settings) old) new)

@@ -8,7 +8,7 @@ ghost use Rattle.nor_serprog.specs.Frame.{frame_of, three_of};
 ghost use Rattle.nor_serprog.specs.Link.{port_of, is_in_step, is_cut};
 ghost use Rattle.nor_serprog.specs.Replies.{AwaitsCommand};
 ghost use Rattle.nor_serprog.specs.Identify.{Asked, Concludes, IsInStepWith, IsProgrammerOf, identify_fault, select_fault};
-ghost use Rattle.nor_serprog.specs.Identify.{prepared, settings_if_offered};
+ghost use Rattle.nor_serprog.specs.Identify.{prepared_port, settings_if_offered};
 ghost use Rattle.nor_serprog.specs.Identify.{version_fault, operation_fault, buses_fault, write_fault, read_fault};
 ghost use Rattle.nor_serprog.specs.Identify.{buffer_fault, clock_fault, refused, buses_of, write_limit, read_limit, limit_in};
 
@@ -55,11 +55,13 @@ impl Programmer {
     /// A step whose command the programmer's map lacks is skipped. It is an error, however, if `hertz` is given and the
     /// map lacks S_SPI_FREQ. (serprog protocol, flashrom's Documentation/serprog-protocol.txt.)
     ///
-    /// Over an honest port to an idle programmer, its firmware determines the result, unless the port fails because
-    /// fewer than 59 calls were left. The errors are those of `identify_fault`, in the order of the steps. After `Ok`
-    /// the programmer is idle again, and its chip is as it was. SPI is selected if the programmer has S_BUSTYPE. The
-    /// pin drivers are on if the programmer has S_PIN_STATE. Without the command, a setting is as it was. Nothing of
-    /// this paragraph is promised for a link on which a frame may have been cut off.
+    /// If the port is honest, the programmer is idle, and no frame may have been cut off on the link, the firmware
+    /// determines the result, unless the port fails because fewer than 59 calls were left. The errors are those of
+    /// `identify_fault`, in the order of the steps. Under these premises, after `Ok`:
+    ///
+    /// - The programmer is idle again, and its chip is as it was.
+    /// - SPI is selected if the programmer has S_BUSTYPE; otherwise the type of bus is as it was.
+    /// - The pin drivers are on if the programmer has S_PIN_STATE; otherwise their state is as it was.
     pub fn identify<P: Port + Drop>(
         link: &mut Link<P>,
         hertz: Option<u32>,
@@ -68,7 +70,7 @@ impl Programmer {
         ensures identifies { AwaitsCommand (P.state (port_of link.old)) → is_cut link.old ≡ false
             → Concludes 59 (identify_fault (P.state (port_of link.old)).device.firmware hertz)
             (IsProgrammerOf (P.state (port_of link.old)).device.firmware hertz) result
-            (prepared (P.state (port_of link.old))) (P.state (port_of link.new)) }
+            (prepared_port (P.state (port_of link.old))) (P.state (port_of link.new)) }
     {
         synchronize(link)?;
         require_version(link)?;

@@ -107,7 +107,8 @@ save_errors request image identity code old mid new vault vault' (Protected addr
     errors old.chip (opening_of is opens) (shows request identity old mid is only_reads opens) accepts
 save_errors request image identity code old mid new vault vault' _ is only_reads opens accepts rose errors = absurd errors
 
--- a stop of the scan means that the chip's identification and scan needed more transactions than were left
+-- on a modelled bus, a stop of the scan means that at the start fewer transactions were left than the bound of an
+-- identification and this scan (`most_reads`)
 pub save_early : (request : Request) (image : List ℕ) (identity : Identity) (code : ℕ) (old mid new : BusState)
     → IsModelled old → OnlyReads most_identity old mid → ReadsIdentity request.named old mid identity
     → SaveErrors request identity code image mid new Stopped

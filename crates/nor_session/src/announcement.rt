@@ -1,4 +1,4 @@
-//! What a session or restore announces before it changes the chip.
+//! The announcement that a session or restore makes before it changes the chip.
 ghost use Rattle.std.specs.Prelude.{◌≡◌};
 ghost use Rattle.nor_apply.specs.Applying.{AreConsistent};
 ghost use Rattle.nor_session.specs.Announcing.{announcement_of};
@@ -6,15 +6,15 @@ ghost use Rattle.nor_session.specs.Announcing.{announcement_of};
 use nor_apply::Changes;
 use nor_plan::erases;
 
-/// What a session or restore is about to do: the number of touched sectors, in which bytes will change, and the number
-/// of erases that it will send.
+/// The numbers that a session or restore announces: sectors in which bytes will change (touched), and erases to send.
 #[derive(Clone, Copy, Debug, PartialEq, Eq)]
 pub struct Announcement {
     pub touched: u32,
     pub erases: u32,
 }
 
-/// Calls `announce` with the number of touched sectors, which is given, and the number of erases that `changes` takes.
+/// Calls `announce` with `touched`, which must be the number of touched sectors, and the number of erases that `changes`
+/// needs. `announce` must accept every announcement.
 pub(crate) fn announce_changes<F: FnOnce(Announcement)>(
     announce: F,
     changes: &Changes,

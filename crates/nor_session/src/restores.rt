@@ -40,12 +40,14 @@ pub fn restore<B: Bus>(bus: &mut B, journal: &Journal<'_>) -> Result<Report, Ref
     restore_announced(bus, journal, |_| ())
 }
 
-/// Runs a restore as `restore` does, with the same promises. In addition it calls `announce` before the first modifying
-/// command, with the numbers of touched sectors and of erases: a saved sector is touched if its bytes on the chip are
-/// not the saved ones.
+/// Runs a restore as `restore` does, with the same promises. `announce` must accept every announcement. Before the
+/// first modifying command it receives the numbers of touched sectors and of erases, even if both are 0. A saved sector
+/// is touched if its bytes, as read from the chip, are not the saved ones. A restore that refuses the chip makes no
+/// announcement.
 ///
-/// A restore that refuses the chip makes no announcement. After success the announced numbers are those of the report.
-/// An announcement of 0 touched sectors doesn't exclude a status write.
+/// The clause `announces` states for every bus that an announcement was made or no modifying command was sent. After
+/// success the announced numbers are those of the report. No clause states that the announcement comes first. A status
+/// write may follow an announcement of 0 touched sectors.
 pub fn restore_announced<B: Bus, F: FnOnce(Announcement) + Drop>(
     bus: &mut B,
     journal: &Journal<'_>,

@@ -53,11 +53,13 @@ pub fn session<B: Bus, V: Vault>(
     session_announced(bus, vault, image, request, |_| ())
 }
 
-/// Runs a session as `session` does, with the same promises. In addition it calls `announce` after the vault is sealed
-/// and before the first modifying command, with the numbers of touched sectors and of erases.
+/// Runs a session as `session` does, with the same promises. `announce` must accept every announcement. After the vault
+/// is sealed, and before the first modifying command, it receives the numbers of touched sectors and of erases, even if
+/// both are 0. A call that returns before the seal does not call `announce`.
 ///
-/// A call that returns before the seal makes no announcement. After success the announced numbers are those of the
-/// report. An announcement of 0 touched sectors doesn't exclude a status write.
+/// The clause `announces` states for every bus that an announcement was made or no modifying command was sent. After
+/// success the announced numbers are those of the report. No clause states that the announcement comes first. A status
+/// write may follow an announcement of 0 touched sectors.
 pub fn session_announced<B: Bus, V: Vault, F: FnOnce(Announcement) + Drop>(
     bus: &mut B,
     vault: &mut V,

@@ -84,8 +84,8 @@ len_some (opcode ∷ rest) =
     either_some (opcode == 0x13 || opcode == 0x0D) (long_len rest) (Some (1 + argument_count opcode)) (long_some rest)
     (omega arith)
 
--- The frames of `later` are left. The replies to the earlier commands are among `now`, and the type of bus that they
--- select is `bus'`.
+-- The frames of `later` are left, and `now` has the replies to the earlier commands. From `bus'` the later commands
+-- lead to the same type of bus as all commands do from `bus`.
 pub record Remains (rest before now : List ℕ) (bus bus' : Option ℕ) (commands : List Command) : Type 0 where
   pub later : List Command
   pub frames : rest ≡ frames_of later
@@ -196,7 +196,7 @@ no_frame rest len (command ∷ later) is short frames have =
     is ∙ ap (λ (o : Option ℕ). unwrap_or o 18446744073709551615) known in
     absurd (omega (arith, short, len_of, ap length frames, length-append (frame_of command) (frames_of later)))
 
--- The replies to all of these commands are among `now`, and the type of bus that they select is `bus'`.
+-- `now` is `before` and then the replies to these commands, which change the type of bus from `bus` to `bus'`.
 pub record AreAnswered (before now : List ℕ) (bus bus' : Option ℕ) (commands : List Command) : Type 0 where
   pub replies : now ≡ before ++ replies_of simulated_firmware commands
   pub settings : simulated_settings bus' ≡ settings_after_all simulated_firmware commands (simulated_settings bus)

@@ -56,7 +56,7 @@ pub enum SimFailure {
 pub struct SimPort {
     chip: SimBus,
     pending: ArrayVec<u8, MOST_PENDING>,
-    // The flags of the last S_BUSTYPE.
+    // The flags of the last S_BUSTYPE, or `None` if there was none.
     bus_type: Option<u8>,
     left: u64,
 }
@@ -227,8 +227,8 @@ fn cut(chip: &mut SimBus, out: &[u8])
     let _ = chip.transfer(out, &mut []);
 }
 
-// Appends the reply to each of these frames (`reply_to`) to `pending`, and changes `bus_type` as they select a type of
-// bus (`selected_by`). Bytes after the last whole frame are ignored. Returns false if the replies do not fit.
+// Appends the reply to each of these frames (`reply_to`) to `pending`, and stores the type of bus that they select in
+// `bus_type` (`selected_by`). Bytes after the last whole frame are ignored. Returns false if the replies do not fit.
 fn reply_to_each(
     pending: &mut ArrayVec<u8, MOST_PENDING>,
     bus_type: &mut Option<u8>,

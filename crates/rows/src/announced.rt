@@ -1,5 +1,5 @@
-//! What sessions and restores announce, and that they do so between the last reading before a change and the first
-//! modifying command.
+//! Tests of announcements: a session or restore announces the right numbers, after the last read of its scan and before
+//! its first modifying command.
 use crate::held::assert_held;
 use crate::row::{Row, Start};
 use crate::runs::AMPLE;
@@ -26,8 +26,8 @@ const ROWS: [(Row, (u32, u32), (u32, u32), u64); 8] = [
     (Row::AGuardedByteIsProgrammed, (1, 0), (1, 1), 5),
 ];
 
-// The bus to the chip, and the vault, of a row's session that was run with a number of allowed transactions. `seen` is
-// what the session announced.
+// A row's session that was run with a given number of allowed transactions: its bus, its vault, and its announcement if
+// it made one.
 #[derive(Drop)]
 struct Announced {
     bus: SimBus,
@@ -66,7 +66,7 @@ impl Announced {
 }
 
 // Returns the announcement of these numbers of touched sectors and of erases.
-fn of((touched, erases): (u32, u32)) -> Option<Announcement> {
+fn announcement((touched, erases): (u32, u32)) -> Option<Announcement> {
     Some(Announcement { touched, erases })
 }
 
@@ -76,8 +76,8 @@ fn a_session_announces_before_it_changes(rt: HostRuntime) {
         let sealed = row.sealed_at(Start::IDLE);
         for (allowed, announced) in [
             (sealed.saturating_sub(1), None),
-            (sealed, of(numbers)),
-            (AMPLE, of(numbers)),
+            (sealed, announcement(numbers)),
+            (AMPLE, announcement(numbers)),
         ] {
             let run = Announced::session(&rt, rt.alloc(), row, allowed);
             assert_held(&rt, run.seen == announced, allowed);
@@ -93,9 +93,9 @@ fn a_restore_announces_before_it_changes(rt: HostRuntime) {
         let mut run = Announced::session(&rt, rt.alloc(), row, AMPLE);
         for (allowed, announced) in [
             (scanned.saturating_sub(1), None),
-            (scanned, of(numbers)),
-            (AMPLE, of(numbers)),
-            (AMPLE, of((0, 0))),
+            (scanned, announcement(numbers)),
+            (AMPLE, announcement(numbers)),
+            (AMPLE, announcement((0, 0))),
         ] {
             let seen = run.restore(&rt, allowed);
             assert_held(&rt, seen == announced, allowed);

@@ -36,7 +36,7 @@ returns-in_err-prepared g c =
           let returned = returned modelled errors in
           let leaves = leaves_after_reads journal most old new (only_reads.honest_reads modelled.honest) in
           search (rules, none_written);
-      announces = record { first = inr only_reads.sent; truly = tt };
+      announces = record { announced_or_unsent = inr only_reads.sent; as_reported = tt };
     })
 
 -- all clauses, if the changes or their check failed
@@ -72,7 +72,7 @@ returns-in_err-work g c =
             (no_write prepared.changes (λ writes. none ((are.is.modelled modelled).needed writes)));
         spares = search rules;
       };
-      announces = record { first = inl (_, c.announce_changes.ensures); truly = tt };
+      announces = record { announced_or_unsent = inl (_, c.announce_changes.ensures); as_reported = tt };
     })
 
 -- the sum of the transactions in the report doesn't overflow
@@ -115,5 +115,8 @@ returns g c =
             (no_write prepared.changes (λ writes. none ((are.is.modelled modelled).needed writes)));
         spares = λ none. restored_sparing journal prepared old mid new work sent are does (omega arith) modelled none;
       };
-      announces = record { first = inl (_, c.announce_changes.ensures); truly = rw does.erases c.announce_changes.ensures };
+      announces = record {
+        announced_or_unsent = inl (_, c.announce_changes.ensures);
+        as_reported = rw does.erases c.announce_changes.ensures;
+      };
     }
