@@ -68,7 +68,7 @@ def locks_the_device(start):
     bench = start()
     with open(bench.path("dev"), "rb", buffering=0) as other:
         fcntl.flock(other, fcntl.LOCK_EX)
-        refuse(bench, "DEV is in use by another program. End that program first.", number=3)
+        refuse(bench, "DEV is in use by another program. Wait until that program has ended.", number=3)
         bench.check_nothing_sent()
     bench.expect(out=[reference.found("TINY64")])
 

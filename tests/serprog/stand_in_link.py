@@ -112,7 +112,7 @@ class Link:
             if MISTAKE != "does not lock":
                 fcntl.flock(device, fcntl.LOCK_EX | fcntl.LOCK_NB)
         except BlockingIOError:
-            raise Fault(f"Programmer fault 3: {path} is in use by another program. End that program first.") from None
+            raise Fault(f"Programmer fault 3: {path} is in use by another program. Wait until that program has ended.") from None
         return device
 
     def forget(self):

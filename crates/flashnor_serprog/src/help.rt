@@ -34,7 +34,7 @@ Examples: read the chip; write an image and keep a journal; restore the chip:
 
 Usage fault 1: an argument is not an option, or an option lacks its value
 Usage fault 2: there is no -p
-Usage fault 3: the text of -p isn't serprog: with known keys, dev= among them
+Usage fault 3: -p isn't serprog: with dev= and only known keys with valid values
 Usage fault 4: there is more than one operation
 Usage fault 5: --wp-range needs two numbers, decimal or 0x..
 Usage fault 6: -w, -E, --wp-range need --journal, and nothing else takes it

@@ -147,7 +147,7 @@ impl ProgrammerFault {
                 Remedy::Do("Check its name, and that you may read and write it.")
             }
             ProgrammerFault::NoDevice => Remedy::Do("Name the serial port of the programmer."),
-            ProgrammerFault::InUse => Remedy::Do("End that program first."),
+            ProgrammerFault::InUse => Remedy::Do("Wait until that program has ended."),
             ProgrammerFault::Handshake(fault) => help_for(fault),
         }
     }
