@@ -13,8 +13,8 @@ pub struct Announcement {
     pub erases: u32,
 }
 
-/// Calls `announce` with `touched`, which must be the number of touched sectors, and the number of erases that `changes`
-/// needs. `announce` must accept every announcement.
+/// Calls `announce` with `touched`, which must be the number of touched sectors, and the number of erases that
+/// `changes` needs. `announce` must accept every announcement.
 pub(crate) fn announce_changes<F: FnOnce(Announcement)>(
     announce: F,
     changes: &Changes,
