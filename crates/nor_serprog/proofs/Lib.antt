@@ -7,3 +7,4 @@ pub mod Synchronized
 pub mod Handshaken
 pub mod Stops
 pub mod Held
+pub mod StatusRead

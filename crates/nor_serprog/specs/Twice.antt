@@ -1,9 +1,10 @@
 -- A bus that reads data twice, as contracts see it.
-use Rattle.std.specs.Prelude.{◌≡◌, ◌==◌, ℕ, Bool, false, Option, None, Some, length, List, [], ◌∷◌}
+use Rattle.std.specs.Prelude.{◌≡◌, ◌==◌, ◌||◌, ℕ, Bool, false, Option, None, Some, length, List, [], ◌∷◌}
 use Rattle.std.proofs.Common.{Vec, Global}
 use Rattle.nor_serprog.specs.ReadsAs.{address_in, part, view_of}
 use Rattle.nor_model.specs.Bus.{BusState, Carries}
 use Rattle.nor_model.specs.Exchange.{Exchange}
+use Rattle.nor_model.specs.History.{replied}
 use Rattle.nor_serprog.specs.declared.twice.ReadTwice.{ReadTwice}
 
 -- The bus inside.
@@ -34,13 +35,18 @@ history_of twice = twice.history.exchanges
 abbrev pub twice_state : {B : Type 0} → (inside : B → BusState) → ReadTwice B → BusState
 twice_state inside twice = view_of (inside (twice_of twice)) (history_of twice)
 
--- True if the first byte of a transaction is 03h, the opcode of a read of data, whatever follows.
+-- True if the first byte of a transaction is the opcode of a read of data (03h), of the ID (9Fh), of SFDP (5Ah) or of
+-- the unique ID (4Bh), whatever follows.
 abbrev pub begins_read : (out : List ℕ) → Bool
 begins_read [] = false
-begins_read (opcode ∷ rest) = opcode == 0x03
+begins_read (opcode ∷ rest) = opcode == 0x03 || opcode == 0x9F || opcode == 0x5A || opcode == 0x4B
 
 -- The same reply was read twice, by two transactions, one after the other.
 pub record ReadsTwice (out answer : List ℕ) (old new : BusState) : Type 0 where
   pub between : BusState
   pub first : Carries out answer old between
   pub again : Carries out answer between new
+
+-- The last two transactions since `old` sent the same bytes and had the same reply; nothing else was sent.
+abbrev pub EndsTwice : (out answer : List ℕ) → (old new : List Exchange) → Type 0
+EndsTwice out answer old new = new ≡ replied out answer ∷ replied out answer ∷ old

@@ -11,7 +11,8 @@
 //! - `batching.rt`: a bus that sends modifying commands together with the next transaction
 //! - `ahead.rt`: a bus that reads ahead
 //! - `paced.rt`: a bus that pauses between polls of a busy chip
-//! - `twice.rt`: a bus that reads data twice and compares the replies
+//! - `twice.rt`: a bus that reads IDs, SFDP and data twice and compares the replies
+//! - `status.rt`: a bus that reads the status registers twice, and checks status writes
 #![tactic(auto)]
 
 mod ahead;
@@ -24,6 +25,7 @@ mod link;
 mod paced;
 mod port;
 mod programmer;
+mod status;
 mod twice;
 
 pub use ahead::ReadAhead;
@@ -34,4 +36,5 @@ pub use link::{Failure, Link, Sync};
 pub use paced::Paced;
 pub use port::Port;
 pub use programmer::{HandshakeFault, Programmer};
+pub use status::{CheckedStatus, StatusFault};
 pub use twice::ReadTwice;

@@ -1,11 +1,11 @@
-//! A bus that reads data twice.
+//! A bus that reads IDs, SFDP and data twice.
 ghost use Rattle.std.specs.Prelude.{◌≡◌, ◌≢◌, ◌≤◌, ◌⊎◌, ◌∷◌, [], true, false, ℕ, List, length, OnOk, OnErr};
 ghost use Rattle.std.proofs.lemmas.Bool.{false≢true};
 ghost use Rattle.nor_model.specs.Bus.{IsHonestFor, SameNature, Stops, Carries, Records};
 ghost use Rattle.nor_model.specs.History.{exchange_of};
 ghost use Rattle.nor_serprog.specs.ReadsAs.{view_of};
 ghost use Rattle.nor_serprog.specs.Twice.{twice_of, has_differed, expected_of, Expects, begins_read};
-ghost use Rattle.nor_serprog.specs.Twice.{ReadsTwice, history_of, twice_state};
+ghost use Rattle.nor_serprog.specs.Twice.{EndsTwice, ReadsTwice, history_of, twice_state};
 
 use crate::ahead::data_address;
 use nor_model::{Bus, History, Stopped};
@@ -15,18 +15,25 @@ const LONGEST_READ: usize = 65536;
 
 const READ_DATA: u8 = 0x03;
 
-/// A bus that carries out each read of data (each transaction whose first byte is 03h) twice, and stops if the replies
-/// differ. A poor contact flips bits in some reads. Without a second read a flipped bit gets into the journal, and a
-/// restore writes it to the chip. A read of more than 65,536 bytes is rejected: nothing is sent.
+const READ_UNIQUE: u8 = 0x4B;
+
+const READ_SFDP: u8 = 0x5A;
+
+const READ_ID: u8 = 0x9F;
+
+/// A bus that carries out each read of data (03h), of the ID (9Fh), of SFDP (5Ah) and of the unique ID (4Bh) twice, and
+/// stops if the replies differ. A poor contact flips bits in some reads. Without a second read a flipped bit gets into
+/// the journal, and a restore writes it to the chip; or the wrong chip is found. A read of more than 65,536 bytes is
+/// rejected: nothing is sent.
 ///
-/// If an image is expected (`expecting`), a read whose reply equals the image at its address is carried out once. If
-/// that is the image of a session, each sector that its journal saves was read twice: a session saves no sector that
-/// equals its image.
+/// If an image is expected (`expecting`), a read of data whose reply equals the image at its address is carried out
+/// once. If that is the image of a session, each sector that its journal saves was read twice: a session saves no
+/// sector that equals its image.
 ///
 /// An error that is the same in both reads is not detected. A read over this bus may be two transactions over the bus
-/// inside, so this bus is not honest as `Bus` defines it, even if the bus inside is. If the bus inside is honest and
-/// takes a read of this length, a read that succeeds had the same reply twice, or returned the expected bytes. A read
-/// of at most 65,536 bytes then fails only if no transaction is left afterwards.
+/// inside, so this bus is not honest as `Bus` defines it, even if the bus inside is. On any bus, a read that succeeds
+/// had the same reply twice, or returned the expected bytes. If the bus inside is honest and takes a read of this
+/// length, a read of at most 65,536 bytes fails only if no transaction is left afterwards.
 ///
 /// The history has each transaction over this bus with its reply; one that failed or was rejected has none. A read that
 /// the bus inside carried out twice is in the history once. In contracts, what was sent and the result of the last poll
@@ -110,6 +117,8 @@ impl<B: Bus> ReadTwice<B> {
         ensures once { IsHonestFor out.now (length reply.old) (B.state (twice_of self.old))
             → begins_read out.now ≡ false
             → OnOk result (Carries out.now reply.new (B.state (twice_of self.old)) (B.state (twice_of self.new))) }
+        ensures same { begins_read out.now ≡ true → OnOk result (Expects self.old out.now reply.new
+            ⊎ EndsTwice out.now reply.new (B.state (twice_of self.old)).history (B.state (twice_of self.new)).history) }
         ensures twice { IsHonestFor out.now (length reply.old) (B.state (twice_of self.old))
             → begins_read out.now ≡ true → OnOk result (Expects self.old out.now reply.new
             ⊎ ReadsTwice out.now reply.new (B.state (twice_of self.old)) (B.state (twice_of self.new))) }
@@ -121,7 +130,7 @@ impl<B: Bus> ReadTwice<B> {
         ensures expected { expected_of self.new ≡ expected_of self.old }
         ensures remembers { has_differed self.old ≡ true → has_differed self.new ≡ true }
     {
-        if !reads_data(out) {
+        if !is_read(out) {
             return self.bus.transfer(out, reply);
         }
         if reply.len() > LONGEST_READ {
@@ -160,6 +169,8 @@ impl<B: Bus> Bus for ReadTwice<B> {
         ensures once { IsHonestFor out.now (length reply.old) (B.state (twice_of self.old))
             → begins_read out.now ≡ false
             → OnOk result (Carries out.now reply.new (B.state (twice_of self.old)) (B.state (twice_of self.new))) }
+        ensures same { begins_read out.now ≡ true → OnOk result (Expects self.old out.now reply.new
+            ⊎ EndsTwice out.now reply.new (B.state (twice_of self.old)).history (B.state (twice_of self.new)).history) }
         ensures twice { IsHonestFor out.now (length reply.old) (B.state (twice_of self.old))
             → begins_read out.now ≡ true → OnOk result (Expects self.old out.now reply.new
             ⊎ ReadsTwice out.now reply.new (B.state (twice_of self.old)) (B.state (twice_of self.new))) }
@@ -181,12 +192,12 @@ impl<B: Bus> Bus for ReadTwice<B> {
     }
 }
 
-// Returns whether the first byte of a transaction is 03h, the opcode of a read of data. No other byte is looked at, so
-// a transaction without a whole address counts, too.
-fn reads_data(out: &[u8]) -> bool
+// Returns whether a transaction begins with the opcode of a read of data, of an ID or of SFDP. No other byte is looked
+// at, so a transaction without a whole address counts, too.
+fn is_read(out: &[u8]) -> bool
     ensures { result ≡ begins_read out.now }
 {
-    matches!(out, [READ_DATA, ..])
+    matches!(out, [READ_DATA | READ_ID | READ_SFDP | READ_UNIQUE, ..])
 }
 
 fn are_same(first: &[u8], second: &[u8]) -> bool

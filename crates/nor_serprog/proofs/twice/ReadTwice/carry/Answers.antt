@@ -24,7 +24,7 @@ returns-then-not-are_same-clause-no_difference g c honest short =
     let first = c.in_ok-transfer.ensures.carries honest in
     let again = c.in_ok-transfer-2.ensures.carries (fits_again _ _ _ _ _ c.transfer-2.ensures.nature
     (grind (arith, common_steps, c.transfer-2.auto.reply)) honest) in
-    let reads = sym c.reads_data.ensures ∙ c.if-not-reads_data.false in
+    let reads = sym c.is_read.ensures ∙ c.if-not-is_read.false in
     let len : length c.transfer-3.new.reply ≡ length c.transfer-2.new.reply =
     grind (arith, common_steps, c.transfer-3.auto.reply, c.transfer-2.auto.reply) in
     absurd (c.are_same.ensures.differ c.if-not-are_same.true

@@ -1,0 +1,337 @@
+//! A bus that believes no status byte that it received once, and checks each status write.
+ghost use Rattle.std.specs.Prelude.{◌≡◌, ◌⊎◌, ◌%◌, ◌||◌, ◌∷◌, [], true, false, length, ℕ, List, None, Some, OnOk, OnErr, IfOk, IfSome};
+ghost use Rattle.std.specs.Option.{ForSome};
+ghost use Rattle.std.proofs.lemmas.Bool.{false≢true};
+ghost use Rattle.nor_model.specs.Bus.{IsHonestFor, SameNature, Stops, Carries, Records};
+ghost use Rattle.nor_model.specs.Command.{begins_change};
+ghost use Rattle.nor_model.specs.History.{exchange_of, replied};
+ghost use Rattle.nor_model.specs.Sent.{with_sent};
+ghost use Rattle.nor_model.specs.Status.{bytes_of};
+ghost use Rattle.nor_serprog.specs.KnownStatus.{KeepsKnown};
+ghost use Rattle.nor_serprog.specs.StatusRead.{HasStored, IsStatusKept, pair, second, was_read_twice};
+
+use nor_model::{Bus, History, Status, Stopped, is_changing};
+
+const WRITE_STATUS: u8 = 0x01;
+
+const READ_STATUS1: u8 = 0x05;
+
+const READ_STATUS2: u8 = 0x35;
+
+const BUSY: u8 = 0x01;
+
+/// The reason why a `CheckedStatus` stopped, if the bus inside did not.
+#[derive(Clone, Copy, Debug, PartialEq, Eq)]
+pub enum StatusFault {
+    /// Two replies to 05h, or two replies to 35h, differed.
+    Differs,
+    /// A status write was not sent. Status 1 or status 2 was not read yet, or the write has other bits than those that
+    /// were read, outside the protection bits, or BUSY, WEL or SUS. Such a write could set a one-time bit.
+    Refused,
+    /// After a status write of `sent`, the chip's status is `found`: a non-volatile bit differs.
+    NotStored { sent: [u8; 2], found: [u8; 2] },
+}
+
+// What is known about the status registers.
+#[derive(Clone, Copy)]
+struct Known {
+    // Status 1 and status 2, as two equal replies had them.
+    one: Option<u8>,
+    two: Option<u8>,
+    // True if a modifying command was passed on.
+    is_changing: bool,
+    // The bytes of a status write that was passed on and is not yet read back.
+    written: Option<[u8; 2]>,
+}
+
+/// A bus that reads status registers twice, refuses status writes that would change other bits than the protection
+/// bits, and reads each status write back.
+///
+/// - A poll (05h with one reply byte) is carried out with two reply bytes, since a chip repeats its status (W25Q64FV
+///   datasheet, Read Status Register). If one of them shows BUSY, that byte is returned. If both show that the chip is
+///   ready, they must be equal. Until the first modifying command, and after a status write, the poll is then carried
+///   out a second time, with the same reply.
+/// - Status 2 (35h with one reply byte) is read twice, with the same reply.
+/// - A status write (01h) is passed on only if both status registers were read in this way before, and if outside the
+///   protection bits it has the bits that were read: SRP0, SRP1, QE, the reserved bit, and the one-time bits LB1, LB2
+///   and LB3. BUSY, WEL and SUS must be clear. Otherwise nothing is sent.
+/// - After a status write, the first poll that shows that the chip is ready also reads status 2, twice. If a
+///   non-volatile bit isn't as it was sent, the poll returns `Stopped`.
+///
+/// `fault` says why the bus stopped if the bus inside did not.
+///
+/// A transaction over this bus may be several over the bus inside, so this bus is not honest as `Bus` defines it, even
+/// if the bus inside is. The history has each transaction over this bus with its reply; one that failed or was refused
+/// has none.
+#[derive(Drop)]
+pub struct CheckedStatus<B: Bus + Drop> {
+    bus: B,
+    known: Known,
+    fault: Option<StatusFault>,
+    history: History,
+    // The bytes that are known were the replies of the bus inside.
+    ghost one_read: { ForSome known.one (λ byte. was_read_twice 0x05 byte (B.state bus).history ≡ true) },
+    ghost two_read: { ForSome known.two (λ byte. was_read_twice 0x35 byte (B.state bus).history ≡ true) },
+}
+
+impl<B: Bus + Drop> CheckedStatus<B> {
+    ghost use Rattle.nor_serprog.specs.CheckedStatus.{bus_of, history_of, has_begun, written_of};
+
+    /// Returns a bus that checks the status registers over `bus`.
+    pub fn new(bus: B) -> CheckedStatus<B>
+        ensures bus { bus_of result ≡ bus }
+        ensures begun { has_begun result ≡ false }
+        ensures written { written_of result ≡ None }
+        ensures history { history_of result ≡ [] }
+    {
+        CheckedStatus {
+            bus,
+            known: Known {
+                one: None,
+                two: None,
+                is_changing: false,
+                written: None,
+            },
+            fault: None,
+            history: History::new(),
+        }
+    }
+
+    /// Returns the bus inside.
+    pub fn inner(&self) -> &B
+        ensures { result.now ≡ bus_of self.now }
+    {
+        &self.bus
+    }
+
+    /// Returns the reason of the last stop, if the bus inside did not stop there.
+    pub fn fault(&self) -> Option<StatusFault> {
+        self.fault
+    }
+}
+
+impl<B: Bus + Drop> CheckedStatus<B> {
+    ghost use Rattle.nor_serprog.specs.CheckedStatus.{IsWritten, KeepsTask, PollAgrees, has_begun, history_of, inside_of, known_of, written_of};
+
+    // Makes one transaction over the bus inside. What is known stays.
+    fn pass(&mut self, out: &[u8], reply: &mut [u8]) -> Result<(), Stopped>
+        ensures history { history_of self.new ≡ history_of self.old }
+        ensures known { known_of self.new ≡ known_of self.old }
+        ensures carried { (inside_of self.new).history
+            ≡ exchange_of out.now reply.new result ∷ (inside_of self.old).history }
+        ensures sent { (inside_of self.new).sent ≡ with_sent out.now (inside_of self.old).sent }
+    {
+        self.bus.transfer(out, reply)
+    }
+
+    // Records why the bus stops.
+    fn stop(&mut self, fault: StatusFault) -> Stopped
+        ensures history { history_of self.new ≡ history_of self.old }
+        ensures known { known_of self.new ≡ known_of self.old }
+        ensures inside { inside_of self.new ≡ inside_of self.old }
+    {
+        self.fault = Some(fault);
+        Stopped
+    }
+
+    // Polls once, with two reply bytes. Returns one of them that shows BUSY, or else the byte that both of them are.
+    fn poll_once(&mut self) -> Result<u8, Stopped>
+        ensures history { history_of self.new ≡ history_of self.old }
+        ensures known { known_of self.new ≡ known_of self.old }
+        ensures sent { (inside_of self.new).sent ≡ (inside_of self.old).sent }
+        ensures ready { IfOk result (λ status. status % 2 ≡ 0
+            → (inside_of self.new).history ≡ pair status ∷ (inside_of self.old).history) }
+    {
+        let mut bytes = [0; 2];
+        self.pass(&[READ_STATUS1], &mut bytes)?;
+        let [first, last] = bytes;
+        if first & BUSY != 0 {
+            return Ok(first);
+        }
+        if last & BUSY != 0 {
+            return Ok(last);
+        }
+        if first != last {
+            return Err(self.stop(StatusFault::Differs));
+        }
+        Ok(first)
+    }
+
+    // Reads status 2 twice. Returns the byte, which both replies had.
+    fn read_second(&mut self) -> Result<u8, Stopped>
+        ensures history { history_of self.new ≡ history_of self.old }
+        ensures known { KeepsTask (known_of self.old) (known_of self.new) }
+        ensures sent { (inside_of self.new).sent ≡ (inside_of self.old).sent }
+        ensures twice { IfOk result (λ status. (inside_of self.new).history
+            ≡ second status ∷ second status ∷ (inside_of self.old).history) }
+    {
+        let mut first = [0];
+        let mut last = [0];
+        self.pass(&[READ_STATUS2], &mut first)?;
+        self.pass(&[READ_STATUS2], &mut last)?;
+        if first != last {
+            return Err(self.stop(StatusFault::Differs));
+        }
+        self.known.two = Some(first[0]);
+        Ok(first[0])
+    }
+
+    // Polls until two replies are equal, if the chip is ready and the caller needs to believe its status. Returns
+    // status 1.
+    fn poll(&mut self) -> Result<u8, Stopped>
+        ensures history { history_of self.new ≡ history_of self.old }
+        ensures begun { has_begun self.new ≡ has_begun self.old }
+        ensures sent { (inside_of self.new).sent ≡ (inside_of self.old).sent }
+        ensures agrees { IfOk result (λ status. status % 2 ≡ 0
+            → PollAgrees (known_of self.old) status (inside_of self.old).history (inside_of self.new).history) }
+        ensures waits { IfOk result (λ status. status % 2 ≡ 1 → written_of self.new ≡ written_of self.old) }
+    {
+        let status = self.poll_once()?;
+        if status & BUSY != 0 || self.known.is_changing && self.known.written.is_none() {
+            return Ok(status);
+        }
+        let again = self.poll_once()?;
+        if again != status {
+            return Err(self.stop(StatusFault::Differs));
+        }
+        self.known.one = Some(status);
+        self.read_back(status)?;
+        Ok(status)
+    }
+
+    // If a status write is to be read back, reads status 2, and compares it and `one`, which is status 1, with what was
+    // sent.
+    fn read_back(&mut self, one: u8) -> Result<(), Stopped>
+        ensures history { history_of self.new ≡ history_of self.old }
+        ensures begun { has_begun self.new ≡ has_begun self.old }
+        ensures sent { (inside_of self.new).sent ≡ (inside_of self.old).sent }
+        ensures none { written_of self.old ≡ None → OnOk result (self.new ≡ self.old) }
+        ensures stored { (sent : List ℕ) → written_of self.old ≡ Some sent → OnOk result
+            (HasStored sent one (inside_of self.old).history (inside_of self.new).history) }
+    {
+        let Some(sent) = self.known.written else {
+            return Ok(());
+        };
+        let two = self.read_second()?;
+        let found = [one, two];
+        if !are_same(Status::of(found).kept(), Status::of(sent).kept()) {
+            return Err(self.stop(StatusFault::NotStored { sent, found }));
+        }
+        self.known.written = None;
+        Ok(())
+    }
+
+    // Passes a status write on, if both status registers were read and it keeps the bits that are not protection bits.
+    fn write(&mut self, out: &[u8], reply: &mut [u8]) -> Result<(), Stopped>
+        ensures history { history_of self.new ≡ history_of self.old }
+        ensures kept { (inside_of self.new ≡ inside_of self.old) ⊎ IsStatusKept out.now (inside_of self.old).history }
+        ensures sent { ((inside_of self.new).sent ≡ (inside_of self.old).sent)
+            ⊎ ((inside_of self.new).sent ≡ with_sent out.now (inside_of self.old).sent) }
+        ensures begun { OnOk result (has_begun self.new ≡ true) }
+        ensures written { OnOk result (IsWritten out.now (written_of self.new)) }
+        ensures carried { OnOk result ((inside_of self.new).history
+            ≡ replied out.now reply.new ∷ (inside_of self.old).history) }
+    {
+        let Some(sent) = kept_status(&self.known, out) else {
+            return Err(self.stop(StatusFault::Refused));
+        };
+        self.known.is_changing = true;
+        self.known.written = Some(sent);
+        self.pass(out, reply)
+    }
+}
+
+impl<B: Bus + Drop> CheckedStatus<B> {
+    ghost use Rattle.nor_serprog.specs.CheckedStatus.{BelievesStatus, SendsKept, history_of, inside_of, known_of};
+
+    // Makes one transaction, and does not add it to the history.
+    fn carry(&mut self, out: &[u8], reply: &mut [u8]) -> Result<(), Stopped>
+        ensures history { history_of self.new ≡ history_of self.old }
+        ensures sends { SendsKept out.now (inside_of self.old) (inside_of self.new) }
+        ensures believes { OnOk result (BelievesStatus out.now reply.new (known_of self.old) (known_of self.new)
+            (inside_of self.old).history (inside_of self.new).history) }
+    {
+        match (out, reply.len()) {
+            ([READ_STATUS1], 1) => {
+                reply[0] = self.poll()?;
+                Ok(())
+            }
+            ([READ_STATUS2], 1) => {
+                reply[0] = self.read_second()?;
+                Ok(())
+            }
+            ([WRITE_STATUS, ..], _) => self.write(out, reply),
+            _ => self.pass_on(out, reply),
+        }
+    }
+
+    // Makes a transaction that is neither a poll, nor a read of status 2, nor a status write.
+    fn pass_on(&mut self, out: &[u8], reply: &mut [u8]) -> Result<(), Stopped>
+        ensures history { history_of self.new ≡ history_of self.old }
+        ensures sent { (inside_of self.new).sent ≡ with_sent out.now (inside_of self.old).sent }
+        ensures begun { (known_of self.new).is_changing ≡ ((known_of self.old).is_changing || begins_change out.now) }
+    {
+        if is_changing(out) {
+            self.known.is_changing = true;
+        }
+        self.pass(out, reply)
+    }
+}
+
+impl<B: Bus + Drop> Bus for CheckedStatus<B> {
+    ghost use Rattle.nor_serprog.specs.CheckedStatus.{BelievesStatus, SendsKept, checked_state, inside_of, known_of};
+
+    ghost state = { checked_state };
+
+    ghost reaches = { λ checked honest. absurd (false≢true honest) };
+
+    fn transfer(&mut self, out: &[u8], reply: &mut [u8]) -> Result<(), Stopped>
+        ensures nature { SameNature (checked_state self.old) (checked_state self.new) }
+        ensures stops { IsHonestFor out.now (length reply.old) (checked_state self.old)
+            → OnErr result (Stops out.now (checked_state self.old) (checked_state self.new)) }
+        ensures unread { IsHonestFor out.now (length reply.old) (checked_state self.old)
+            → OnErr result (reply.new ≡ reply.old) }
+        ensures carries { IsHonestFor out.now (length reply.old) (checked_state self.old)
+            → OnOk result (Carries out.now reply.new (checked_state self.old) (checked_state self.new)) }
+        ensures records { Records out.now reply.new result (checked_state self.old) (checked_state self.new) }
+        ensures sends { SendsKept out.now (inside_of self.old) (inside_of self.new) }
+        ensures believes { OnOk result (BelievesStatus out.now reply.new (known_of self.old) (known_of self.new)
+            (inside_of self.old).history (inside_of self.new).history) }
+    {
+        match self.carry(out, reply) {
+            Ok(()) => {
+                self.history = self.history.replied(out, reply);
+                Ok(())
+            }
+            Err(Stopped) => {
+                self.history = self.history.stopped(out);
+                Err(Stopped)
+            }
+        }
+    }
+}
+
+// Returns the two bytes of a status write that keeps the bits which are known, outside the protection bits, and has
+// BUSY, WEL and SUS clear. Returns `None` for any other transaction, and if a status register is not known.
+fn kept_status(known: &Known, out: &[u8]) -> Option<[u8; 2]>
+    ensures { IfSome result (KeepsKnown known.now out.now) }
+{
+    match (out, known.one, known.two) {
+        ([WRITE_STATUS, one, two], Some(one_read), Some(two_read)) => {
+            let sent = Status::of([*one, *two]);
+            let read = Status::of([one_read, two_read]);
+            if are_same(sent.fixed(), read.fixed()) && are_same(sent.kept(), sent) {
+                Some([*one, *two])
+            } else {
+                None
+            }
+        }
+        _ => None,
+    }
+}
+
+fn are_same(one: Status, other: Status) -> bool
+    ensures { result ≡ true → bytes_of one ≡ bytes_of other }
+{
+    one == other
+}
