@@ -1,24 +1,30 @@
 //! Opens the device of a programmer and identifies the programmer.
 
-use crate::port::DevicePort;
+use crate::port::{DevicePort, PortFault};
 use crate::progress::{Shown, Terminal};
 use crate::setting::Setting;
 use crate::trouble::ProgrammerFault;
 use nor_files::LockFile;
-use nor_serprog::{BatchingBus, Link, Paced, Programmer, ReadAhead, ReadTwice};
+use nor_serprog::{
+    BatchingBus, CheckedStatus, Command, HandshakeFault, Link, Paced, Programmer, ReadAhead,
+    ReadTwice,
+};
 use std::fs;
 use std::fs::{File, OpenOptions};
 use std::os::unix::fs::FileTypeExt;
 
-/// The bus to a chip at a serial programmer: commands are sent together, polls are paced, data is read ahead and twice,
-/// and a terminal shows the progress.
+const RELEASE_POWER_DOWN: u8 = 0xAB;
+
+/// The bus to a chip at a serial programmer: commands are sent together, polls are paced, status registers are read
+/// twice and checked, IDs, SFDP and data are read twice, data is read ahead, and a terminal shows the progress.
 pub type ChipBus<'a> = Shown<
     'a,
-    ReadAhead<ReadTwice<Paced<BatchingBus<DevicePort>, &'a HostRuntime>>>,
+    ReadAhead<ReadTwice<CheckedStatus<Paced<BatchingBus<DevicePort>, &'a HostRuntime>>>>,
 >;
 
 /// Opens and locks the device, identifies the programmer, sets its clock if `spispeed=` is given, and sets its chip
-/// select if `cs=` is given. Sends no transaction. Returns a programmer fault from 1 to 11 if one of these steps fails.
+/// select if `cs=` is given. Then wakes the chip, and sends no other transaction. Returns a programmer fault from 1 to
+/// 11 if one of these steps fails.
 ///
 /// If `image` is given, data that equals `image` is read once. It must be the image that the job writes or compares:
 /// then no data that was read once gets into a journal.
@@ -37,13 +43,25 @@ pub fn connect<'a>(
             .select_chip(&mut link, chip_select)
             .map_err(ProgrammerFault::Handshake)?;
     }
+    wake(&mut link).map_err(ProgrammerFault::Handshake)?;
     let longest_read = programmer.longest_read();
-    let bus = Paced::new(BatchingBus::new(link, programmer), rt);
+    let bus = CheckedStatus::new(Paced::new(BatchingBus::new(link, programmer), rt));
     let bus = match image {
         Some(image) => ReadTwice::expecting(bus, image),
         None => ReadTwice::new(bus),
     };
     Ok(Shown::new(ReadAhead::new(bus, longest_read), Terminal::new(rt)))
+}
+
+// Sends ABh, which wakes a chip in deep power-down; any other chip ignores it. The chip is awake after 3 microseconds,
+// before the next frame can reach it (W25Q64FV datasheet, Release Power-down).
+fn wake(link: &mut Link<DevicePort>) -> Result<(), HandshakeFault<PortFault>> {
+    let release = Command::Operate {
+        out: &[RELEASE_POWER_DOWN],
+        replies: 0,
+    };
+    link.exchange(release, &mut [])
+        .map_err(HandshakeFault::Failure)
 }
 
 // Opens the device, and locks it against a second run. Returns `NoDevice` and opens nothing if the file is no character

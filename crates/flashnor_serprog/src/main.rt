@@ -13,6 +13,7 @@
 //! - `progress.rt`: a bus that prints the progress of a job to standard error
 //! - `connect.rt`: opens the device and identifies the programmer
 //! - `jobs.rt`: performs a job on the chip
+//! - `status_line.rt`: the lines for a status write that was refused, or that the chip did not store
 //! - `trouble.rt`: the reasons why a run ends early, and their printed lines
 #![tactic(auto)]
 
@@ -25,6 +26,7 @@ mod roles;
 mod run;
 mod setting;
 mod sources;
+mod status_line;
 mod trouble;
 
 use nor_lines::{by_line, keep_streams};

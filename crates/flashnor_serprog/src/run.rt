@@ -235,9 +235,11 @@ fn changes(task: &Task<'_>) -> bool
 // Prints the line that follows error 12: the cause, and advice. `changes` is true if the job may change the chip.
 fn print_cause<E: Write>(errors: &mut E, bus: &ChipBus<'_>, changes: bool) {
     let twice = bus.inner().inner();
+    let checked = twice.inner();
     let line = StopLine {
+        failure: checked.inner().inner().cause(),
+        status: checked.fault(),
         differed: twice.differed(),
-        failure: twice.inner().inner().cause(),
         changes,
     };
     let _ = writeln!(errors, "{line}");

@@ -3,8 +3,9 @@ ghost use Rattle.std.specs.Prelude.{◌≡◌};
 
 use crate::port::PortFault;
 use crate::setting::WrongSetting;
+use crate::status_line::{DIFFERED, StatusLine};
 use nor_lines::{Escaped, Fault};
-use nor_serprog::{Failure, HandshakeFault};
+use nor_serprog::{Failure, HandshakeFault, StatusFault};
 use nor_words::UsageFault;
 use std::fmt;
 
@@ -223,21 +224,23 @@ impl fmt::Display for FailureText<'_> {
 /// The line that follows the line of error 12. It has the reason why the bus stopped, and advice.
 #[derive(Drop)]
 pub struct StopLine<'a> {
-    /// True if two reads of the same bytes differed.
-    pub differed: bool,
     /// The reason why a transaction failed, if one did.
     pub failure: Option<&'a Failure<PortFault>>,
+    /// What was wrong with a status register or a status write, if something was.
+    pub status: Option<StatusFault>,
+    /// True if two reads of the same bytes differed.
+    pub differed: bool,
     /// True if the job is a change or a restore, so that the chip may be changed.
     pub changes: bool,
 }
 
 impl fmt::Display for StopLine<'_> {
     fn fmt<W: fmt::Write>(&self, f: &mut fmt::Formatter<W>) -> fmt::Result {
-        f.write_str("Cause: ")?;
-        match self.failure {
-            Some(failure) => write!(f, "{}. {UNPLUG}", FailureText(failure))?,
-            None if self.differed => write!(f, "{DIFFERED}")?,
-            None => f.write_str("unknown.")?,
+        match (self.failure, self.status) {
+            (Some(failure), _) => write!(f, "Cause: {}. {UNPLUG}", FailureText(failure))?,
+            (None, Some(fault)) => write!(f, "{}", StatusLine(fault))?,
+            (None, None) if self.differed => f.write_str(DIFFERED)?,
+            (None, None) => f.write_str("Cause: unknown.")?,
         }
         if self.changes {
             f.write_str(" Then restore the chip with --restore and the journal.")?;
@@ -247,6 +250,3 @@ impl fmt::Display for StopLine<'_> {
 }
 
 const UNPLUG: &str = "Disconnect the programmer from power for a second before the next run.";
-
-const DIFFERED: &str =
-    "two reads of the same bytes differ. Lower the clock (spispeed=), shorten the wires, and try again.";
