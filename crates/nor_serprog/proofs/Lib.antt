@@ -8,3 +8,4 @@ pub mod Handshaken
 pub mod Stops
 pub mod Held
 pub mod StatusRead
+pub mod Splits

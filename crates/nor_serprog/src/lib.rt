@@ -11,6 +11,8 @@
 //! - `batching.rt`: a bus that sends modifying commands together with the next transaction
 //! - `ahead.rt`: a bus that reads ahead
 //! - `paced.rt`: a bus that pauses between polls of a busy chip
+//! - `parts.rt`: reads and programs that are carried out in parts
+//! - `splitting.rt`: a bus that splits transactions to the limits of a programmer
 //! - `twice.rt`: a bus that reads IDs, SFDP and data twice and compares the replies
 //! - `status.rt`: a bus that reads the status registers twice, and checks status writes
 #![tactic(auto)]
@@ -23,8 +25,10 @@ mod command;
 mod handshake;
 mod link;
 mod paced;
+mod parts;
 mod port;
 mod programmer;
+mod splitting;
 mod status;
 mod twice;
 
@@ -36,5 +40,6 @@ pub use link::{Failure, Link, Sync};
 pub use paced::Paced;
 pub use port::Port;
 pub use programmer::{HandshakeFault, Programmer};
+pub use splitting::SplittingBus;
 pub use status::{CheckedStatus, StatusFault};
 pub use twice::ReadTwice;
