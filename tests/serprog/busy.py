@@ -11,7 +11,7 @@ from typing import NamedTuple
 
 import reference
 from bench import Bench, Differs, check
-from chip import PARTS, SECTOR
+from chip import PARTS, SECTOR, WAKE
 from losses import FEW, MANY, STOPPED, chip_images
 
 # How long the operation lasts in which a run is stopped, in seconds. If it has ended before the restore begins, because
@@ -70,7 +70,7 @@ def small(changed):
     old, new = chip_images(changed)
     return Session("TINY64", ("-w", "new"), changed, old, new, b"\0\0", b"\0\0",
                    operations(reference.session("TINY64", old, new)),
-                   operations(reference.restore("TINY64", new, old, changed)))
+                   operations(reference.restore("TINY64", old, changed)))
 
 
 def erasing():
@@ -79,7 +79,7 @@ def erasing():
     old = b"\0" + old[1:]
     new = b"\xff" * len(old)
     return Session("TINY64", ("-E",), tuple(ALL), old, new, b"\0\0", b"\0\0", 1,
-                   operations(reference.restore("TINY64", new, old, ALL)))
+                   operations(reference.restore("TINY64", old, ALL)))
 
 
 def unlocking():
@@ -99,7 +99,7 @@ def unlocking():
     old, new = bytes(old), bytes(new)
     return Session("W25Q64FV", words, BLOCK, old, new, b"\x1c\x02", b"\x1c\x02",
                    operations(reference.session("W25Q64FV", old, new, BLOCK)) + 2,
-                   operations(reference.restore("W25Q64FV", new, old, BLOCK)) + 2)
+                   operations(reference.restore("W25Q64FV", old, BLOCK)) + 2)
 
 
 def protecting():
@@ -201,7 +201,7 @@ def stop(bench, words, event, at, seconds):
 def check_waiting(bench):
     """Checks that the chip was busy when the last run began. The first poll may be the rest of what was sent before."""
     waits = 0
-    for out, reply in bench.server.log:
+    for out, reply in (it for it in bench.server.log if it != (bytes([WAKE]), b"")):
         if out != POLL or not reply[0] & 1:
             break
         waits += 1

@@ -1,8 +1,10 @@
 """Models of SPI NOR chips for the tests of flashnor-serprog, written from the datasheets of W25Q64FV and W25Q128FV.
 
-TINY64 has 64 KiB, an ID that no table contains, SFDP (JESD216) and no block protection. The models leave out what
-flashnor and flashrom don't need: quad and dual reads, suspend, security registers, reset, deep power-down.
+TINY64 has 64 KiB, an ID that no table contains, SFDP (JESD216) and no block protection. GUARD64 is the same chip with
+block protection, as most chips have it that only SFDP describes. The models leave out what flashnor and flashrom don't
+need: quad and dual reads, suspend, security registers, reset.
 """
+import random
 import time
 from typing import NamedTuple
 
@@ -12,24 +14,27 @@ SRP0, TB, SEC = 0x80, 0x20, 0x40
 SRP1, CMP, ONCE = 0x01, 0x40, 0x38
 ERASES = {0x20: 4096, 0x52: 32768, 0xD8: 65536}
 READ_ID, READ_SFDP, READ_UNIQUE, READ_DATA = 0x9F, 0x5A, 0x4B, 0x03
+WAKE, POWER_DOWN = 0xAB, 0xB9
 
 # The typical durations of the datasheets (AC characteristics), in seconds. The chip erase depends on the part.
 SECONDS = {0x01: 0.010, 0x02: 0.0007, 0x20: 0.045, 0x52: 0.120, 0xD8: 0.150}
 
 
 class Part(NamedTuple):
-    """What never changes of a chip. `chip_erase` is in seconds."""
+    """What never changes of a chip. `has_row`: the table of the program has it. `chip_erase` is in seconds."""
 
     id: bytes
     size: int
+    has_row: bool
     has_protection: bool
     chip_erase: float
 
 
 PARTS = {
-    "W25Q64FV": Part(bytes.fromhex("ef4017"), 1 << 23, True, 20.0),
-    "W25Q128FV": Part(bytes.fromhex("ef4018"), 1 << 24, True, 40.0),
-    "TINY64": Part(bytes.fromhex("fe1010"), 1 << 16, False, 1.0),
+    "W25Q64FV": Part(bytes.fromhex("ef4017"), 1 << 23, True, True, 20.0),
+    "W25Q128FV": Part(bytes.fromhex("ef4018"), 1 << 24, True, True, 40.0),
+    "TINY64": Part(bytes.fromhex("fe1010"), 1 << 16, False, False, 1.0),
+    "GUARD64": Part(bytes.fromhex("fe1110"), 1 << 16, False, True, 1.0),
 }
 
 
@@ -63,8 +68,9 @@ class Chip:
     """A chip with its data and its two status bytes.
 
     `scale` multiplies the durations of the datasheet, so with 0 the chip is never busy. `slow` has other durations, by
-    the number of the operation. `wp_low` says whether the pin WP# is low, so that SRP0 locks the status. Transactions
-    that changed nothing although they should have are counted in `ignored`.
+    the number of the operation. `wp_low` says whether the pin WP# is low, so that SRP0 locks the status. A chip that
+    `is_asleep` is in deep power-down, and ignores each command except ABh. Transactions that changed nothing although
+    they should have are counted in `ignored`.
     """
 
     def __init__(self, part, data=None, status=b"\0\0", unique=bytes(8), scale=0.0, wp_low=True):
@@ -76,9 +82,13 @@ class Chip:
         self.status = bytearray(status)
         self.unique, self.scale, self.wp_low = unique, scale, wp_low
         self.wel, self.until, self.ignored, self.slow = False, 0.0, 0, {}
+        self.is_asleep = False
         self.count_anew()
-        # The bytes that the last transaction changes, if it was a program or an erase.
-        self.in_progress = None
+        # What the last transaction changes: if it is a program or an erase, the address of its first byte and the bytes
+        # before it; if it is a status write, the status bytes before it.
+        self.in_progress = self.status_in_progress = None
+        # Marginal bytes by their address, each with its two values: one read of it has the one, and another the other.
+        self.marginal, self.chance = {}, random.Random(0)
 
     def count_anew(self):
         """Counts operations (programs, erases and status writes) from 1 again, and the polls after each of them."""
@@ -94,29 +104,51 @@ class Chip:
         while self.is_busy():
             time.sleep(max(0.0, self.until - time.monotonic()))
 
-    def lose_power(self, fill):
-        """Interrupts the operation of the last transaction: its bytes become `fill`. WEL is clear afterwards."""
+    def lose_power(self, fill=0x5A, marginal=None, torn=0):
+        """Interrupts the operation of the last transaction. WEL is clear afterwards, and so is SRP1 without SRP0.
+
+        The bytes of a program or an erase become `fill`. If `marginal` is given, this number of them becomes marginal
+        instead, and the others are as after the operation. Of a status write only the bits of `torn` were written; its
+        high byte is for status 1.
+        """
         if self.in_progress:
-            start, end = self.in_progress
-            self.data[start:end] = bytes([fill]) * (end - start)
-        self.wel, self.until, self.in_progress = False, 0.0, None
+            start, before = self.in_progress
+            end = start + len(before)
+            if marginal is None:
+                self.data[start:end] = bytes([fill]) * len(before)
+            else:
+                changed = [at for at in range(start, end) if self.data[at] != before[at - start]]
+                for at in self.chance.sample(changed, min(marginal, len(changed))):
+                    self.marginal[at] = before[at - start], self.data[at]
+        if self.status_in_progress:
+            old = int.from_bytes(self.status_in_progress, "big")
+            new = int.from_bytes(self.status, "big")
+            self.status[:] = (old & ~torn | new & torn).to_bytes(2, "big")
+        if not self.status[0] & SRP0:
+            self.status[1] &= ~SRP1
+        self.wel, self.until, self.in_progress, self.status_in_progress = False, 0.0, None, None
 
     def transfer(self, out, replies):
         """Carries out one transaction, and returns the bytes received."""
-        self.in_progress = None
+        self.in_progress = self.status_in_progress = None
         opcode = out[0] if out else None
-        busy = self.is_busy()
+        if opcode == WAKE or self.is_asleep:
+            self.is_asleep = self.is_asleep and opcode != WAKE
+            return b"\xff" * replies
         if opcode == 0x05:
             self.polls += 1
-            return bytes([self.status[0] & 0xFC | WEL * self.wel | BUSY * busy]) * replies
+            # The chip repeats its status as long as it is read.
+            return bytes(self.status[0] & 0xFC | BUSY * self.is_busy() | WEL * self.wel for _ in range(replies))
         if opcode == 0x35:
             return bytes([self.status[1]]) * replies
-        if busy:
+        if self.is_busy():
             self.ignored += 1
         elif replies:
             return self.read(opcode, out, replies)
         elif opcode in (0x06, 0x04) and len(out) == 1:
             self.wel = opcode == 0x06
+        elif opcode == POWER_DOWN and len(out) == 1:
+            self.is_asleep = True
         elif not (self.wel and self.operate(opcode, out)):
             self.ignored += 1
         return b"\xff" * replies
@@ -137,10 +169,13 @@ class Chip:
 
     def read_data(self, address, length):
         """Returns data bytes. After the last byte of the chip the first one follows."""
-        found = bytes(self.data[address : address + length])
+        found = self.data[address : address + length]
+        for at, values in self.marginal.items():
+            if address <= at < address + len(found):
+                found[at - address] = self.chance.choice(values)
         while len(found) < length:
-            found += bytes(self.data[: length - len(found)])
-        return found
+            found += self.data[: length - len(found)]
+        return bytes(found)
 
     def operate(self, opcode, out):
         """Carries out a status write, a program or an erase, and returns whether the chip accepted it."""
@@ -161,6 +196,7 @@ class Chip:
         if self.status[1] & SRP1 or (self.status[0] & SRP0 and self.wp_low):
             return False
         second = sent[1] if len(sent) == 2 else 0
+        self.status_in_progress = bytes(self.status)
         self.status[0] = sent[0] & 0xFC
         self.status[1] = self.status[1] & ONCE | second & 0x7B
         self.begin(0x01)
@@ -173,17 +209,19 @@ class Chip:
         for offset, byte in enumerate(sent):
             wanted[(address + offset) % PAGE] = byte
         old = self.data[page : page + PAGE]
-        return self.change(0x02, page, bytes(one & other for one, other in zip(old, wanted)))
+        return self.change(0x02, page, bytes(one & other for one, other in zip(old, wanted)), is_erase=False)
 
-    def change(self, opcode, start, new):
-        """Stores bytes, unless one of them is protected."""
+    def change(self, opcode, start, new, is_erase=True):
+        """Stores bytes, unless one of them is protected. No byte is marginal after an erase."""
         end = start + len(new)
         if self.part.has_protection:
             first, after = protected_range(self.status, self.size)
             if start < after and first < end:
                 return False
+        self.in_progress = (start, bytes(self.data[start:end]))
         self.data[start:end] = new
-        self.in_progress = (start, end)
+        if is_erase and self.marginal:
+            self.marginal = {at: values for at, values in self.marginal.items() if not start <= at < end}
         self.begin(opcode)
         return True
 

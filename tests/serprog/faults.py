@@ -7,7 +7,7 @@ import os
 
 import reference
 from bench import check
-from chip import Chip
+from losses import session_wire
 from options import images
 
 STTY = "stty -F DEV raw -echo clocal -hupcl min 0 time 50"
@@ -16,6 +16,7 @@ FIRMWARE = "Install other firmware on it."
 SOON = 10
 UNPLUG = "Disconnect the programmer from power for a second before the next run."
 RESTORE = "Then restore the chip with --restore and the journal."
+DIFFER = "Cause: two reads of the same bytes differ. Lower the clock (spispeed=), shorten the wires, and try again."
 CAUSES = {
     "nak": "the programmer refused command 13h",
     "strange": "the programmer answered 21h, which is neither ACK nor NAK",
@@ -175,7 +176,7 @@ def needs_wide_limits(start):
 def reports_causes(start):
     """A line after error 12 has the cause, and says what to do. After a change that is to restore."""
     old, new = images("reports_causes")
-    wire = reference.carried(reference.session("TINY64", old, new), chip=Chip("TINY64", old), image=new)
+    wire = session_wire(old, new)
     seal = wire.index(reference.WRITE_ENABLE)
     for event, text in CAUSES.items():
         for at in 3, seal, seal + 5:
@@ -206,20 +207,22 @@ def reads_twice(start):
     old, new = images("reads_twice")
     bench = start(data=old)
     bench.write("new", new)
-    line = "Cause: two reads of the same bytes differ. Lower the clock (spispeed=), shorten the wires, and try again."
-    for first in 8, 10, 13:
-        bench.server.traits.flips = (first,)
+    wire = session_wire(old, new)
+    reads = [at for at, (out, _) in enumerate(wire, 1) if out[0] == 0x03]
+    for first in reads[0], reads[2], reads[5]:
+        bench.server.traits.wrong_bits = {first: (0, 4)}
         got = bench.run("-w", "new", "--journal", f"j{first}")
         check("the lines", (got.out, got.err[:1], got.status), ([], ["Error 12: stopped."], 1))
-        check("the cause", got.err[1][: len(line)], line)
+        check("the cause", got.err[1][: len(DIFFER)], DIFFER)
         bench.check_chip(old)
         journal = bench.path(f"j{first}").read_bytes()
         whole = reference.journal("TINY64", old, (1, 2, 7, 15))
         check("the journal is a prefix", journal == whole[: len(journal)] and len(journal) < len(whole), True)
         bench.expect("--restore", f"j{first}", err=["Error 15: journal fault 1."])
     bench.write("same", old)
-    bench.server.traits.flips = (7,)
-    check("a flipped bit", bench.run("-v", "same").err[-1][: len(line)], line)
+    wire = reference.carried(reference.probe("TINY64"))
+    bench.server.traits.wrong_bits = {len(wire) + 2: (0, 4)}
+    check("a wrong bit", bench.run("-v", "same").err[-1][: len(DIFFER)], DIFFER)
 
 
 CASES = [needs_a_device, needs_a_character_device, locks_the_device, holds_its_lock, needs_an_answer, needs_its_step,

@@ -1,7 +1,7 @@
 """Cases of each option: what is printed, what is sent, and what the chip and the files hold afterwards.
 
 Expected lines are those that docs/SPECIFICATION.md states. Numbers of transactions are those of reference.py, or are
-counted by hand: TINY64 takes 5 transactions for a probe, 7 for an identification, and 16 for a scan.
+counted by hand: the engine sends TINY64 5 transactions for a probe, 7 for an identification, and 16 for a scan.
 """
 import random
 
@@ -11,6 +11,7 @@ from chip import SECTOR, protected_range
 
 SIZE = 65536
 FREE = b"\xff" * SIZE
+ALL = range(16)
 LAYOUT = b"0:fff first\n8000:ffff upper\n1001:1001 byte\n"
 
 
@@ -149,7 +150,7 @@ def writes(start):
         plan = reference.session("TINY64", old, new)
         bench.expect("-w", "new", "--journal", "j", out=[reference.found("TINY64"), reference.done(plan, old, new)])
         bench.check_chip(new)
-        bench.check_frames(plan)
+        bench.check_frames(reference.whole_run("TINY64", plan, ALL))
         bench.check_file("j", reference.journal("TINY64", old, numbers))
 
 
@@ -161,7 +162,7 @@ def writes_without_verification(start):
     plan = reference.session("TINY64", old, new, verifies=False)
     bench.expect("-w", "new", "-n", "--journal", "j", out=[reference.found("TINY64"), reference.done(plan, old, new)])
     bench.check_chip(new)
-    bench.check_frames(plan)
+    bench.check_frames(reference.whole_run("TINY64", plan))
 
 
 def writes_regions(start):
@@ -176,7 +177,7 @@ def writes_regions(start):
     bench.expect("-w", "image", "-l", "layout", "-i", "byte", "--journal", "j",
                  out=[reference.found("TINY64"), reference.done(plan, old, new)])
     bench.check_chip(new)
-    bench.check_frames(plan)
+    bench.check_frames(reference.whole_run("TINY64", plan, [1]))
     bench.check_file("j", reference.journal("TINY64", old, [1]))
 
 
@@ -205,10 +206,10 @@ def writes_at_random(start):
         bench.write("new", new)
         plan = reference.session("TINY64", old, new)
         bench.expect("-w", "new", "--journal", "j", out=[reference.found("TINY64"), reference.done(plan, old, new)])
-        bench.check_frames(plan)
+        bench.check_frames(reference.whole_run("TINY64", plan, ALL))
         bench.check_chip(new)
         bench.check_file("j", reference.journal("TINY64", old, reference.touched(old, new)))
-        plan = reference.restore("TINY64", new, old, reference.touched(old, new))
+        plan = reference.restore("TINY64", old, reference.touched(old, new))
         bench.expect("--restore", "j", out=[reference.found("TINY64"), reference.done(plan, old, new)])
         bench.check_frames(plan)
         bench.check_chip(old)
@@ -226,7 +227,7 @@ def writes_large_chips(start):
         bench.write("new", new)
         plan = reference.session(part, bytes(old), new)
         bench.expect("-w", "new", "--journal", "j", out=[reference.found(part), reference.done(plan, old, new)])
-        bench.check_frames(plan)
+        bench.check_frames(reference.whole_run(part, plan, range(size // SECTOR)))
         bench.check_chip(new)
         bench.check_file("j", reference.journal(part, bytes(old), reference.touched(old, new)))
 
@@ -238,7 +239,7 @@ def changes_nothing(start):
     bench.write("new", old)
     bench.expect("-w", "new", "--journal", "j", out=[
         "Found SFDP (fe1010), 65536 bytes.", "Done: touched 0, erases 0, programs 0, transactions 23."])
-    bench.check_frames(reference.session("TINY64", old, old))
+    bench.check_frames(reference.whole_run("TINY64", reference.session("TINY64", old, old), ALL))
     bench.check_file("j", reference.journal("TINY64", old, []))
 
 
@@ -249,7 +250,7 @@ def erases(start):
     bench.expect("-E", "--journal", "j", out=[
         "Found SFDP (fe1010), 65536 bytes.", "Done: touched 16, erases 1, programs 0, transactions 42."])
     bench.check_chip(FREE)
-    bench.check_frames(reference.erasure("TINY64", old, FREE, range(16)))
+    bench.check_frames(reference.whole_run("TINY64", reference.session("TINY64", old, FREE), ALL))
     bench.check_file("j", reference.journal("TINY64", old, range(16)))
 
 
@@ -261,13 +262,16 @@ def erases_regions(start):
     bench.expect("-E", "-l", "layout", "-i", "upper,first", "--journal", "j", out=[
         "Found SFDP (fe1010), 65536 bytes.", "Done: touched 9, erases 2, programs 0, transactions 31."])
     bench.check_chip(new)
-    bench.check_frames(reference.erasure("TINY64", bytes(SIZE), new, [0, *range(8, 16)]))
+    numbers = [0, *range(8, 16)]
+    plan = reference.session("TINY64", bytes(SIZE), new, numbers)
+    bench.check_frames(reference.whole_run("TINY64", plan, numbers))
     # The sector that was read last is read again after the erase.
     bench = start(data=bytes(SIZE))
     bench.write("layout", LAYOUT)
     bench.expect("-E", "-l", "layout", "-i", "first", "--journal", "j", out=[
         "Found SFDP (fe1010), 65536 bytes.", "Done: touched 1, erases 1, programs 0, transactions 12."])
-    bench.check_frames(reference.erasure("TINY64", bytes(SIZE), b"\xff" * SECTOR + bytes(SIZE - SECTOR), [0]))
+    new = b"\xff" * SECTOR + bytes(SIZE - SECTOR)
+    bench.check_frames(reference.whole_run("TINY64", reference.session("TINY64", bytes(SIZE), new, [0]), [0]))
 
 
 def prints_the_size(start):
@@ -328,15 +332,16 @@ def shows_progress(start):
     bench.expect_at_terminal("-w", "new", "--journal", "j", lines=[
         "identify 1", "scan: sector 1 of 16", f"Sectors to change: 4. Erases: 3. Bytes of journal: {journal}.",
         "SEALED: the chip is changed from here on.", "erase: erases sent 1", "read back: sectors read 1",
-        "program: pages sent 1"])
+        "program: pages sent 1", "compare: sector 1 of 16"])
     bench.expect_at_terminal("-v", "new", lines=["identify 1", "scan: sector 1 of 16"])
     bench.expect_at_terminal("--restore", "j", lines=[
-        "identify 1", "scan: sector 1 of 4", "Sectors to change: 4. Erases: 4.", "The chip is changed from here on.",
-        "erase: erases sent 1", "program: pages sent 1", "read back: sectors read 1"])
+        "identify 1", "Sectors to change: 4. Erases: 4.", "The chip is changed from here on.", "erase: erases sent 1",
+        "program: pages sent 1", "read back: sectors read 1"])
     bench.check_chip(old)
     bench.write("old", old)
     bench.expect_at_terminal("-w", "old", "--journal", "k", lines=[
-        "identify 1", "scan: sector 1 of 16", "Sectors to change: 0. Erases: 0. Bytes of journal: 61."])
+        "identify 1", "scan: sector 1 of 16", "Sectors to change: 0. Erases: 0. Bytes of journal: 61.",
+        "compare: sector 1 of 16"])
     bench.write("layout", b"1800:2fff some\nf000:f000 byte\n")
     for words in (("-r", "out"), ("-v", "old")):
         bench.expect_at_terminal(*words, "-l", "layout", "-i", "some,byte", lines=[
@@ -344,7 +349,7 @@ def shows_progress(start):
     bench.expect_at_terminal("-E", "--journal", "l", "-l", "layout", "-i", "byte", lines=[
         "identify 1", "scan: sector 1 of 1", "Sectors to change: 1. Erases: 1. Bytes of journal: 4161.",
         "SEALED: the chip is changed from here on.", "erase: erases sent 1", "program: pages sent 1",
-        "read back: sectors read 1"])
+        "read back: sectors read 1", "compare: sector 1 of 1"])
 
 
 def shows_long_progress(start):
@@ -358,7 +363,8 @@ def shows_long_progress(start):
         "identify 1", *(f"scan: sector {n} of 2048" for n in range(1, 2048, 256)),
         f"Sectors to change: 34. Erases: 34. Bytes of journal: {25 + 34 * 4100 + 36}.",
         "SEALED: the chip is changed from here on.", *(f"erase: erases sent {n}" for n in (1, 17, 33)),
-        *(f"program: pages sent {n}" for n in (1, 257, 513)), "read back: sectors read 1"])
+        *(f"program: pages sent {n}" for n in (1, 257, 513)), "read back: sectors read 1",
+        *(f"compare: sector {n} of 2048" for n in range(1, 2048, 256))])
     bench.expect_at_terminal("--wp-range", "0,0x800000", "--journal", "k", lines=[
         "identify 1", "Sectors to change: 0. Erases: 0. Bytes of journal: 61.",
         "SEALED: the chip is changed from here on.", "protect: status writes sent 1"])

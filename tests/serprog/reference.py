@@ -1,14 +1,20 @@
 """What flashnor sends and writes, computed from docs/SPECIFICATION.md for a chip that is never busy.
 
-A plan is a list of transactions, each the bytes sent and the number of bytes received. `carried` makes those over the
-wire from it, and `frames` the bytes of the serprog protocol from these. None of this is taken from the program.
+A plan is a list of the engine's transactions, each the bytes sent and the number of bytes received. `carried` makes
+those over the wire from it, and `frames` the bytes of the serprog protocol from these. None of this is taken from the
+program.
 """
 import hashlib
 
-from chip import CMP, ERASES, PAGE, PARTS, READ_DATA, READ_ID, READ_SFDP, READ_UNIQUE, SECTOR
+from chip import CMP, ERASES, PAGE, PARTS, READ_DATA, READ_ID, READ_SFDP, READ_UNIQUE, SECTOR, WAKE
 
 POLL = (b"\x05", 1)
 READ_STATUS_2 = (b"\x35", 1)
+# Over the wire: the command that is sent before each run, a poll with two bytes of the status, and the opcodes whose
+# replies are received twice.
+WAKES = (bytes([WAKE]), 0)
+STATUS_TWICE = (b"\x05", 2)
+TWICE = (READ_ID, READ_SFDP, READ_UNIQUE, 0x35)
 WRITE_ENABLE = (b"\x06", 0)
 PROTECTION_1 = 0x7C
 # The greatest length of a block that is read ahead, and the opcodes that modify a chip.
@@ -24,15 +30,17 @@ def command(opcode, address=None, dummies=0):
 def carried(plan, longest=BLOCK, chip=None, image=None):
     """Returns the transactions over the wire of a plan, for a programmer that reads at most `longest` bytes in one.
 
-    Data is read ahead: a read that goes on where the last block ended reads a block of twice the length, up to the limit
-    and the next multiple of 64 KiB. A block is forgotten at each other transaction. It is read twice,
-    unless it equals the image that is expected; `chip` is a model of the chip before the plan, which is changed.
+    First the chip is woken. Data is read ahead: a read that goes on where the last block ended reads a block of twice
+    the length, up to the limit and the next multiple of 64 KiB. A block is forgotten at each other transaction. It is
+    read twice, unless it equals the image that is expected; `chip` is a model of the chip before the plan, which is
+    changed. Other replies are compared as `compared` says.
     """
-    found, begin, end, step = [], 0, 0, 0
+    found, begin, end, step, last = [WAKES], 0, 0, 0, 0
     for out, replies in plan:
         if out[0] != READ_DATA:
             end = begin
-            found.append((out, replies))
+            found += compared(out, replies, last)
+            last = out[0] if out[0] in CHANGING else 0x05 if last else 0
             if chip:
                 chip.transfer(out, replies)
             continue
@@ -43,6 +51,18 @@ def carried(plan, longest=BLOCK, chip=None, image=None):
             is_expected = image is not None and chip.read_data(begin, end - begin) == image[begin:end]
             found += [(out, end - begin)] * (1 if is_expected else 2)
     return found
+
+
+def compared(out, replies, last):
+    """Returns the transactions over the wire of one that reads no data.
+
+    `last` is the opcode of the one before it if that modifies the chip, 0 if no one before it does, or else 05h. The
+    status is received twice in one reply, and in two of them where its bits count: before the first modifying command,
+    and after a status write. Then status 2 is read back, too.
+    """
+    if out[0] == POLL[0][0]:
+        return [STATUS_TWICE] * (2 if last in (0, 0x01) else 1) + [READ_STATUS_2] * (2 if last == 0x01 else 0)
+    return [(out, replies)] * (2 if out[0] in TWICE else 1)
 
 
 def frames(transactions):
@@ -74,7 +94,7 @@ def writes(plan, buffer):
 def probe(part):
     """Returns the plan of a probe. A part that the table doesn't have is identified by its SFDP."""
     plan = [POLL, (command(READ_ID), 3)]
-    if part == "TINY64":
+    if not PARTS[part].has_row:
         plan += [(command(READ_SFDP, at, 1), length) for at, length in ((0, 8), (8, 8), (16, 36))]
     return plan
 
@@ -156,9 +176,20 @@ def session(part, old, target, numbers=None, verifies=True):
     return identify(part) + [read_sector(it) for it in numbers] + change(old, target, numbers, verifies)
 
 
-def restore(part, now, old, saved):
-    """Returns the plan of a restore on an unprotected chip that holds `now`, of a journal that saved these sectors."""
-    return identify(part) + [read_sector(it) for it in saved] + change(now, old, saved)
+def rewriting(old, saved):
+    """Returns the plan that erases and programs these sectors, and verifies them."""
+    plan = erases(saved, len(old))
+    for number in saved:
+        plan += programs(number, b"\xff" * SECTOR, sector_of(old, number))
+    return plan + [read_sector(it) for it in saved]
+
+
+def restore(part, old, saved):
+    """Returns the plan of a restore on an unprotected chip, of a journal that saved these sectors of `old`.
+
+    The sectors are erased and programmed whatever they hold, and aren't read before.
+    """
+    return identify(part) + rewriting(old, saved)
 
 
 def read_out(part, numbers):
@@ -166,9 +197,14 @@ def read_out(part, numbers):
     return probe(part) * 2 + [read_sector(it) for it in numbers]
 
 
-def erasure(part, old, target, numbers):
-    """Returns the plan of -E. The program probes for the size of the chip, and then runs a session."""
-    return probe(part) + session(part, old, target, numbers)
+def whole_run(part, plan, numbers=None):
+    """Returns the plan of -w or -E with this session.
+
+    The chip is identified before the journal is created. After a session that verifies, it is identified again, and all
+    sectors with an included address are compared: `numbers`, or `None` with -n.
+    """
+    comparison = [] if numbers is None else probe(part) + [read_sector(it) for it in numbers]
+    return probe(part) + plan + comparison
 
 
 def touched(old, target):
@@ -185,14 +221,18 @@ def journal(part, old, saved, status=b"\0\0", unique=bytes(8)):
 
 
 def done(plan, old, target):
-    """Returns the line that a session or a restore with this plan prints."""
+    """Returns the line that a session with this plan prints."""
+    return report(plan, len(touched(old, target)))
+
+
+def report(plan, count):
+    """Returns the line that a session or a restore with this plan prints, if it touches this number of sectors."""
     erased = sum(out[0] in (*ERASES, 0xC7) for out, _ in plan)
     programmed = sum(out[0] == 0x02 for out, _ in plan)
-    return f"Done: touched {len(touched(old, target))}, erases {erased}, programs {programmed}, " \
-        f"transactions {len(plan)}."
+    return f"Done: touched {count}, erases {erased}, programs {programmed}, transactions {len(plan)}."
 
 
 def found(part):
     """Returns the line that names a chip."""
-    name = "SFDP" if part == "TINY64" else part
+    name = part if PARTS[part].has_row else "SFDP"
     return f"Found {name} ({PARTS[part].id.hex()}), {PARTS[part].size} bytes."

@@ -22,12 +22,13 @@ import tty
 from dataclasses import dataclass, field
 from pathlib import Path
 
-from chip import PARTS, READ_DATA, Chip
+from chip import ERASES, PARTS, READ_DATA, Chip
 
 ACK, NAK = b"\x06", b"\x15"
 SPI = 0x08
 SYNCNOP, S_BUSTYPE, O_SPIOP, S_SPI_FREQ, S_PIN_STATE, S_SPI_CS = 0x10, 0x12, 0x13, 0x14, 0x15, 0x16
 ARGUMENTS = {S_BUSTYPE: 1, S_SPI_FREQ: 4, S_PIN_STATE: 1, S_SPI_CS: 1}
+ADDRESSED = (0x02, READ_DATA, *ERASES)
 COMMANDS = [0, 1, 2, 3, 4, 5, 8, 0x10, 0x11, S_BUSTYPE, O_SPIOP, S_SPI_FREQ, S_PIN_STATE]
 
 
@@ -42,10 +43,13 @@ class Traits:
     `events` has what happens at a transaction (counted from 1): `nak` (it isn't carried out), `strange` (a byte that
     is neither ACK nor NAK), `mute` (it is carried out, and nothing is ever sent again), `unplug` (it isn't carried
     out, and the programmer is gone), `lose` (it is carried out, and the programmer is gone before its reply), `power`
-    (the same, and the chip loses its power in the operation), `cut N` (the programmer gets the first N bytes of the
-    frame, and is gone), `kill` (it is carried out, the process `victim` is killed, and then the reply is sent). `lose`,
-    `power` and `kill` may also have a pair of numbers: they happen at this operation of the chip, and at this poll
-    after it; poll 0 is the command itself.
+    (the same, and the chip loses its power in the operation), `dip` (the chip loses its power in the operation, and the
+    programmer replies), `cut N` (the programmer gets the first N bytes of the frame, and is gone), `kill` (it is
+    carried out, the process `victim` is killed, and then the reply is sent). `lose`, `power`, `dip` and `kill` may also
+    have a pair of numbers: they happen at this operation of the chip, and at this poll after it; poll 0 is the command
+    itself. `loss` has the arguments of the chip's `lose_power`.
+
+    The wire between programmer and chip has faults of its own. They are at transactions too, or at such pairs for polls.
     """
 
     version: int = 1
@@ -63,9 +67,14 @@ class Traits:
     stale: bytes = b""
     # Replies that replace the right ones, by opcode, except for O_SPIOP. None unplugs the programmer.
     replies: dict = field(default_factory=dict)
-    # The numbers of the transactions in whose replies a bit is flipped, if they read data.
-    flips: tuple = ()
     events: dict = field(default_factory=dict)
+    loss: dict = field(default_factory=dict)
+    # Transactions in whose reply one bit is wrong: the number of its byte, and of its bit.
+    wrong_bits: dict = field(default_factory=dict)
+    # Transactions that the chip misses, with the byte that is received in the place of its reply.
+    misses: dict = field(default_factory=dict)
+    # The numbers of the first and the last transaction whose address has a wrong bit on its way to the chip, and the bit.
+    wrong_address: tuple = ()
     # Seconds for each way there and back, and bytes per second.
     latency: float = 0.0
     rate: float = 0.0
@@ -184,20 +193,37 @@ class Server:
                 replies > (traits.longest_read or 1 << 24):
             self.put(NAK)
             return
-        reply = self.chip.transfer(out, replies)
+        reply = self.carry(number, out, replies)
         event = event or traits.events.pop((self.chip.operations, self.chip.polls), "")
-        if number in traits.flips and out[:1] == bytes([READ_DATA]):
-            reply = bytes([reply[0] ^ 0x10]) + reply[1:]
         self.log.append((out, reply))
         self.happen(event)
         self.put((b"!" if event == "strange" else ACK) + reply)
 
+    def carry(self, number, out, replies):
+        """Carries a transaction out over the wire to the chip with its faults, and returns what the programmer receives."""
+        traits = self.traits
+        poll = (self.chip.operations, self.chip.polls + 1) if out == b"\x05" else None
+        for at in number, poll:
+            if at in traits.misses:
+                return bytes([traits.misses.pop(at)]) * replies
+        first, last, bit = traits.wrong_address or (0, 0, 0)
+        heard = out
+        if first <= number <= last and out[0] in ADDRESSED:
+            heard = out[:1] + (int.from_bytes(out[1:4], "big") ^ 1 << bit).to_bytes(3, "big") + out[4:]
+        reply = bytearray(self.chip.transfer(heard, replies))
+        for at in number, poll:
+            byte, bit = traits.wrong_bits.get(at, (0, 0))
+            if at in traits.wrong_bits and byte < replies:
+                reply[byte] ^= 1 << bit
+        return bytes(reply)
+
     def happen(self, event):
         """Does what an event does after the transaction and before its reply."""
-        if event in ("lose", "power"):
-            if event == "power":
-                self.chip.lose_power(0x5A)
-            raise Unplugged
+        if event in ("lose", "power", "dip"):
+            if event != "lose":
+                self.chip.lose_power(**self.traits.loss)
+            if event != "dip":
+                raise Unplugged
         if event == "mute":
             self.is_mute = True
         if event == "kill":

@@ -13,6 +13,8 @@ from chip import CMP, PARTS, SECTOR, SRP0, SRP1, protected_range
 from stand_in_link import HELP, MISTAKE, Fault, Link, Stopped, arguments, check_usage, probe
 
 RESTORE = " Then restore the chip with --restore and the journal."
+# The bits of both status bytes that protect.
+PROTECTION = 0x7C40
 UNPLUG = "Disconnect the programmer from power for a second before the next run."
 
 
@@ -55,6 +57,12 @@ def mixed(old, new, ranges):
     for it in ranges:
         found[it.start : it.stop] = new[it.start : it.stop]
     return bytes(found)
+
+
+def protects(status, size, sectors):
+    """Returns which of these sectors the protection bits protect."""
+    first, after = protected_range(status, size)
+    return [it for it in sectors if it * SECTOR < after and first < (it + 1) * SECTOR and first < after]
 
 
 class Job:
@@ -110,9 +118,10 @@ class Job:
     def change(self):
         """-w or -E."""
         image = read_file(self.given["-w"]) if "-w" in self.given else None
-        if image is None:
-            self.found(self.given.get("-c"))
-            self.link.count = 0
+        self.found(self.given.get("-c"))
+        self.check_unknown()
+        Path(self.given["--journal"]).touch()
+        self.link.count = 0
         line = self.found(self.given.get("-c"))
         image = b"\xff" * self.size if image is None else image
         self.check_length(image)
@@ -124,12 +133,28 @@ class Job:
         self.check_protection(saved, status)
         self.put_journal(old, [] if MISTAKE == "saves nothing" else saved, status)
         self.apply(old, target, saved, status, "-n" not in self.given)
-        return line, self.done(saved)
+        done = self.done(saved)
+        if "-n" not in self.given and MISTAKE != "compares nothing":
+            self.found(self.given.get("-c"))
+            self.compare(target, [reference.read_sector(it) for it in numbers])
+        return line, done
+
+    def check_unknown(self):
+        """Refuses a chip whose protection bits are unknown and may be set."""
+        if not PARTS[self.part].has_row and self.link.status & PROTECTION >> 8 and MISTAKE != "changes any chip":
+            raise Fault(f"Chip fault 1: status 1 of this chip is {self.link.status:02X}h.")
+
+    def compare(self, target, reads):
+        """Compares all included sectors with the target."""
+        try:
+            self.verify_sectors(target, reads)
+        except Fault as why:
+            address = str(why).rpartition(" ")[2]
+            raise Fault(f"Chip fault 4: the chip differs from the image at {address}") from None
 
     def check_protection(self, saved, status):
         self.lifts = False
-        first, after = protected_range(status, self.size) if PARTS[self.part].has_protection else (0, 0)
-        hit = [it for it in saved if it * SECTOR < after and first < (it + 1) * SECTOR]
+        hit = protects(status, self.size, saved) if PARTS[self.part].has_row else []
         if hit and "--unlock" not in self.given:
             raise Fault(f"Error 10: protected at 0x{hit[0] * SECTOR:06x}.")
         self.lifts = bool(hit)
@@ -154,7 +179,8 @@ class Job:
         if MISTAKE == "does not enable writes":
             steps = [it for it in steps if it[0] != b"\x06"]
         self.steps = steps
-        self.link.run(steps)
+        self.link.run(steps[: len(steps) - last])
+        self.verify_sectors(target, steps[len(steps) - last :])
 
     def done(self, saved):
         erased = sum(out[0] in (0x20, 0x52, 0xD8, 0xC7) for out, _ in self.steps)
@@ -178,7 +204,8 @@ class Job:
         status = self.open_status()
         if whole[11:19] != self.unique and MISTAKE != "restores any device":
             raise Fault("Error 20: another unit than the journal's.")
-        if not PARTS[self.part].has_protection and whole[19:21] != status:
+        fixed = PROTECTION if PARTS[self.part].has_row else 0
+        if any((one ^ other) & ~bits for one, other, bits in zip(whole[19:21], status, fixed.to_bytes(2, "big"))):
             raise Fault("Error 17: status differs from the journal's.")
         saved, records = [], whole[25:-36]
         target = bytearray(b"\xff" * self.size)
@@ -186,18 +213,41 @@ class Job:
             number = int.from_bytes(records[at : at + 4], "little")
             saved.append(number)
             target[number * SECTOR : (number + 1) * SECTOR] = records[at + 4 : at + 4 + SECTOR]
-        now = self.scan(saved)
-        changed = [it for it in saved if reference.sector_of(now, it) != reference.sector_of(target, it)]
-        self.lifts = False
-        self.apply(now, bytes(target), [] if MISTAKE == "restores nothing" else changed, status, True)
-        if whole[19:21] != status:
-            self.link.run(reference.write_status(whole[19:21]))
-        return line, self.done(changed)
+        self.rewrite(bytes(target), saved, status, whole[19:21])
+        return line, self.done(saved)
+
+    def rewrite(self, target, saved, status, wanted):
+        """Erases and programs sectors, sets the protection bits, and compares the sectors."""
+        self.steps = [] if MISTAKE == "restores nothing" else reference.rewriting(target, saved)
+        if MISTAKE == "skips equal sectors":
+            now = self.scan(saved)
+            changed = [it for it in saved if reference.sector_of(now, it) != reference.sector_of(target, it)]
+            self.steps = reference.rewriting(target, changed)
+        verifies = [it for it in self.steps if it[0][0] == 0x03]
+        steps = self.steps[: len(self.steps) - len(verifies)]
+        if PARTS[self.part].has_row and protects(status, self.size, saved):
+            self.check_locked(status)
+            status = reference.without_protection(status)
+            steps = reference.write_status(status) + steps
+        if wanted != status:
+            self.check_locked(status)
+            steps += reference.write_status(wanted)
+        self.link.run(steps)
+        self.verify_sectors(target, verifies)
+
+    def verify_sectors(self, target, reads):
+        """Reads sectors, and compares them with the target."""
+        for out, length in reads:
+            at = int.from_bytes(out[1:], "big")
+            got = self.link.transfer(out, length)
+            if got != target[at : at + length] and MISTAKE != "verifies anything":
+                first = next(i for i in range(length) if got[i] != target[at + i])
+                raise Fault(f"Error 14: bytes differ at 0x{at + first:06x}.")
 
     def protection(self):
         """--wp-status, --wp-list and --wp-range."""
         line = self.found(self.given.get("-c"))
-        if not PARTS[self.part].has_protection:
+        if not PARTS[self.part].has_row:
             raise Fault("Error 6: no protection on this chip.")
         if "--wp-range" in self.given:
             return line, self.protect()
@@ -269,11 +319,13 @@ def run(words):
         raise Fault(f"File fault 4: {journal}.")
     job = Job(Link(keys["dev"], keys), given)
     job.link.image = image
-    if journal:
+    if "--wp-range" in given:
         Path(journal).touch()
     try:
         return job_of(given)(job)
     except Stopped as why:
+        if str(why).startswith("Chip fault"):
+            raise Fault("Error 12: stopped.", str(why)) from None
         if "two reads" in str(why):
             advice = "Lower the clock (spispeed=), shorten the wires, and try again."
         else:

@@ -5,7 +5,7 @@ import re
 import stat
 
 import reference
-from chip import ERASES, PARTS, SECTOR
+from chip import CMP, ERASES, PARTS, SECTOR
 from reference import BLOCK
 
 MISTAKE = os.environ.get("MISTAKE", "")
@@ -25,7 +25,11 @@ class Fault(Exception):
 
 
 class Stopped(Exception):
-    """The cause of error 12."""
+    """The cause of error 12, or the line of a chip fault."""
+
+
+DIFFER = "two reads of the same bytes differ"
+BITS = ((0x80, "SRP0"), (0x40, "SEC"), (0x20, "TB"), (0x10, "BP2"), (0x08, "BP1"), (0x04, "BP0"))
 
 
 def usage(number, *lines):
@@ -90,12 +94,16 @@ class Link:
 
     def __init__(self, path, keys):
         self.path, self.count, self.status = path, 0, 0
+        # The status bytes that were received twice, the last modifying command, and whether there was one.
+        self.seen, self.last, self.has_changed = bytearray(2), b"", False
         self.waiting, self.frames, self.buffer, self.longest, self.image = b"", 0, 0, BLOCK, b""
         self.forget()
         self.device = self.open(path)
         try:
             self.synchronize()
             self.identify(keys)
+            if MISTAKE != "does not wake":
+                self.operate(*reference.WAKES)
         except Stopped as why:
             self.refuse(str(why))
 
@@ -238,7 +246,59 @@ class Link:
             return self.read(int.from_bytes(out[1:], "big"), length)
         if out[0] not in KEPT.get(MISTAKE, ()):
             self.forget()
-        return self.operate(out, length)
+        return self.compared(out, length)
+
+    def compared(self, out, length):
+        """Makes a transaction that reads no data, as often as its reply is compared."""
+        if out == b"\x05":
+            return self.poll()
+        if out[0] == 0x01:
+            self.check_status(out[1:])
+        if out[0] in reference.CHANGING:
+            self.last, self.has_changed = out, True
+        reply = self.operate(out, length)
+        if out[0] in reference.TWICE and MISTAKE != "reads IDs once" and self.operate(out, length) != reply \
+                and MISTAKE != "believes one ID":
+            raise Stopped(DIFFER)
+        if out == b"\x35":
+            self.seen[1] = reply[0]
+        return reply
+
+    def poll(self):
+        """Returns the status, with BUSY if one of the two bytes has it. It must be the same twice where it counts."""
+        believes = MISTAKE == "believes one status"
+        status = self.operate(b"\x05", 1) * 2 if MISTAKE == "polls one byte" else self.operate(b"\x05", 2)
+        if (status[0] | status[1]) & 1 and not (believes and not status[0] & 1):
+            return bytes([status[0] | 1])
+        follows = self.last[:1] == b"\x01"
+        again = status if self.has_changed and not follows else self.operate(b"\x05", 2)
+        if (status[0] != status[1] or again != status) and not believes:
+            raise Stopped(DIFFER)
+        self.seen[0] = status[0]
+        if follows:
+            self.read_back()
+        return status[:1]
+
+    def check_status(self, sent):
+        """Refuses a status write that would change other bits than those of the protection."""
+        if (sent[0] ^ self.seen[0]) & 0x80 or (sent[1] ^ self.seen[1]) & ~CMP:
+            raise Stopped("Chip fault 2: a status write would change other bits.")
+
+    def read_back(self):
+        """Compares the status with what the last status write sent."""
+        sent, self.last = self.last[1:], b""
+        second = [self.operate(b"\x35", 1)[0] for _ in range(2)]
+        if second[0] != second[1] and MISTAKE != "believes one status":
+            raise Stopped(DIFFER)
+        got = bytes([self.seen[0] & 0xFC, second[0] & 0x7F])
+        if got == sent or MISTAKE == "does not compare a status write":
+            return
+        names = [name for bit, name in BITS if (got[0] ^ sent[0]) & bit] + ["CMP"] * ((got[1] ^ sent[1]) & CMP > 0)
+        line = f"Chip fault 3: the chip did not store a status write: {sent[0]:02X}h {sent[1]:02X}h was sent, " \
+               f"{got[0]:02X}h {got[1]:02X}h was read back ({', '.join(names)}). Check WP#, SRP0 and the supply."
+        if got == reference.without_protection(got):
+            line += " The chip is unprotected."
+        raise Stopped(line)
 
     def read(self, at, length):
         """Returns bytes of the chip. Reads a block if the last one doesn't have them."""
@@ -257,7 +317,7 @@ class Link:
         if MISTAKE == "reads once" or block == self.image[at : at + length]:
             return block
         if self.operate(out, length) != block:
-            raise Stopped("two reads of the same bytes differ")
+            raise Stopped(DIFFER)
         return block
 
     def operate(self, out, length):
@@ -298,10 +358,10 @@ def probe(link, name=None):
     if found in (b"\xff" * 3, b"\0" * 3):
         raise Fault("Error 1: no chip.")
     part = next((it for it in PARTS if PARTS[it].id == found), None)
-    if part in (None, "TINY64"):
+    if part is None or not PARTS[part].has_row:
         headers = [link.transfer(*it) for it in reference.probe("TINY64")[2:]]
         if headers[0][:4] != b"SFDP":
             raise Fault("Error 2: unknown chip, SFDP fault 1.")
-    if name not in (None, "SFDP" if part == "TINY64" else part):
+    if name not in (None, part if PARTS[part].has_row else "SFDP"):
         raise Fault("Error 3: another chip than named.")
     return part
