@@ -2,12 +2,13 @@
 """tests/serprog/run.py PROGRAM: the program flashnor-serprog with a serial programmer at a pseudo-terminal.
 
 The programmer is server.py, and its chip is a model from the datasheets (chip.py). The cases are in options.py,
-refusals.py and faults.py. losses.py kills the program, and loses replies, at each transaction of a session and of its
-restores; busy.py does so while the chip is busy. What the program must send and print is computed by reference.py,
-without the program.
+refusals.py, faults.py and wire.py. bits.py tries each single wrong bit of each reply, and misses each single frame.
+losses.py kills the program, and loses replies, at each transaction of a session and of its restores; busy.py does so
+while the chip is busy. What the program must send and print is computed by reference.py, without the program.
 
 A case that failed is printed, with what was wanted and what was got. The last line is `N passed, M failed`, and the
-exit status is 1 if one failed. `run.py PROGRAM NAME..` runs only the cases with these names, or `losses`.
+exit status is 1 if one failed. `run.py PROGRAM NAME..` runs only the cases with these names, or `losses`, or the jobs
+of bits.py.
 """
 import os
 import sys
@@ -17,19 +18,24 @@ from concurrent.futures import ProcessPoolExecutor
 from functools import partial
 from pathlib import Path
 
+import bits
 import busy
 import faults
 import losses
+import narrow
 import options
 import refusals
+import wire
 from bench import Bench, Differs
 
-CASES = {case.__name__: case for module in (options, refusals, faults, busy) for case in module.CASES}
+CASES = {case.__name__: case for module in (options, refusals, faults, wire, busy) for case in module.CASES}
+# Cases that run only by their names, or with the name `narrow`.
+NARROW = {case.__name__: case for case in narrow.CASES}
 
 
 def try_case(program, name):
     """Runs a case, and returns nothing, or the lines that say what was wrong."""
-    benches = []
+    case, benches = {**CASES, **NARROW}[name], []
     with tempfile.TemporaryDirectory() as folder:
 
         def start(part="TINY64", **chosen):
@@ -39,12 +45,12 @@ def try_case(program, name):
             return benches[-1]
 
         try:
-            CASES[name](start)
+            case(start)
             return None
         except (Differs, OSError, LookupError) as why:
             lines = why.args if isinstance(why, Differs) else [f"it can't be done: {why!r}"]
             at = benches[-1].command if benches else ""
-            return f"FAILED: {name}: {CASES[name].__doc__}", f"    at: {at}", *(f"    {it}" for it in lines)
+            return f"FAILED: {name}: {case.__doc__}", f"    at: {at}", *(f"    {it}" for it in lines)
         finally:
             for bench in benches:
                 bench.close()
@@ -66,8 +72,11 @@ def main(words):
     if not words or not os.access(words[0], os.X_OK):
         sys.exit("usage: tests/serprog/run.py PROGRAM [NAME..]")
     sys.stdout.reconfigure(errors="backslashreplace", line_buffering=True)
-    program, names = Path(words[0]).resolve(), words[1:] or [*CASES, "losses"]
+    program, names = Path(words[0]).resolve(), words[1:] or [*CASES, "losses", *bits.WORKS]
+    jobs = [it for it in names if it.startswith("bits_")]
+    names = [it for it in names if it not in (*jobs, "narrow")] + [*NARROW] * ("narrow" in names)
     tries = [partial(try_case, program, name) for name in names if name != "losses"]
+    tries += bits.tries(program, jobs)
     if "losses" in names:
         tries += [partial(losses.try_loss, program, it) for it in losses.losses()]
         tries += [partial(busy.try_loss, program, it) for it in busy.losses()]

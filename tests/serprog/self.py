@@ -37,6 +37,19 @@ MISTAKES = {
     "sends one by one": "fills_no_buffer",
     "begins while busy": "restores_a_busy_chip",
     "polls once": "restores_a_busy_chip",
+    "does not wake": "wakes_the_chip",
+    "reads IDs once": "identifies",
+    "believes one ID": "compares_replies",
+    "polls one byte": "erases",
+    "believes one status": "bits_protect_05",
+    "believes one status 2": "bits_protect_35",
+    "writes other bits": "protects",
+    "does not read a status write back": "protects",
+    "does not compare a status write": "reads_status_writes_back",
+    "does not say what is unprotected": "reports_an_unprotected_chip",
+    "skips equal sectors": "restores_marginal_bytes",
+    "compares nothing": "compares_the_rest",
+    "changes any chip": "refuses_unknown_protection",
 }
 RIGHT = sorted(set(MISTAKES.values()))
 
@@ -49,15 +62,19 @@ def run(mistake, names):
 
 
 def detects(mistake):
-    """Returns whether the case of a mistake fails, and no other thing does."""
+    """Returns whether the case of a mistake fails, or a sweep of bits.py, and no other thing does."""
     name = MISTAKES[mistake]
     status, lines = run(mistake, [name])
-    return status == 1 and any(it.startswith(f"FAILED: {name}:") for it in lines) and lines[-1] == "0 passed, 1 failed"
+    failures = [it for it in lines if it.startswith("FAILED: ")]
+    if name.startswith("bits_"):
+        return status == 1 and all(it.startswith("FAILED: bits_") for it in failures) and len(failures) > 0
+    return status == 1 and failures == [it for it in failures if it.startswith(f"FAILED: {name}:")] \
+        and lines[-1] == "0 passed, 1 failed"
 
 
 def main():
     status, lines = run("", RIGHT)
-    passed = int(status == 0 and lines[-1] == f"{len(RIGHT)} passed, 0 failed")
+    passed = int(status == 0 and lines[-1].endswith(" passed, 0 failed") and int(lines[-1].split()[0]) >= len(RIGHT))
     failed = 1 - passed
     if failed:
         print(*lines, "FAILED: the right program", sep="\n")

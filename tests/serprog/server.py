@@ -49,7 +49,8 @@ class Traits:
     have a pair of numbers: they happen at this operation of the chip, and at this poll after it; poll 0 is the command
     itself. `loss` has the arguments of the chip's `lose_power`.
 
-    The wire between programmer and chip has faults of its own. They are at transactions too, or at such pairs for polls.
+    The wire between programmer and chip has faults of its own. `wrong_bits` and `misses` are by the number of the
+    transaction, or by such a pair for a poll.
     """
 
     version: int = 1
@@ -73,13 +74,14 @@ class Traits:
     wrong_bits: dict = field(default_factory=dict)
     # Transactions that the chip misses, with the byte that is received in the place of its reply.
     misses: dict = field(default_factory=dict)
-    # The numbers of the first and the last transaction whose address has a wrong bit on its way to the chip, and the bit.
+    # The numbers of the first and the last transaction whose address has a wrong bit on its way to the chip, and which.
     wrong_address: tuple = ()
     # Seconds for each way there and back, and bytes per second.
     latency: float = 0.0
     rate: float = 0.0
-    # The time-out of the terminal device in tenths of a second.
+    # The time-out of the terminal device in tenths of a second. If it isn't set up, a read waits for a byte for ever.
     timeout: int = 50
+    is_set_up: bool = True
 
 
 class Server:
@@ -88,7 +90,7 @@ class Server:
     def __init__(self, link, chip, traits=None):
         self.link, self.chip, self.traits = Path(link), chip, traits or Traits()
         self.port, self.device = pty.openpty()
-        set_terminal(self.device, self.traits.timeout)
+        set_terminal(self.device, self.traits.timeout, int(not self.traits.is_set_up))
         os.set_blocking(self.port, False)
         self.link.unlink(missing_ok=True)
         self.link.symlink_to(os.ttyname(self.device))
@@ -200,7 +202,7 @@ class Server:
         self.put((b"!" if event == "strange" else ACK) + reply)
 
     def carry(self, number, out, replies):
-        """Carries a transaction out over the wire to the chip with its faults, and returns what the programmer receives."""
+        """Carries a transaction out, with the faults of the wire, and returns what the programmer receives."""
         traits = self.traits
         poll = (self.chip.operations, self.chip.polls + 1) if out == b"\x05" else None
         for at in number, poll:
@@ -288,12 +290,12 @@ class Server:
             return 0
 
 
-def set_terminal(device, tenths):
-    """Sets a terminal device as `stty raw -echo clocal -hupcl min 0 time TENTHS` does."""
+def set_terminal(device, tenths, least=0):
+    """Sets a terminal device as `stty raw -echo clocal -hupcl min LEAST time TENTHS` does."""
     tty.setraw(device)
     settings = termios.tcgetattr(device)
     settings[2] = (settings[2] | termios.CLOCAL) & ~termios.HUPCL
-    settings[6][termios.VMIN], settings[6][termios.VTIME] = 0, tenths
+    settings[6][termios.VMIN], settings[6][termios.VTIME] = least, 0 if least else tenths
     termios.tcsetattr(device, termios.TCSANOW, settings)
 
 

@@ -47,6 +47,11 @@ def arguments(words):
     return found
 
 
+def command(out, address):
+    """Returns a command with another address."""
+    return out[:1] + address.to_bytes(3, "big") + out[4:]
+
+
 def programmer_keys(text):
     """Returns the keys of -p."""
     if text.startswith("serprog:ip="):
@@ -96,6 +101,7 @@ class Link:
         self.path, self.count, self.status = path, 0, 0
         # The status bytes that were received twice, the last modifying command, and whether there was one.
         self.seen, self.last, self.has_changed = bytearray(2), b"", False
+        self.sends = self.receives = 1 << 24
         self.waiting, self.frames, self.buffer, self.longest, self.image = b"", 0, 0, BLOCK, b""
         self.forget()
         self.device = self.open(path)
@@ -120,7 +126,8 @@ class Link:
             if MISTAKE != "does not lock":
                 fcntl.flock(device, fcntl.LOCK_EX | fcntl.LOCK_NB)
         except BlockingIOError:
-            raise Fault(f"Programmer fault 3: {path} is in use by another program. Wait until that program has ended.") from None
+            raise Fault(f"Programmer fault 3: {path} is in use by another program. Wait until that program has ended."
+                        ) from None
         return device
 
     def forget(self):
@@ -229,9 +236,11 @@ class Link:
         if sends < 260 and MISTAKE != "takes small limits":
             raise Fault(f"Programmer fault 9: the programmer sends at most {sends} bytes in a transaction, and a page "
                         "program needs 260" + FIRMWARE)
-        if reads < 4096:
+        if reads < 4096 and MISTAKE != "takes small limits":
             raise Fault(f"Programmer fault 9: the programmer reads at most {reads} bytes in a transaction, and a "
                         "sector needs 4096" + FIRMWARE)
+        if MISTAKE == "takes small limits":
+            self.sends, self.receives = sends, reads
         if MISTAKE != "reads past the limit":
             self.longest = min(reads, BLOCK) // SECTOR * SECTOR
         size = limit(0x04, 2)
@@ -254,11 +263,13 @@ class Link:
             return self.poll()
         if out[0] == 0x01:
             self.check_status(out[1:])
+            out = out[:2] + bytes([out[2] | 0x08 * (MISTAKE == "writes other bits")])
         if out[0] in reference.CHANGING:
             self.last, self.has_changed = out, True
         reply = self.operate(out, length)
+        believed = "believes one status 2" if out == b"\x35" else "believes one ID"
         if out[0] in reference.TWICE and MISTAKE != "reads IDs once" and self.operate(out, length) != reply \
-                and MISTAKE != "believes one ID":
+                and MISTAKE != believed:
             raise Stopped(DIFFER)
         if out == b"\x35":
             self.seen[1] = reply[0]
@@ -271,11 +282,12 @@ class Link:
         if (status[0] | status[1]) & 1 and not (believes and not status[0] & 1):
             return bytes([status[0] | 1])
         follows = self.last[:1] == b"\x01"
-        again = status if self.has_changed and not follows else self.operate(b"\x05", 2)
+        is_enough = self.has_changed and (not follows or MISTAKE == "does not read a status write back")
+        again = status if is_enough else self.operate(b"\x05", 2)
         if (status[0] != status[1] or again != status) and not believes:
             raise Stopped(DIFFER)
         self.seen[0] = status[0]
-        if follows:
+        if follows and MISTAKE != "does not read a status write back":
             self.read_back()
         return status[:1]
 
@@ -288,7 +300,7 @@ class Link:
         """Compares the status with what the last status write sent."""
         sent, self.last = self.last[1:], b""
         second = [self.operate(b"\x35", 1)[0] for _ in range(2)]
-        if second[0] != second[1] and MISTAKE != "believes one status":
+        if second[0] != second[1] and MISTAKE != "believes one status 2":
             raise Stopped(DIFFER)
         got = bytes([self.seen[0] & 0xFC, second[0] & 0x7F])
         if got == sent or MISTAKE == "does not compare a status write":
@@ -296,7 +308,7 @@ class Link:
         names = [name for bit, name in BITS if (got[0] ^ sent[0]) & bit] + ["CMP"] * ((got[1] ^ sent[1]) & CMP > 0)
         line = f"Chip fault 3: the chip did not store a status write: {sent[0]:02X}h {sent[1]:02X}h was sent, " \
                f"{got[0]:02X}h {got[1]:02X}h was read back ({', '.join(names)}). Check WP#, SRP0 and the supply."
-        if got == reference.without_protection(got):
+        if got == reference.without_protection(got) and MISTAKE != "does not say what is unprotected":
             line += " The chip is unprotected."
         raise Stopped(line)
 
@@ -321,7 +333,23 @@ class Link:
         return block
 
     def operate(self, out, length):
-        """Makes a transaction. A modifying command waits for the next one, if both fit into the serial buffer."""
+        """Makes a transaction, in parts if it is too long for the programmer."""
+        at = int.from_bytes(out[1:4], "big")
+        if length > self.receives and out[0] in (0x03, 0x5A):
+            return b"".join(self.send_frame(command(out, at + i), min(self.receives, length - i))
+                            for i in range(0, length, self.receives))
+        if out[0] != 0x02 or len(out) <= self.sends:
+            return self.send_frame(out, length)
+        for i in range(4, len(out), self.sends - 4):
+            while i > 4 and self.send_frame(b"\x05", 2)[-1] & 1:
+                pass
+            if i > 4:
+                self.send_frame(b"\x06", 0)
+            self.send_frame(command(out[:4], at + i - 4) + out[i : i + self.sends - 4], 0)
+        return b""
+
+    def send_frame(self, out, length):
+        """Makes one transaction. A modifying command waits for the next one, if both fit into the serial buffer."""
         frame = b"\x13" + len(out).to_bytes(3, "little") + length.to_bytes(3, "little") + out
         if len(self.waiting) + len(frame) > self.buffer and MISTAKE != "overfills the buffer":
             self.flush()

@@ -1,0 +1,103 @@
+"""Cases of programmers with small limits, whose programs and reads are split, and of a port that nobody has set up.
+
+run.py runs them only by their names, or with the name `narrow`.
+"""
+import subprocess
+
+import reference
+from bench import check
+from losses import FEW, chip_images
+
+# Limits of a transaction's bytes: those that it sends, and those that it receives.
+LIMITS = ((5, 65536), (64, 4096), (256, 256), (259, 259), (260, 64), (64, 8))
+
+
+def check_parts(bench, plan):
+    """Checks that the programs of the last run are parts of those of a plan, each with its write enable and its polls."""
+    wanted = [(int.from_bytes(out[1:4], "big") + at, byte) for out, _ in plan if out[0] == 0x02
+              for at, byte in enumerate(out[4:])]
+    log = bench.server.log
+    programs = [at for at, (out, _) in enumerate(log) if out[0] == 0x02]
+    got = [(int.from_bytes(log[it][0][1:4], "big") + at, byte) for it in programs
+           for at, byte in enumerate(log[it][0][4:])]
+    check("programmed bytes in their order", got, wanted)
+    for it in programs:
+        check("write enable before each program, and a poll after it", (log[it - 1][0], log[it + 1][0]),
+              (b"\x06", b"\x05"))
+        check("a program within one page", int.from_bytes(log[it][0][1:4], "big") % 256 + len(log[it][0]) <= 260, True)
+    longest = max(len(out) for out, _ in log), max(len(reply) for _, reply in log)
+    limits = bench.server.traits.longest_write, bench.server.traits.longest_read
+    check("transactions within the limits", [one <= most for one, most in zip(longest, limits)], [True, True])
+
+
+def splits_transactions(start):
+    """A programmer with small limits writes and restores a chip. The lines, and the journal, are as with any other."""
+    old, new = chip_images(FEW)
+    for longest_write, longest_read in LIMITS:
+        bench = start(data=old, longest_write=longest_write, longest_read=longest_read)
+        bench.write("new", new)
+        plan = reference.session("TINY64", old, new)
+        bench.expect("-w", "new", "--journal", "j", out=[reference.found("TINY64"), reference.done(plan, old, new)])
+        check_parts(bench, plan)
+        bench.check_chip(new)
+        bench.check_file("j", reference.journal("TINY64", old, FEW))
+        plan = reference.restore("TINY64", old, FEW)
+        bench.expect("--restore", "j", out=[reference.found("TINY64"), reference.report(plan, len(FEW))])
+        check_parts(bench, plan)
+        bench.check_chip(old)
+
+
+def splits_on_a_busy_chip(start):
+    """Each part waits until the one before it has ended."""
+    old, new = chip_images(FEW)
+    bench = start(data=old, scale=1.0, longest_write=8, longest_read=512)
+    bench.write("new", new)
+    check("the session", bench.run("-w", "new", "--journal", "j").status, 0)
+    bench.chip.wait()
+    bench.check_chip(new)
+    check("transactions that the busy chip ignored", bench.chip.ignored, 0)
+
+
+def restores_parts(start):
+    """A run that was killed, or lost a reply, between the parts of a program can be undone."""
+    old, new = chip_images(FEW)
+    traits = {"longest_write": 7, "longest_read": 4096}
+    bench = start(data=old, **traits)
+    bench.write("new", new)
+    check("the session", bench.run("-w", "new", "--journal", "j").status, 0)
+    first = next(at for at, (out, _) in enumerate(bench.server.log, 1) if out[0] == 0x02)
+    for event in "kill", "lose":
+        for at in range(first - 1, first + 8):
+            bench = start(data=old, **traits)
+            bench.write("new", new)
+            check("the exit status", bench.run("-w", "new", "--journal", "j", events={at: event}).status,
+                  -9 if event == "kill" else 1)
+            bench.plug(**traits)
+            check("the restore", bench.run("--restore", "j").status, 0)
+            bench.check_chip(old)
+
+
+def needs_some_limits(start):
+    """A programmer that can't send one byte of data, or read none, is programmer fault 9."""
+    for traits, text in (({"longest_write": 4}, "the programmer sends at most 4 bytes in a transaction"),):
+        bench = start(**traits)
+        got = bench.run("-r", "out")
+        begins = f"Programmer fault 9: {text}"
+        check("the line", (got.err[0][: len(begins)], got.status), (begins, 1))
+        bench.check_unselected()
+
+
+def says_how_to_set_the_port(start):
+    """With a port that nobody has set up, and a programmer that is silent, the run ends, or says how to set it up."""
+    bench = start(is_silent=True, is_set_up=False)
+    process = bench.start(["-r", "out"])
+    try:
+        _, err = process.communicate(timeout=8)
+        check("the exit status", process.returncode, 1)
+    except subprocess.TimeoutExpired:
+        process.kill()
+        _, err = process.communicate()
+    check("a line that says it", b"stty" in err and str(bench.folder / "dev").encode() in err, True)
+
+
+CASES = [splits_transactions, splits_on_a_busy_chip, restores_parts, needs_some_limits, says_how_to_set_the_port]

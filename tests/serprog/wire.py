@@ -1,0 +1,278 @@
+"""Cases of faults between the programmer and the chip, and of chips that need care.
+
+Expected bytes and addresses are those of the models (chip.py). Where a line goes on with advice, its beginning is
+compared.
+"""
+import random
+
+import reference
+from bench import check
+from chip import SECTOR, Chip
+from faults import DIFFER
+from losses import session_wire
+from options import ALL, images
+from refusals import FOUND, LARGE, LAST, LAYOUT, large_images
+
+STOPPED = "Error 12: stopped."
+UNPROTECTED = "The chip is unprotected."
+PROTECT = ("--wp-range", "0,0x800000", "--journal", "j")
+UNLOCK = ("-w", "new", "--unlock", "-l", "layout", "-i", "last", "--journal", "j")
+# Status bytes before and after `PROTECT`: QE is set, and CMP falls.
+BEFORE, AFTER = b"\x24\x42", b"\x1c\x02"
+
+
+def begins(what, got, wanted):
+    """Checks that the lines of standard error begin with these texts, and that the run failed and isn't `Done`."""
+    check(what, [line[: len(text)] for line, text in zip(got.err, wanted)], list(wanted))
+    check(f"{what}, exit status", got.status, 1)
+    check(f"{what}, lines of a success", [it for it in got.out if it.startswith("Done")], [])
+
+
+def numbers_of(bench, opcode):
+    """Returns the numbers of the transactions of the last run with this opcode."""
+    return [at for at, (out, _) in enumerate(bench.server.log, 1) if out[0] == opcode]
+
+
+def check_unchanged(bench, data, status):
+    """Checks that no modifying command was sent, and that the chip is as it was."""
+    check("modifying commands", [out.hex() for out, _ in bench.server.log if out[0] in reference.CHANGING], [])
+    bench.check_chip(data, status)
+
+
+def compares_replies(start):
+    """One wrong bit in a reply to 05h, 35h, 9Fh, 4Bh or 5Ah stops a run before the first modifying command."""
+    blank = b"\xff" * LARGE
+    bench = start("W25Q64FV", data=blank, status=BEFORE, unique=bytes(range(8)))
+    check("the run", bench.run(*PROTECT).status, 0)
+    log = list(bench.server.log)
+    seal = next(at for at, (out, _) in enumerate(log) if out[0] in reference.CHANGING)
+    for number in range(2, seal + 1):
+        out, reply = log[number - 1]
+        for bit in (1, 3, 4, 5, 6) if out[0] in (0x05, 0x35) else (0,):
+            bench.chip.status[:] = BEFORE
+            bench.path("j").unlink(missing_ok=True)
+            bench.server.traits.wrong_bits = {number: (len(reply) - 1, bit)}
+            begins(f"{out.hex()}, bit {bit}", bench.run(*PROTECT), [STOPPED, DIFFER])
+            check_unchanged(bench, blank, BEFORE)
+    old, new = images("compares_replies")
+    bench = start(data=old)
+    bench.write("new", new)
+    for number in 6, 7, 8, 9, 10, 11:
+        bench.server.traits.wrong_bits = {number: (7, 5)}
+        begins(f"SFDP, transaction {number}", bench.run("-w", "new", "--journal", "j"), [STOPPED, DIFFER])
+        check("the opcode", bench.server.log[number - 1][0][:1], b"\x5a")
+        check_unchanged(bench, old, b"\0\0")
+        bench.check_absent("j")
+
+
+def believes_busy(start):
+    """A wrong bit that shows BUSY costs one more poll. One that hides BUSY in one of two bytes hides nothing."""
+    for byte in 0, 1:
+        bench = start("W25Q64FV", data=b"\xff" * LARGE, status=BEFORE)
+        bench.server.traits.wrong_bits = {2: (byte, 0)}
+        bench.expect(*PROTECT, out=[FOUND, "Done: touched 0, erases 0, programs 0, transactions 8."])
+        bench.check_chip(b"\xff" * LARGE, AFTER)
+        bench = start("W25Q64FV", data=b"\xff" * LARGE, status=BEFORE, scale=20.0)
+        bench.server.traits.wrong_bits = {(1, 1): (byte, 0)}
+        check("the run", bench.run(*PROTECT).status, 0)
+        check("the chip is busy after the run", bench.chip.is_busy(), False)
+        check("transactions that the busy chip ignored", bench.chip.ignored, 0)
+        bench.check_chip(b"\xff" * LARGE, AFTER)
+
+
+def not_stored(sent, found):
+    """Returns the beginning of the line of a status write that the chip didn't store."""
+    return "Chip fault 3: the chip did not store a status write: " \
+        f"{sent[0]:02X}h {sent[1]:02X}h was sent, {found[0]:02X}h {found[1]:02X}h was read back"
+
+
+def reads_status_writes_back(start):
+    """A status write of --wp-range or of its restore that the chip missed is chip fault 3."""
+    blank = b"\xff" * LARGE
+    bench = start("W25Q64FV", data=blank, status=BEFORE)
+    check("the run", bench.run(*PROTECT).status, 0)
+    number = numbers_of(bench, 0x01)[0]
+    bench.server.traits.misses = {number: 0xFF}
+    begins("--restore", bench.run("--restore", "j"), [STOPPED, not_stored(BEFORE, AFTER)])
+    bench.check_chip(blank, AFTER)
+    check("the restore", bench.run("--restore", "j").status, 0)
+    bench.path("j").unlink()
+    bench.server.traits.misses = {number: 0xFF}
+    begins("--wp-range", bench.run(*PROTECT), [STOPPED, not_stored(AFTER, BEFORE)])
+    bench.check_chip(blank, BEFORE)
+
+
+def reports_an_unprotected_chip(start):
+    """The same for both status writes of --unlock. If the second one was missed, a line says what that means."""
+    old, new = large_images()
+    bench = start("W25Q64FV", data=old, status=b"\x04\x02")
+    bench.write("new", new)
+    bench.write("layout", LAYOUT)
+    check("the run", bench.run(*UNLOCK).status, 0)
+    lifts, locks = numbers_of(bench, 0x01)
+    for number, sent, found, data in ((lifts, b"\0\x02", b"\x04\x02", old), (locks, b"\x04\x02", b"\0\x02", new)):
+        bench.chip.data[:], bench.chip.status[:] = old, b"\x04\x02"
+        bench.path("j").unlink()
+        bench.server.traits.misses = {number: 0xFF}
+        got = bench.run(*UNLOCK)
+        begins("--unlock", got, [STOPPED, not_stored(sent, found)])
+        check("a line that says it", any(UNPROTECTED in it for it in got.err), number == locks)
+        bench.check_chip(data, found)
+        check("the restore", bench.run("--restore", "j").status, 0)
+        bench.check_chip(old, b"\x04\x02")
+
+
+def finds_torn_status_writes(start):
+    """A loss of the chip's power in a status write leaves any mixture of old and new bits: chip fault 3, or none."""
+    blank, differing = b"\xff" * LARGE, int.from_bytes(BEFORE, "big") ^ int.from_bytes(AFTER, "big")
+    torn, bench = differing, start("W25Q64FV", data=blank, status=BEFORE)
+    while torn:
+        torn = torn - 1 & differing
+        bench.chip.status[:] = BEFORE
+        bench.path("j").unlink(missing_ok=True)
+        bench.server.traits.loss = {"torn": torn}
+        found = (int.from_bytes(BEFORE, "big") & ~torn | int.from_bytes(AFTER, "big") & torn).to_bytes(2, "big")
+        got = bench.run(*PROTECT, events={(1, 0): "dip"})
+        begins(f"bits {torn:04x}", got, [STOPPED, not_stored(AFTER, found)])
+        check("the restore", bench.run("--restore", "j").status, 0)
+        bench.check_chip(blank, BEFORE)
+
+
+def restores_marginal_bytes(start):
+    """After a loss of power in an erase or a program, a restore leaves no marginal byte, and runs once."""
+    old, new = images("restores_marginal_bytes")
+    operations = sum(out == b"\x06" for out, _ in reference.session("TINY64", old, new))
+    for operation in 2, 3, operations:
+        for count in 1, 8:
+            bench = start(data=old, loss={"marginal": count})
+            bench.chip.chance = random.Random(f"{operation} {count}")
+            bench.write("new", new)
+            got = bench.run("-w", "new", "--journal", "j", events={(operation, 0): "power"})
+            begins("the session", got, [STOPPED])
+            check("marginal bytes", len(bench.chip.marginal), count)
+            bench.plug()
+            plan = reference.restore("TINY64", old, (1, 2, 7, 15))
+            bench.expect("--restore", "j", out=[reference.found("TINY64"), reference.report(plan, 4)])
+            check("marginal bytes", bench.chip.marginal, {})
+            bench.check_chip(old)
+
+
+def first_difference(one, other, numbers=ALL):
+    """Returns the first address in these sectors where both differ."""
+    return next(at for n in numbers for at in range(n * SECTOR, (n + 1) * SECTOR) if one[at] != other[at])
+
+
+def finds_a_wrong_erase(start):
+    """A wrong address bit of an erase is error 14. A restore restores the saved sectors, and -v finds the other one."""
+    old, new = images("finds_a_wrong_erase")
+    wire = session_wire(old, new)
+    number = next(at for at, (out, _) in enumerate(wire, 1) if out[0] == 0x20)
+    bench = start(data=old, wrong_address=(number, number, 14))
+    # What the chip holds then: the erase of sector 2 erases sector 6.
+    chip = Chip("TINY64", old)
+    for at, (out, replies) in enumerate(wire, 1):
+        chip.transfer(bytes.fromhex("20006000") if at == number else out, replies)
+    check("the erase", wire[number - 1][0].hex(), "20002000")
+    bench.write("new", new)
+    bench.expect("-w", "new", "--journal", "j",
+                 err=[f"Error 14: bytes differ at 0x{first_difference(chip.data, new, (1, 2, 7, 15)):06x}."])
+    bench.server.traits.wrong_address = ()
+    check("the restore", bench.run("--restore", "j").status, 0)
+    bench.check_chip(old[: 6 * SECTOR] + b"\xff" * SECTOR + old[7 * SECTOR :])
+    bench.write("old", old)
+    bench.expect("-v", "old", err=["Error 14: bytes differ at 0x006000."])
+
+
+def compares_the_rest(start):
+    """If an address bit is wrong for the whole change, its sectors verify, and the comparison is chip fault 4."""
+    old, new = images("compares_the_rest", (2, 7, 15))
+    wire = session_wire(old, new)
+    first = next(at for at, (out, _) in enumerate(wire, 1) if out[0] in reference.CHANGING)
+    last = next(at for at, (out, _) in enumerate(wire, 1) if at > first and out[0] == 0x9F) - 2
+    bench = start(data=old, wrong_address=(first, last, 14))
+    bench.write("new", new)
+    address = first_difference(old, new)
+    begins("the run", bench.run("-w", "new", "--journal", "j"),
+           [f"Chip fault 4: the chip differs from the image at 0x{address:06x}."])
+    bench.check_file("j", reference.journal("TINY64", old, (2, 7, 15)))
+    bench.server.traits.wrong_address = ()
+    check("the restore", bench.run("--restore", "j").status, 0)
+    for number in 2, 7, 15:
+        check("a saved sector", reference.sector_of(bench.chip.data, number), reference.sector_of(old, number))
+    bench.write("old", old)
+    bench.expect("-v", "old", err=[f"Error 14: bytes differ at 0x{first_difference(bench.chip.data, old):06x}."])
+
+
+def refuses_unknown_protection(start):
+    """A chip without a row in the table, with one of the status bits 2 to 6, isn't changed: chip fault 1."""
+    old, new = images("refuses_unknown_protection")
+    journal = reference.journal("GUARD64", old, (1, 2, 7, 15))
+    for bit in range(2, 7):
+        status = bytes([1 << bit, 0])
+        bench = start("GUARD64", data=old, status=status)
+        bench.write("new", new)
+        bench.write("k", journal)
+        for words in ("-w", "new"), ("-E",), ("-w", "new", "-n"), ("-w", "new", "--unlock"):
+            got = bench.run(*words, "--journal", "j")
+            begins(" ".join(words), got, [f"Chip fault 1: status 1 of this chip is {1 << bit:02X}h."])
+            check_unchanged(bench, old, status)
+            bench.check_absent("j")
+        bench.expect("--restore", "k", err=["Error 17: status differs from the journal's."])
+        bench.expect("-r", "out", out=[reference.found("GUARD64"), "Read 65536 bytes."])
+        check_unchanged(bench, old, status)
+    bench = start("GUARD64", data=old)
+    bench.write("new", new)
+    plan = reference.session("GUARD64", old, new)
+    bench.expect("-w", "new", "--journal", "j", out=[reference.found("GUARD64"), reference.done(plan, old, new)])
+    bench.check_chip(new)
+
+
+def finds_lost_programs(start):
+    """A program that the chip lost with its power is error 14. With -n it isn't noticed, but the journal restores."""
+    old, new = images("finds_lost_programs")
+    page = 15 * SECTOR + 15 * 256
+    address = next(at for at in range(page, page + 256) if new[at] != 0x5A)
+    for words, is_found in ((), True), (("-n",), False):
+        bench = start(data=old, loss={"fill": 0x5A})
+        bench.write("new", new)
+        # The last operation of the session is the program of the last page of sector 15.
+        last = sum(out == b"\x06" for out, _ in reference.session("TINY64", old, new))
+        got = bench.run("-w", "new", *words, "--journal", "j", events={(last, 0): "dip"})
+        check("the exit status", got.status, int(is_found))
+        check("the error", got.err[:1], [f"Error 14: bytes differ at 0x{address:06x}."] * is_found)
+        check("the chip is as asked", bench.chip.data == new, False)
+        check("the restore", bench.run("--restore", "j").status, 0)
+        bench.check_chip(old)
+
+
+def wakes_the_chip(start):
+    """A chip in deep power-down is woken before it is identified."""
+    for part in "TINY64", "W25Q64FV":
+        bench = start(part)
+        bench.chip.is_asleep = True
+        bench.expect(out=[reference.found(part)])
+        bench.check_frames(reference.probe(part))
+        check("deep power-down", bench.chip.is_asleep, False)
+
+
+def loses_the_power_lock(start):
+    """SRP1 without SRP0 is lost with the chip's power. A restore is then error 17, and changes nothing."""
+    old, new = images("loses_the_power_lock")
+    blank = b"\xff" * LARGE
+    data = blank[:-SECTOR] + old[:SECTOR]
+    bench = start("W25Q64FV", data=data, status=b"\0\x01")
+    bench.write("new", blank)
+    bench.write("layout", LAYOUT)
+    got = bench.run("-w", "new", "-l", "layout", "-i", "last", "--journal", "j", events={(1, 0): "power"})
+    begins("the session", got, [STOPPED])
+    check("status 2", bench.chip.status[1], 0)
+    bench.check_file("j", reference.journal("W25Q64FV", data, [LAST], b"\0\x01"))
+    now = bytes(bench.chip.data)
+    bench.plug()
+    bench.expect("--restore", "j", err=["Error 17: status differs from the journal's."])
+    check_unchanged(bench, now, b"\0\0")
+
+
+CASES = [compares_replies, believes_busy, reads_status_writes_back, reports_an_unprotected_chip,
+         finds_torn_status_writes, restores_marginal_bytes, finds_a_wrong_erase, compares_the_rest,
+         refuses_unknown_protection, finds_lost_programs, wakes_the_chip, loses_the_power_lock]
