@@ -38,7 +38,7 @@ SEED := 1
 COUNT := 1000
 
 .PHONY: all help build toolchain demo try files bench compare storm sweep kill runs serprog install uninstall dist \
-  agree statement lint quick check price clean
+  agree statement lint quick case prove check price clean
 
 all: build ## proves and builds the program and the crates below it
 
@@ -160,6 +160,12 @@ lint: ## checks each script with its linter (shellcheck, a C compiler, pyflakes)
 
 quick: toolchain ## makes checks that need no proof, in a few minutes
 	@scripts/quick.sh '$(PROGRAM)'
+
+case: toolchain ## plays one case of crates/transcripts/stdin: make case NAME='a read runs on over the end'
+	@scripts/case.sh "$$NAME"
+
+prove: toolchain ## proves a crate and all crates that depend on it: make prove CRATE=nor_words
+	@scripts/prove.py "$$CRATE"
 
 check: toolchain ## the merge gate: all proofs, and all tests except 'make compare'
 	@bash .ci/run

@@ -1,10 +1,12 @@
 #!/usr/bin/env bash
 # scripts/quick.sh [PROGRAM]: makes checks that need no proof, in a few minutes.
 #
-# It checks that the sources are formatted, that the pages agree, that each crate compiles and most programs run, and,
-# if flashnor or transcripts is built from these sources, that it passes its cases. It proves nothing. The end of the
-# output of what failed is shown, the last line has the counts, and the exit status is 1 if anything failed. Tests that
-# run out of time in such a build, as those of `rows` do, are named; the gate runs them.
+# It checks that the sources are formatted, that the pages agree, and that each crate compiles. It runs the programs as
+# `rt ci` does: with the files `args`, `stdin` and `data/` of their crates, and each must print what `stdout` has and
+# end with the status in `status`. If flashnor or transcripts is built from these sources, it must pass its cases.
+# Nothing is proved. The end of the output of what failed is shown, the last line has the counts, and the exit status is
+# 1 if anything failed. Some programs and tests would run for minutes in such a build: `rows` and `bench` are only
+# compiled, and `storm` and `transcripts` are given one case.
 set -euo pipefail
 
 top=$(cd "$(dirname "$0")/.." && pwd)
@@ -13,10 +15,11 @@ work=$(mktemp -d)
 trap 'rm -rf "$work"' EXIT
 passed=0
 failed=0
-# The tests of `rows` and the cases of `transcripts` run for minutes, so these crates are only compiled.
-slow=" rows transcripts "
-# The seconds in which a crate must be compiled and run.
-most=280
+# The crates that are only compiled, and the programs that are given one case.
+compiled=" rows bench "
+one_case=" storm transcripts "
+# The seconds in which a crate must be compiled and run, also on a machine that has much else to do.
+most=900
 
 if ! command -v rt > /dev/null; then
     echo "'rt' isn't found: it comes with Rattle's kit, whose folder bin has to be in PATH." >&2
@@ -50,12 +53,13 @@ is_laid_out() {
     mkdir "$work/tree"
     git ls-files -z -- crates crates.txt | xargs -0 tar c | tar x -C "$work/tree"
     git -C "$work/tree" init -q
+    git -C "$work/tree" add -A
     for crate in "$work"/tree/crates/*; do (cd "$crate" && rt fmt > /dev/null); done
-    local file changed=0
-    while IFS= read -r -d '' file; do
-        cmp -s "$file" "$work/tree/$file" || { echo "$file isn't in rt fmt's layout"; changed=1; }
-    done < <(git ls-files -z -- 'crates/*.rt' 'crates/*.antt')
-    return $changed
+    if ! git -C "$work/tree" diff --quiet; then
+        echo "not in rt fmt's layout:"
+        git -C "$work/tree" diff --name-only
+        return 1
+    fi
 }
 
 # Checks the datasheets' examples with the built program of transcripts.
@@ -65,41 +69,73 @@ play_transcripts() {
 
 has_tests() { grep -rqF '#[test]' "$top/crates/$1/src"; }
 
-# Runs a crate's tests, or a program without tests, without a proof. A library without tests is compiled with the crates
-# that depend on it.
+# Tries a crate without a proof: its tests, or a program with the files of its crate. A library without tests is
+# compiled with the crates that depend on it.
 try_crate() {
-    local seconds=200 words=(--test) input=/dev/null
+    local seconds=200 words=() input=/dev/null file
     cd "$top/crates/$1"
-    [[ $slow == *" $1 "* ]] && seconds=1
-    if ! has_tests "$1"; then
-        [[ -f src/main.rt ]] || return 0
+    [[ $compiled != *" $1 "* ]] || seconds=1
+    if has_tests "$1"; then
+        words=(--test)
+    elif [[ -f src/main.rt ]]; then
+        while IFS= read -r -d '' file; do words+=(--data "$file=data/$file"); done < \
+            <(if [[ -d data ]]; then find data -type f -printf '%P\0' | sort -z; fi)
+        words+=(--)
+        [[ ! -f args ]] || mapfile -t -O ${#words[@]} words < args
+        [[ ! -f stdin ]] || input=stdin
         case $1 in
-            flashnor) words=(-- -h) ;;
             storm) words=(-- 1 1) ;;
-            *) words=() ;;
+            transcripts)
+                input=$2/first_case
+                awk '/^case / { n++ } n == 1' stdin > "$input"
+                ;;
         esac
+    else
+        return 0
     fi
-    [[ -f stdin ]] && input=stdin
-    timeout "$most" rt try --seconds "$seconds" "${words[@]}" > "$2/$1.log" 2>&1 < "$input"
+    timeout "$most" rt try --seconds "$seconds" "${words[@]}" < "$input" > "$2/$1.printed" 2> "$2/$1.log"
     echo $? > "$2/$1.status"
 }
 export -f has_tests try_crate
-export top slow most
+export top most compiled
 
-# Prints how the tests of a crate, or a program without tests, ended. Status 6 is that of a try that ran out of time.
-# Status 124, of one that was ended while it was compiled, is a failure.
+# Succeeds if a crate that is only compiled was compiled. Status 6 of a try means that the run did not end in time.
+is_compiled() {
+    local status
+    cat "$work/$1.log"
+    status=$(< "$work/$1.status")
+    [[ $status != 124 ]] || echo "it wasn't compiled and run in $most seconds"
+    [[ $status == 0 || $status == 6 ]]
+}
+
+# Succeeds if a program ended with the status of its crate's file `status` (none: 0), and printed what `stdout` has
+# (none: nothing). The status of `rt try` can't show this: 1 to 6 also mean that the program was refused or did not end.
+is_as_wanted() {
+    local wanted=0 expected=/dev/null status
+    cat "$work/$1.log"
+    [[ ! -f crates/$1/status ]] || wanted=$(< "crates/$1/status")
+    [[ ! -f crates/$1/stdout ]] || expected=crates/$1/stdout
+    [[ $one_case != *" $1 "* ]] || expected=$work/one_passed
+    [[ $(< "$work/$1.status") != 124 ]] || echo "it wasn't compiled and run in $most seconds"
+    status=$(sed -n 's/^run=ended status=\([0-9]*\) .*/\1/p' "$work/$1.log" | tail -n 1)
+    [[ $status == "$wanted" ]] || { echo "the program's status is ${status:-unknown}, and not $wanted"; return 1; }
+    diff "$expected" "$work/$1.printed"
+}
+
+# Counts the try of a crate.
 count_try() {
-    local status what="tests of $1"
-    if ! has_tests "$1"; then
-        [[ -f crates/$1/src/main.rt ]] || return 0
-        what="the program $1"
+    local what="the program $1"
+    if has_tests "$1"; then
+        what="the tests of $1"
+    elif [[ ! -f crates/$1/src/main.rt ]]; then
+        return 0
     fi
-    status=$(cat "$work/$1.status" 2> /dev/null || echo 1)
-    if [[ $status == 6 ]]; then
-        echo "$what: compiled, and too slow to be run so"
+    if [[ $compiled == *" $1 "* ]]; then
+        step "$what, only compiled" is_compiled "$1"
+    elif has_tests "$1"; then
+        count "$what" "$(< "$work/$1.status")" "$work/$1.log"
     else
-        [[ $status != 124 ]] || echo "it wasn't compiled in $most seconds" >> "$work/$1.log"
-        count "$what" "$status" "$work/$1.log"
+        step "$what" is_as_wanted "$1"
     fi
 }
 
@@ -108,11 +144,13 @@ count_try() {
 on_built() {
     local name=$1 file=$2 newer=
     shift 2
-    [[ ! -x $file ]] || newer=$(find crates.txt crates/*/{src,specs,proofs} -newer "$file" -print -quit 2> /dev/null || true)
     if [[ ! -x $file ]]; then
-        echo "left out: $name: not built, so it wasn't run ('rt run' in its crate proves and builds it)"
-    elif [[ $newer ]]; then
-        echo "left out: $name: older than $newer, so it wasn't run"
+        echo "not run: $name isn't built ('rt run' in its crate proves and builds it)"
+        return
+    fi
+    newer=$(find crates.txt crates/*/{src,specs,proofs} -newer "$file" -print -quit 2> /dev/null || true)
+    if [[ $newer ]]; then
+        echo "not run: $name is older than $newer"
     else
         step "$name" "$@"
     fi
@@ -120,9 +158,10 @@ on_built() {
 
 step "layout of the sources" is_laid_out
 step "the pages agree" bash scripts/agree.sh
+echo "1 passed, 0 failed" > "$work/one_passed"
 # The largest crates first, so that none of them runs alone at the end.
 du -s crates/*/src | sort -rn | sed 's|.*crates/\(.*\)/src|\1|' |
-    xargs -P "$(nproc)" -I{} bash -c "try_crate {} '$work' || true"
+    xargs -P "${RT_JOBS:-$(nproc)}" -I{} bash -c "try_crate {} '$work' || true"
 for crate in crates/*; do count_try "${crate#crates/}"; done
 on_built "the built program" "$program" tests/run.py "$program"
 on_built "the built transcripts" crates/transcripts/out/transcripts play_transcripts

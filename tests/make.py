@@ -2,10 +2,11 @@
 """tests/make.py: checks the Makefile.
 
 It must use no program that is older than its sources. An archive must have all pages to which its pages link, and name
-the toolchain and commit of its program. `make quick` must not report a crate as compiled that was not, and `make demo`
-must run the first example of README. The test uses a copy of the repository in a directory with a space in its name,
-with an `rt` that proves nothing and builds a program that prints how many programs were built. The last line is `N
-passed, M failed`.
+the toolchain and commit of its program. `make quick` must run each program with the files of its crate, and detect one
+that does not compile, print or end as it must. `make case` must fail if its case gives no answer, `make prove` must
+prove a crate and those that depend on it, and `make demo` must run the first example of README. The test uses a copy of
+the repository in a directory with a space in its name, with an `rt` that proves nothing and builds a program that
+prints how many programs were built. The last line is `N passed, M failed`.
 """
 import os
 import re
@@ -19,14 +20,29 @@ TOP = Path(__file__).resolve().parent.parent
 PROGRAM = Path("crates/flashnor/out/flashnor")
 SOURCE = Path("crates/nor_chip/src/lib.rt")
 MANUALS = "man/flashnor.8", "man/flashnor-journal.5"
+# The `rt` of these tests. A try prints what the crate's program must print, and ends as it must, or does what the
+# script `as/CRATE` says; it writes its arguments and its input to `tried`. A check fails if there is `refused/CRATE`.
 RT = """#!/bin/sh
+crate=${PWD##*/}
 case $1 in
     version) echo 'a kit' ;;
     try)
-        [ "${PWD##*/}" != bench ] || exit 124
-        [ "${PWD##*/}" != rows ] || exit 6
-        echo "run= $*"
-        echo "tried: ${*#*-- }" ;;
+        mkdir -p "$WORK/tried"
+        echo "$*" > "$WORK/tried/$crate"
+        cat > "$WORK/tried/$crate.stdin"
+        [ ! -e "$WORK/as/$crate" ] || . "$WORK/as/$crate"
+        case $crate in
+            rows) exit 6 ;;
+            storm) echo '1 passed, 0 failed' ;;
+            transcripts) echo "$(grep -c '^case ' "$WORK/tried/$crate.stdin") passed, 0 failed" ;;
+            *) [ ! -e stdout ] || cat stdout ;;
+        esac
+        status=$(cat status 2> /dev/null || echo 0)
+        echo "run=ended status=$status runners=1 proved=no" >&2
+        exit $status ;;
+    check)
+        echo "$crate" >> "$WORK/checked"
+        [ ! -e "$WORK/refused/$crate" ] || { echo "a goal of $crate"; exit 1; } ;;
     run)
         sleep 0.02
         echo built >> "$WORK/builds"
@@ -37,6 +53,8 @@ case $1 in
         [ ! -e "$WORK/fails" ] ;;
 esac
 """
+# A try that ended without an answer, as far as its last line says; its status may be 0 all the same.
+SILENT = "echo 'run=no-answer proved=no' >&2; exit 0\n"
 
 
 class Tree:
@@ -85,6 +103,13 @@ class Tree:
         with open(self.top / path, "a", encoding="utf-8") as it:
             it.write(text)
 
+    def put(self, name, text, mode=0o644):
+        """Writes a file below the directory of the trial."""
+        path = self.work / name
+        path.parent.mkdir(parents=True, exist_ok=True)
+        path.write_text(text, encoding="utf-8")
+        path.chmod(mode)
+
     def would_build(self, *targets):
         """Returns those of the targets that would build the program first."""
         return [it for it in targets if "rt run" in self.make("-n", it)[1]]
@@ -120,9 +145,7 @@ def stale(tree, expect):
     said = tree.make("quick")[1].splitlines()
     for what in ("program", "transcripts"):
         expect(f"an old {what} in quick", [it for it in said if f"the built {what}" in it],
-               [f"left out: the built {what}: older than {SOURCE}, so it wasn't run"])
-    expect("a program that wasn't compiled in time", "the program bench: FAILED" in said, True)
-    expect("tests that are slow", "tests of rows: compiled, and too slow to be run so" in said, True)
+               [f"not run: the built {what} is older than {SOURCE}"])
     tree.make("build")
     (tree.top / "crates/nor_chip/specs/More.antt").touch()
     expect("a new source", tree.would_build("runs"), ["runs"])
@@ -132,6 +155,121 @@ def stale(tree, expect):
     tree.make("build")
     tree.edit("crates.txt", "#\n")
     expect("another list of crates", tree.would_build("runs"), ["runs"])
+
+
+QUICK = "the program {}".format
+WRONG_TRIES = {
+    "a program that prints something else": ("own_bus", "echo A chip.", QUICK("own_bus")),
+    "a program that prints more": ("flashnor", "cat stdout; echo more", QUICK("flashnor")),
+    "a program that ends with another status": (
+        "flashnor_serprog", "echo 'run=ended status=0 runners=1 proved=no' >&2; exit 0", QUICK("flashnor_serprog")),
+    "a program that is refused with the status that it must have": (
+        "flashnor_serprog", "echo 'error: a type' >&2; exit 1", QUICK("flashnor_serprog")),
+    "a program that gives no answer": (
+        "flashnor_serprog", SILENT.replace("exit 0", "exit 1"), QUICK("flashnor_serprog")),
+    "a case that fails": ("transcripts", "echo 0 passed, 1 failed", QUICK("transcripts")),
+    "a program that does not compile": ("bench", "exit 1", QUICK("bench") + ", only compiled"),
+    "a program that isn't compiled in time": ("bench", "exit 124", QUICK("bench") + ", only compiled"),
+    "tests that don't compile": ("rows", "exit 1", "the tests of rows, only compiled"),
+}
+
+
+def tried(tree, expect):
+    """`make quick` runs each program as `rt ci` does, and detects each that does not compile or do what it must."""
+    tree.put("a tree/scripts/agree.sh", "")
+    for folder in (*tree.top.glob("crates/*/proofs"), *tree.top.glob("crates/*/specs")):
+        shutil.rmtree(folder)
+    tree.commit()
+    status, said = tree.make("quick")
+    expect("a quick look", (status, said.splitlines()[-1]), (0, "quick: 9 passed, 0 failed"))
+    given = {path.name: path.read_text(encoding="utf-8").strip() for path in (tree.work / "tried").iterdir()}
+    programs = {path.parent.parent.name for path in tree.top.glob("crates/*/src/main.rt")}
+    expect("the crates that are tried", {it for it in given if "." not in it}, programs | {"rows"})
+    for crate in sorted(programs - {"storm", "transcripts"}):
+        files = [tree.top / "crates" / crate / it for it in ("data", "args")]
+        data = sorted(it.name for it in files[0].iterdir()) if files[0].exists() else []
+        words = files[1].read_text(encoding="utf-8").splitlines() if files[1].exists() else []
+        expect(f"what {crate} is given", re.sub(r"^try --seconds \d+ ", "", given[crate]),
+               " ".join([*(f"--data {it}=data/{it}" for it in data), "--", *words]))
+    expect("the cases that transcripts is given", re.findall("(?m)^case ", given["transcripts.stdin"]), ["case "])
+    expect("the cases that storm is given", given["storm"].split()[-3:], ["--", "1", "1"])
+    for what, (crate, script, _) in WRONG_TRIES.items():
+        shutil.rmtree(tree.work / "as", ignore_errors=True)
+        tree.put(f"as/{crate}", script if "exit" in script else
+                 f"{script}; echo 'run=ended status=0 runners=1 proved=no' >&2; exit 0")
+        status, said = tree.make("quick")
+        expect(what, (status != 0, re.findall("(?m)^(.*): FAILED$", said)), (True, [WRONG_TRIES[what][2]]))
+
+
+def played(tree, expect):
+    """`make case` plays the case of this name, with the built program if there is one, and fails without an answer."""
+    text = (tree.top / "crates/transcripts/stdin").read_text(encoding="utf-8")
+    names = re.findall("(?m)^case (.*)", text)
+    for name in names[0], names[-1]:
+        expect(f"the case '{name}'", tree.make("case", f"NAME={name}"), (0, "1 passed, 0 failed\n"))
+        given = (tree.work / "tried/transcripts.stdin").read_text(encoding="utf-8").splitlines()
+        lines = text.splitlines()
+        first = lines.index(f"case {name}")
+        last = next((n for n, line in enumerate(lines) if n > first and line.startswith("case ")), len(lines))
+        lines[:first], lines[last:] = [""] * first, [""] * (len(lines) - last)
+        expect(f"the lines of the case '{name}'", given, lines)
+    status, said = tree.make("case", f"NAME={names[0]}s")
+    expect("the status of a case that isn't there", status != 0, True)
+    expect("what is said of it", [it in said for it in (f"has no case '{names[0]}s'", names[-1])], [True, True])
+    for what, script, printed in (
+            ("a case without an answer", SILENT, f"the case '{names[0]}' gave no answer"),
+            ("a program that is refused", "echo 'error: a type' >&2; exit 1\n", "error: a type"),
+            ("a case that fails", "echo 'a: line 5: x.'; echo 0 passed, 1 failed; "
+                                  "echo 'run=ended status=1 runners=1 proved=no' >&2; exit 1\n", "a: line 5: x.")):
+        tree.put("as/transcripts", script)
+        status, said = tree.make("case", f"NAME={names[0]}")
+        expect(what, (status != 0, printed in said.splitlines()), (True, True))
+    tree.put("a tree/crates/transcripts/out/transcripts",
+             "#!/bin/sh\ncat > ../../../given\necho 1 passed, 0 failed\n", 0o755)
+    expect("a case of the built program", tree.make("case", f"NAME={names[-1]}"), (0, "1 passed, 0 failed\n"))
+    given = (tree.work / "given").read_text(encoding="utf-8")
+    expect("what the built program is given", f"case {names[-1]}\n" in given, True)
+    tree.edit()
+    expect("a case of an old program", tree.make("case", f"NAME={names[0]}")[0] != 0, True)
+
+
+def proved(tree, expect):
+    """`make prove` proves a crate and those that depend on it, and tells which of them aren't proved."""
+    (tree.top / "crates.txt").write_text("low:\nmiddle: low\nother:\nhigh: other middle\n", encoding="utf-8")
+    for crate in "low middle other high".split():
+        (tree.top / "crates" / crate).mkdir()
+
+    def prove(*words):
+        (tree.work / "checked").unlink(missing_ok=True)
+        status, said = tree.make("prove", *words)
+        checked = tree.work / "checked"
+        return status != 0, checked.read_text(encoding="utf-8").split() if checked.exists() else [], said.splitlines()
+
+    for crate, wanted in ("low", "low middle high"), ("other", "other high"), ("high", "high"):
+        failed, checked, said = prove(f"CRATE={crate}")
+        expect(f"the crates proved with {crate}", (failed, checked, said[-1]),
+               (False, wanted.split(), f"prove: {len(checked)} passed, 0 failed"))
+    tree.put("refused/middle", "")
+    failed, checked, said = prove("CRATE=low")
+    expect("a crate that isn't proved", (failed, checked), (True, ["low", "middle"]))
+    expect("what is said of it", said[1:4], [
+        "a goal of middle", "middle: FAILED", "high: not tried, since it depends on a crate that isn't proved"])
+    expect("the counts with it", "prove: 1 passed, 2 failed" in said, True)
+    for words in (), ("CRATE=lo",):
+        expect(f"no crate {words}", prove(*words)[:2], (True, []))
+
+
+def cloned(tree, expect):
+    """tests/clone.sh runs a command where only tracked files are, as they are here."""
+    tree.make("build")
+    tree.put("a tree/untracked", "")
+    tree.edit(text="// edited\n")
+    (tree.top / "README.md").unlink()
+    status, said = tree.run("tests/clone.sh", "sh", "-c", f"ls; cat {SOURCE}; ls {PROGRAM}; git ls-files; exit 3")
+    expect("the status in a clone", status, 3)
+    found = [it in said.splitlines() for it in ("untracked", "README.md", "Makefile", "// edited")]
+    expect("the files of a clone", found, [False, False, True, True])
+    expect("the programs of a clone", f"\n{PROGRAM}\n" in said, False)
 
 
 def installed(tree, expect):
@@ -202,6 +340,7 @@ def shown(tree, expect):
     """`make demo` prints the first example of README and runs it, even if nothing is built; and how to go on."""
     readme = (TOP / "README.md").read_text(encoding="utf-8")
     example = readme[readme.index("$ flashnor ") :].splitlines()[0]
+    tree.put("as/flashnor", "echo \"run= $*\"; echo \"tried: ${*#*-- }\"; exit 0\n")
     said = tree.make("demo")[1].splitlines()
     expect("a demo without a program", said[1:3], [example, f"tried: {example.removeprefix('$ flashnor ')}"])
     tree.make("build")
@@ -235,7 +374,7 @@ def main():
         if got != wanted:
             print(f"FAILED: make.py: {what}: wanted {wanted}, got {got}")
 
-    for trial in (stale, installed, packed, complete, shown, wrong):
+    for trial in (stale, tried, played, proved, cloned, installed, packed, complete, shown, wrong):
         with tempfile.TemporaryDirectory() as work:
             trial(Tree(Path(work)), expect)
     print(f"{counts[True]} passed, {counts[False]} failed")
