@@ -1,27 +1,42 @@
--- How polls that show BUSY are paced.
-use Rattle.std.specs.Prelude.{◌+◌, ◌-◌, ◌^◌, ℕ, zero, suc, true, List, min, nat_le, if◌then◌else◌}
+-- How polls that show BUSY are paced. Durations and pauses are in microseconds.
+use Rattle.std.specs.Prelude.{◌+◌, ◌-◌, ◌*◌, ◌/◌, ◌^◌, ◌==◌, ◌||◌, ℕ, zero, suc, true, List, [], ◌∷◌, Option, None, Some, min, max, if◌then◌else◌}
 use Rattle.nor_model.specs.PolledReady.{polled_ready_after}
-use Rattle.nor_serprog.specs.declared.paced.Paced.{Paced}
-
--- The bus inside.
-abbrev pub paced_of : {B C : Type 0} → Paced B C → B
-paced_of paced = paced.bus
-
--- The number of polls in a row that showed BUSY, up to the last transaction that succeeded; at most 2^64 - 1.
-abbrev pub busy_row : {B C : Type 0} → Paced B C → ℕ
-busy_row paced = paced.busy_polls
 
 -- The number of BUSY polls in a row after a transaction that sent `out` and read `answer`, at most 2^64 - 1. Only a
 -- poll that shows BUSY continues the row.
 abbrev pub busy_row_after : (out answer : List ℕ) → (before : ℕ) → ℕ
 busy_row_after out answer before = if polled_ready_after out answer true then 0 else min (before + 1) (2 ^ 64 - 1)
 
--- The pause in milliseconds before a transaction that follows this many polls in a row which showed BUSY.
-abbrev pub pause_before : (busy_polls : ℕ) → ℕ
-pause_before busy_polls = if nat_le 512 busy_polls then 8 else if nat_le 16 busy_polls then 1 else 0
+-- The typical duration of the operation that a transaction begins which sends `out`, by its opcode. An erase of the
+-- whole chip counts as an erase of 64 KiB. (W25Q64FV datasheet, AC characteristics.)
+abbrev pub typical_of : (out : List ℕ) → Option ℕ
+typical_of [] = None
+typical_of (opcode ∷ rest) =
+    if opcode == 0x02 then Some 700
+    else if opcode == 0x01 then Some 10000
+    else if opcode == 0x20 then Some 45000
+    else if opcode == 0x52 then Some 120000
+    else if opcode == 0xD8 || opcode == 0xC7 then Some 150000
+    else None
 
--- The sum of the pauses before the first `polls` polls of a wait, in milliseconds, if all of them show BUSY and no poll
--- showed BUSY immediately before the wait.
-unfoldable pub pauses : (polls : ℕ) → ℕ
-pauses zero = 0
-pauses (suc polls) = pauses polls + pause_before polls
+-- The typical duration of the operation that the last command began, after a transaction that sent `out`.
+abbrev pub typical_after : (out : List ℕ) → (before : ℕ) → ℕ
+typical_after out before = elim (typical_of out) [ None ↦ before | Some typical ↦ typical ]
+
+-- The pause before the third poll of a wait, if the operation typically takes `typical`.
+abbrev pub third_pause : (typical : ℕ) → ℕ
+third_pause typical = min 6250 (max 100 (typical / 16))
+
+-- The pause before a transaction that follows this many polls in a row which showed BUSY, if the operation typically
+-- takes `typical`, and its command was sent `elapsed` ago. The pause of the third poll is doubled after every 16 polls.
+abbrev pub pause_before : (typical elapsed busy_polls : ℕ) → ℕ
+pause_before typical elapsed busy_polls =
+    if busy_polls == 0 then 0
+    else if busy_polls == 1 then typical - elapsed
+    else min 6250 (third_pause typical * 2 ^ min 6 (busy_polls / 16))
+
+-- The sum of the pauses before the first `polls` polls of a wait, if all of them show BUSY and no poll showed BUSY
+-- immediately before the wait. The command was sent `elapsed` before the second poll.
+unfoldable pub pauses : (typical elapsed polls : ℕ) → ℕ
+pauses typical elapsed zero = 0
+pauses typical elapsed (suc polls) = pauses typical elapsed polls + pause_before typical elapsed polls
