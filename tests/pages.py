@@ -1,10 +1,15 @@
 """Makes the examples of README.md, of the FAQ and of the manual pages into cases.
 
-A line that begins with `$` is a step, in the order of the page. The lines after it are what both streams print.
-chip.bin and new.bin are those of `make files`, as the pages say. A file that a page shows by `cat` has the content that
-the page shows.
+A line that begins with `$` is a step, in the order of the page. If it ends with a backslash, the next line belongs to
+it. The lines after a step are what both streams print. chip.bin and new.bin are those of `make files`, as the pages say.
+A file that a page shows by `cat` has the content that the page shows.
+
+tests/pages.py TEXT: prints the snippet of flashnor(8), an example without `$`, that contains this text. No other snippet
+may contain it.
 """
 import re
+import sys
+from pathlib import Path
 
 from grammar import Case, File, Step
 
@@ -17,12 +22,28 @@ def of_markdown(text):
     return [line for block in text.split("```")[1::2] for line in block.split("\n")[1:]]
 
 
+def examples_of(text):
+    """Returns the examples of a manual page, without its formatting."""
+    for form, plain in ((r"\\f[BIR]", ""), (r"\\-", "-"), (r"\\\(dq", '"'), (r"\\\(ha", "^"), (r"\\&", ""),
+                        (r"\\e", r"\\")):
+        text = re.sub(form, plain, text)
+    return re.findall(r"^\.EX\n(.*?)^\.EE$", text, re.M | re.S)
+
+
 def of_manual(text):
-    """Returns the lines within the examples of a manual page, without its formatting."""
-    lines = "\n".join(re.findall(r"^\.EX\n(.*?)^\.EE$", text, re.M | re.S))
-    for form, plain in ((r"\\f[BIR]", ""), (r"\\-", "-"), (r"\\\(dq", '"'), (r"\\\(ha", "^"), (r"\\&", "")):
-        lines = re.sub(form, plain, lines)
-    return lines.split("\n")
+    """Returns the lines within the examples of a manual page. A line that ends with a backslash is joined with the
+    next."""
+    return re.sub(r" \\\n +", " ", "\n".join(examples_of(text))).split("\n")
+
+
+def snippet_with(part):
+    """Returns the snippet of flashnor(8) that contains this text."""
+    page = Path(__file__).resolve().parent.parent / "man/flashnor.8"
+    snippets = [it for it in examples_of(page.read_text(encoding="utf-8")) if not it.startswith("$ ")]
+    found = [it for it in snippets if part in it]
+    if len(found) != 1:
+        sys.exit(f"{len(found)} snippets contain '{part}'")
+    return found[0]
 
 
 def case_of(name, lines):
@@ -50,3 +71,7 @@ def cases(*files):
     texts = [file.read_text(encoding="utf-8") for file in files]
     kinds = [of_markdown if page.endswith(".md") else of_manual for page in PAGES]
     return [case_of(page.rpartition("/")[2], kind(text)) for page, kind, text in zip(PAGES, kinds, texts)]
+
+
+if __name__ == "__main__":
+    print(snippet_with(sys.argv[1]), end="")

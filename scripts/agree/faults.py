@@ -1,6 +1,6 @@
 """scripts/agree/faults.py: checks that the pages have the lines that the program prints for results and faults, and the
-numbers of the faults. Results and errors are read from the sources, since no case prints errors 1, 2 and 13. All other
-lines are read from the cases."""
+numbers of the faults. Results and errors are read from the sources, since no case prints errors 1, 2 and 13, which
+docs/HARDWARE.md describes. All other lines are read from the cases."""
 import re
 
 import rust
@@ -28,9 +28,10 @@ def refusals():
 
 
 def take_lines(page):
-    """Compares the lines of faults with the manual page, and checks the errors that pages show anywhere."""
-    errors = same("lines of errors", sources=refusals(),
-                  manual={line_of(*row) for row in rows(page, "Refusals").items()})
+    """Compares the lines of faults with the manual page and HARDWARE, and checks the errors that pages show
+    anywhere."""
+    both = [*rows(page, "Refusals").items(), *(row[:2] for row in rows_of("docs/HARDWARE.md", "Error"))]
+    errors = same("lines of errors", sources=refusals(), pages={line_of(*row) for row in both})
     fault = r"(?:Usage|Layout|File) fault (?:\d+|K)(?:: [^\"\n]*| at line \w+)?\."
     titles = " ".join(part.title for part in page if part.section == "ERRORS")
     same("lines of other faults", manual={blank(line) for line in re.findall(fault, titles)},

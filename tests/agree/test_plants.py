@@ -172,14 +172,16 @@ PLANTS = {
         "version: parser has '9.9', manual hasn't"),
     "a message of an error": (
         AGREE, "man/flashnor.8", r"(?m)^8\trange not", "8\trange never",
-        "manual has 'Error 8: range never offered.', sources hasn't"),
+        "pages has 'Error 8: range never offered.', sources hasn't"),
     "a message of an error in the sources": (
         FAULTS, "crates/nor_request/src/refusal.rt", r'"range not offered"', '"range unknown"',
-        "sources has 'Error 8: range unknown.', manual hasn't"),
+        "sources has 'Error 8: range unknown.', pages hasn't"),
     "an error that a page shows": (
         FAULTS, "README.md", r"Error 12: stopped", "Error 12: halted", "errors shown: README has 'Error 12: halted.'"),
     "an error less": (
-        FAULTS, "man/flashnor.8", r"(?m)^18\t.*\n", "", "manual hasn't"),
+        FAULTS, "man/flashnor.8", r"(?m)^18\t.*\n", "", "pages hasn't"),
+    "an error less of hardware": (
+        FAULTS, "docs/HARDWARE.md", r"(?m)^\| 13 \| .*\n", "", "sources has 'Error 13: timeout at _.', pages hasn't"),
     "a usage fault less": (
         FAULTS, "man/flashnor.8", r"(?m)^10\t.*\n", "", "numbers of Usage faults: sources has '10', page hasn't"),
     "an option of a usage fault": (
