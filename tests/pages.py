@@ -4,8 +4,8 @@ A line that begins with `$` is a step, in the order of the page. If it ends with
 it. The lines after a step are what both streams print. chip.bin and new.bin are those of `make files`, as the pages say.
 A file that a page shows by `cat` has the content that the page shows.
 
-tests/pages.py TEXT: prints the snippet of flashnor(8), an example without `$`, that contains this text. No other snippet
-may contain it.
+tests/pages.py TEXT: prints the snippet of flashnor(8), an example without `$`, that contains this text. It fails if
+another snippet contains it too.
 """
 import re
 import sys
@@ -40,10 +40,10 @@ def snippet_with(part):
     """Returns the snippet of flashnor(8) that contains this text."""
     page = Path(__file__).resolve().parent.parent / "man/flashnor.8"
     snippets = [it for it in examples_of(page.read_text(encoding="utf-8")) if not it.startswith("$ ")]
-    found = [it for it in snippets if part in it]
+    found = {it for it in snippets if part in it}
     if len(found) != 1:
         sys.exit(f"{len(found)} snippets contain '{part}'")
-    return found[0]
+    return found.pop()
 
 
 def case_of(name, lines):
