@@ -7,7 +7,7 @@ ghost use Rattle.nor_model.specs.Command.{begins_change};
 ghost use Rattle.nor_model.specs.History.{exchange_of, replied};
 ghost use Rattle.nor_model.specs.Sent.{with_sent};
 ghost use Rattle.nor_model.specs.Status.{bytes_of};
-ghost use Rattle.nor_serprog.specs.KnownStatus.{KeepsKnown};
+ghost use Rattle.nor_serprog.specs.KnownStatus.{BelievesStatus, IsWritten, KeepsKnown, KeepsTask, PollAgrees, SendsKept};
 ghost use Rattle.nor_serprog.specs.StatusRead.{HasStored, IsStatusKept, pair, second, was_read_twice};
 
 use nor_model::{Bus, History, Status, Stopped, is_changing};
@@ -75,7 +75,7 @@ pub struct CheckedStatus<B: Bus + Drop> {
 }
 
 impl<B: Bus + Drop> CheckedStatus<B> {
-    ghost use Rattle.nor_serprog.specs.CheckedStatus.{bus_of, history_of, has_begun, written_of};
+    ghost use Rattle.nor_serprog.specs.Checked.{bus_of, history_of, has_begun, written_of};
 
     /// Returns a bus that checks the status registers over `bus`.
     pub fn new(bus: B) -> CheckedStatus<B>
@@ -111,15 +111,15 @@ impl<B: Bus + Drop> CheckedStatus<B> {
 }
 
 impl<B: Bus + Drop> CheckedStatus<B> {
-    ghost use Rattle.nor_serprog.specs.CheckedStatus.{IsWritten, KeepsTask, PollAgrees, has_begun, history_of, inside_of, known_of, written_of};
+    ghost use Rattle.nor_serprog.specs.Checked.{has_begun, history_of, inner_state, known_of, written_of};
 
     // Makes one transaction over the bus inside. What is known stays.
     fn pass(&mut self, out: &[u8], reply: &mut [u8]) -> Result<(), Stopped>
         ensures history { history_of self.new ≡ history_of self.old }
         ensures known { known_of self.new ≡ known_of self.old }
-        ensures carried { (inside_of self.new).history
-            ≡ exchange_of out.now reply.new result ∷ (inside_of self.old).history }
-        ensures sent { (inside_of self.new).sent ≡ with_sent out.now (inside_of self.old).sent }
+        ensures carried { (inner_state self.new).history
+            ≡ exchange_of out.now reply.new result ∷ (inner_state self.old).history }
+        ensures sent { (inner_state self.new).sent ≡ with_sent out.now (inner_state self.old).sent }
     {
         self.bus.transfer(out, reply)
     }
@@ -128,7 +128,7 @@ impl<B: Bus + Drop> CheckedStatus<B> {
     fn stop(&mut self, fault: StatusFault) -> Stopped
         ensures history { history_of self.new ≡ history_of self.old }
         ensures known { known_of self.new ≡ known_of self.old }
-        ensures inside { inside_of self.new ≡ inside_of self.old }
+        ensures inside { inner_state self.new ≡ inner_state self.old }
     {
         self.fault = Some(fault);
         Stopped
@@ -138,9 +138,9 @@ impl<B: Bus + Drop> CheckedStatus<B> {
     fn poll_once(&mut self) -> Result<u8, Stopped>
         ensures history { history_of self.new ≡ history_of self.old }
         ensures known { known_of self.new ≡ known_of self.old }
-        ensures sent { (inside_of self.new).sent ≡ (inside_of self.old).sent }
+        ensures sent { (inner_state self.new).sent ≡ (inner_state self.old).sent }
         ensures ready { IfOk result (λ status. status % 2 ≡ 0
-            → (inside_of self.new).history ≡ pair status ∷ (inside_of self.old).history) }
+            → (inner_state self.new).history ≡ pair status ∷ (inner_state self.old).history) }
     {
         let mut bytes = [0; 2];
         self.pass(&[READ_STATUS1], &mut bytes)?;
@@ -161,9 +161,9 @@ impl<B: Bus + Drop> CheckedStatus<B> {
     fn read_second(&mut self) -> Result<u8, Stopped>
         ensures history { history_of self.new ≡ history_of self.old }
         ensures known { KeepsTask (known_of self.old) (known_of self.new) }
-        ensures sent { (inside_of self.new).sent ≡ (inside_of self.old).sent }
-        ensures twice { IfOk result (λ status. (inside_of self.new).history
-            ≡ second status ∷ second status ∷ (inside_of self.old).history) }
+        ensures sent { (inner_state self.new).sent ≡ (inner_state self.old).sent }
+        ensures twice { IfOk result (λ status. (inner_state self.new).history
+            ≡ second status ∷ second status ∷ (inner_state self.old).history) }
     {
         let mut first = [0];
         let mut last = [0];
@@ -181,9 +181,9 @@ impl<B: Bus + Drop> CheckedStatus<B> {
     fn poll(&mut self) -> Result<u8, Stopped>
         ensures history { history_of self.new ≡ history_of self.old }
         ensures begun { has_begun self.new ≡ has_begun self.old }
-        ensures sent { (inside_of self.new).sent ≡ (inside_of self.old).sent }
+        ensures sent { (inner_state self.new).sent ≡ (inner_state self.old).sent }
         ensures agrees { IfOk result (λ status. status % 2 ≡ 0
-            → PollAgrees (known_of self.old) status (inside_of self.old).history (inside_of self.new).history) }
+            → PollAgrees (known_of self.old) status (inner_state self.old).history (inner_state self.new).history) }
         ensures waits { IfOk result (λ status. status % 2 ≡ 1 → written_of self.new ≡ written_of self.old) }
     {
         let status = self.poll_once()?;
@@ -204,10 +204,10 @@ impl<B: Bus + Drop> CheckedStatus<B> {
     fn read_back(&mut self, one: u8) -> Result<(), Stopped>
         ensures history { history_of self.new ≡ history_of self.old }
         ensures begun { has_begun self.new ≡ has_begun self.old }
-        ensures sent { (inside_of self.new).sent ≡ (inside_of self.old).sent }
+        ensures sent { (inner_state self.new).sent ≡ (inner_state self.old).sent }
         ensures none { written_of self.old ≡ None → OnOk result (self.new ≡ self.old) }
         ensures stored { (sent : List ℕ) → written_of self.old ≡ Some sent → OnOk result
-            (HasStored sent one (inside_of self.old).history (inside_of self.new).history) }
+            (HasStored sent one (inner_state self.old).history (inner_state self.new).history) }
     {
         let Some(sent) = self.known.written else {
             return Ok(());
@@ -224,13 +224,13 @@ impl<B: Bus + Drop> CheckedStatus<B> {
     // Passes a status write on, if both status registers were read and it keeps the bits that are not protection bits.
     fn write(&mut self, out: &[u8], reply: &mut [u8]) -> Result<(), Stopped>
         ensures history { history_of self.new ≡ history_of self.old }
-        ensures kept { (inside_of self.new ≡ inside_of self.old) ⊎ IsStatusKept out.now (inside_of self.old).history }
-        ensures sent { ((inside_of self.new).sent ≡ (inside_of self.old).sent)
-            ⊎ ((inside_of self.new).sent ≡ with_sent out.now (inside_of self.old).sent) }
+        ensures kept { (inner_state self.new ≡ inner_state self.old) ⊎ IsStatusKept out.now (inner_state self.old).history }
+        ensures sent { ((inner_state self.new).sent ≡ (inner_state self.old).sent)
+            ⊎ ((inner_state self.new).sent ≡ with_sent out.now (inner_state self.old).sent) }
         ensures begun { OnOk result (has_begun self.new ≡ true) }
         ensures written { OnOk result (IsWritten out.now (written_of self.new)) }
-        ensures carried { OnOk result ((inside_of self.new).history
-            ≡ replied out.now reply.new ∷ (inside_of self.old).history) }
+        ensures carried { OnOk result ((inner_state self.new).history
+            ≡ replied out.now reply.new ∷ (inner_state self.old).history) }
     {
         let Some(sent) = kept_status(&self.known, out) else {
             return Err(self.stop(StatusFault::Refused));
@@ -242,14 +242,14 @@ impl<B: Bus + Drop> CheckedStatus<B> {
 }
 
 impl<B: Bus + Drop> CheckedStatus<B> {
-    ghost use Rattle.nor_serprog.specs.CheckedStatus.{BelievesStatus, SendsKept, history_of, inside_of, known_of};
+    ghost use Rattle.nor_serprog.specs.Checked.{history_of, inner_state, known_of};
 
     // Makes one transaction, and does not add it to the history.
     fn carry(&mut self, out: &[u8], reply: &mut [u8]) -> Result<(), Stopped>
         ensures history { history_of self.new ≡ history_of self.old }
-        ensures sends { SendsKept out.now (inside_of self.old) (inside_of self.new) }
+        ensures sends { SendsKept out.now (inner_state self.old) (inner_state self.new) }
         ensures believes { OnOk result (BelievesStatus out.now reply.new (known_of self.old) (known_of self.new)
-            (inside_of self.old).history (inside_of self.new).history) }
+            (inner_state self.old).history (inner_state self.new).history) }
     {
         match (out, reply.len()) {
             ([READ_STATUS1], 1) => {
@@ -268,7 +268,7 @@ impl<B: Bus + Drop> CheckedStatus<B> {
     // Makes a transaction that is neither a poll, nor a read of status 2, nor a status write.
     fn pass_on(&mut self, out: &[u8], reply: &mut [u8]) -> Result<(), Stopped>
         ensures history { history_of self.new ≡ history_of self.old }
-        ensures sent { (inside_of self.new).sent ≡ with_sent out.now (inside_of self.old).sent }
+        ensures sent { (inner_state self.new).sent ≡ with_sent out.now (inner_state self.old).sent }
         ensures begun { (known_of self.new).is_changing ≡ ((known_of self.old).is_changing || begins_change out.now) }
     {
         if is_changing(out) {
@@ -279,7 +279,7 @@ impl<B: Bus + Drop> CheckedStatus<B> {
 }
 
 impl<B: Bus + Drop> Bus for CheckedStatus<B> {
-    ghost use Rattle.nor_serprog.specs.CheckedStatus.{BelievesStatus, SendsKept, checked_state, inside_of, known_of};
+    ghost use Rattle.nor_serprog.specs.Checked.{checked_state, inner_state, known_of};
 
     ghost state = { checked_state };
 
@@ -294,9 +294,9 @@ impl<B: Bus + Drop> Bus for CheckedStatus<B> {
         ensures carries { IsHonestFor out.now (length reply.old) (checked_state self.old)
             → OnOk result (Carries out.now reply.new (checked_state self.old) (checked_state self.new)) }
         ensures records { Records out.now reply.new result (checked_state self.old) (checked_state self.new) }
-        ensures sends { SendsKept out.now (inside_of self.old) (inside_of self.new) }
+        ensures sends { SendsKept out.now (inner_state self.old) (inner_state self.new) }
         ensures believes { OnOk result (BelievesStatus out.now reply.new (known_of self.old) (known_of self.new)
-            (inside_of self.old).history (inside_of self.new).history) }
+            (inner_state self.old).history (inner_state self.new).history) }
     {
         match self.carry(out, reply) {
             Ok(()) => {
