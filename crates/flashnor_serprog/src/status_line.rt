@@ -40,7 +40,8 @@ impl fmt::Display for NotStored {
             f,
             "Chip fault 3: the chip did not store a status write: {one:02X}h {two:02X}h was sent, "
         )?;
-        let [one, two] = self.found;
+        // BUSY, WEL and SUS are left out: a status write that the chip missed leaves WEL set.
+        let [one, two] = [self.found[0] & 0xFC, self.found[1] & 0x7F];
         let differing = Differing([self.sent[0] ^ one, self.sent[1] ^ two]);
         write!(
             f,
