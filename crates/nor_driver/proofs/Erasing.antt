@@ -1,5 +1,6 @@
 -- The effect of an erase follows from the effect of an operation.
 use Rattle.std.proofs.Common.{◌≡◌, ◌<◌, ◌+◌, ◌*◌, ◌/◌, ◌&&◌, ◌∙◌, ℕ, Bool, true, false, not, cond, nat_lt, nat_le, List, [], ◌∷◌, drop, ap, sym, refl, arith}
+use Rattle.std.specs.Prelude.{if◌then◌else◌}
 use Rattle.std.proofs.lemmas.Bool.{eqb-true}
 use Rattle.std.proofs.lemmas.Bool.Decides.{nat_tests}
 use Rattle.std.proofs.Math.Bool.{and-false}
@@ -8,9 +9,9 @@ use Rattle.nor_model.specs.declared.command.Command.{Command}
 use Rattle.nor_model.specs.declared.command.Command.TheVariants as Commands
 use Rattle.nor_model.specs.Chip.{Chip}
 use Rattle.nor_model.specs.Guard.{is_block_protected}
-use Rattle.nor_model.specs.Command.{address_of}
+use Rattle.nor_model.specs.Command.{address_of, begins_quiet}
 use Rattle.nor_model.specs.Step.{is_idle, is_carried_out}
-use Rattle.nor_model.specs.Sent.{targets, writes_status, begins_erase, begins_program, begins_status_write}
+use Rattle.nor_model.specs.Sent.{Sent, with_sent, targets, writes_status, begins_erase, begins_program, begins_status_write}
 use Rattle.nor_model.specs.Bus.{BusState}
 use Rattle.nor_model.proofs.Sizes.{sized_bounds}
 use Rattle.nor_driver.specs.declared.units.Erase.{Erase}
@@ -18,7 +19,7 @@ use Rattle.nor_driver.specs.declared.units.EraseBlock.{EraseBlock}
 use Rattle.nor_driver.specs.declared.units.EraseBlock.TheVariants as Units
 use Rattle.nor_driver.specs.Units.{opcode_of, sectors_in, has_block}
 use Rattle.nor_driver.specs.Operations.{operation_of, MayOperate, HasOperated, LeavesOperation, Operates, command_operation}
-use Rattle.nor_driver.specs.Erases.{sectors_of, block_length, IsOnChip, takes_erase, is_sector_in_block, is_address_in_block, is_sector_named, MayErase, HasErased, block_erase}
+use Rattle.nor_driver.specs.Erases.{sectors_of, block_length, IsOnChip, takes_erase, is_sector_in_block, is_address_in_block, is_sector_named, MayErase, HasErased, SendsErase, block_erase}
 use Rattle.nor_driver.proofs.Programming.{same_address}
 use Rattle.nor_driver.proofs.Taken.{IsFor, asked_at, leaves_as, does_as}
 
@@ -60,6 +61,21 @@ named unit sector x y z names below s is =
     let same : (65536 * x + 256 * y + z) / 4096 ≡ sector = omega (arith, names) in
     let first : 0 ≡ sector / 4096 * 4096 = omega (arith, below) in
     grind (arith, nat_tests)
+
+-- the bytes of an erase with the address of a sector below 4,096 target each sector of the block that the erase names
+targeted : (unit : EraseBlock) (sector x y z : ℕ) → 65536 * x + 256 * y + z ≡ 4096 * sector → sector < 4096
+    → (s : ℕ) → is_sector_named (record { unit = unit; sector = sector }) s ≡ true
+    → targets (erase_bytes unit x y z) s ≡ true
+targeted unit sector x y z names below s is =
+    let same : (65536 * x + 256 * y + z) / 4096 ≡ sector = omega (arith, names) in
+    let first : 0 ≡ sector / 4096 * 4096 = omega (arith, below) in
+    grind (arith, nat_tests)
+
+loud : (unit : EraseBlock) (x y z : ℕ) → begins_quiet (erase_bytes unit x y z) ≡ false
+loud Units.Chip x y z = refl
+loud Units.Sector x y z = refl
+loud Units.Block32 x y z = refl
+loud Units.Block64 x y z = refl
 
 -- after a write enable, the chip carries out an erase of an erase block if it is idle, has the erase type (`has`), and
 -- `is_block_protected` is false for the block; otherwise it ignores the erase
@@ -147,3 +163,14 @@ module _ (erase : Erase) (x y z : ℕ) (names : 65536 * x + 256 * y + z ≡ 4096
   pub does_erase : (count : ℕ) → Operates (command_operation out) old new count
       → Operates (block_erase erase) old new count
   does_erase count does = does_as erase_asked (λ has can. has_erased erase old new has) count does
+
+  pub sends_erase : new.sent ≡ with_sent out ((0x06 ∷ []) ∷ old.sent) → SendsErase erase old new
+  sends_erase added = record {
+    out = out;
+    added =
+        let quiet : begins_quiet out ≡ false = rw sent (loud erase.unit x y z) in
+        let write : Sent = (0x06 ∷ []) ∷ old.sent in
+        added ∙ ap (λ (b : Bool). if b then write else out ∷ write) quiet;
+    erases = rw sent (one_erase erase.unit x y z).0;
+    named = rw sent (targeted erase.unit erase.sector x y z names below);
+  }

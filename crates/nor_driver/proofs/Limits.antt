@@ -1,8 +1,11 @@
 -- How limits on modifying commands (`Limits`) add up over transactions and calls that follow one another.
-use Rattle.std.proofs.Common.{◌≡◌, ◌≤◌, ◌+◌, ℕ, Bool, true, false, cond, List, [], ◌∷◌, arith, refl}
+use Rattle.std.proofs.Common.{◌≡◌, ◌≤◌, ◌+◌, ◌++◌, ◌∙◌, ℕ, Bool, true, false, cond, List, [], ◌∷◌, ap, sym, arith, refl}
+use Rattle.std.specs.Prelude.{if◌then◌else◌}
+use Rattle.std.proofs.lemmas.List.{append_assoc}
 use Rattle.std.proofs.lemmas.Bool.Decides.{nat_tests}
 use Rattle.std.proofs.Math.Bool.{or-false}
-use Rattle.nor_model.specs.Sent.{none_targeted, is_in_targeted, begins_erase, begins_program, begins_status_write, is_stirred, is_unknown_to_model, erases_of, programs_of, status_writes_of, counted_once}
+use Rattle.nor_model.specs.Sent.{Sent, with_sent, none_targeted, is_in_targeted, begins_erase, begins_program, begins_status_write, is_stirred, is_unknown_to_model, erases_of, programs_of, status_writes_of, counted_once}
+use Rattle.nor_model.specs.Command.{begins_quiet}
 use Rattle.nor_model.specs.Bus.{BusState}
 use Rattle.nor_driver.proofs.Sends.{Sends}
 use Rattle.nor_driver.specs.Limits.{Limits, limits_of, SendsWithin, SendsExactly}
@@ -58,15 +61,36 @@ sends_same limits old mid new same sends = grind (arith, sends.targeted, sends.w
 -- ---- exact numbers
 
 pub exactly_none : (old new : BusState) → new.sent ≡ old.sent → SendsExactly 0 0 0 old new
-exactly_none old new same = grind arith
+exactly_none old new same =
+    let erases = ap erases_of same in let programs = ap programs_of same in let writes = ap status_writes_of same in
+    record {
+      later = [];
+      added = same;
+      erased = omega (arith, erases);
+      programmed = omega (arith, programs);
+      wrote_status = omega (arith, writes);
+    }
 
 pub exactly_same : {e p w : ℕ} {old mid new : BusState} → new.sent ≡ mid.sent → SendsExactly e p w old mid
     → SendsExactly e p w old new
-exactly_same same exactly = grind arith
+exactly_same same exactly = record {
+  later = exactly.later;
+  added = same ∙ exactly.added;
+  erased = ap erases_of same ∙ exactly.erased;
+  programmed = ap programs_of same ∙ exactly.programmed;
+  wrote_status = ap status_writes_of same ∙ exactly.wrote_status;
+}
 
 pub exactly_then : {e p w e' p' w' e'' p'' w'' : ℕ} {old mid new : BusState} → e + e' ≡ e'' → p + p' ≡ p''
     → w + w' ≡ w'' → SendsExactly e p w old mid → SendsExactly e' p' w' mid new → SendsExactly e'' p'' w'' old new
-exactly_then erases programs status before after = search arith
+exactly_then {old = old} erases programs status before after = record {
+  later = after.later ++ before.later;
+  added = after.added ∙ ap (λ (sent : Sent). after.later ++ sent) before.added
+      ∙ sym (append_assoc after.later before.later old.sent);
+  erased = omega (arith, before.erased, after.erased);
+  programmed = omega (arith, before.programmed, after.programmed);
+  wrote_status = omega (arith, before.wrote_status, after.wrote_status);
+}
 
 -- limits are still kept if their numbers are replaced by the exact numbers of erases, page programs and status writes
 -- that were sent
@@ -97,9 +121,19 @@ sends_one out old new known sends = record {
   unknown = grind (arith, or-false, sends.sent.unknown);
 }
 
+-- the list that one transaction adds to the list `sent`: only its bytes, or nothing
+added_by : (out : List ℕ) → Sent
+added_by out = if begins_quiet out then [] else out ∷ []
+
+with_added : (out : List ℕ) (before : Sent) → with_sent out before ≡ added_by out ++ before
+unfolding added_by
+with_added out before = elim (begins_quiet out) as (λ b. (if b then before else out ∷ before) ≡ (if b then [] else out ∷ []) ++ before) [ true ↦ refl | false ↦ refl ]
+
 pub exactly_one : (out : List ℕ) (old new : BusState) → Sends out old new
     → SendsExactly (limits_of out).erases (limits_of out).programs (limits_of out).status_writes old new
 exactly_one out old new sends = record {
+  later = added_by out;
+  added = sends.added ∙ with_added out old.sent;
   erased = counts_up (begins_erase out) (erases_of old.sent) (erases_of new.sent) sends.sent.erases;
   programmed = counts_up (begins_program out) (programs_of old.sent) (programs_of new.sent) sends.sent.programs;
   wrote_status = counts_up (begins_status_write out) (status_writes_of old.sent) (status_writes_of new.sent)

@@ -3,21 +3,24 @@ use Rattle.std.proofs.Common.{◌≡◌, ◌∷◌, ℕ, List}
 use Rattle.std.specs.Prelude.{Result, Ok, Err, OnOk, OnErr}
 use Rattle.nor_model.specs.declared.bus.Stopped.{Stopped}
 use Rattle.nor_model.specs.History.{EndsStopped, replied}
-use Rattle.nor_model.specs.Sent.{RecordsSent}
+use Rattle.nor_model.specs.Sent.{RecordsSent, with_sent}
 use Rattle.nor_model.specs.Bus.{BusState, SameNature, KeepsNature, Records}
 use Rattle.nor_model.proofs.Nature.{nature_by}
 use Rattle.nor_model.proofs.RecordedSent.{records_sent}
 
--- One transaction kept the bus as `KeepsNature` says, and had the effect `RecordsSent` on the list `sent` of the bus.
+-- One transaction kept the bus as `KeepsNature` says, had the effect `RecordsSent` on the list `sent` of the bus, and
+-- was added to that list unless it is empty or begins with a quiet opcode.
 pub record Sends (out : List ℕ) (old new : BusState) : Type 0 where
   pub nature : KeepsNature old new
   pub sent : RecordsSent out old.sent new.sent
+  pub added : new.sent ≡ with_sent out old.sent
 
 pub sends_by : {out answer : List ℕ} {outcome : Result Unit Stopped} {old new : BusState} → SameNature old new
     → Records out answer outcome old new → Sends out old new
 sends_by same records = record {
   nature = nature_by same records.history records.allowances;
   sent = records_sent records.sent;
+  added = records.sent;
 }
 
 -- if a transaction succeeded, the history is the earlier one with this transaction and its reply

@@ -1,10 +1,10 @@
 -- The effect of an erase.
-use Rattle.std.specs.Prelude.{◌≡◌, ◌≢◌, ◌≤◌, ◌+◌, ◌*◌, ◌/◌, ◌&&◌, ◌||◌, ℕ, Bool, true, false, not, if◌then◌else◌}
+use Rattle.std.specs.Prelude.{◌≡◌, ◌≢◌, ◌≤◌, ◌+◌, ◌*◌, ◌/◌, ◌&&◌, ◌||◌, ℕ, Bool, true, false, not, List, [], ◌∷◌, if◌then◌else◌}
 use Rattle.nor_model.specs.declared.running.Running.TheVariants as Runs
 use Rattle.nor_model.specs.Chip.{Chip}
 use Rattle.nor_model.specs.Guard.{is_block_protected}
 use Rattle.nor_model.specs.Step.{is_idle}
-use Rattle.nor_model.specs.Sent.{is_in_targeted, block_targeted}
+use Rattle.nor_model.specs.Sent.{is_in_targeted, block_targeted, begins_erase, targets}
 use Rattle.nor_model.specs.Bus.{BusState}
 use Rattle.nor_driver.specs.declared.units.Erase.{Erase}
 use Rattle.nor_driver.specs.Units.{sectors_in, has_block, is_aligned, erases_sector}
@@ -77,3 +77,11 @@ block_erase erase = record {
   may = MayErase erase;
   has = HasErased erase;
 }
+
+-- Since `old`, a write enable and an erase command were sent, and nothing else that may modify a chip. The command
+-- targets each sector that the erase names.
+pub record SendsErase (erase : Erase) (old new : BusState) : Type 0 where
+  pub out : List ℕ
+  pub added : new.sent ≡ out ∷ (0x06 ∷ []) ∷ old.sent
+  pub erases : begins_erase out ≡ true
+  pub named : (s : ℕ) → is_sector_named erase s ≡ true → targets out s ≡ true

@@ -1,7 +1,7 @@
 -- The effect of a call at every exit, and limits on the erases, page programs and status writes that it sends.
-use Rattle.std.specs.Prelude.{◌≡◌, ◌≤◌, ◌+◌, ◌⊎◌, ℕ, Bool, true, false, List, if◌then◌else◌}
+use Rattle.std.specs.Prelude.{◌≡◌, ◌≤◌, ◌+◌, ◌++◌, ◌⊎◌, ℕ, Bool, true, false, List, if◌then◌else◌}
 use Rattle.nor_model.specs.Chip.{Chip}
-use Rattle.nor_model.specs.Sent.{targets, begins_erase, begins_program, begins_status_write, writes_status, is_targeted, has_written, has_unknown, erases_of, programs_of, status_writes_of}
+use Rattle.nor_model.specs.Sent.{Sent, targets, begins_erase, begins_program, begins_status_write, writes_status, is_targeted, has_written, has_unknown, erases_of, programs_of, status_writes_of}
 use Rattle.nor_model.specs.Bus.{BusState, KeepsNature}
 use Rattle.nor_driver.specs.OnlyReads.{Falls}
 
@@ -59,8 +59,11 @@ pub record SendsWithin (limits : Limits) (old new : BusState) : Type 0 where
   pub unknown : has_unknown new.sent ≡ has_unknown old.sent
 
 -- Since the state `old`, the bus was asked to send exactly these numbers of transactions that begin with the opcode of
--- an erase, of a page program and of a status write.
+-- an erase, of a page program and of a status write. `later` has all transactions that were sent since `old` and may
+-- modify a chip, the last one first.
 pub record SendsExactly (erases programs status_writes : ℕ) (old new : BusState) : Type 0 where
+  pub later : Sent
+  pub added : new.sent ≡ later ++ old.sent
   pub erased : erases_of new.sent ≡ erases_of old.sent + erases
   pub programmed : programs_of new.sent ≡ programs_of old.sent + programs
   pub wrote_status : status_writes_of new.sent ≡ status_writes_of old.sent + status_writes

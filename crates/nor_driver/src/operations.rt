@@ -1,11 +1,12 @@
 //! Operations: write enable, a command that modifies the chip, and a wait.
 
-ghost use Rattle.std.specs.Prelude.{◌≡◌, ◌<◌, ◌≤◌, ◌+◌, ◌*◌, ◌%◌, ◌^◌, true, length, IfOk, IfErr};
+ghost use Rattle.std.specs.Prelude.{◌≡◌, ◌<◌, ◌≤◌, ◌+◌, ◌*◌, ◌%◌, ◌^◌, true, [], ◌∷◌, length, IfOk, IfErr, OnOk};
+ghost use Rattle.nor_model.specs.Sent.{with_sent};
 ghost use Rattle.nor_driver.specs.Waits.{OperationFails, NamesTimeout};
 ghost use Rattle.nor_driver.specs.Operations.{BytesNameAddress, IsCommandAt, AsksForOperation, LeavesOperation, Operates, command_operation, most_operation};
 ghost use Rattle.nor_driver.specs.Programs.{page_program};
 ghost use Rattle.nor_driver.specs.Units.{is_aligned};
-ghost use Rattle.nor_driver.specs.Erases.{block_erase};
+ghost use Rattle.nor_driver.specs.Erases.{block_erase, SendsErase};
 ghost use Rattle.nor_driver.specs.StatusWrites.{status_write};
 
 use crate::{Erase, EraseBlock, OperationError, wait};
@@ -55,6 +56,7 @@ pub fn erase<B: Bus>(bus: &mut B, erase: Erase) -> Result<u32, OperationError>
     ensures does { IfOk result (Operates (block_erase erase) (B.state bus.old) (B.state bus.new)) }
     ensures fails { IfErr result (OperationFails most_operation (B.state bus.old) (B.state bus.new)) }
     ensures names { IfErr result (NamesTimeout (4096 * erase.sector)) }
+    ensures sends { OnOk result (SendsErase erase (B.state bus.old) (B.state bus.new)) }
 {
     let address = erase.address();
     let opcode = erase.unit.opcode();
@@ -93,6 +95,8 @@ fn operation<B: Bus>(bus: &mut B, command: &[u8], address: u32) -> Result<u32, O
     ensures does { IfOk result (Operates (command_operation command.now) (B.state bus.old) (B.state bus.new)) }
     ensures fails { IfErr result (OperationFails most_operation (B.state bus.old) (B.state bus.new)) }
     ensures names { IfErr result (NamesTimeout address) }
+    ensures sends { OnOk result
+        ((B.state bus.new).sent ≡ with_sent command.now ((0x06 ∷ []) ∷ (B.state bus.old).sent)) }
 {
     bus.transfer(&[WRITE_ENABLE], &mut [])?;
     bus.transfer(command, &mut [])?;

@@ -1,6 +1,6 @@
 use Rattle.std.proofs.Common.{◌∙◌}
-use Rattle.std.proofs.lemmas.Result.{IfOk-weaker}
-use Rattle.nor_driver.proofs.Erasing.{chip_bytes, other_bytes, leaves_erase, does_erase}
+use Rattle.std.proofs.lemmas.Result.{IfOk-weaker, on_ok_weaker}
+use Rattle.nor_driver.proofs.Erasing.{chip_bytes, other_bytes, leaves_erase, does_erase, sends_erase}
 use Rattle.nor_driver.proofs.Asks.{asks_erase}
 use Rattle.nor_driver.proofs.operations.erase.Goals as goal
 
@@ -32,3 +32,16 @@ returns-in_default-clause-does g c =
     (does_erase c.args.erase _ _ _ (c.address_bytes.ensures ∙ c.address-address.ensures) c.requires.reachable _ _ _
     (other_bytes c.args.erase.unit _ _ _ _ c.opcode-opcode.ensures c.in_default.not-Chip))
     c.operation-in_default.ensures.does
+
+pub returns-in-Chip-clause-sends : goal.returns-in-Chip-clause-sends
+returns-in-Chip-clause-sends g c =
+    on_ok_weaker c.operation.result
+    (sends_erase c.args.erase _ _ _ (c.address_bytes.ensures ∙ c.address-address.ensures) c.requires.reachable _ _ _
+    (chip_bytes c.args.erase.unit _ _ _ _ c.opcode-opcode.ensures c.in-Chip.is)) c.operation.ensures.sends
+
+pub returns-in_default-clause-sends : goal.returns-in_default-clause-sends
+returns-in_default-clause-sends g c =
+    on_ok_weaker c.operation-in_default.result
+    (sends_erase c.args.erase _ _ _ (c.address_bytes.ensures ∙ c.address-address.ensures) c.requires.reachable _ _ _
+    (other_bytes c.args.erase.unit _ _ _ _ c.opcode-opcode.ensures c.in_default.not-Chip))
+    c.operation-in_default.ensures.sends
