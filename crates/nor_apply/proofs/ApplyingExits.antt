@@ -1,10 +1,13 @@
 -- The exits of `apply`, part by part: the unlock, the erases, the programs and the last status write.
-use Rattle.std.proofs.Common.{ℕ, ◌≡◌, ◌<◌, ◌≤◌, ◌+◌, ◌*◌, ◌/◌, ◌∙◌, Bool, true, refl, sym, ap, arith, true≢false}
+use Rattle.std.proofs.Common.{ℕ, ◌≡◌, ◌<◌, ◌≤◌, ◌+◌, ◌*◌, ◌/◌, ◌∙◌, ◌++◌, Bool, true, false, List, [], ◌∷◌, inl, inr, refl, zero-add, sym, ap, arith, true≢false}
 use Rattle.std.specs.Prelude.{◌&&◌, ◌||◌, if◌then◌else◌}
-use Rattle.std.proofs.lemmas.Bool.{or_right}
+use Rattle.std.proofs.lemmas.Bool.{or_right, or_cases}
+use Rattle.std.proofs.lemmas.List.{append_assoc}
+use Rattle.std.proofs.Math.Bool.{or-true}
 use Rattle.nor_geometry.specs.Below.{count_below}
 use Rattle.nor_geometry.specs.Counts.{sector_count}
 use Rattle.nor_geometry.proofs.Counting.{count_below-most}
+use Rattle.nor_model.specs.Sent.{Sent, begins_erase, begins_program, counted_once, times_sent, has_sent, erases_of, programs_of}
 use Rattle.nor_model.specs.Bus.{BusState}
 use Rattle.nor_driver.specs.declared.waits.OperationError.{OperationError}
 use Rattle.nor_driver.specs.Waits.{OperationFails}
@@ -19,9 +22,9 @@ use Rattle.nor_apply.specs.Within.{is_writable}
 use Rattle.nor_apply.specs.Spending.{may_target, NamesTimeoutIn}
 use Rattle.nor_apply.specs.Protecting.{LeavesCode, DoesCode, FailsWriting}
 use Rattle.nor_apply.specs.Change.{MayChange, blank}
-use Rattle.nor_apply.specs.Erasing.{CanEraseAll, LeavesErases, DoesErases}
+use Rattle.nor_apply.specs.Erasing.{is_erase_of, CanEraseAll, LeavesErases, DoesErases}
 use Rattle.nor_apply.specs.Programming.{CanProgramAll, LeavesPrograms, DoesPrograms, most_sector}
-use Rattle.nor_apply.specs.Applying.{touched_in, raised_in, writes_code, status_writes, is_status_asked, most_applied, CanApply, LeavesApply, DoesApply, NamesChange}
+use Rattle.nor_apply.specs.Applying.{touched_in, raised_in, writes_code, status_writes, is_status_asked, most_applied, CanApply, LeavesApply, ErasesFirst, DoesApply, NamesChange}
 use Rattle.nor_apply.proofs.InTurn.{ran_none, ran_leaves, honest_now}
 use Rattle.nor_apply.proofs.Targeting.{target_here, target_wider}
 use Rattle.nor_apply.proofs.Changing.{change_as, same_change}
@@ -146,6 +149,31 @@ module _ {changes : Changes} {wanted : ℕ → ℕ} (erases : ℕ) {old mid new 
       let is = so.intermediate honest can in
       intermediate_changed is (does.done (honest_now so.ran honest) (can_program_all can is)))
 
+-- ---- lists of modifying commands
+
+times_sent-append : (is : List ℕ → Bool) (later earlier : Sent)
+    → times_sent is (later ++ earlier) ≡ times_sent is later + times_sent is earlier
+times_sent-append is [] earlier = sym (zero-add (times_sent is earlier))
+times_sent-append is (out ∷ later) earlier = counted_sum (is out) _ _ _ (times_sent-append is later earlier)
+  where
+    counted_sum : (b : Bool) (sum m n : ℕ) → sum ≡ m + n → counted_once b sum ≡ counted_once b m + n
+    counted_sum true sum m n same = omega arith
+    counted_sum false sum m n same = same
+
+-- if a list has as many transactions that satisfy a test as its earlier part, its later part has none
+none_added : (is : List ℕ → Bool) (later earlier : Sent)
+    → times_sent is (later ++ earlier) ≡ times_sent is earlier → times_sent is later ≡ 0
+none_added is later earlier same = let sum = times_sent-append is later earlier in omega arith
+
+-- if the later part of a list has a transaction that satisfies a test, so has the list
+has_sent-left : (is : List ℕ → Bool) (later earlier : Sent) → has_sent is later ≡ true
+    → has_sent is (later ++ earlier) ≡ true
+has_sent-left is [] earlier has = absurd (true≢false (sym has))
+has_sent-left is (out ∷ later) earlier has = elim (or_cases _ _ has) [
+  | inl before ↦ rw (has_sent-left is later earlier before) refl
+  | inr now ↦ rw now (or-true _)
+]
+
 -- ---- the end
 
 -- The results of the three parts before the last status write: unlock, erases and programs.
@@ -194,6 +222,30 @@ module _ {changes : Changes} {wanted : ℕ → ℕ} {old free mid made : BusStat
         (grind (arith, last_asked, parts.erase.fewer, parts.program.fewer)) (grind arith) (omega arith) fails
         (names_writing changes needed error (λ writes. rw (sym is ∙ writes) (omega arith)) names)
 
+    -- the erases were sent before the programs and the last status write, which erase nothing
+    erased_first : {last : ℕ} → DoesCode changes.status changes.code needed made new last
+        → ErasesFirst (raised_in changes) old new
+    erased_first does =
+        let lift = parts.lifts.exactly in let erase = parts.erase.targeted in let program = parts.program.exactly in
+        let last = does.exactly in
+        let erasing : Sent = erase.later ++ lift.later in let later : Sent = last.later ++ program.later in
+        let until : mid.sent ≡ erasing ++ old.sent =
+        erase.added ∙ ap (λ (sent : Sent). erase.later ++ sent) lift.added
+        ∙ sym (append_assoc erase.later lift.later old.sent) in
+        let since : new.sent ≡ later ++ mid.sent =
+        last.added ∙ ap (λ (sent : Sent). last.later ++ sent) program.added
+        ∙ sym (append_assoc last.later program.later mid.sent) in
+        record {
+          erasing = erasing;
+          later = later;
+          added = since ∙ ap (λ (sent : Sent). later ++ sent) until;
+          each = λ s is. has_sent-left (is_erase_of s) erase.later lift.later (erase.each s is);
+          unprogrammed = none_added begins_program erasing old.sent
+              (ap programs_of (sym until) ∙ omega (arith, parts.erase.exactly.programmed, lift.programmed));
+          unerased = none_added begins_erase later mid.sent
+              (ap erases_of (sym since) ∙ omega (arith, last.erased, program.erased));
+        }
+
     pub does_applied : {last : ℕ} {work : Work} → DoesCode changes.status changes.code needed made new last
         → work.erases ≡ erases.count → work.programs ≡ programs.count
         → work.transactions ≡ sent + erases.transactions + programs.transactions + last
@@ -213,6 +265,7 @@ module _ {changes : Changes} {wanted : ℕ → ℕ} {old free mid made : BusStat
             fewer_erases = omega (arith, erase_count, parts.erase.fewer);
             fewer_programs = omega (arith, program_count, parts.program.fewer);
             exactly = fourth.ran.exactly;
+            in_order = erased_first does;
             tallies = fourth.ran.tallies;
             done = λ honest can. applied can (sym is) (fourth.intermediate honest can);
             programs = λ honest can.

@@ -1,6 +1,6 @@
 -- The erases of a set, one after another: what holds between them, and what follows at each exit.
 use Rattle.std.proofs.Common.{ℕ, ◌≡◌, ◌<◌, ◌≤◌, ◌+◌, ◌*◌, ◌/◌, ◌-◌, ◌∙◌, ◌||◌, Bool, true, false, List, [], ◌∷◌, ◌++◌, length, inl, inr, refl, sym, ap, arith}
-use Rattle.std.proofs.lemmas.Bool.{cases_lt, false_from_ne_true, and_from, le-leb, lt-ltb}
+use Rattle.std.proofs.lemmas.Bool.{cases_lt, or_cases, false_from_ne_true, and_from, le-leb, lt-ltb}
 use Rattle.std.proofs.lemmas.Bool.Decides.{nat_tests}
 use Rattle.std.proofs.lemmas.List.Folds.{list_any-append}
 use Rattle.std.proofs.Math.Bool.{or-false, or-true}
@@ -9,23 +9,25 @@ use Rattle.nor_geometry.proofs.Counting.{count_below-none, count_below-most}
 use Rattle.nor_model.specs.declared.config.Kinds.{Kinds}
 use Rattle.nor_model.specs.Chip.{Chip}
 use Rattle.nor_model.specs.Guard.{is_protected, is_block_protected}
+use Rattle.nor_model.specs.Sent.{Sent, block_targeted, is_in_targeted}
 use Rattle.nor_model.specs.Bus.{BusState}
 use Rattle.nor_driver.specs.declared.units.Erase.{Erase}
 use Rattle.nor_driver.specs.declared.units.EraseBlock.{EraseBlock}
+use Rattle.nor_driver.specs.declared.units.EraseBlock.TheVariants as Blocks
 use Rattle.nor_driver.specs.declared.waits.OperationError.{OperationError}
-use Rattle.nor_driver.specs.Units.{sectors_in, erases_sector}
+use Rattle.nor_driver.specs.Units.{sectors_in, is_aligned, erases_sector}
 use Rattle.nor_driver.specs.Waits.{OperationFails, NamesTimeout}
 use Rattle.nor_driver.specs.Limits.{erasing}
 use Rattle.nor_driver.specs.Operations.{most_operation, LeavesOperation, Operates}
 use Rattle.nor_driver.specs.StatusWrites.{fixed_of}
-use Rattle.nor_driver.specs.Erases.{sectors_of, is_sector_in_block, CanErase, MayErase, HasErased, is_sector_named, block_erase}
+use Rattle.nor_driver.specs.Erases.{sectors_of, is_sector_in_block, CanErase, MayErase, HasErased, is_sector_named, SendsErase, block_erase}
 use Rattle.nor_plan.specs.Erase.{IsErase, Covers, erased_by}
 use Rattle.nor_plan.specs.Planned.{planned}
 use Rattle.nor_apply.specs.declared.tally.Tally.{Tally}
 use Rattle.nor_apply.specs.Within.{addresses_of}
 use Rattle.nor_apply.specs.Change.{MayChange, HasMade, blank}
 use Rattle.nor_apply.specs.Spending.{may_target, NamesTimeoutIn}
-use Rattle.nor_apply.specs.Erasing.{CanEraseAll, LeavesErases, DoesErases}
+use Rattle.nor_apply.specs.Erasing.{SendsErases, CanEraseAll, LeavesErases, DoesErases}
 use Rattle.nor_apply.proofs.InTurn.{ran_leaves, honest_now, Listed, listed_after, listed_fails, listed_more, listed_all, listed_split, listed_next, listed_fewer}
 use Rattle.nor_apply.proofs.Changing.{can_after, change_then, made_may, made_same, made_then}
 use Rattle.nor_apply.proofs.Targeting.{unit_targets}
@@ -55,6 +57,19 @@ free_unit chip from n some free =
 in_unit : (total s : ℕ) (unit : Erase) → unit.sector ≤ s → s < unit.sector + sectors_in total unit.unit
     → erases_sector total s unit ≡ true
 in_unit total s unit low high = and_from _ _ (le-leb _ _ low) (lt-ltb _ _ high)
+
+-- the command of an aligned erase targets each sector of its block, on a chip of at most 4,096 sectors
+block_named : (total s : ℕ) (unit : Erase) → total ≤ 4096 → is_aligned unit.unit unit.sector ≡ true
+    → erases_sector total s unit ≡ true → is_sector_named unit s ≡ true
+block_named total s unit most aligned erased = named_by total s unit.unit unit.sector most aligned erased
+  where
+    named_by : (total s : ℕ) (block : EraseBlock) (sector : ℕ) → total ≤ 4096 → is_aligned block sector ≡ true
+        → erases_sector total s (record { unit = block; sector = sector }) ≡ true
+        → is_in_targeted (block_targeted (sectors_in 4096 block) sector) s ≡ true
+    named_by total s Blocks.Sector sector most aligned erased = grind (arith, nat_tests)
+    named_by total s Blocks.Block32 sector most aligned erased = grind (arith, nat_tests)
+    named_by total s Blocks.Block64 sector most aligned erased = grind (arith, nat_tests)
+    named_by total s Blocks.Chip sector most aligned erased = grind (arith, nat_tests)
 
 module _ {kinds : Kinds} {size : ℕ} {set done : ℕ → Bool} {unit : Erase} {old mid : BusState}
     (plan : IsOfPlan kinds (size / 4096) set unit) (can : CanEraseAll set kinds size old.chip)
@@ -97,6 +112,8 @@ pub record ErasesSoFar (kinds : Kinds) (size : ℕ) (set : ℕ → Bool) (units 
   pub covers : Covers kinds (size / 4096) (planned kinds (size / 4096) set) set
   pub few : length (planned kinds (size / 4096) set) ≤ sector_count set
   pub listed : Listed (planned kinds (size / 4096) set) units left (erasing (may_target set size)) old new tally
+  pub most : size / 4096 ≤ 4096
+  pub targeted : SendsErases (erased_by (size / 4096) units) old new
   pub done : old.honest ≡ true → CanEraseAll set kinds size old.chip
       → HasMade (addresses_of (erased_by (size / 4096) units)) blank (erased_by (size / 4096) units) old new
 
@@ -118,6 +135,11 @@ module _ {kinds : Kinds} {size : ℕ} {set : ℕ → Bool} {units left : List Er
           count = so.listed.count ∙ ap length all;
           fewer = omega (arith, so.few, so.listed.count, ap length all);
           exactly = so.listed.ran.exactly;
+          targeted = record {
+            later = so.targeted.later;
+            added = so.targeted.added;
+            each = λ s is. so.targeted.each s (same s ∙ is);
+          };
           tallies = so.listed.ran.tallies;
           done = λ honest can. made_same (λ a. same (a / 4096)) same (so.done honest can);
         }
@@ -183,10 +205,27 @@ module _ {kinds : Kinds} {size : ℕ} {set : ℕ → Bool} {units left : List Er
             names_unit error names,
           )
 
+      targeted_more : SendsErase unit mid new → SendsErases (erased_by (size / 4096) (units ++ unit ∷ [])) old new
+      targeted_more sends =
+          let total = size / 4096 in let before = so.targeted in
+          record {
+            later = sends.out ∷ (0x06 ∷ []) ∷ before.later;
+            added = sends.added ∙ ap (λ (sent : Sent). sends.out ∷ (0x06 ∷ []) ∷ sent) before.added;
+            each = λ s erased.
+                let split = list_any-append (erases_sector total s) units (unit ∷ []) in
+                elim (or_cases _ _ (sym split ∙ erased)) [
+                  | inl had ↦ rw (before.each s had) refl
+                  | inr now ↦
+                      let here : erases_sector total s unit ≡ true = sym (or-false _) ∙ now in
+                      let named = block_named total s unit so.most of_plan.is.aligned here in
+                      rw (sends.erases, sends.named s named) (or-true _)
+                ];
+          }
+
       pub erases_more : {more : Tally} {sent : ℕ} → Operates (block_erase unit) mid new sent
-          → more.count ≡ tally.count + 1 → more.transactions ≡ tally.transactions + sent
+          → SendsErase unit mid new → more.count ≡ tally.count + 1 → more.transactions ≡ tally.transactions + sent
           → ErasesSoFar kinds size set (units ++ unit ∷ []) rest old new more
-      erases_more erases count transactions =
+      erases_more erases sends count transactions =
           let joined : (s : ℕ) → erased_by (size / 4096) (units ++ unit ∷ []) s
           ≡ (erased_by (size / 4096) units s || erases_sector (size / 4096) s unit) =
           λ s. list_any-append (erases_sector (size / 4096) s) units (unit ∷ [])
@@ -195,6 +234,8 @@ module _ {kinds : Kinds} {size : ℕ} {set : ℕ → Bool} {units left : List Er
             below = so.below;
             covers = so.covers;
             few = so.few;
+            most = so.most;
+            targeted = targeted_more sends;
             listed = listed_more so.listed next leaves.leaves (grind (arith, targets_next, count)) erases.sends
                 erases.ends count transactions;
             done = λ honest can.

@@ -1,8 +1,9 @@
 -- The effect of all changes of a session or restore together: unlock, erases, programs, status write.
-use Rattle.std.specs.Prelude.{◌≡◌, ◌≤◌, ◌<◌, ◌+◌, ◌*◌, ◌/◌, ◌&&◌, ◌||◌, ◌⊎◌, ◌==◌, ℕ, Bool, true, false, not, length, bit_and, if◌then◌else◌, ⊤}
+use Rattle.std.specs.Prelude.{◌≡◌, ◌≤◌, ◌<◌, ◌+◌, ◌*◌, ◌/◌, ◌++◌, ◌&&◌, ◌||◌, ◌⊎◌, ◌==◌, ℕ, Bool, true, false, not, length, bit_and, if◌then◌else◌, ⊤}
 use Rattle.nor_model.specs.Status.{bytes_of}
 use Rattle.nor_model.specs.Chip.{Chip, kept_in}
 use Rattle.nor_model.specs.Guard.{is_protected, code_of}
+use Rattle.nor_model.specs.Sent.{Sent, has_sent, erases_of, programs_of}
 use Rattle.nor_model.specs.Bus.{BusState}
 use Rattle.nor_driver.specs.declared.waits.OperationError.{OperationError}
 use Rattle.nor_driver.specs.declared.waits.OperationError.TheVariants.{Stopped, Timeout}
@@ -18,6 +19,7 @@ use Rattle.nor_geometry.specs.Counts.{sector_count}
 use Rattle.nor_plan.specs.Content.{once_erased, is_programmed}
 use Rattle.nor_apply.specs.Within.{is_writable}
 use Rattle.nor_apply.specs.Change.{IsSized, MayChange}
+use Rattle.nor_apply.specs.Erasing.{is_erase_of}
 use Rattle.nor_apply.specs.Spending.{Tallies, may_target}
 
 -- the sectors that the changes touch, as a Boolean function
@@ -113,16 +115,29 @@ LeavesApply changes wanted =
     Leaves (most_applied (sector_count (touched_in changes))) (most_sent changes) (CanApply changes wanted)
     (MayChange (touched_in changes) (raised_in changes) wanted)
 
+-- Holds if, since `old`, an erase that targets the sector was sent for each of these sectors, and every erase was sent
+-- before the first page program. All transactions that were sent since `old` and may modify a chip are those in
+-- `erasing`, and after them those in `later`; each list has the last one first. No page program is in `erasing`, and no
+-- erase is in `later`.
+pub record ErasesFirst (sectors : ℕ → Bool) (old new : BusState) : Type 0 where
+  pub erasing : Sent
+  pub later : Sent
+  pub added : new.sent ≡ later ++ (erasing ++ old.sent)
+  pub each : (s : ℕ) → sectors s ≡ true → has_sent (is_erase_of s) erasing ≡ true
+  pub unprogrammed : programs_of erasing ≡ 0
+  pub unerased : erases_of later ≡ 0
+
 -- Holds if `apply` returned the counts `work`. On every bus it sent exactly these numbers of erases and page programs,
--- and the status writes that the changes need. The number of transactions includes at most one read for each touched
--- sector (`Tallies`). The number of erases is that of the plan. On a well-behaved bus, if `CanApply` held at the start,
--- the changes are complete, and one program was sent for each page of a touched sector that differed from the target
--- after the erases.
+-- and the status writes that the changes need; it sent an erase for each raised sector before it programmed anything
+-- (`ErasesFirst`). The number of transactions includes at most one read for each touched sector (`Tallies`). The number
+-- of erases is that of the plan. On a well-behaved bus, if `CanApply` held at the start, the changes are complete, and
+-- one program was sent for each page of a touched sector that differed from the target after the erases.
 pub record DoesApply (changes : Changes) (wanted : ℕ → ℕ) (old new : BusState) (work : Work) : Type 0 where
   pub erases : work.erases ≡ length (planned changes.kinds (changes.size / 4096) (raised_in changes))
   pub fewer_erases : work.erases ≤ sector_count (raised_in changes)
   pub fewer_programs : work.programs ≤ 16 * sector_count (touched_in changes)
   pub exactly : SendsExactly work.erases work.programs (status_writes changes) old new
+  pub in_order : ErasesFirst (raised_in changes) old new
   pub tallies : Tallies (sector_count (touched_in changes)) old new
       (record { count = work.erases + work.programs + status_writes changes; transactions = work.transactions })
   pub done : old.honest ≡ true → CanApply changes wanted old.chip → HasApplied changes wanted old new

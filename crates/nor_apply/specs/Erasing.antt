@@ -1,6 +1,7 @@
 -- The effect of the erases of a set of sectors.
-use Rattle.std.specs.Prelude.{◌≡◌, ◌≤◌, ◌*◌, ◌/◌, ℕ, Bool, true, length}
+use Rattle.std.specs.Prelude.{◌≡◌, ◌≤◌, ◌*◌, ◌/◌, ◌++◌, ◌&&◌, ℕ, Bool, true, List, length}
 use Rattle.nor_model.specs.Chip.{Chip}
+use Rattle.nor_model.specs.Sent.{Sent, begins_erase, targets, has_sent}
 use Rattle.nor_model.specs.Bus.{BusState}
 use Rattle.nor_driver.specs.Limits.{erasing, SendsExactly, Leaves}
 use Rattle.nor_driver.specs.Operations.{most_operation}
@@ -10,6 +11,17 @@ use Rattle.nor_apply.specs.declared.tally.Tally.{Tally}
 use Rattle.nor_geometry.specs.Counts.{sector_count}
 use Rattle.nor_apply.specs.Change.{CanChange, IsSized, MayChange, HasChanged, blank}
 use Rattle.nor_apply.specs.Spending.{Tallies, may_target}
+
+-- true if a transaction that sends `out` is an erase that targets this sector
+abbrev pub is_erase_of : (sector : ℕ) → (out : List ℕ) → Bool
+is_erase_of sector out = begins_erase out && targets out sector
+
+-- Holds if, since `old`, an erase that targets the sector was sent for each of these sectors. `later` has all
+-- transactions that were sent since `old` and may modify a chip, the last one first.
+pub record SendsErases (sectors : ℕ → Bool) (old new : BusState) : Type 0 where
+  pub later : Sent
+  pub added : new.sent ≡ later ++ old.sent
+  pub each : (s : ℕ) → sectors s ≡ true → has_sent (is_erase_of s) later ≡ true
 
 -- Holds if the sectors can be changed, and the chip has this size and these erase types.
 pub record CanEraseAll (sectors : ℕ → Bool) (kinds : Kinds) (size : ℕ) (chip : Chip) : Type 0 where
@@ -27,13 +39,14 @@ LeavesErases sectors kinds size =
     (CanEraseAll sectors kinds size) (MayChange sectors sectors blank)
 
 -- Holds after the erases succeeded. On every bus exactly `tally.count` erases were sent, which is the length of the
--- planned list. On a well-behaved bus, if `CanEraseAll` held at the start, all bytes of the sectors are FFh and all
--- else is as `HasChanged` says. nor_plan's `fewest_is_least` proves that no shorter list erases exactly these sectors,
--- if they lie on a chip of at most 4,096 sectors.
+-- planned list, and each of the sectors was targeted. On a well-behaved bus, if `CanEraseAll` held at the start, all
+-- bytes of the sectors are FFh and all else is as `HasChanged` says. nor_plan's `fewest_is_least` proves that no
+-- shorter list erases exactly these sectors, if they lie on a chip of at most 4,096 sectors.
 pub record DoesErases (sectors : ℕ → Bool) (kinds : Kinds) (size : ℕ) (old new : BusState)
     (tally : Tally) : Type 0 where
   pub count : tally.count ≡ length (planned kinds (size / 4096) sectors)
   pub fewer : tally.count ≤ sector_count sectors
   pub exactly : SendsExactly tally.count 0 0 old new
+  pub targeted : SendsErases sectors old new
   pub tallies : Tallies 0 old new tally
   pub done : old.honest ≡ true → CanEraseAll sectors kinds size old.chip → HasChanged sectors blank sectors old new

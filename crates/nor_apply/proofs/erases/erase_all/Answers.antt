@@ -1,4 +1,4 @@
-use Rattle.std.proofs.Common.{ℕ, ◌+◌, ◌∙◌, ap, refl, arith}
+use Rattle.std.proofs.Common.{ℕ, ◌+◌, ◌∙◌, [], ap, sym, refl, arith, true≢false}
 use Rattle.std.proofs.lemmas.Grind.{common_steps}
 use Rattle.nor_geometry.specs.Below.{count_below}
 use Rattle.nor_geometry.proofs.Counting.{count_below-zero, count_below-more}
@@ -22,13 +22,15 @@ loop-unit-init g c =
       few = rw (← listed.planned) few;
       listed = listed_none _ (refl, refl, refl)
           (ap erases_left c.into_iter-unit-iterator.ensures.into_iter_gives ∙ listed.planned);
+      most = omega (arith, c.requires.small);
+      targeted = record { later = []; added = refl; each = λ s none. absurd (true≢false (sym none)) };
       done = λ honest can. made_none _ (λ a. refl) (λ s. refl) can.can.idle;
     }
 
 pub loop-unit-preserved : goal.loop-unit-preserved
 loop-unit-preserved g c =
     erases_more c.loop-unit.invariant c.in-Some.ensures.steps c.erase.ensures.leaves
-    c.in_ok-sent.ensures.does refl (ap (λ (n : ℕ). c.loop-unit.tally.transactions + n) c.from.ensures)
+    c.in_ok-sent.ensures.does c.in_ok-sent.ensures.sends refl (ap (λ (n : ℕ). c.loop-unit.tally.transactions + n) c.from.ensures)
 
 pub overflow_add-tally : goal.overflow_add-tally
 overflow_add-tally g c = omega (arith, few_units c.loop-unit.invariant c.in-Some.ensures.steps)
