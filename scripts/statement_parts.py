@@ -21,9 +21,9 @@ FIELDS = {
     "EndsSealed": "sealed",
     "CanBeUndone": "accepted",
     "IsDone": "made code is_wanted kept",
-    "RestoreModelled": "errors leaves done",
-    "IsRestored": "accepted",
-    "LeavesRestore": "config bytes fixed",
+    "ModelledBy": "errors leaves done",
+    "IsRestoredBy": "accepted",
+    "LeavesBy": "config bytes fixed",
     "RehearsalAlways": "counts",
     "IsRehearsal": "seal ended",
     "RehearsalModelled": "errors ended",
@@ -98,13 +98,18 @@ NAMES = {
     "Report": "`Report`: the chip that was found, and the numbers of sectors, erases, programs and transactions.",
     "refusal_number": "`refusal_number refusal`: the number of the error. In the definition of `Refusal`, the comment "
         "above each case begins with this number.",
+    "Choice":
+        "`Choice`: how a restore chooses its touched and its raised sectors, by the journal and the bytes of the chip.",
+    "differing":
+        "`differing`: the choice of `restore`. The touched sectors are the saved ones in which a byte differs from the "
+        "saved byte, and the raised ones those in which a bit must go from 0 to 1.",
     "IsRestoreVerdict":
-        "`IsRestoreVerdict journal chip refusal`: the refusal is the first of these, in this order, that holds: "
+        "`IsRestoreVerdict choice journal chip refusal`: the refusal is the first of these, in this order, that holds: "
         "`NoChip`, `UnknownChip`, `OtherChip` (the ID or size differs from the journal's), `OtherUnit` (the journal "
         "has a unique ID, and the chip another), `StatusDiffers` (bits that are never changed differ; without block "
         "protection, any non-volatile bit), `StatusLocked` (the status is locked, and either the protection bits "
-        "differ from the journal's, or a saved sector that differs from the chip has a protected address).",
-    "IsRestorable": "`IsRestorable journal chip`: no refusal is the verdict.",
+        "differ from the journal's, or a touched sector, as `choice` says, has a protected address).",
+    "IsRestorable": "`IsRestorable choice journal chip`: no refusal is the verdict.",
     "first_allowance":
         "`first_allowance stops`: the first stop, or without stops the bound of a session on a chip of 16 MiB.",
     "Meter":
@@ -191,16 +196,19 @@ APPENDICES = {
         {
             "OnlyReads": "nor_driver/specs/OnlyReads.antt",
             "Spends": "nor_driver/specs/Limits.antt",
-            "IsReported": "nor_session/specs/Made.antt",
+            "IsReportedFor": "nor_session/specs/Made.antt",
             "IsWithinBound": "nor_session/specs/Session.antt",
         },
     ),
-    "All clauses of a session and a restore": (
+    "All clauses of a session, a restore and a rewrite": (
         "If this is wrong, what is left in the vault, what a session or restore erases and programs, or the verdict of "
         "a restore isn't as promised. The clauses of STATEMENT.md don't depend on the other clauses.",
         {
             "session": "nor_session/src/sessions.rt",
             "restore": "nor_session/src/restores.rt",
+            "rewrite": "nor_session/src/restores.rt",
+            "Choice": "nor_session/specs/Restore.antt",
+            "differing": "nor_session/specs/Restore.antt",
             "IsRestoreVerdict": "nor_session/specs/Restore.antt",
             "accepted_alone": "nor_session/src/sessions.rt",
         },
@@ -221,6 +229,7 @@ APPENDICES = {
             "power_lost_restores_original": "nor_session/src/laws.rt",
             "undone_is_restorable": "nor_session/src/laws.rt",
             "undone_in_turn": "nor_session/src/laws.rt",
+            "session_can_be_rewritten": "nor_session/src/laws.rt",
         },
     ),
     "The model of files": (
@@ -277,7 +286,8 @@ SUBJECTS = {
         "nor_geometry: specs/Below nor_layout: src/ranges specs/Ranges specs/Sectors nor_request: src/request specs/Request",
     "Touched and raised sectors": "nor_geometry: specs/Counts nor_plan: specs/Content",
     "The verdict": "nor_scan: src/identity specs/Saving specs/Replied specs/Judging specs/Verdict",
-    "A chip that is being changed": "nor_apply: specs/Change nor_session: specs/Changing",
+    "A chip that is being changed":
+        "nor_apply: specs/Change specs/Erasing specs/Applying nor_session: specs/Changing",
     "The result of a call": "nor_request: src/report nor_session: specs/Made",
     "Sessions": "nor_session: specs/Session",
     "Restores": "nor_session: specs/Restore",

@@ -1,5 +1,5 @@
 -- The facts about the chip that a restore has established before it changes anything.
-use Rattle.std.proofs.Common.{◌≡◌, ◌<◌, ◌+◌, ◌/◌, ◌∙◌, ◌||◌, ℕ, Bool, true, length, ap, sym, refl, arith, rules, inl, inr}
+use Rattle.std.proofs.Common.{◌≡◌, ◌<◌, ◌+◌, ◌/◌, ◌∙◌, ◌||◌, ℕ, Bool, true, false, length, ap, sym, refl, arith, rules, inl, inr}
 use Rattle.std.specs.Prelude.{None}
 use Rattle.std.proofs.lemmas.Bool.{cases_Bool, both_ways, true_from_ne_false}
 use mathlib.Core.Path.{fun_ext}
@@ -25,41 +25,43 @@ use Rattle.nor_request.specs.declared.refusal.Refusal.TheVariants.{StatusLocked}
 use Rattle.nor_scan.specs.Identity.{ReadsIdentity, most_identity}
 use Rattle.nor_scan.specs.Saving.{IsIdentityOf}
 use Rattle.nor_driver.proofs.RestsInTurn.{rested_then}
-use Rattle.nor_plan.specs.Content.{is_touched, is_raised}
+use Rattle.nor_plan.specs.Content.{is_raised}
 use Rattle.nor_probe.specs.Known.{IsModelled}
 use Rattle.nor_session.specs.Changing.{touched_count}
-use Rattle.nor_session.specs.Restore.{restored, NeedsStatusFrom}
-use Rattle.nor_session.specs.PrepareRestore.{NeedsStatusWith, FitsJournal, FitsIdentity, PrepareErrors, ScansSaved, AreChanges, MayChangeStatus, IsShut, IsPreparedFor, IsPreparedRestore}
+use Rattle.nor_session.specs.Restore.{Choice, restored, NeedsStatusBy}
+use Rattle.nor_session.specs.PrepareRestore.{NeedsStatusWith, FitsJournal, FitsIdentity, PrepareErrors, MarksChosen, AreChanges, MayChangeStatus, IsShut, IsPreparedFor, IsPreparedRestore, IsSoundChoice}
 use Rattle.nor_session.specs.Restore.{IsOfTypeFound, HasFixedRead}
 use Rattle.nor_scan.proofs.Held.{code_same}
+use Rattle.nor_apply.proofs.Changing.{narrower}
 use Rattle.nor_session.proofs.Changed.{writes_other}
 use Rattle.nor_session.proofs.JudgedStatus.{held_scheme, free_address, writable_for}
 use Rattle.nor_session.proofs.ReadyChip.{status1_if_idle, opening_of}
 use Rattle.nor_session.proofs.Rescanned.{restored_saved}
 use Rattle.nor_session.proofs.RestoredBytes.{unraised_byte}
 
--- The results of a restore's identification (from `old` to `mid`) and of its scan (from `mid` to `new`).
-pub record AreRead (journal : Content) (identity : Identity) (scanned : Scanned) (old mid new : BusState) : Type 0 where
+-- The results of a restore's identification (from `old` to `mid`) and of the choice of its sectors (from `mid` to
+-- `new`).
+pub record AreRead (choice : Choice) (journal : Content) (identity : Identity) (scanned : Scanned) (old mid new : BusState) : Type 0 where
   pub only_reads : OnlyReads most_identity old mid
   pub opens : ReadsIdentity None old mid identity
   pub kind : IsOfTypeFound journal identity.found
   pub fits : FitsIdentity journal identity
   pub fixed : HasFixedRead journal identity
   pub small : old.honest ≡ true → old.chip.kept.two < 128
-  pub scans : ScansSaved journal mid new scanned
+  pub scans : MarksChosen choice journal mid new scanned
 
 -- ---- a status that is locked
 
-module _ {journal : Content} {identity : Identity} {scanned : Scanned} {old mid new : BusState}
-    (read : AreRead journal identity scanned old mid new) where
+module _ {choice : Choice} {journal : Content} {identity : Identity} {scanned : Scanned} {old mid new : BusState}
+    (read : AreRead choice journal identity scanned old mid new) where
   rested_all : old.honest ≡ true → Rested old new
   rested_all honest =
       rested_then old mid new (read.opens.rested honest) (read.scans.honest_reads.rested (read.only_reads.nature.honest ∙ honest))
 
   -- on a modelled bus the scan's marks are right for the chip as it was before the restore
   marks_old : IsModelled old
-      → (has scanned.touched ≡ is_touched old.chip.bytes (restored journal old.chip.bytes))
-      × (has scanned.raised ≡ is_raised old.chip.bytes (restored journal old.chip.bytes))
+      → (has scanned.touched ≡ choice.touched journal old.chip.bytes)
+      × (has scanned.raised ≡ choice.raised journal old.chip.bytes)
   marks_old modelled =
       let same = (read.opens.rested modelled.honest).unchanged.same in
       let is = opening_of modelled read.opens in
@@ -70,7 +72,7 @@ module _ {journal : Content} {identity : Identity} {scanned : Scanned} {old mid 
 
   pub shut_errors : (most : ℕ)
       → ((chip : Chip) → IsIdentityOf chip identity → IsShut journal (has scanned.touched) chip)
-      → PrepareErrors journal most old new StatusLocked
+      → PrepareErrors choice journal most old new StatusLocked
   shut_errors most shut = record {
     judged = refl;
     same = λ honest. (rested_all honest).unchanged.same;
@@ -89,8 +91,8 @@ scheme_for journal touched chip fits (inr some) = held_scheme touched chip some
 scheme_for journal touched chip fits (inl differs) =
     true_from_ne_false chip.config.scheme (λ none. differs (ap code_of (fits.fixed.all none)))
 
-module _ {journal : Content} {identity : Identity} {scanned : Scanned} {changes : Changes} {old mid new : BusState}
-    (read : AreRead journal identity scanned old mid new) (are : AreChanges journal identity scanned changes)
+module _ {choice : Choice} (sound : IsSoundChoice choice) {journal : Content} {identity : Identity} {scanned : Scanned}
+    {changes : Changes} {old mid new : BusState} (read : AreRead choice journal identity scanned old mid new) (are : AreChanges journal identity scanned changes)
     (judged : (chip : Chip) → IsIdentityOf chip identity → MayChangeStatus journal (has scanned.touched) chip changes) where
   below : (s : ℕ) → has changes.touched s ≡ true → s < changes.size / 4096
   below s hit = let b = read.scans.marks.below s (rw are.touched at hit) in omega arith
@@ -101,23 +103,23 @@ module _ {journal : Content} {identity : Identity} {scanned : Scanned} {changes 
   rises_touched : (s : ℕ) → has changes.raised s ≡ true → has changes.touched s ≡ true
   rises_touched s hit = rw are.touched (read.scans.marks.inside s (rw are.raised at hit))
 
-  prepared_for : (sent : ℕ) → IsModelled old → IsPreparedFor journal old.chip new.chip
+  prepared_for : (sent : ℕ) → IsModelled old → IsPreparedFor choice journal old.chip new.chip
       record { found = identity.found; changes = changes; touched = scanned.count; transactions = sent }
   prepared_for sent modelled =
       let is = opening_of modelled read.opens in
       let fits = read.fits old.chip (read.small modelled.honest) is in
       let content = old.chip.bytes in let target_bytes = restored journal content in
       let marks = marks_old read modelled in
-      let touched : (s : ℕ) → has changes.touched s ≡ is_touched old.chip.bytes (restored journal old.chip.bytes) s
+      let touched : (s : ℕ) → has changes.touched s ≡ choice.touched journal old.chip.bytes s
       = λ s. ap (λ (set : ℕ → Bool). set s) (ap has are.touched ∙ marks.0) in
-      let raised : (s : ℕ) → has changes.raised s ≡ is_raised old.chip.bytes (restored journal old.chip.bytes) s
+      let raised : (s : ℕ) → has changes.raised s ≡ choice.raised journal old.chip.bytes s
       = λ s. ap (λ (set : ℕ → Bool). set s) (ap has are.raised ∙ marks.1) in
       let may = rw marks.0 at (judged old.chip is) in
       let same = (rested_all read modelled.honest).unchanged.same in
       let status : code_of (kept_in (bytes_of changes.status)) ≡ code_of old.chip.kept
       = rw (are.one, are.two) (code_same is) in
       let needed : (changes.unlock || writes_code changes) ≡ true
-      → NeedsStatusFrom journal old.chip
+      → NeedsStatusBy choice journal old.chip
       = λ writes. elim (cases_Bool changes.unlock) [
         | inl lifted ↦ inr (may.lifts lifted)
         | inr off ↦ inl (λ same. writes_other changes off writes (status ∙ same ∙ sym are.code))
@@ -149,7 +151,9 @@ module _ {journal : Content} {identity : Identity} {scanned : Scanned} {changes 
         bytes = λ a hit. read.scans.bytes a (saved (a / 4096) hit);
         falls = λ a hit flat.
             let wanted : target_bytes a ≡ saved_byte journal a = restored_saved journal content a (saved (a / 4096) hit) in
-            let falls = unraised_byte content target_bytes a (sym (raised (a / 4096)) ∙ flat) in
+            let flat : is_raised content target_bytes (a / 4096) ≡ false
+            = narrower (sound.rises journal content (a / 4096)) (sym (raised (a / 4096)) ∙ flat) in
+            let falls = unraised_byte content target_bytes a flat in
             let stays = same.bytes a in
             cc;
       } in
@@ -162,7 +166,7 @@ module _ {journal : Content} {identity : Identity} {scanned : Scanned} {changes 
       omega arith
 
   touched_if : old.honest ≡ true → old.chip.config.size ≡ journal.size → (s : ℕ)
-      → has changes.touched s ≡ is_touched old.chip.bytes (restored journal old.chip.bytes) s
+      → has changes.touched s ≡ choice.touched journal old.chip.bytes s
   touched_if honest sized s =
       let same = (read.opens.rested honest).unchanged.same in
       let bytes : mid.chip.bytes ≡ old.chip.bytes = fun_ext same.bytes in
@@ -173,7 +177,8 @@ module _ {journal : Content} {identity : Identity} {scanned : Scanned} {changes 
       } in
       ap (λ (set : ℕ → Bool). set s) (ap has are.touched) ∙ rw bytes at (read.scans.touched is_open s)
 
-  pub prepared_all : (sent : ℕ) → sent ≡ identity.transactions + length journal.saved → IsPreparedRestore journal old new
+  pub prepared_all : (sent : ℕ) → sent ≡ identity.transactions + choice.reads (length journal.saved)
+      → IsPreparedRestore choice journal old new
       record { found = identity.found; changes = changes; touched = scanned.count; transactions = sent }
   prepared_all sent sum =
       let part = read.opens.part.at_most in

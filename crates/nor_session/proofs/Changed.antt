@@ -9,6 +9,7 @@ use Rattle.nor_model.specs.declared.config.Config.{Config}
 use Rattle.nor_model.specs.Bus.{BusState}
 use Rattle.nor_model.proofs.Sizes.{sized_bounds}
 use Rattle.nor_driver.specs.OnlyReads.{Rested}
+use Rattle.nor_driver.proofs.Limits.{exactly_same}
 use Rattle.nor_geometry.proofs.Below.{count_below-most}
 use Rattle.nor_plan.specs.Planned.{fewest_erases, IsLeastLength}
 use Rattle.nor_plan.proofs.Fewest.{fewest_least}
@@ -76,5 +77,26 @@ checked changes wanted verify old mid new written work inside leaves does checki
       inside = λ s is. rw (leaves.spends.nature.config honest) (can.inside s is);
     } in
     (checking.rested (same_honest ∙ honest)).unchanged.same.bytes a ∙ checking.same verifies (same_honest ∙ honest) still_can a hit in
-    let tallies = does.tallies in
-    grind (arith, applied, read, tallies.unsent, tallies.polled_ready, tallies.sent)
+    let tallies = does.tallies in let first = does.in_order in
+    record {
+      erases = checking.erases ∙ does.erases;
+      fewer_erases = omega (arith, raised);
+      fewer_programs = omega arith;
+      few = omega (arith, raised);
+      least = omega arith;
+      exactly = rw (checking.erases, checking.programs) (exactly_same checking.unsent does.exactly);
+      in_order = record {
+        erasing = first.erasing;
+        later = first.later;
+        added = checking.unsent ∙ first.added;
+        each = first.each;
+        unprogrammed = first.unprogrammed;
+        unerased = first.unerased;
+      };
+      polled_ready = grind (arith, tallies.polled_ready);
+      sent = grind (arith, same_honest, tallies.sent);
+      unsent = grind (arith, tallies.unsent);
+      done = grind (arith, same_honest, applied);
+      programs = grind arith;
+      checked = read;
+    }

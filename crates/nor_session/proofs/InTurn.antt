@@ -4,7 +4,8 @@ use Rattle.std.proofs.lemmas.Bool.{and_left, and_parts, both_ways}
 use Rattle.nor_model.specs.Chip.{Chip, IsSame}
 use Rattle.nor_model.specs.Bus.{BusState}
 use Rattle.nor_journal.specs.Text.{Content}
-use Rattle.nor_journal.proofs.Saves.{saved_byte-is}
+use Rattle.nor_journal.specs.Saved.{is_saved}
+use Rattle.nor_journal.proofs.Saves.{saved_byte-is, Saves-set}
 use Rattle.nor_driver.specs.StatusWrites.{fixed_of}
 use Rattle.nor_driver.proofs.ReadsInTurn.{same_then}
 use Rattle.nor_apply.specs.Within.{is_writable, IsWithin}
@@ -13,11 +14,14 @@ use Rattle.nor_plan.specs.Content.{is_touched, is_raised}
 use Rattle.nor_request.specs.declared.report.Report.{Report}
 use Rattle.nor_request.specs.declared.request.Request.{Request}
 use Rattle.nor_scan.proofs.Planned.{untouched, unraised}
-use Rattle.nor_session.specs.Headline.{SavesChip, open_addresses, CanRestore}
+use Rattle.nor_session.specs.Headline.{SavesChip, open_addresses, CanRestore, CanBeRewritten}
 use Rattle.nor_session.specs.Restore.{restored, NeedsStatusFrom, IsRestored}
 use Rattle.nor_session.specs.InTurn.{LeavesJournal, LosesPower, MayLosePower, IsTakenUp, ChangesNothing}
 use Rattle.nor_session.proofs.RestoredOriginal.{same_as_original, lost_within}
-use Rattle.nor_session.proofs.WrittenBack.{read_back, session_over}
+use Rattle.nor_request.specs.Request.{wanted}
+use Rattle.nor_scan.specs.Saving.{header_of}
+use Rattle.nor_session.proofs.JudgedAgain.{accepted_free}
+use Rattle.nor_session.proofs.WrittenBack.{read_back, read_kept, session_over}
 
 -- ---- a chip that is already equal to the saved one
 
@@ -92,6 +96,16 @@ can_restore_kept journal first new taken can (inr loses) = can_restore_chip jour
 -- `CanRestoreChip` holds for the chip with which the next run starts (`left_taken`)
 left_can_restore : (request : Request) (image : List ℕ) (old new : BusState) (journal : Content) → LeavesJournal request image old new journal → CanRestore journal old.chip new
 left_can_restore request image old new journal left = search (arith, read_back)
+
+-- the journal of a session saves exactly the touched sectors, and none of these is protected by a locked status
+pub left_rewritable : (request : Request) (image : List ℕ) (old new : BusState) (journal : Content)
+    → LeavesJournal request image old new journal → CanBeRewritten journal old.chip
+left_rewritable request image old new journal left = λ locked s.
+    let touched = is_touched old.chip.bytes (wanted request image old.chip) in
+    let read = read_kept (header_of old.chip) old.chip.bytes touched journal left.vault.bytes
+    (left.undone.journal left.telling) left.whole left.same in
+    let same : touched s ≡ is_saved journal s = Saves-set old.chip.bytes touched journal s read.1 in
+    rw (← same) (accepted_free request image old.chip left.undone.accepted locked s)
 
 left_taken : (request : Request) (image : List ℕ) (old new taken : BusState) (journal : Content) → LeavesJournal request image old new journal → IsTakenUp old new taken
     → CanRestoreChip journal old.chip taken.chip

@@ -9,6 +9,7 @@ pub mod SessionEnds
 pub mod SavedBytes
 pub mod Reopened
 pub mod Rescanned
+pub mod MarkedSaved
 pub mod Naming
 pub mod JudgedStatus
 pub mod RestoredBytes

@@ -15,6 +15,7 @@ use Rattle.nor_scan.specs.SavedScan.{IsJournalOf, SaveErrors}
 use Rattle.nor_scan.specs.Judging.{IsIdentityRefusal}
 use Rattle.nor_session.specs.Changing.{NamesTouchedSector}
 use Rattle.nor_session.specs.Session.{SavesSector, NamesSector, NamesAddress}
+use Rattle.nor_session.specs.Restore.{Choice}
 use Rattle.nor_session.specs.PrepareRestore.{PrepareErrors}
 
 -- a scan waits for no operation and verifies nothing, so it returns neither a timeout nor a mismatch
@@ -64,10 +65,10 @@ work_names changes head vault refusal sealed saves names = record {
 -- ---- a restore
 
 -- before the first change a timeout names 0, and no mismatch occurs
-pub prepare_names : (journal : Content) (most : ℕ) (old new : BusState) (refusal : Refusal) → PrepareErrors journal most old new refusal → NamesSector (λ sector. is_saved journal sector ≡ true) refusal
-prepare_names journal most old new (Timeout address) errors = inl errors.0
-prepare_names journal most old new (Mismatch address) errors = absurd (let judged = errors.judged in cc)
-prepare_names journal most old new _ errors = tt
+pub prepare_names : (choice : Choice) (journal : Content) (most : ℕ) (old new : BusState) (refusal : Refusal) → PrepareErrors choice journal most old new refusal → NamesSector (λ sector. is_saved journal sector ≡ true) refusal
+prepare_names choice journal most old new (Timeout address) errors = inl errors.0
+prepare_names choice journal most old new (Mismatch address) errors = absurd (let judged = errors.judged in cc)
+prepare_names choice journal most old new _ errors = tt
 
 -- if an error names a sector that the journal saves, it names one that the journal's bytes save
 pub saved_names : (journal : Content) (bytes : List ℕ) (refusal : Refusal) → IsContent journal → bytes ≡ text journal → NamesSector (λ sector. is_saved journal sector ≡ true) refusal → NamesSector (λ sector. SavesSector sector bytes) refusal

@@ -20,6 +20,7 @@ use Rattle.nor_scan.specs.Saving.{header_found, kept_read}
 use Rattle.nor_scan.specs.Judging.{IsFoundCode}
 use Rattle.nor_scan.specs.SavedScan.{IsJournal, IsJournalOf}
 use Rattle.nor_session.specs.Changing.{LeavesChange, DoesChange}
+use Rattle.nor_session.specs.Restore.{Choice}
 use Rattle.nor_session.specs.PrepareRestore.{IsPreparedRestore}
 use Rattle.nor_session.specs.Session.{IsSavedCode, IsWrittenCode, SendsSaved, SendsCounted}
 use Rattle.nor_session.specs.declared.prepare_restore.PreparedRestore.{PreparedRestore}
@@ -88,8 +89,8 @@ module _ {request : Request} {identity : Identity} {status : Status} {code : ℕ
 
 -- ---- a restore
 
-pub restore_of_journal : {journal : Content} {old mid : BusState} {prepared : PreparedRestore}
-    → IsPreparedRestore journal old mid prepared → AreOfJournal (IsSavedCode journal) journal prepared.changes
+pub restore_of_journal : {choice : Choice} {journal : Content} {old mid : BusState} {prepared : PreparedRestore}
+    → IsPreparedRestore choice journal old mid prepared → AreOfJournal (IsSavedCode journal) journal prepared.changes
 restore_of_journal is = record {
   sized = sym is.sized;
   saved = is.saved;

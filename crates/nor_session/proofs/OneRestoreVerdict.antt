@@ -11,21 +11,21 @@ use Rattle.nor_request.specs.declared.refusal.Refusal.TheVariants.{NoChip, Unkno
 use Rattle.nor_request.specs.Refusal.{refusal_number}
 use Rattle.nor_scan.specs.Verdict.{IsNamed}
 use Rattle.nor_session.specs.Headline.{IsOfType}
-use Rattle.nor_session.specs.Restore.{IsOfOtherDevice, FitsStatus, NeedsStatusFrom, RestoreHolds, checked_in_order, index_in, IsRestoreVerdict, IsRestorable}
+use Rattle.nor_session.specs.Restore.{IsOfOtherDevice, FitsStatus, Choice, NeedsStatusBy, RestoreHolds, checked_in_order, index_in, IsRestoreVerdict, IsRestorable}
 use Rattle.nor_session.specs.PrepareRestore.{RestoreJudges, RestoreAccepts}
 
 -- Holds if none of the errors before position `n` of `checked_in_order` applies.
-record IsClear (journal : Content) (chip : Chip) (n : ℕ) : Type 0 where
+record IsClear (choice : Choice) (journal : Content) (chip : Chip) (n : ℕ) : Type 0 where
   there : 0 < n → shown_as chip.config ≢ Err Probes.NoChip
   named : 1 < n → IsNamed None chip.config
   kind : 2 < n → IsOfType journal chip.config
   unit : 3 < n → ¬ IsOfOtherDevice journal chip.config
   fixed : 4 < n → FitsStatus journal chip
-  writable : 5 < n → is_locked chip.kept ≡ true → ¬ NeedsStatusFrom journal chip
+  writable : 5 < n → is_locked chip.kept ≡ true → ¬ NeedsStatusBy choice journal chip
 
-module _ {journal : Content} {chip : Chip} where
-  none_before : {n : ℕ} (other : Refusal) → IsClear journal chip n → index_in checked_in_order (refusal_number other) < n
-      → ¬ RestoreHolds journal chip other
+module _ {choice : Choice} {journal : Content} {chip : Chip} where
+  none_before : {n : ℕ} (other : Refusal) → IsClear choice journal chip n → index_in checked_in_order (refusal_number other) < n
+      → ¬ RestoreHolds choice journal chip other
   none_before NoChip is before holds = is.there before holds
   none_before (UnknownChip fault) is before holds = let shown = (is.named before).shown in cc
   none_before OtherChip is before holds = holds (is.kind before)
@@ -34,24 +34,25 @@ module _ {journal : Content} {chip : Chip} where
   none_before StatusLocked is before holds = is.writable before holds.0 holds.1
   none_before _ is before holds = holds
 
-  first_of : (refusal : Refusal) → IsClear journal chip (index_in checked_in_order (refusal_number refusal))
-      → RestoreHolds journal chip refusal → IsRestoreVerdict journal chip refusal
+  first_of : (refusal : Refusal) → IsClear choice journal chip (index_in checked_in_order (refusal_number refusal))
+      → RestoreHolds choice journal chip refusal → IsRestoreVerdict choice journal chip refusal
   first_of refusal is holds = record { holds = holds; first = λ other. none_before other is }
 
 place_few : (refusal : Refusal) → index_in checked_in_order (refusal_number refusal) < 7
 place_few NoChip = omega arith
 place_few _ = omega arith
 
-pub judged_verdict : (journal : Content) (chip : Chip) (refusal : Refusal) → RestoreJudges journal chip refusal
-    → IsRestoreVerdict journal chip refusal
-judged_verdict journal chip NoChip judged = first_of NoChip (search (rules, arith)) judged
-judged_verdict journal chip (UnknownChip fault) judged = first_of (UnknownChip fault) (search (rules, arith)) judged
-judged_verdict journal chip OtherChip judged = first_of OtherChip (search (rules, arith)) judged.1
-judged_verdict journal chip OtherUnit judged = first_of OtherUnit (search (rules, arith)) judged.2
-judged_verdict journal chip StatusDiffers judged = first_of StatusDiffers (search (rules, arith)) judged.3
-judged_verdict journal chip StatusLocked judged = first_of StatusLocked (search (rules, arith)) (judged.1, judged.2)
-judged_verdict journal chip _ judged = absurd judged
+pub judged_verdict : (choice : Choice) (journal : Content) (chip : Chip) (refusal : Refusal) → RestoreJudges choice journal chip refusal
+    → IsRestoreVerdict choice journal chip refusal
+judged_verdict choice journal chip NoChip judged = first_of NoChip (search (rules, arith)) judged
+judged_verdict choice journal chip (UnknownChip fault) judged = first_of (UnknownChip fault) (search (rules, arith)) judged
+judged_verdict choice journal chip OtherChip judged = first_of OtherChip (search (rules, arith)) judged.1
+judged_verdict choice journal chip OtherUnit judged = first_of OtherUnit (search (rules, arith)) judged.2
+judged_verdict choice journal chip StatusDiffers judged = first_of StatusDiffers (search (rules, arith)) judged.3
+judged_verdict choice journal chip StatusLocked judged = first_of StatusLocked (search (rules, arith)) (judged.1, judged.2)
+judged_verdict choice journal chip _ judged = absurd judged
 
-pub accepted_restorable : (journal : Content) (chip : Chip) → RestoreAccepts journal chip → IsRestorable journal chip
-accepted_restorable journal chip accepts refusal =
-    let clear : IsClear journal chip 7 = search (rules, arith) in none_before refusal clear (place_few refusal)
+pub accepted_restorable : (choice : Choice) (journal : Content) (chip : Chip) → RestoreAccepts choice journal chip
+    → IsRestorable choice journal chip
+accepted_restorable choice journal chip accepts refusal =
+    let clear : IsClear choice journal chip 7 = search (rules, arith) in none_before refusal clear (place_few refusal)

@@ -1,5 +1,5 @@
 -- The results of the identification of a restore.
-use Rattle.std.proofs.Common.{◌≡◌, ◌∙◌, ℕ, true, List, refl, arith}
+use Rattle.std.proofs.Common.{◌≡◌, ◌≤◌, ◌∙◌, ℕ, true, List, refl, arith}
 use Rattle.std.specs.Prelude.{◌≢◌, Result, Ok, Err, Some, None, IsOk}
 use Rattle.nor_model.specs.declared.config.Config.{Config}
 use Rattle.nor_model.specs.Chip.{Chip, IsSame}
@@ -14,12 +14,12 @@ use Rattle.nor_probe.specs.Known.{shown_as, IsKnown, IsModelled}
 use Rattle.nor_probe.specs.Replied.{ProbeEndsAt}
 use Rattle.nor_probe.specs.Found.{BlamesName, ProbeErrors, IsConfigOf}
 use Rattle.nor_request.specs.declared.refusal.Refusal.{Refusal}
-use Rattle.nor_request.specs.declared.refusal.Refusal.TheVariants.{OtherUnit, StatusDiffers}
+use Rattle.nor_request.specs.declared.refusal.Refusal.TheVariants.{OtherUnit, StatusDiffers, Stopped, Timeout}
 use Rattle.nor_request.specs.Refusal.{of_probe}
 use Rattle.nor_scan.specs.Identity.{most_identity}
 use Rattle.nor_scan.specs.Verdict.{IsNamed}
 use Rattle.nor_session.specs.Headline.{IsOfType}
-use Rattle.nor_session.specs.Restore.{IsOfOtherDevice}
+use Rattle.nor_session.specs.Restore.{Choice, IsOfOtherDevice}
 use Rattle.nor_session.specs.PrepareRestore.{RestoreJudges, IsDeviceRefusal, PrepareErrors}
 use Rattle.nor_session.specs.Restore.{IsOfTypeFound}
 
@@ -48,22 +48,32 @@ same_unit journal config unique is same other = (rw is at other) same
 -- ---- errors
 
 -- the clause `errors` of the preparation, for an error of the probe
-pub probe_prepare_errors : (journal : Content) (old new : BusState) (fault : ProbeFault) → BlamesName None fault → ProbeEndsAt new.history fault
-    → (old.honest ≡ true → ProbeErrors None old new fault) → PrepareErrors journal most_identity old new (of_probe fault)
-probe_prepare_errors journal old new Probes.OtherName blames last errors = absurd blames
-probe_prepare_errors journal old new Probes.Stopped blames last errors = record {
+pub probe_prepare_errors : (choice : Choice) (journal : Content) (old new : BusState) (fault : ProbeFault) → BlamesName None fault → ProbeEndsAt new.history fault
+    → (old.honest ≡ true → ProbeErrors None old new fault) → PrepareErrors choice journal most_identity old new (of_probe fault)
+probe_prepare_errors choice journal old new Probes.OtherName blames last errors = absurd blames
+probe_prepare_errors choice journal old new Probes.Stopped blames last errors = record {
   last = last;
   ran_out = λ honest. let out = errors honest in record { none_left = out.0.none_left; below = omega (arith, out.1) };
 }
-probe_prepare_errors journal old new Probes.Timeout blames last errors = (refl, last, errors)
-probe_prepare_errors journal old new _ blames last errors = search arith
+probe_prepare_errors choice journal old new Probes.Timeout blames last errors = (refl, last, errors)
+probe_prepare_errors choice journal old new _ blames last errors = search arith
+
+-- the clause `errors` of the preparation, with a higher bound
+pub errors_more : (choice : Choice) (journal : Content) (few most : ℕ) (old new : BusState) (refusal : Refusal) → few ≤ most
+    → PrepareErrors choice journal few old new refusal → PrepareErrors choice journal most old new refusal
+errors_more choice journal few most old new Stopped fits errors = record {
+  last = errors.last;
+  ran_out = λ honest. let out = errors.ran_out honest in record { none_left = out.none_left; below = omega arith };
+}
+errors_more choice journal few most old new (Timeout address) fits errors = errors
+errors_more choice journal few most old new _ fits errors = errors
 
 -- the clause `errors` of the preparation, for errors 20 (another device) and 17 (other status bits)
-pub device_errors : (journal : Content) (most : ℕ) (old new : BusState) (refusal : Refusal) → IsDeviceRefusal refusal → (old.honest ≡ true → IsSame old.chip new.chip)
-    → (IsModelled old → RestoreJudges journal old.chip refusal) → PrepareErrors journal most old new refusal
-device_errors journal most old new OtherUnit is same verdict = record { judged = refl; same = same; verdict = verdict }
-device_errors journal most old new StatusDiffers is same verdict = record { judged = refl; same = same; verdict = verdict }
-device_errors journal most old new _ is same verdict = absurd is
+pub device_errors : (choice : Choice) (journal : Content) (most : ℕ) (old new : BusState) (refusal : Refusal) → IsDeviceRefusal refusal → (old.honest ≡ true → IsSame old.chip new.chip)
+    → (IsModelled old → RestoreJudges choice journal old.chip refusal) → PrepareErrors choice journal most old new refusal
+device_errors choice journal most old new OtherUnit is same verdict = record { judged = refl; same = same; verdict = verdict }
+device_errors choice journal most old new StatusDiffers is same verdict = record { judged = refl; same = same; verdict = verdict }
+device_errors choice journal most old new _ is same verdict = absurd is
 
 -- ---- ID and size
 

@@ -19,8 +19,8 @@ use Rattle.nor_scan.specs.Scanning.{AreMarks, AreRight, IsBlank, HasMarked}
 use Rattle.nor_scan.proofs.Planned.{planned, untouched, unraised}
 use Rattle.nor_driver.proofs.RestsInTurn.{HasOnlyRead, has_only_read-none, has_only_read-then, open_later}
 use Rattle.nor_scan.proofs.Scans.{marks_more, right_more}
-use Rattle.nor_session.specs.Restore.{restored}
-use Rattle.nor_session.specs.PrepareRestore.{PlansSaved, ScansSaved}
+use Rattle.nor_session.specs.Restore.{differing, restored}
+use Rattle.nor_session.specs.PrepareRestore.{PlansSaved, MarksChosen}
 use Rattle.nor_session.proofs.SavedBytes.{sector_at, byte_at, is_saved-some}
 
 -- true if one of the first `i` records has the sector
@@ -48,11 +48,11 @@ nothing_rescanned {journal = journal} {state = state} {scanned = scanned} blank 
 
 -- ---- one more sector
 
-later_marks : {m n : ℕ} {scanned : Scanned} → m ≤ n → AreMarks m scanned → AreMarks n scanned
+pub later_marks : {m n : ℕ} {scanned : Scanned} → m ≤ n → AreMarks m scanned → AreMarks n scanned
 later_marks later are = search (are.below, arith)
 
 -- the first `i + 1` records have exactly the sectors of the first `i` records, and that of the next record
-more_before : (journal : Content) (i number : ℕ) (saved : List ℕ) (s : ℕ) → IsContent journal → slice_get journal.saved i ≡ Some (record { number = number; bytes = saved })
+pub more_before : (journal : Content) (i number : ℕ) (saved : List ℕ) (s : ℕ) → IsContent journal → slice_get journal.saved i ≡ Some (record { number = number; bytes = saved })
     → saved_before journal (i + 1) s ≡ ((s == number) || saved_before journal i s)
 more_before journal i number saved s is at =
     let more = saved_in-take_more journal i (record { number = number; bytes = saved }) s is at in
@@ -128,11 +128,11 @@ untouched_other journal content s none = search (arith, restored_other, sector_a
 pub unraised_other : (journal : Content) (content : ℕ → ℕ) (s : ℕ) → is_saved journal s ≡ false → is_raised content (restored journal content) s ≡ false
 unraised_other journal content s none = search (arith, restored_other, sector_at, unraised)
 
-small_byte : (o : Option (List ℕ)) (k : ℕ) → ((bytes : List ℕ) → o ≡ Some bytes → (k : ℕ) → slice_index bytes k < 256) → is_some o ≡ true → slice_index (unwrap_or o []) k < 256
+pub small_byte : (o : Option (List ℕ)) (k : ℕ) → ((bytes : List ℕ) → o ≡ Some bytes → (k : ℕ) → slice_index bytes k < 256) → is_some o ≡ true → slice_index (unwrap_or o []) k < 256
 small_byte o k small is = grind (arith, nat_tests)
 
 pub all_rescanned : {journal : Content} {n : ℕ} {old new : BusState} {scanned : Scanned} → IsContent journal
-    → n ≡ length journal.saved → HasRescanned journal n old new scanned → ScansSaved journal old new scanned
+    → n ≡ length journal.saved → HasRescanned journal n old new scanned → MarksChosen differing journal old new scanned
 all_rescanned {journal = journal} {n = n} {old = old} {scanned = scanned} is end was =
     let few = saved_few journal is in let most = (is_chip_size-in_blocks journal.size is.size).small in
     search (arith, nat_tests, later_marks, least_within, small_byte, take-all_sectors, unraised_other, untouched_other)

@@ -1,7 +1,7 @@
 -- Lemmas about touched and raised sectors, and about the bytes that a restore writes to them.
-use Rattle.std.proofs.Common.{◌≡◌, ◌<◌, ◌+◌, ◌*◌, ◌/◌, ◌%◌, ◌&&◌, ℕ, Bool, true, false, sym, arith, bit_and}
+use Rattle.std.proofs.Common.{◌≡◌, ◌<◌, ◌+◌, ◌*◌, ◌/◌, ◌%◌, ◌&&◌, ◌∙◌, ℕ, Bool, true, false, inl, inr, sym, arith, bit_and}
 use Rattle.std.specs.Prelude.{if◌then◌else◌}
-use Rattle.std.proofs.lemmas.Bool.{eqb-true, eq-eqb, both_ways, not-false, not_from_true, true_from_ne_false}
+use Rattle.std.proofs.lemmas.Bool.{cases_Bool, false_from_ne_true, eqb-true, eq-eqb, both_ways, not-false, not_from_true, true_from_ne_false}
 use Rattle.nor_geometry.specs.Below.{any_below, count_below}
 use Rattle.nor_geometry.proofs.Below.{any_below-found}
 use Rattle.nor_journal.specs.Text.{Content}
@@ -9,9 +9,10 @@ use Rattle.nor_journal.specs.Saved.{is_saved, saved_byte}
 use Rattle.nor_plan.specs.Content.{is_other, must_rise, is_touched, is_raised, is_page_other, is_programmed}
 use Rattle.nor_geometry.proofs.Counting.{any_below-false, any_below-same, count_below-same}
 use Rattle.nor_scan.proofs.Planned.{unraised}
-use Rattle.nor_session.specs.Restore.{restored}
+use Rattle.nor_session.specs.Restore.{restored, differing, every_saved}
+use Rattle.nor_session.specs.PrepareRestore.{IsSoundChoice}
 use Rattle.nor_session.proofs.SavedBytes.{sector_at}
-use Rattle.nor_session.proofs.Rescanned.{untouched_other}
+use Rattle.nor_session.proofs.Rescanned.{restored_saved, untouched_other, unraised_other}
 
 -- if no address in the sector of `a` passes a test, `a` doesn't pass it
 none_at : (test : ℕ → Bool) (a : ℕ) → any_below 4096 (λ i. test (4096 * (a / 4096) + i)) ≡ false → test a ≡ false
@@ -42,11 +43,48 @@ touched_byte content target_bytes s some = search (arith, any_below-found, both_
 pub touched_saved : (journal : Content) (content : ℕ → ℕ) (s : ℕ) → is_touched content (restored journal content) s ≡ true → is_saved journal s ≡ true
 touched_saved journal content s some = search (arith, both_ways, true_from_ne_false, untouched_other)
 
--- at an address at which a restore wrote the saved byte if its sector is touched, and nothing otherwise, the byte is
--- the target one
-pub written_restored : (journal : Content) (old mid new : ℕ → ℕ) (touched : ℕ → Bool) (a : ℕ) → ((s : ℕ) → touched s ≡ is_touched old (restored journal old) s) → mid a ≡ old a
+-- If all touched sectors are saved, and each saved sector in which a byte differs is touched: at an address at which a
+-- restore wrote the saved byte if its sector is touched, and nothing otherwise, the byte is the target one.
+pub written_restored : (journal : Content) (old mid new : ℕ → ℕ) (touched : ℕ → Bool) (a : ℕ)
+    → ((s : ℕ) → touched s ≡ true → is_saved journal s ≡ true)
+    → ((s : ℕ) → is_touched old (restored journal old) s ≡ true → touched s ≡ true) → mid a ≡ old a
     → new a ≡ (if touched (a / 4096) then saved_byte journal a else mid a) → new a ≡ restored journal old a
-written_restored journal old mid new touched a right same is = search (arith, touched_saved, untouched_byte)
+written_restored journal old mid new touched a saved differs same is = elim (cases_Bool (touched (a / 4096))) [
+  | inl hit ↦ rw hit at is ∙ sym (restored_saved journal old a (saved (a / 4096) hit))
+  | inr none ↦
+      let untouched : is_touched old (restored journal old) (a / 4096) ≡ false
+      = false_from_ne_true _ (λ other. both_ways (touched (a / 4096)) none (differs (a / 4096) other)) in
+      rw none at is ∙ same ∙ untouched_byte old (restored journal old) a untouched
+]
+
+-- a sector that a restore raises is saved
+pub raised_saved : (journal : Content) (content : ℕ → ℕ) (s : ℕ) → is_raised content (restored journal content) s ≡ true → is_saved journal s ≡ true
+raised_saved journal content s some = search (arith, both_ways, true_from_ne_false, unraised_other)
+
+-- ---- the two choices of sectors
+
+touched_if_raised : (journal : Content) (content : ℕ → ℕ) (s : ℕ) → is_raised content (restored journal content) s ≡ true
+    → is_touched content (restored journal content) s ≡ true
+touched_if_raised journal content s some = true_from_ne_false _
+    (λ none. both_ways _ (untouched_unraised content (restored journal content) s none) some)
+
+pub differing_sound : IsSoundChoice differing
+differing_sound = record {
+  saved = touched_saved;
+  differs = λ journal content s is. is;
+  rises = λ journal content s is. is;
+  inside = touched_if_raised;
+  few = λ saved. omega arith;
+}
+
+pub every_saved_sound : IsSoundChoice every_saved
+every_saved_sound = record {
+  saved = λ journal content s is. is;
+  differs = touched_saved;
+  rises = raised_saved;
+  inside = λ journal content s is. is;
+  few = λ saved. omega arith;
+}
 
 -- ---- pages
 

@@ -1,7 +1,7 @@
 -- How a restore restores the chip that the journal saves.
 use Rattle.std.proofs.Common.{◌&&◌, ◌≡◌, ◌<◌, ◌+◌, ◌-◌, ◌*◌, ◌/◌, ◌%◌, ◌∙◌, ◌⊎◌, ℕ, Bool, true, false, true≢false, List, ap, sym, refl, arith, inl, inr}
 use Rattle.std.specs.Prelude.{not, ◌≢◌, Option, Some, None, IfSome, IsSomeAnd}
-use Rattle.std.proofs.lemmas.Bool.{cases_Bool, cases_lt, and_left, and_parts, or_cases, both_ways, eqb-true}
+use Rattle.std.proofs.lemmas.Bool.{cases_Bool, cases_lt, false_from_ne_true, and_left, and_parts, and_from, or_left, or_cases, both_ways, eqb-true}
 use Rattle.std.proofs.lemmas.Bool.Decides.{nat_tests}
 use Rattle.std.proofs.Math.Bool.{and-false}
 use Rattle.nor_model.specs.declared.config.Config.{Config}
@@ -32,9 +32,9 @@ use Rattle.nor_apply.proofs.Kept.{locked_same}
 use Rattle.nor_apply.proofs.Changing.{within_then, within_wider, narrower}
 use Rattle.nor_request.specs.declared.refusal.Refusal.{Refusal}
 use Rattle.nor_request.specs.declared.refusal.Refusal.TheVariants.{NoChip, UnknownChip, StatusLocked, Stopped, OtherChip, OtherUnit, StatusDiffers}
-use Rattle.nor_scan.specs.Saving.{SomeProtected}
-use Rattle.nor_session.specs.Headline.{SavesChip, open_addresses, CanRestore}
-use Rattle.nor_session.specs.Restore.{restored, FitsStatus, RestoreErrors}
+use Rattle.nor_scan.specs.Saving.{SomeProtected, is_touched_protected}
+use Rattle.nor_session.specs.Headline.{SavesChip, open_addresses, CanRestore, CanBeRewritten}
+use Rattle.nor_session.specs.Restore.{Choice, differing, every_saved, restored, FitsStatus, ErrorsBy, RestoreErrors}
 use Rattle.nor_session.proofs.Rescanned.{restored_saved, restored_other}
 use Rattle.nor_session.proofs.RestoredBytes.{touched_byte, touched_saved}
 
@@ -122,14 +122,34 @@ pub touched_open : (journal : Content) (first chip : Chip) (a : ℕ) → IsKnown
 touched_open journal first chip a known saves same touched =
     search (arith, protected_same, saved_byte-is, touched_byte, touched_saved)
 
+-- The journal can restore the original chip, and saves all touched sectors. If no touched sector is protected whenever
+-- the status is locked, each address in a touched sector is open.
+chosen_open : (journal : Content) (first : Chip) (touched : ℕ → Bool) (old : BusState) (a : ℕ) → CanRestore journal first old
+    → ((s : ℕ) → touched s ≡ true → is_saved journal s ≡ true)
+    → (is_locked old.chip.kept ≡ true → ¬ SomeProtected touched old.chip) → touched (a / 4096) ≡ true
+    → open_addresses journal first a ≡ true
+chosen_open journal first touched old a can saved free hit =
+    let shut : (is_locked first.kept && is_protected first a) ≡ false = false_from_ne_true _ (λ both.
+    let (locked, protected) = and_parts _ _ both in
+    let stay = can.within.kept (rw locked (and-false first.config.scheme)) in
+    let there = is_protected-same first old.chip can.within.config stay a ∙ protected in
+    let genuine : IsGenuine old.chip.config = rw can.within.config can.known.genuine in
+    let start = protected_same old.chip (4096 * (a / 4096)) a genuine (omega arith) ∙ there in
+    free (rw stay locked) record {
+      sector = a / 4096;
+      held = and_from _ _ hit (or_left _ _ start);
+    }) in
+    and_from _ _ (saved (a / 4096) hit) (ap not shut)
+
 -- if the journal could restore the original chip before a restore, the restore's changes leave a chip that is still
 -- within the journal (`IsWithin`)
 pub change_within : (journal : Content) (first : Chip) (touched raised : ℕ → Bool) (wanted : ℕ → ℕ) (old mid new : BusState) → CanRestore journal first old → IsWithin (open_addresses journal first) first mid
-    → ((s : ℕ) → touched s ≡ is_touched old.chip.bytes (restored journal old.chip.bytes) s) → MayChange touched raised wanted mid new → IsWithin (open_addresses journal first) first new
-change_within journal first touched raised wanted old mid new can within right change =
+    → ((s : ℕ) → touched s ≡ true → is_saved journal s ≡ true) → (is_locked old.chip.kept ≡ true → ¬ SomeProtected touched old.chip)
+    → MayChange touched raised wanted mid new → IsWithin (open_addresses journal first) first new
+change_within journal first touched raised wanted old mid new can within saved free change =
     within_then (open_addresses journal first) first mid new within
     (within_wider (addresses_of touched) (open_addresses journal first) mid.chip new
-    (λ a hit. touched_open journal first old.chip a can.known can.saves can.within.bytes (sym (right (a / 4096)) ∙ hit)) change.within)
+    (λ a hit. chosen_open journal first touched old a can saved free hit) change.within)
 
 -- ---- a restore that ends leaves the original chip
 
@@ -174,18 +194,44 @@ unit_not : (unique : Option (List ℕ)) (of_first : List ℕ) → IfSome unique 
 unit_not (Some u) of_first same other = other same
 unit_not None of_first same other = other
 
-pub only_stopped : (journal : Content) (first : Chip) (old new : BusState) (refusal : Refusal) → CanRestore journal first old → RestoreErrors journal old new refusal → refusal ≡ Stopped
-only_stopped journal first old new Stopped can errors = refl
-only_stopped journal first old new NoChip can errors = cc
-only_stopped journal first old new (UnknownChip fault) can errors = cc
-only_stopped journal first old new OtherChip can errors = search arith
-only_stopped journal first old new OtherUnit can errors = search (arith, unit_not)
-only_stopped journal first old new StatusDiffers can errors = search (arith, fixed_fits)
-only_stopped journal first old new StatusLocked can errors =
+-- Holds if no chosen sector is protected whenever the original chip's status is locked and the chip has its non-volatile
+-- status bits.
+abbrev pub NeverHeld : Choice → Content → (first chip : Chip) → Type 0
+NeverHeld choice journal first chip = is_locked first.kept ≡ true → chip.kept ≡ first.kept
+    → ¬ SomeProtected (choice.touched journal chip.bytes) chip
+
+only_stopped_by : (choice : Choice) (journal : Content) (first : Chip) (old new : BusState) (refusal : Refusal) → CanRestore journal first old
+    → NeverHeld choice journal first old.chip → ErrorsBy choice journal old new refusal → refusal ≡ Stopped
+only_stopped_by choice journal first old new Stopped can free errors = refl
+only_stopped_by choice journal first old new NoChip can free errors = cc
+only_stopped_by choice journal first old new (UnknownChip fault) can free errors = cc
+only_stopped_by choice journal first old new OtherChip can free errors = search arith
+only_stopped_by choice journal first old new OtherUnit can free errors = search (arith, unit_not)
+only_stopped_by choice journal first old new StatusDiffers can free errors = search (arith, fixed_fits)
+only_stopped_by choice journal first old new StatusLocked can free errors =
     let locked : is_locked first.kept ≡ true = sym (locked_same first.kept old.chip.kept can.within.fixed) ∙ errors.holds.0 in
     let stay = can.within.kept (rw locked (and-false first.config.scheme)) in
     absurd (elim errors.holds.1 [
       | inl differs ↦ differs (code_locked journal first old.chip can.saves.bits stay)
-      | inr some ↦ free_held journal first old.chip can.known can.saves can.within.config stay locked can.within.bytes some
+      | inr some ↦ free locked stay some
     ])
-only_stopped journal first old new _ can errors = absurd errors.holds
+only_stopped_by choice journal first old new _ can free errors = absurd errors.holds
+
+-- `restore` touches only sectors that differ, and these aren't protected if the status is locked
+pub only_stopped : (journal : Content) (first : Chip) (old new : BusState) (refusal : Refusal) → CanRestore journal first old → RestoreErrors journal old new refusal → refusal ≡ Stopped
+only_stopped journal first old new refusal can errors =
+    only_stopped_by differing journal first old new refusal can
+    (λ locked stay. free_held journal first old.chip can.known can.saves can.within.config stay locked can.within.bytes) errors
+
+-- `rewrite` touches every saved sector
+pub only_stopped_rewriting : (journal : Content) (first : Chip) (old new : BusState) (refusal : Refusal)
+    → CanRestore journal first old → CanBeRewritten journal first → ErrorsBy every_saved journal old new refusal
+    → refusal ≡ Stopped
+only_stopped_rewriting journal first old new refusal can unprotected errors =
+    only_stopped_by every_saved journal first old new refusal can
+    (λ locked stay some.
+    let s = some.sector in
+    let same = is_protected-same first old.chip can.within.config stay in
+    let held : is_touched_protected (is_saved journal) first s ≡ true =
+    rw (same (4096 * s), same (4096 * s + 4096 - 1)) at some.held in
+    both_ways _ (unprotected locked s) held) errors

@@ -1,7 +1,10 @@
 -- The promises of a restore follow from those of its preparation and of its changes.
-use Rattle.std.proofs.Common.{◌≡◌, ◌<◌, ◌≤◌, ◌^◌, ◌+◌, ◌/◌, ◌∙◌, ℕ, true, length, ap, sym, refl, arith, true≢false}
+use Rattle.std.proofs.Common.{◌≡◌, ◌<◌, ◌≤◌, ◌^◌, ◌+◌, ◌/◌, ◌∙◌, ◌++◌, ℕ, Bool, true, inl, inr, length, ap, sym, refl, arith, true≢false}
+use Rattle.std.specs.Prelude.{Result, OnOk}
+use Rattle.std.proofs.lemmas.Result.{on_ok_weaker}
 use mathlib.Core.Path.{fun_ext}
-use Rattle.nor_model.specs.Chip.{Chip, IsSame}
+use Rattle.nor_model.specs.Sent.{Sent}
+use Rattle.nor_model.specs.Chip.{Chip, IsSame, is_locked}
 use Rattle.nor_model.specs.Bus.{BusState, KeepsNature}
 use Rattle.nor_model.proofs.Nature.{nature_then}
 use Rattle.nor_model.proofs.Histories.{continues_then}
@@ -12,10 +15,10 @@ use Rattle.nor_journal.specs.Saved.{saved_byte}
 use Rattle.nor_apply.specs.declared.changes.Changes.{Changes}
 use Rattle.nor_apply.specs.declared.changes.Work.{Work}
 use Rattle.nor_geometry.specs.Counts.{sector_count}
-use Rattle.nor_plan.specs.Content.{once_erased, is_touched, is_raised}
+use Rattle.nor_plan.specs.Content.{once_erased}
 use Rattle.nor_driver.specs.Limits.{Spends}
 use Rattle.nor_session.specs.Checking.{CanCheck}
-use Rattle.nor_apply.specs.Applying.{touched_in, raised_in, status_writes}
+use Rattle.nor_apply.specs.Applying.{ErasesFirst, touched_in, raised_in, status_writes}
 use Rattle.nor_driver.specs.StatusWrites.{fixed_of}
 use Rattle.nor_request.specs.Request.{wanted}
 use Rattle.nor_apply.proofs.Kept.{fixed_coded, coded_from_status}
@@ -26,17 +29,19 @@ use Rattle.nor_request.specs.declared.refusal.Refusal.{Refusal}
 use Rattle.nor_request.specs.declared.refusal.Refusal.TheVariants.{Stopped, Timeout, Mismatch}
 use Rattle.nor_session.specs.declared.prepare_restore.PreparedRestore.{PreparedRestore}
 use Rattle.nor_probe.specs.Known.{IsModelled}
-use Rattle.nor_scan.specs.Identity.{most_identity}
-use Rattle.nor_session.specs.Bounds.{most_of}
-use Rattle.nor_session.specs.Session.{HonestErrors, IsWithinBound}
+use Rattle.nor_scan.specs.Saving.{SomeProtected}
+use Rattle.nor_session.specs.Bounds.{most_reads, most_of}
+use Rattle.nor_session.specs.Session.{HonestErrors, IsWithinCounts}
 use Rattle.nor_session.specs.Changing.{HasBytes, LeavesChange, DoesChange, ChangeErrors}
-use Rattle.nor_session.specs.Headline.{CanRestore}
-use Rattle.nor_session.specs.Restore.{restored, NeedsStatusFrom, IsCheckedFirst, IsRestoreRefusal, RestoreErrors, LeavesRestore, IsRestored, FitsReplies}
-use Rattle.nor_session.specs.PrepareRestore.{PrepareErrors, IsPreparedRestore}
+use Rattle.nor_session.specs.declared.announcement.Announcement.{Announcement}
+use Rattle.nor_session.specs.Announcing.{Announces}
+use Rattle.nor_session.specs.Headline.{CanRestore, RestoresOriginal, RewritesOriginal}
+use Rattle.nor_session.specs.Restore.{Choice, restored, NeedsStatusBy, IsCheckedFirst, IsRestoreRefusal, ErrorsBy, LeavesBy, IsRestoredBy, FitsReplies}
+use Rattle.nor_session.specs.PrepareRestore.{PrepareErrors, IsPreparedRestore, IsSoundChoice}
 use Rattle.nor_session.proofs.OneRestoreVerdict.{judged_verdict, accepted_restorable}
-use Rattle.nor_session.proofs.Changed.{two_writes, no_write, fewest_at}
+use Rattle.nor_session.proofs.Changed.{touched_most, two_writes, no_write, fewest_at}
 use Rattle.nor_session.proofs.Rescanned.{restored_saved}
-use Rattle.nor_session.proofs.RestoredBytes.{touched_saved, written_restored, pages_same}
+use Rattle.nor_session.proofs.RestoredBytes.{written_restored, pages_same}
 use Rattle.nor_session.proofs.RestoredOriginal.{within_after_reads, change_within, same_as_original}
 
 -- ---- the errors before any change
@@ -44,35 +49,35 @@ use Rattle.nor_session.proofs.RestoredOriginal.{within_after_reads, change_withi
 pub only_reads_spend : (few most : ℕ) (old new : BusState) → few ≤ most → OnlyReads few old new → Spends most old new
 only_reads_spend few most old new fits only_reads = search (arith, only_reads_most)
 
-module _ (journal : Content) (most : ℕ) (old new : BusState) where
-  pub prepare_answers : (refusal : Refusal) → PrepareErrors journal most old new refusal → IsRestoreRefusal refusal
+module _ (choice : Choice) (journal : Content) (most : ℕ) (old new : BusState) where
+  pub prepare_answers : (refusal : Refusal) → PrepareErrors choice journal most old new refusal → IsRestoreRefusal refusal
   prepare_answers Stopped errors = refl
   prepare_answers (Timeout address) errors = refl
   prepare_answers (Mismatch address) errors = refl
   prepare_answers _ errors = errors.judged
 
   pub prepare_fails : (refusal : Refusal) → most ≤ most_of (length journal.saved) → old.honest ≡ true
-      → PrepareErrors journal most old new refusal
+      → PrepareErrors choice journal most old new refusal
       → HonestErrors (most_of (length journal.saved)) IsCheckedFirst old new refusal
   prepare_fails Stopped fits honest errors = let out = errors.ran_out honest in omega arith
   prepare_fails (Timeout address) fits honest errors = errors.2 honest
   prepare_fails _ fits honest errors = λ first. errors.same honest
 
   pub prepare_errors : (refusal : Refusal) → most ≤ most_of (length journal.saved) → IsModelled old
-      → PrepareErrors journal most old new refusal → RestoreErrors journal old new refusal
+      → PrepareErrors choice journal most old new refusal → ErrorsBy choice journal old new refusal
   prepare_errors Stopped fits modelled errors = let out = errors.ran_out modelled.honest in omega arith
   prepare_errors (Timeout address) fits modelled errors = absurd (errors.2 modelled.honest)
-  prepare_errors refusal fits modelled errors = judged_verdict journal old.chip refusal (errors.verdict modelled)
+  prepare_errors refusal fits modelled errors = judged_verdict choice journal old.chip refusal (errors.verdict modelled)
 
   -- nothing was sent after a stop or a timeout
-  pub prepare_last : (refusal : Refusal) → PrepareErrors journal most old new refusal
+  pub prepare_last : (refusal : Refusal) → PrepareErrors choice journal most old new refusal
       → EndsAtError refusal new.history
   prepare_last Stopped errors = errors.last
   prepare_last (Timeout address) errors = errors.1
   prepare_last (Mismatch address) errors = absurd (true≢false (sym errors.judged))
   prepare_last _ errors = tt
 
-  pub leaves_after_reads : OnlyReadsHonest most old new → LeavesRestore journal old new
+  pub leaves_after_reads : OnlyReadsHonest most old new → LeavesBy choice journal old new
   leaves_after_reads honest_reads =
       let fixed = λ (steady_or_idle : IsSteadyOrIdle old). ap fixed_of (honest_reads.stays.steady_or_idle steady_or_idle).kept in search arith
 
@@ -89,24 +94,27 @@ pub changed_fits : {journal : Content} {old mid new : BusState} → FitsReplies 
 changed_fits fits later = search (continues_then fits.after later.history)
 
 -- The result of a restore's preparation (from `old` to `mid`), and what its changes left (from `mid` to `new`).
-pub record AreChanged (journal : Content) (prepared : PreparedRestore) (old mid new : BusState) : Type 0 where
-  pub room : length journal.saved ≤ 4096
-  pub only_reads : OnlyReads (most_identity + length journal.saved) old mid
-  pub is : IsPreparedRestore journal old mid prepared
+pub record AreChanged (choice : Choice) (journal : Content) (prepared : PreparedRestore) (old mid new : BusState) : Type 0 where
+  pub sound : IsSoundChoice choice
+  pub only_reads : OnlyReads (most_reads (choice.reads (length journal.saved))) old mid
+  pub is : IsPreparedRestore choice journal old mid prepared
   pub leaves : LeavesChange prepared.changes (saved_byte journal) mid new
 
-pub changed_can_restore : (journal : Content) (first : Chip) (prepared : PreparedRestore) (old mid new : BusState) → AreChanged journal prepared old mid new → IsModelled old → CanRestore journal first old → CanRestore journal first new
-changed_can_restore journal first prepared old mid new are modelled can =
+pub changed_can_restore : (choice : Choice) (journal : Content) (first : Chip) (prepared : PreparedRestore) (old mid new : BusState) → AreChanged choice journal prepared old mid new → IsModelled old → CanRestore journal first old → CanRestore journal first new
+changed_can_restore choice journal first prepared old mid new are modelled can =
     let for = are.is.modelled modelled in
     let may = are.leaves.reached (are.only_reads.nature.honest ∙ modelled.honest) for.can in
-    let before = can_restore_after_reads journal first (most_identity + length journal.saved) old mid modelled.honest are.only_reads can in
-    assumption (change_within journal first _ _ (saved_byte journal) old mid new can before.within for.touched may)
+    let before = can_restore_after_reads journal first (most_reads (choice.reads (length journal.saved))) old mid modelled.honest are.only_reads can in
+    let touched : touched_in prepared.changes ≡ choice.touched journal old.chip.bytes = fun_ext for.touched in
+    let free : is_locked old.chip.kept ≡ true → ¬ SomeProtected (touched_in prepared.changes) old.chip
+    = λ locked some. for.accepted.not_locked locked (inr (rw touched at some)) in
+    assumption (change_within journal first _ _ (saved_byte journal) old mid new can before.within are.is.saved free may)
 
-module _ (journal : Content) (prepared : PreparedRestore) (old mid new : BusState) where
-  pub changed_spends : AreChanged journal prepared old mid new → Spends (most_of (length journal.saved)) old new
-  changed_spends are = search (arith, nature_then)
+module _ (choice : Choice) (journal : Content) (prepared : PreparedRestore) (old mid new : BusState) where
+  pub changed_spends : AreChanged choice journal prepared old mid new → Spends (most_of (length journal.saved)) old new
+  changed_spends are = let few = are.sound.few (length journal.saved) in search (arith, nature_then)
 
-  pub changed_leaves : AreChanged journal prepared old mid new → IsModelled old → LeavesRestore journal old new
+  pub changed_leaves : AreChanged choice journal prepared old mid new → IsModelled old → LeavesBy choice journal old new
   changed_leaves are modelled =
       let may = are.leaves.reached (are.only_reads.nature.honest ∙ modelled.honest) (are.is.modelled modelled).can in
       let stays = (are.only_reads.honest_reads modelled.honest).stays in
@@ -115,22 +123,32 @@ module _ (journal : Content) (prepared : PreparedRestore) (old mid new : BusStat
 
   -- ---- the changes weren't finished
 
-  pub change_fails : (refusal : Refusal) → AreChanged journal prepared old mid new → old.honest ≡ true
+  pub change_fails : (refusal : Refusal) → AreChanged choice journal prepared old mid new → old.honest ≡ true
       → ChangeErrors prepared.changes (saved_byte journal) mid new refusal
       → HonestErrors (most_of (length journal.saved)) IsCheckedFirst old new refusal
   change_fails Stopped are honest errors =
-      let ran = errors.ran_out (are.only_reads.nature.honest ∙ honest) in search arith
+      let ran = errors.ran_out (are.only_reads.nature.honest ∙ honest) in
+      let few = are.sound.few (length journal.saved) in search arith
   change_fails (Timeout address) are honest errors = errors.1 (are.only_reads.nature.honest ∙ honest)
   change_fails (Mismatch address) are honest errors = λ first. absurd (true≢false (sym first))
   change_fails _ are honest errors = absurd errors
 
-  pub change_errors : (refusal : Refusal) → AreChanged journal prepared old mid new → IsModelled old
-      → ChangeErrors prepared.changes (saved_byte journal) mid new refusal → RestoreErrors journal old new refusal
+  pub change_errors : (refusal : Refusal) → AreChanged choice journal prepared old mid new → IsModelled old
+      → ChangeErrors prepared.changes (saved_byte journal) mid new refusal → ErrorsBy choice journal old new refusal
   change_errors Stopped are modelled errors = change_fails Stopped are modelled.honest errors
   change_errors (Timeout address) are modelled errors = absurd (errors.1 (are.only_reads.nature.honest ∙ modelled.honest))
   change_errors (Mismatch address) are modelled errors =
       absurd (errors.1 (are.only_reads.nature.honest ∙ modelled.honest) (are.is.modelled modelled).can)
   change_errors _ are modelled errors = absurd errors
+
+  -- on a modelled bus the changes can only stop
+  pub change_stops : (refusal : Refusal) → AreChanged choice journal prepared old mid new → IsModelled old
+      → ChangeErrors prepared.changes (saved_byte journal) mid new refusal → refusal ≡ Stopped
+  change_stops Stopped are modelled errors = refl
+  change_stops (Timeout address) are modelled errors = absurd (errors.1 (are.only_reads.nature.honest ∙ modelled.honest))
+  change_stops (Mismatch address) are modelled errors =
+      absurd (errors.1 (are.only_reads.nature.honest ∙ modelled.honest) (are.is.modelled modelled).can)
+  change_stops _ are modelled errors = absurd errors
 
 pub change_answers : (changes : Changes) (wanted : ℕ → ℕ) (old new : BusState) (refusal : Refusal) → ChangeErrors changes wanted old new refusal → IsRestoreRefusal refusal
 change_answers changes wanted old new Stopped errors = refl
@@ -164,28 +182,23 @@ report_of prepared work sent = record {
   transactions = sent;
 }
 
-module _ (journal : Content) (prepared : PreparedRestore) (old mid new : BusState) (work : Work) where
-  pub sum_fits : AreChanged journal prepared old mid new
-      → DoesChange prepared.changes (saved_byte journal) true mid new work
-      → prepared.transactions + work.transactions < 2 ^ 64
-  sum_fits are does = search (arith, two_writes)
-
-  module _ (sent : ℕ) (are : AreChanged journal prepared old mid new)
+module _ (choice : Choice) (journal : Content) (prepared : PreparedRestore) (old mid new : BusState) (work : Work) where
+  module _ (sent : ℕ) (are : AreChanged choice journal prepared old mid new)
       (does : DoesChange prepared.changes (saved_byte journal) true mid new work) where
     -- the report is within the bound for `writes` status writes, if the changes need at most that number
     restored_within : (writes : ℕ) → sent ≡ prepared.transactions + work.transactions
         → status_writes prepared.changes ≤ writes
-        → IsWithinBound (length journal.saved) writes true (report_of prepared work sent)
+        → IsWithinCounts (choice.reads (length journal.saved)) (length journal.saved) writes true (report_of prepared work sent)
     restored_within writes sum fits = search arith
 
     pub restored_bounded : sent ≡ prepared.transactions + work.transactions
-        → IsWithinBound (length journal.saved) 2 true (report_of prepared work sent)
+        → IsWithinCounts (choice.reads (length journal.saved)) (length journal.saved) 2 true (report_of prepared work sent)
     restored_bounded sum = restored_within 2 sum (two_writes prepared.changes)
 
     -- on a modelled bus, if no status write is needed, the report is within the bound without status writes
     pub restored_sparing : sent ≡ prepared.transactions + work.transactions → IsModelled old
-        → ¬ NeedsStatusFrom journal old.chip
-        → IsWithinBound (length journal.saved) 0 true (report_of prepared work sent)
+        → ¬ NeedsStatusBy choice journal old.chip
+        → IsWithinCounts (choice.reads (length journal.saved)) (length journal.saved) 0 true (report_of prepared work sent)
     restored_sparing sum modelled none =
         restored_within 0 sum (no_write prepared.changes (λ writes. none ((are.is.modelled modelled).needed writes)))
 
@@ -194,7 +207,7 @@ module _ (journal : Content) (prepared : PreparedRestore) (old mid new : BusStat
     restored_counted sum honest = search arith
 
     pub restored_checked : old.honest ≡ true → old.chip.config.size ≡ journal.size
-        → HasBytes (is_touched old.chip.bytes (restored journal old.chip.bytes)) (restored journal old.chip.bytes) new.chip
+        → HasBytes (choice.touched journal old.chip.bytes) (restored journal old.chip.bytes) new.chip
     restored_checked honest sized a hit =
         let config = are.only_reads.nature.config honest in
         let touched : touched_in prepared.changes (a / 4096) ≡ true = are.is.touched honest sized (a / 4096) ∙ hit in
@@ -206,22 +219,23 @@ module _ (journal : Content) (prepared : PreparedRestore) (old mid new : BusStat
         does.checked refl (are.only_reads.nature.honest ∙ honest) can a touched
         ∙ sym (restored_saved journal old.chip.bytes a (are.is.saved (a / 4096) touched))
 
-    pub restored_done : IsModelled old → IsRestored journal old new (report_of prepared work sent)
+    pub restored_done : IsModelled old → IsRestoredBy choice journal old new (report_of prepared work sent)
     restored_done modelled =
         let honest = are.only_reads.nature.honest ∙ modelled.honest in
         let rested = are.is.rested modelled.honest in let same = rested.unchanged.same in
         let for = are.is.modelled modelled in
         let changes = prepared.changes in
         let applied = does.done honest for.can in
-        let touched : touched_in changes ≡ is_touched old.chip.bytes (restored journal old.chip.bytes) = fun_ext for.touched in
-        let raised : raised_in changes ≡ is_raised old.chip.bytes (restored journal old.chip.bytes) = fun_ext for.raised in
+        let touched : touched_in changes ≡ choice.touched journal old.chip.bytes = fun_ext for.touched in
+        let raised : raised_in changes ≡ choice.raised journal old.chip.bytes = fun_ext for.raised in
         let bytes : mid.chip.bytes ≡ old.chip.bytes = fun_ext same.bytes in
         record {
-          accepted = accepted_restorable journal old.chip for.accepted;
+          accepted = accepted_restorable choice journal old.chip for.accepted;
           made = record {
             config = applied.config ∙ same.config;
             bytes = λ a. written_restored journal old.chip.bytes mid.chip.bytes new.chip.bytes (touched_in changes) a
-                for.touched (same.bytes a) (applied.bytes a);
+                are.is.saved (λ s other. for.touched s ∙ are.sound.differs journal old.chip.bytes s other)
+                (same.bytes a) (applied.bytes a);
             fixed = ap fixed_of applied.kept ∙ fixed_coded changes.code mid.chip.kept ∙ ap fixed_of same.kept;
             idle = applied.idle;
             latch = λ set. rested.latch (applied.latch set);
@@ -236,9 +250,9 @@ module _ (journal : Content) (prepared : PreparedRestore) (old mid new : BusStat
                 (λ s is. let inside = are.is.consistent.inside s (are.is.consistent.raised s (for.raised s ∙ is)) in let size = for.size in omega arith)
                 (let erases = does.erases in let kinds = for.kinds in let size = for.size in cc);
             programs = (let programs = does.programs honest for.can in
-                let saved = λ (s : ℕ). touched_saved journal old.chip.bytes s in
-                let merged = pages_same (is_touched old.chip.bytes (restored journal old.chip.bytes))
-                (once_erased (is_raised old.chip.bytes (restored journal old.chip.bytes)) old.chip.bytes) (saved_byte journal)
+                let saved = are.sound.saved journal old.chip.bytes in
+                let merged = pages_same (choice.touched journal old.chip.bytes)
+                (once_erased (choice.raised journal old.chip.bytes) old.chip.bytes) (saved_byte journal)
                 (restored journal old.chip.bytes)
                 (λ a hit. sym (restored_saved journal old.chip.bytes a (saved (a / 4096) hit))) in
                 cc);
@@ -251,5 +265,48 @@ module _ (journal : Content) (prepared : PreparedRestore) (old mid new : BusStat
         }
 
 -- if the journal can restore the original chip, a restore that succeeds on a modelled bus leaves that chip
-pub restored_original : (journal : Content) (first : Chip) (old new : BusState) (report : Report) → CanRestore journal first old → IsRestored journal old new report → IsSame first new.chip
-restored_original journal first old new report can done = search (arith, same_as_original)
+pub restored_original : (choice : Choice) (journal : Content) (first : Chip) (old new : BusState) (report : Report) → CanRestore journal first old → IsRestoredBy choice journal old new report → IsSame first new.chip
+restored_original choice journal first old new report can done = search (arith, same_as_original)
+
+-- ---- from the state after the preparation to the state before it
+
+-- the transactions of the preparation and of the work fit in 64 bits
+pub work_fits : (prepared : PreparedRestore) {wanted : ℕ → ℕ} {old new : BusState} (work : Work)
+    → prepared.transactions ≤ most_reads 4096 → DoesChange prepared.changes wanted true old new work
+    → prepared.transactions + work.transactions < 2 ^ 64
+work_fits prepared work fits does =
+    let most = touched_most prepared.changes in let writes = two_writes prepared.changes in omega arith
+
+-- a call that only read before it announced its changes keeps the promise of the announcement
+pub announces_since : {Was : Announcement → Type 0} {old mid new : BusState} {result : Result Report Refusal}
+    → mid.sent ≡ old.sent → Announces Was mid new result → Announces Was old new result
+announces_since unsent announces = record {
+  announced_or_unsent = elim announces.announced_or_unsent [ inl was ↦ inl was | inr same ↦ inr (same ∙ unsent) ];
+  as_reported = announces.as_reported;
+}
+
+-- for a call that does not fail before its first change, `RewritesOriginal` follows from `RestoresOriginal`
+pub rewrites : {journal : Content} {old new : BusState} {result : Result Report Refusal}
+    → RestoresOriginal journal old new result → RewritesOriginal journal old new result
+rewrites restores = record {
+  within = restores.within;
+  back = restores.back;
+  only_stops = λ first can unprotected. restores.only_stops first can;
+}
+
+-- erases that were sent since the preparation were sent since the start, if the preparation only read
+erased_since : {raised saved : ℕ → Bool} {old mid new : BusState} → mid.sent ≡ old.sent
+    → ((s : ℕ) → raised s ≡ saved s) → ErasesFirst raised mid new → ErasesFirst saved old new
+erased_since unsent every first = record {
+  erasing = first.erasing;
+  later = first.later;
+  added = first.added ∙ ap (λ (sent : Sent). first.later ++ (first.erasing ++ sent)) unsent;
+  each = λ s is. first.each s (every s ∙ is);
+  unprogrammed = first.unprogrammed;
+  unerased = first.unerased;
+}
+
+pub thorough_since : {raised saved : ℕ → Bool} (old mid new : BusState) (result : Result Report Refusal)
+    → mid.sent ≡ old.sent → ((s : ℕ) → raised s ≡ saved s) → OnOk result (ErasesFirst raised mid new)
+    → OnOk result (ErasesFirst saved old new)
+thorough_since old mid new result unsent every first = on_ok_weaker result (erased_since unsent every) first

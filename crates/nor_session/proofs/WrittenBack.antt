@@ -68,7 +68,7 @@ same_over old new opened same over = let kept = kept_over old.kept over refl sam
 -- ---- after a session
 
 -- the journal that is read from the bytes has the header and the saved sectors of the journal that was written
-read_kept : (head : Content) (bytes : ℕ → ℕ) (saved : ℕ → Bool) (journal : Content) (kept : List ℕ) → JournalSaves head bytes saved kept
+pub read_kept : (head : Content) (bytes : ℕ → ℕ) (saved : ℕ → Bool) (journal : Content) (kept : List ℕ) → JournalSaves head bytes saved kept
     → IsContent journal → kept ≡ text journal → SameHeader head journal × Saves bytes saved journal
 read_kept head bytes saved journal kept saves is read =
     let same : saves.content ≡ journal =

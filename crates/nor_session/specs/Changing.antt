@@ -15,7 +15,7 @@ use Rattle.nor_geometry.specs.Counts.{sector_count}
 use Rattle.nor_plan.specs.Content.{once_erased, is_programmed}
 use Rattle.nor_apply.specs.Change.{MayChange}
 use Rattle.nor_session.specs.Checking.{CanCheck, IsFirstMismatch}
-use Rattle.nor_apply.specs.Applying.{touched_in, raised_in, status_writes, most_sent, most_applied, CanApply, HasApplied}
+use Rattle.nor_apply.specs.Applying.{touched_in, raised_in, status_writes, most_sent, most_applied, CanApply, ErasesFirst, HasApplied}
 use Rattle.nor_request.specs.declared.refusal.Refusal.{Refusal}
 use Rattle.nor_request.specs.declared.refusal.Refusal.TheVariants.{Stopped, Timeout, Mismatch}
 
@@ -78,9 +78,10 @@ LeavesChange changes wanted =
     (MayChange (touched_in changes) (raised_in changes) wanted)
 
 -- Holds after the changes and their check succeeded, with the counts of `work`. If there was nothing to change, no
--- modifying command was sent. On a well-behaved bus, if `CanApply` held at the start, all changes were made
--- (`HasApplied`). If `verify` is set there, and the chip was idle with the touched sectors on it (`CanCheck`), each
--- byte of a touched sector is the target one, even if the chip ignored commands.
+-- modifying command was sent. On every bus each raised sector was erased before anything was programmed. On a
+-- well-behaved bus, if `CanApply` held at the start, all changes were made (`HasApplied`). If `verify` is set there,
+-- and the chip was idle with the touched sectors on it (`CanCheck`), each byte of a touched sector is the target one,
+-- even if the chip ignored commands.
 pub record DoesChange (changes : Changes) (wanted : ℕ → ℕ) (verify : Bool) (old new : BusState)
     (work : Work) : Type 0 where
   pub erases : work.erases ≡ fewest_erases changes.kinds (changes.size / 4096) (raised_in changes)
@@ -91,6 +92,7 @@ pub record DoesChange (changes : Changes) (wanted : ℕ → ℕ) (verify : Bool)
       + most_operation * (work.erases + work.programs + status_writes changes)
   pub least : 3 * (work.erases + work.programs + status_writes changes) + read_back changes verify ≤ work.transactions
   pub exactly : SendsExactly work.erases work.programs (status_writes changes) old new
+  pub in_order : ErasesFirst (raised_in changes) old new
   pub polled_ready : StaysReady old new
   pub sent : old.honest ≡ true → old.left ≡ new.left + work.transactions
   pub unsent : touched_count changes + status_writes changes ≡ 0 → new.sent ≡ old.sent

@@ -12,6 +12,7 @@ use Rattle.nor_journal.specs.Vault.{VaultState}
 use Rattle.nor_journal.specs.Saved.{Saves, is_saved}
 use Rattle.nor_probe.specs.Known.{IsKnown, IsModelled}
 use Rattle.nor_apply.specs.Within.{IsWithin}
+use Rattle.nor_scan.specs.Saving.{NoneProtected}
 use Rattle.nor_request.specs.declared.report.Report.{Report}
 use Rattle.nor_request.specs.declared.refusal.Refusal.{Refusal}
 use Rattle.nor_request.specs.declared.refusal.Refusal.TheVariants.{Stopped}
@@ -70,3 +71,19 @@ pub record RestoresOriginal (journal : Content) (old new : BusState) (result : R
   pub back : (first : Chip) → CanRestore journal first old → OnOk result (IsSame first new.chip)
   -- the only possible error is a stop
   pub only_stops : (first : Chip) → CanRestore journal first old → IfErr result (λ refusal. refusal ≡ Stopped)
+
+-- Holds if no saved sector is protected on the original chip, or its status isn't locked. A session saves only such
+-- sectors: it refuses to touch a protected one unless it can lift the protection.
+abbrev pub CanBeRewritten : Content → Chip → Type 0
+CanBeRewritten journal first = is_locked first.kept ≡ true → NoneProtected (is_saved journal) first
+
+-- The promise of a restore that rewrites every saved sector, on a modelled bus, for each chip `first` that the journal
+-- can restore at the start.
+pub record RewritesOriginal (journal : Content) (old new : BusState) (result : Result Report Refusal) : Type 0 where
+  -- at every exit the journal can still restore that chip
+  pub within : (first : Chip) → CanRestore journal first old → CanRestore journal first new
+  -- a rewrite that succeeds has restored that chip
+  pub back : (first : Chip) → CanRestore journal first old → OnOk result (IsSame first new.chip)
+  -- the only possible error is a stop, if no saved sector is protected by a status that is locked
+  pub only_stops : (first : Chip) → CanRestore journal first old → CanBeRewritten journal first
+      → IfErr result (λ refusal. refusal ≡ Stopped)

@@ -1,5 +1,5 @@
 -- The chip after a session or restore that succeeded, and the counts of its report.
-use Rattle.std.specs.Prelude.{◌≡◌, ◌/◌, ◌||◌, ℕ, true, Ok}
+use Rattle.std.specs.Prelude.{◌≡◌, ◌/◌, ◌||◌, ℕ, Bool, true, Ok}
 use Rattle.nor_model.specs.declared.config.Config.{Config}
 use Rattle.nor_model.specs.Chip.{Chip, status1_of}
 use Rattle.nor_model.specs.Bus.{BusState}
@@ -34,12 +34,21 @@ pub record IsTargetChip (wanted : ℕ → ℕ) (old new : Chip) : Type 0 where
 
 -- Holds if the erased sectors are those from before and the raised ones, and the report is right. The report has the
 -- chip type that the chip's replies show, and the chip's status 1, of which BUSY and WEL are known only if the chip was
--- idle. The report counts the touched sectors, the erases (the least possible number) and the programs.
-pub record IsReported (wanted : ℕ → ℕ) (old new : BusState) (report : Report) : Type 0 where
-  pub worn : (s : ℕ) → new.worn s ≡ (old.worn s || is_raised old.chip.bytes wanted s)
+-- idle. The report counts the touched sectors, the erases (the least number that covers exactly the raised sectors) and
+-- the programs (the pages of touched sectors that differ from the target once the raised sectors are erased).
+pub record IsReportedFor (touched raised : ℕ → Bool) (wanted : ℕ → ℕ) (old new : BusState)
+    (report : Report) : Type 0 where
+  pub worn : (s : ℕ) → new.worn s ≡ (old.worn s || raised s)
   pub shown : shown_as old.chip.config ≡ Ok (part_in report.found)
   pub status1 : report.found.status1 / 4 ≡ old.chip.kept.one
   pub replied : old.chip.busy ≡ 0 → report.found.status1 ≡ status1_of old.chip
-  pub sectors : report.touched ≡ sector_count (is_touched old.chip.bytes wanted)
-  pub erases : AreFewestErases old.chip.config old.chip.bytes wanted report.erases
-  pub programs : report.programs ≡ pages_of old.chip.bytes wanted
+  pub sectors : report.touched ≡ sector_count touched
+  pub erases : IsLeastLength old.chip.config.kinds (old.chip.config.size / 4096) raised report.erases
+  pub programs : report.programs
+      ≡ count_below 65536 (is_programmed touched (once_erased raised old.chip.bytes) wanted)
+
+-- The same, if the touched sectors are those in which a byte differs from the target, and the raised ones those in
+-- which a bit must go from 0 to 1.
+abbrev pub IsReported : (wanted : ℕ → ℕ) → (old new : BusState) → Report → Type 0
+IsReported wanted old new report =
+    IsReportedFor (is_touched old.chip.bytes wanted) (is_raised old.chip.bytes wanted) wanted old new report

@@ -5,7 +5,7 @@ use Rattle.nor_model.specs.Chip.{Chip, IsSame, is_locked, status1_of, kept_in}
 use Rattle.nor_model.specs.Status.{bytes_of}
 use Rattle.nor_model.specs.History.{EndsBusy}
 use Rattle.nor_model.specs.Bus.{BusState}
-use Rattle.nor_driver.specs.OnlyReads.{Rested, HasStopped, IsOpen}
+use Rattle.nor_driver.specs.OnlyReads.{OnlyReads, Rested, HasStopped, IsOpen}
 use Rattle.nor_driver.specs.ReadsInTurn.{HasOnlyRead}
 use Rattle.nor_driver.specs.StatusWrites.{fixed_of}
 use Rattle.nor_driver.specs.Reads.{ReadsSector}
@@ -29,9 +29,10 @@ use Rattle.nor_scan.specs.Saving.{IsIdentityOf, NoneProtected, SomeProtected}
 use Rattle.nor_session.specs.declared.prepare_restore.PreparedRestore.{PreparedRestore}
 use Rattle.nor_session.specs.Bounds.{most_reads}
 use Rattle.nor_session.specs.Changing.{touched_count}
-use Rattle.nor_session.specs.Headline.{IsOfType}
+use Rattle.nor_session.specs.Headline.{IsOfType, RestoresOriginal}
+use Rattle.nor_request.specs.declared.report.Report.{Report}
 use Rattle.nor_scan.specs.Verdict.{IsNamed}
-use Rattle.nor_session.specs.Restore.{IsOfOtherDevice, FitsStatus, NeedsStatusFrom, IsCheckedFirst, restored}
+use Rattle.nor_session.specs.Restore.{Choice, every_saved, IsOfOtherDevice, FitsStatus, NeedsStatusBy, IsCheckedFirst, restored, FitsReplies, AlwaysBy, HonestBy, ModelledBy}
 
 -- ---- the checks, in the order of the code
 
@@ -43,23 +44,23 @@ pub record FitsJournal (journal : Content) (chip : Chip) : Type 0 where
   pub fixed : FitsStatus journal chip
 
 -- Holds if a check of a restore fails with this error, and the checks before it, in the order of the code, passed.
-abbrev pub RestoreJudges : Content → Chip → Refusal → Type 0
-RestoreJudges journal chip NoChip = shown_as chip.config ≡ Err Probes.NoChip
-RestoreJudges journal chip (UnknownChip fault) = shown_as chip.config ≡ Err (Probes.UnknownChip fault)
-RestoreJudges journal chip OtherChip = IsNamed None chip.config × (¬ IsOfType journal chip.config)
-RestoreJudges journal chip OtherUnit =
+abbrev pub RestoreJudges : Choice → Content → Chip → Refusal → Type 0
+RestoreJudges choice journal chip NoChip = shown_as chip.config ≡ Err Probes.NoChip
+RestoreJudges choice journal chip (UnknownChip fault) = shown_as chip.config ≡ Err (Probes.UnknownChip fault)
+RestoreJudges choice journal chip OtherChip = IsNamed None chip.config × (¬ IsOfType journal chip.config)
+RestoreJudges choice journal chip OtherUnit =
     IsNamed None chip.config × IsOfType journal chip.config × IsOfOtherDevice journal chip.config
-RestoreJudges journal chip StatusDiffers =
+RestoreJudges choice journal chip StatusDiffers =
     IsNamed None chip.config × IsOfType journal chip.config × (¬ IsOfOtherDevice journal chip.config)
     × (¬ FitsStatus journal chip)
-RestoreJudges journal chip StatusLocked =
-    FitsJournal journal chip × (is_locked chip.kept ≡ true) × NeedsStatusFrom journal chip
-RestoreJudges journal chip _ = ⊥
+RestoreJudges choice journal chip StatusLocked =
+    FitsJournal journal chip × (is_locked chip.kept ≡ true) × NeedsStatusBy choice journal chip
+RestoreJudges choice journal chip _ = ⊥
 
 -- Holds if all checks of a restore pass.
-pub record RestoreAccepts (journal : Content) (chip : Chip) : Type 0 where
+pub record RestoreAccepts (choice : Choice) (journal : Content) (chip : Chip) : Type 0 where
   pub fits : FitsJournal journal chip
-  pub not_locked : is_locked chip.kept ≡ true → ¬ NeedsStatusFrom journal chip
+  pub not_locked : is_locked chip.kept ≡ true → ¬ NeedsStatusBy choice journal chip
 
 -- ---- the identification
 
@@ -90,25 +91,25 @@ AcceptsDevice journal identity judged = (chip : Chip) → chip.kept.two < 128 �
 -- check. This holds for each chip that has this identification and the journal's ID and size, and whose status 2 bits
 -- are in range.
 abbrev pub RefusesDevice : Content → Identity → Result Unit Refusal → Type 0
-RefusesDevice journal identity judged = (chip : Chip) → chip.kept.two < 128 → IsIdentityOf chip identity
-    → IsOfType journal chip.config → IfErr judged (RestoreJudges journal chip)
+RefusesDevice journal identity judged = (choice : Choice) (chip : Chip) → chip.kept.two < 128
+    → IsIdentityOf chip identity → IsOfType journal chip.config → IfErr judged (RestoreJudges choice journal chip)
 
 -- Holds for the error of a failed check. On a well-behaved bus contents and non-volatile status bits are as they were,
 -- and on a modelled bus the error is that of the first failed check.
-pub record IsRefusedFor (journal : Content) (old new : BusState) (refusal : Refusal) : Type 0 where
+pub record IsRefusedFor (choice : Choice) (journal : Content) (old new : BusState) (refusal : Refusal) : Type 0 where
   pub judged : IsCheckedFirst refusal
   pub same : old.honest ≡ true → IsSame old.chip new.chip
-  pub verdict : IsModelled old → RestoreJudges journal old.chip refusal
+  pub verdict : IsModelled old → RestoreJudges choice journal old.chip refusal
 
 -- The meaning of an error before the first change. After a stop, the last transaction is the one at which the bus
 -- stopped; on a well-behaved bus fewer than `most` transactions were left at the start. After a timeout, the last
 -- transaction is a poll that showed BUSY; a timeout names address 0, and does not occur on a well-behaved bus. Any
 -- other error is that of a failed check.
-abbrev pub PrepareErrors : Content → ℕ → (old new : BusState) → Refusal → Type 0
-PrepareErrors journal most old new Stopped = HasStopped most old new
-PrepareErrors journal most old new (Timeout address) =
+abbrev pub PrepareErrors : Choice → Content → ℕ → (old new : BusState) → Refusal → Type 0
+PrepareErrors choice journal most old new Stopped = HasStopped most old new
+PrepareErrors choice journal most old new (Timeout address) =
     (address ≡ 0) × EndsBusy new.history × (old.honest ≡ true → ⊥)
-PrepareErrors journal most old new refusal = IsRefusedFor journal old new refusal
+PrepareErrors choice journal most old new refusal = IsRefusedFor choice journal old new refusal
 
 -- ---- the scan
 
@@ -123,21 +124,29 @@ pub record PlansSaved (sector : ℕ) (saved bytes : List ℕ) (old new : BusStat
   pub planned : (content wanted : ℕ → ℕ) → AreBytesOf content bytes → AreBytesOf wanted saved
       → IsPlan content wanted 4096 plan
 
--- Holds after each saved sector was read once. Only saved sectors are marked. The marks are right on a well-behaved bus
--- with an idle chip of the journal's size: touched if a byte differs from the saved one, raised if a bit must go from 0
--- to 1.
-pub record ScansSaved (journal : Content) (old new : BusState) (scanned : Scanned) : Type 0 where
+-- Holds after the sectors of a restore were chosen, and the ones that the choice reads were read. Only saved sectors
+-- are marked. The marks are right on a well-behaved bus with an idle chip of the journal's size.
+pub record MarksChosen (choice : Choice) (journal : Content) (old new : BusState) (scanned : Scanned) : Type 0 where
   pub marks : AreMarks (journal.size / 4096) scanned
   pub saved : (s : ℕ) → has scanned.touched s ≡ true → is_saved journal s ≡ true
   pub bytes : (a : ℕ) → is_saved journal (a / 4096) ≡ true → saved_byte journal a < 256
-  pub reads : scanned.reads ≡ length journal.saved
-  pub few : scanned.count ≤ scanned.reads
+  pub few : scanned.count ≤ length journal.saved
   pub room : length journal.saved ≤ 4096
-  pub honest_reads : HasOnlyRead (length journal.saved) old new
+  pub honest_reads : HasOnlyRead (choice.reads (length journal.saved)) old new
   pub touched : IsOpen journal.size old → (s : ℕ)
-      → has scanned.touched s ≡ is_touched old.chip.bytes (restored journal old.chip.bytes) s
+      → has scanned.touched s ≡ choice.touched journal old.chip.bytes s
   pub raised : IsOpen journal.size old → (s : ℕ)
-      → has scanned.raised s ≡ is_raised old.chip.bytes (restored journal old.chip.bytes) s
+      → has scanned.raised s ≡ choice.raised journal old.chip.bytes s
+
+-- the plan of each saved sector in a rewrite
+abbrev pub plan_of_rewritten : SectorPlan
+plan_of_rewritten = record { touched = true; raised = true }
+
+-- Holds if every saved sector is marked as touched and as raised, and no other sector is.
+pub record MarksSaved (journal : Content) (scanned : Scanned) : Type 0 where
+  pub touched : (s : ℕ) → has scanned.touched s ≡ is_saved journal s
+  pub raised : (s : ℕ) → has scanned.raised s ≡ is_saved journal s
+  pub chosen : (state : BusState) → MarksChosen every_saved journal state state scanned
 
 -- ---- the changes
 
@@ -187,25 +196,26 @@ RefusesShut journal identity touched judged =
 -- The result of the preparation on a modelled bus. All checks of the restore pass for the chip, the chip was identified
 -- as what its ID or SFDP says, and the changes that the journal asks for can be made to the chip (`CanApply`). The
 -- changes write the status only if that is needed.
-pub record IsPreparedFor (journal : Content) (old new : Chip) (prepared : PreparedRestore) : Type 0 where
-  pub accepted : RestoreAccepts journal old
+pub record IsPreparedFor (choice : Choice) (journal : Content) (old new : Chip)
+    (prepared : PreparedRestore) : Type 0 where
+  pub accepted : RestoreAccepts choice journal old
   pub shown : shown_as old.config ≡ Ok (part_in prepared.found)
   pub status1 : prepared.found.status1 / 4 ≡ old.kept.one
   pub replied : old.busy ≡ 0 → prepared.found.status1 ≡ status1_of old
   pub kinds : prepared.changes.kinds ≡ old.config.kinds
   pub size : prepared.changes.size ≡ old.config.size
   pub code : prepared.changes.code ≡ code_of (kept_in journal.status)
-  pub touched : (s : ℕ) → has prepared.changes.touched s ≡ is_touched old.bytes (restored journal old.bytes) s
-  pub raised : (s : ℕ) → has prepared.changes.raised s ≡ is_raised old.bytes (restored journal old.bytes) s
+  pub touched : (s : ℕ) → has prepared.changes.touched s ≡ choice.touched journal old.bytes s
+  pub raised : (s : ℕ) → has prepared.changes.raised s ≡ choice.raised journal old.bytes s
   pub can : CanApply prepared.changes (saved_byte journal) new
   pub needed : (prepared.changes.unlock || writes_code prepared.changes) ≡ true
-      → NeedsStatusFrom journal old
+      → NeedsStatusBy choice journal old
 
 -- The result of a restore's preparation on every bus. The changes fit the journal, and the counts are within their
 -- bounds. On a well-behaved bus the chip is as before and idle, and if it has the journal's size, the touched sectors
--- are the saved ones whose bytes differ from the journal's. On a modelled bus the chip can be restored
--- (`IsPreparedFor`).
-pub record IsPreparedRestore (journal : Content) (old new : BusState) (prepared : PreparedRestore) : Type 0 where
+-- are those of the choice. On a modelled bus the chip can be restored (`IsPreparedFor`).
+pub record IsPreparedRestore (choice : Choice) (journal : Content) (old new : BusState)
+    (prepared : PreparedRestore) : Type 0 where
   pub consistent : AreConsistent prepared.changes
   pub sized : prepared.changes.size ≡ journal.size
   pub saved : (s : ℕ) → has prepared.changes.touched s ≡ true → is_saved journal s ≡ true
@@ -214,12 +224,44 @@ pub record IsPreparedRestore (journal : Content) (old new : BusState) (prepared 
   pub count : prepared.touched ≡ touched_count prepared.changes
   pub few : prepared.touched ≤ length journal.saved
   pub room : length journal.saved ≤ 4096
-  pub least : 4 + length journal.saved ≤ prepared.transactions
-  pub most : prepared.transactions ≤ most_reads (length journal.saved)
+  pub least : 4 + choice.reads (length journal.saved) ≤ prepared.transactions
+  pub most : prepared.transactions ≤ most_reads (choice.reads (length journal.saved))
   pub polled_ready : new.polled_ready ≡ true
   pub rested : old.honest ≡ true → Rested old new
   pub idle : old.honest ≡ true → new.chip.busy ≡ 0
   pub sent : old.honest ≡ true → old.left ≡ new.left + prepared.transactions
   pub touched : old.honest ≡ true → old.chip.config.size ≡ journal.size → (s : ℕ)
-      → has prepared.changes.touched s ≡ is_touched old.chip.bytes (restored journal old.chip.bytes) s
-  pub modelled : IsModelled old → IsPreparedFor journal old.chip new.chip prepared
+      → has prepared.changes.touched s ≡ choice.touched journal old.chip.bytes s
+  pub modelled : IsModelled old → IsPreparedFor choice journal old.chip new.chip prepared
+
+-- ---- the restore after its preparation
+
+-- Holds for a choice with which a restore leaves the saved bytes. Only saved sectors are touched, and each saved sector
+-- in which a byte differs is. Only touched sectors are raised, and each sector in which a bit must go from 0 to 1 is.
+-- No more sectors are read before the first change than are saved.
+pub record IsSoundChoice (choice : Choice) : Type 0 where
+  pub saved : (journal : Content) (content : ℕ → ℕ) (s : ℕ) → choice.touched journal content s ≡ true
+      → is_saved journal s ≡ true
+  pub differs : (journal : Content) (content : ℕ → ℕ) (s : ℕ) → is_touched content (restored journal content) s ≡ true
+      → choice.touched journal content s ≡ true
+  pub rises : (journal : Content) (content : ℕ → ℕ) (s : ℕ) → is_raised content (restored journal content) s ≡ true
+      → choice.raised journal content s ≡ true
+  pub inside : (journal : Content) (content : ℕ → ℕ) (s : ℕ) → choice.raised journal content s ≡ true
+      → choice.touched journal content s ≡ true
+  pub few : (saved : ℕ) → choice.reads saved ≤ saved
+
+-- Holds if a restore that began in the state `old` has prepared its changes.
+pub record HasPrepared (choice : Choice) (journal : Content) (old new : BusState)
+    (prepared : PreparedRestore) : Type 0 where
+  pub sound : IsSoundChoice choice
+  pub only_reads : OnlyReads (most_reads (choice.reads (length journal.saved))) old new
+  pub is : IsPreparedRestore choice journal old new prepared
+  pub replies : FitsReplies journal old new
+
+-- The promises of a restore, however it chooses its sectors, after its preparation succeeded.
+pub record KeepsPromises (choice : Choice) (journal : Content) (old new : BusState)
+    (result : Result Report Refusal) : Type 0 where
+  pub restores_original : IsModelled old → RestoresOriginal journal old new result
+  pub always : AlwaysBy choice journal old new result
+  pub honest : old.honest ≡ true → HonestBy choice journal old new result
+  pub modelled : IsModelled old → ModelledBy choice journal old new result

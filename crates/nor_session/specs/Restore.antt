@@ -1,5 +1,5 @@
 -- The checks of a chip by a restore, and the promises of a restore.
-use Rattle.std.specs.Prelude.{◌≡◌, ◌≢◌, ◌<◌, ◌+◌, ◌/◌, ◌==◌, ◌⊎◌, ℕ, true, false, List, [], ◌∷◌, length, None, Some, Result, IfOk, IfErr, IsSomeAnd, OnOk, Err, if◌then◌else◌}
+use Rattle.std.specs.Prelude.{◌≡◌, ◌≢◌, ◌<◌, ◌+◌, ◌/◌, ◌==◌, ◌⊎◌, ℕ, Bool, true, false, List, [], ◌∷◌, length, None, Some, Result, IfOk, IfErr, IsSomeAnd, OnOk, Err, if◌then◌else◌}
 use Rattle.std.specs.List.{list_any}
 use Rattle.nor_model.specs.declared.config.Config.{Config}
 use Rattle.nor_model.specs.Chip.{Chip, is_locked, kept_in}
@@ -28,16 +28,42 @@ use Rattle.nor_probe.specs.Found.{IsPart}
 use Rattle.nor_scan.specs.Replied.{IsIdentifiedBy}
 use Rattle.nor_scan.specs.Saving.{SomeProtected}
 use Rattle.nor_session.specs.Bounds.{most_reads, most_of}
-use Rattle.nor_session.specs.Made.{IsTargetChip, IsReported}
+use Rattle.nor_session.specs.Made.{IsTargetChip, IsReportedFor}
 use Rattle.nor_session.specs.Changing.{HasBytes}
 use Rattle.nor_session.specs.Headline.{IsOfType}
-use Rattle.nor_session.specs.Session.{NamesSector, IsWithinBound, IsSavedCode, SendsSaved, SendsCounted, WritesStatusAtMost, HonestErrors}
+use Rattle.nor_session.specs.Session.{NamesSector, IsWithinCounts, IsSavedCode, SendsSaved, SendsCounted, WritesStatusAtMost, HonestErrors}
 
 -- ---- the target
 
 -- the target byte of a restore at an address: in a saved sector the saved byte, elsewhere the chip's own byte (`old`)
 abbrev pub restored : Content → (old : ℕ → ℕ) → (a : ℕ) → ℕ
 restored journal old a = if is_saved journal (a / 4096) then saved_byte journal a else old a
+
+-- ---- the sectors that are changed
+
+-- How a restore chooses its touched and its raised sectors, by the journal and the bytes that the chip has at the
+-- start. `reads` is the number of sectors that it reads before it changes anything, by the number of saved sectors.
+pub record Choice : Type 0 where
+  pub touched : Content → (content : ℕ → ℕ) → (s : ℕ) → Bool
+  pub raised : Content → (content : ℕ → ℕ) → (s : ℕ) → Bool
+  pub reads : (saved : ℕ) → ℕ
+
+-- The choice of `restore`. The touched sectors are the saved ones in which a byte differs from the saved byte, and the
+-- raised ones those in which a bit must go from 0 to 1. Each saved sector is read.
+abbrev pub differing : Choice
+differing = record {
+  touched = λ journal content. is_touched content (restored journal content);
+  raised = λ journal content. is_raised content (restored journal content);
+  reads = λ saved. saved;
+}
+
+-- The choice of `rewrite`. Every saved sector is touched and raised, and none is read before.
+abbrev pub every_saved : Choice
+every_saved = record {
+  touched = λ journal content. is_saved journal;
+  raised = λ journal content. is_saved journal;
+  reads = λ saved. 0;
+}
 
 -- ---- the verdict
 
@@ -52,19 +78,23 @@ pub record FitsStatus (journal : Content) (chip : Chip) : Type 0 where
   pub all : chip.config.scheme ≡ false → chip.kept ≡ kept_in journal.status
 
 -- Holds if a status write is needed: the protection bits differ from the journal's, or a touched sector is protected.
+abbrev pub NeedsStatusBy : Choice → Content → Chip → Type 0
+NeedsStatusBy choice journal chip = (code_of chip.kept ≢ code_of (kept_in journal.status))
+    ⊎ SomeProtected (choice.touched journal chip.bytes) chip
+
+-- Holds if `restore` needs a status write.
 abbrev pub NeedsStatusFrom : Content → Chip → Type 0
-NeedsStatusFrom journal chip = (code_of chip.kept ≢ code_of (kept_in journal.status))
-    ⊎ SomeProtected (is_touched chip.bytes (restored journal chip.bytes)) chip
+NeedsStatusFrom journal chip = NeedsStatusBy differing journal chip
 
 -- Holds if the error applies to the journal and the chip, regardless of other errors.
-abbrev pub RestoreHolds : Content → Chip → Refusal → Type 0
-RestoreHolds journal chip NoChip = shown_as chip.config ≡ Err Probes.NoChip
-RestoreHolds journal chip (UnknownChip fault) = shown_as chip.config ≡ Err (Probes.UnknownChip fault)
-RestoreHolds journal chip OtherChip = ¬ IsOfType journal chip.config
-RestoreHolds journal chip OtherUnit = IsOfOtherDevice journal chip.config
-RestoreHolds journal chip StatusDiffers = ¬ FitsStatus journal chip
-RestoreHolds journal chip StatusLocked = (is_locked chip.kept ≡ true) × NeedsStatusFrom journal chip
-RestoreHolds journal chip _ = ⊥
+abbrev pub RestoreHolds : Choice → Content → Chip → Refusal → Type 0
+RestoreHolds choice journal chip NoChip = shown_as chip.config ≡ Err Probes.NoChip
+RestoreHolds choice journal chip (UnknownChip fault) = shown_as chip.config ≡ Err (Probes.UnknownChip fault)
+RestoreHolds choice journal chip OtherChip = ¬ IsOfType journal chip.config
+RestoreHolds choice journal chip OtherUnit = IsOfOtherDevice journal chip.config
+RestoreHolds choice journal chip StatusDiffers = ¬ FitsStatus journal chip
+RestoreHolds choice journal chip StatusLocked = (is_locked chip.kept ≡ true) × NeedsStatusBy choice journal chip
+RestoreHolds choice journal chip _ = ⊥
 
 -- the numbers of the errors that a restore checks first, in the order in which it checks them
 abbrev pub checked_in_order : List ℕ
@@ -80,15 +110,15 @@ index_in [] n = 0
 index_in (first ∷ later) n = if first == n then 0 else 1 + index_in later n
 
 -- Holds if the error is the verdict: it applies, and no error that is checked before it does.
-pub record IsRestoreVerdict (journal : Content) (chip : Chip) (refusal : Refusal) : Type 0 where
-  pub holds : RestoreHolds journal chip refusal
+pub record IsRestoreVerdict (choice : Choice) (journal : Content) (chip : Chip) (refusal : Refusal) : Type 0 where
+  pub holds : RestoreHolds choice journal chip refusal
   pub first : (other : Refusal)
       → index_in checked_in_order (refusal_number other) < index_in checked_in_order (refusal_number refusal)
-      → ¬ RestoreHolds journal chip other
+      → ¬ RestoreHolds choice journal chip other
 
 -- Holds if the chip is accepted for a restore: none of the errors in `checked_in_order` applies.
-abbrev pub IsRestorable : Content → Chip → Type 0
-IsRestorable journal chip = (refusal : Refusal) → ¬ RestoreHolds journal chip refusal
+abbrev pub IsRestorable : Choice → Content → Chip → Type 0
+IsRestorable choice journal chip = (refusal : Refusal) → ¬ RestoreHolds choice journal chip refusal
 
 -- ---- on every bus
 
@@ -129,32 +159,34 @@ IsRestoreRefusal refusal = list_any (λ n. refusal_number refusal == n) (12 ∷ 
 
 -- Holds if the error is the verdict; or 12, no transaction is left, and fewer were left at the start than the bound. A
 -- restore promises this on a modelled bus.
-abbrev pub RestoreErrors : Content → (old new : BusState) → Refusal → Type 0
-RestoreErrors journal old new Stopped = RanOut (most_of (length journal.saved)) old new
-RestoreErrors journal old new refusal = IsRestoreVerdict journal old.chip refusal
+abbrev pub ErrorsBy : Choice → Content → (old new : BusState) → Refusal → Type 0
+ErrorsBy choice journal old new Stopped = RanOut (most_of (length journal.saved)) old new
+ErrorsBy choice journal old new refusal = IsRestoreVerdict choice journal old.chip refusal
 
 -- Holds at every exit of a restore on a modelled bus, with any journal. If the bus is steady or the chip was idle, the
 -- bytes outside the saved sectors and the status bits that flashnor never changes are as they were. In any case only
--- sectors in which a bit had to go from 0 to 1 were erased.
-pub record LeavesRestore (journal : Content) (old new : BusState) : Type 0 where
+-- raised sectors were erased.
+pub record LeavesBy (choice : Choice) (journal : Content) (old new : BusState) : Type 0 where
   pub config : new.chip.config ≡ old.chip.config
   pub bytes : IsSteadyOrIdle old → (a : ℕ) → is_saved journal (a / 4096) ≡ false → new.chip.bytes a ≡ old.chip.bytes a
   pub fixed : IsSteadyOrIdle old → fixed_of new.chip.kept ≡ fixed_of old.chip.kept
-  pub worn : (s : ℕ) → is_raised old.chip.bytes (restored journal old.chip.bytes) s ≡ false → new.worn s ≡ old.worn s
+  pub worn : (s : ℕ) → choice.raised journal old.chip.bytes s ≡ false → new.worn s ≡ old.worn s
 
 -- Holds after a restore succeeded on a modelled bus. The chip has the saved bytes and the journal's non-volatile status
 -- bits, and the report counts what was done. If nothing had to be changed, no modifying command was sent.
-pub record IsRestored (journal : Content) (old new : BusState) (report : Report) : Type 0 where
-  pub accepted : IsRestorable journal old.chip
+pub record IsRestoredBy (choice : Choice) (journal : Content) (old new : BusState) (report : Report) : Type 0 where
+  pub accepted : IsRestorable choice journal old.chip
   pub made : IsTargetChip (restored journal old.chip.bytes) old.chip new.chip
   pub kept : new.chip.kept ≡ kept_in journal.status
-  pub reported : IsReported (restored journal old.chip.bytes) old new report
-  pub unsent : report.touched ≡ 0 → (¬ NeedsStatusFrom journal old.chip) → new.sent ≡ old.sent
+  pub reported : IsReportedFor (choice.touched journal old.chip.bytes) (choice.raised journal old.chip.bytes)
+      (restored journal old.chip.bytes) old new report
+  pub unsent : report.touched ≡ 0 → (¬ NeedsStatusBy choice journal old.chip) → new.sent ≡ old.sent
 
--- ---- the promises of a restore
+-- ---- the promises of a restore, however it chooses its sectors
 
 -- The promises of a restore on every bus.
-pub record RestoreAlways (journal : Content) (old new : BusState) (result : Result Report Refusal) : Type 0 where
+pub record AlwaysBy (choice : Choice) (journal : Content) (old new : BusState)
+    (result : Result Report Refusal) : Type 0 where
   -- at every exit on a well-behaved bus, the transactions that were sent are within the bound for the number of saved
   -- sectors
   pub spends : Spends (most_of (length journal.saved)) old new
@@ -172,7 +204,7 @@ pub record RestoreAlways (journal : Content) (old new : BusState) (result : Resu
   -- transactions of identifying and scanning the largest chip
   pub only_reads : IfErr result (λ refusal. IsCheckedFirst refusal → OnlyReads (most_reads 4096) old new)
   -- after success the report is within its bounds, and counts the erases and page programs that were sent
-  pub bounded : IfOk result (IsWithinBound (length journal.saved) 2 true)
+  pub bounded : IfOk result (IsWithinCounts (choice.reads (length journal.saved)) (length journal.saved) 2 true)
   pub reported : IfOk result (λ report. SendsCounted report.erases report.programs old new)
   -- a restore succeeds only if the last poll showed that the chip is ready
   pub polled_ready : OnOk result (new.polled_ready ≡ true)
@@ -181,28 +213,66 @@ pub record RestoreAlways (journal : Content) (old new : BusState) (result : Resu
   pub last_transaction : IfErr result (λ refusal. EndsAtError refusal new.history)
 
 -- The promises of a restore on a well-behaved bus.
-pub record RestoreHonest (journal : Content) (old new : BusState) (result : Result Report Refusal) : Type 0 where
+pub record HonestBy (choice : Choice) (journal : Content) (old new : BusState)
+    (result : Result Report Refusal) : Type 0 where
   -- a timeout does not occur, a stop occurs only if no transaction is left, and after an error that is checked first
   -- bytes and non-volatile status bits are as they were
   pub honest_errors : IfErr result (HonestErrors (most_of (length journal.saved)) IsCheckedFirst old new)
   -- the report counts exactly the transactions that were sent
   pub counted : IfOk result (λ report. old.left ≡ new.left + report.transactions)
-  -- After success, if the chip has the journal's size, each saved sector in which a byte differed has the saved bytes.
-  -- The sector was read back and compared, so this holds even for a chip that isn't genuine.
+  -- After success, if the chip has the journal's size, each touched sector has the saved bytes. It was read back and
+  -- compared, so this holds even for a chip that isn't genuine.
   pub checked : IfOk result (λ report. old.chip.config.size ≡ journal.size
-      → HasBytes (is_touched old.chip.bytes (restored journal old.chip.bytes))
-      (restored journal old.chip.bytes) new.chip)
+      → HasBytes (choice.touched journal old.chip.bytes) (restored journal old.chip.bytes) new.chip)
 
 -- The promises of a restore on a modelled bus: a well-behaved one whose chip is what its ID or SFDP says.
-pub record RestoreModelled (journal : Content) (old new : BusState) (result : Result Report Refusal) : Type 0 where
+pub record ModelledBy (choice : Choice) (journal : Content) (old new : BusState)
+    (result : Result Report Refusal) : Type 0 where
   -- an error is the verdict, or a stop because too few transactions were left
-  pub errors : IfErr result (RestoreErrors journal old new)
-  -- At every exit, only sectors in which a bit had to go from 0 to 1 were erased. If the bus is steady or the chip was
-  -- idle, the bytes outside the saved sectors and the status bits that flashnor never changes are as they were.
-  pub leaves : LeavesRestore journal old new
+  pub errors : IfErr result (ErrorsBy choice journal old new)
+  -- At every exit, only raised sectors were erased. If the bus is steady or the chip was idle, the bytes outside the
+  -- saved sectors and the status bits that flashnor never changes are as they were.
+  pub leaves : LeavesBy choice journal old new
   -- after success the chip has what the journal saved
-  pub done : IfOk result (IsRestored journal old new)
+  pub done : IfOk result (IsRestoredBy choice journal old new)
   -- if no status write is needed, none was sent
-  pub unwritten : (¬ NeedsStatusFrom journal old.chip) → WritesStatusAtMost 0 old new
+  pub unwritten : (¬ NeedsStatusBy choice journal old.chip) → WritesStatusAtMost 0 old new
   -- if no status write is needed, the bound on the report's transactions includes no status write
-  pub spares : (¬ NeedsStatusFrom journal old.chip) → IfOk result (IsWithinBound (length journal.saved) 0 true)
+  pub spares : (¬ NeedsStatusBy choice journal old.chip)
+      → IfOk result (IsWithinCounts (choice.reads (length journal.saved)) (length journal.saved) 0 true)
+
+-- ---- `restore`, which changes the sectors that differ
+
+-- the errors of `restore` on a modelled bus
+abbrev pub RestoreErrors : Content → (old new : BusState) → Refusal → Type 0
+RestoreErrors journal old new refusal = ErrorsBy differing journal old new refusal
+
+-- Holds after `restore` succeeded on a modelled bus.
+abbrev pub IsRestored : Content → (old new : BusState) → Report → Type 0
+IsRestored journal old new report = IsRestoredBy differing journal old new report
+
+-- the promises of `restore` on every bus
+abbrev pub RestoreAlways : Content → (old new : BusState) → Result Report Refusal → Type 0
+RestoreAlways journal old new result = AlwaysBy differing journal old new result
+
+-- the promises of `restore` on a well-behaved bus
+abbrev pub RestoreHonest : Content → (old new : BusState) → Result Report Refusal → Type 0
+RestoreHonest journal old new result = HonestBy differing journal old new result
+
+-- the promises of `restore` on a modelled bus
+abbrev pub RestoreModelled : Content → (old new : BusState) → Result Report Refusal → Type 0
+RestoreModelled journal old new result = ModelledBy differing journal old new result
+
+-- ---- `rewrite`, which changes every saved sector
+
+-- the promises of `rewrite` on every bus
+abbrev pub RewriteAlways : Content → (old new : BusState) → Result Report Refusal → Type 0
+RewriteAlways journal old new result = AlwaysBy every_saved journal old new result
+
+-- the promises of `rewrite` on a well-behaved bus
+abbrev pub RewriteHonest : Content → (old new : BusState) → Result Report Refusal → Type 0
+RewriteHonest journal old new result = HonestBy every_saved journal old new result
+
+-- the promises of `rewrite` on a modelled bus
+abbrev pub RewriteModelled : Content → (old new : BusState) → Result Report Refusal → Type 0
+RewriteModelled journal old new result = ModelledBy every_saved journal old new result

@@ -126,19 +126,23 @@ pub record SendsCounted (erases programs : ℕ) (old new : BusState) : Type 0 wh
 abbrev pub WritesStatusAtMost : ℕ → (old new : BusState) → Type 0
 WritesStatusAtMost most old new = status_writes_of new.sent ≤ status_writes_of old.sent + most
 
--- Bounds on the counts of a report, if `scanned` sectors are scanned and the status is written at most `writes` times.
--- The identification takes at least four transactions, and an operation at least three (write enable, the command, a
--- poll). A touched sector may be read once more before its programs. If `verify` is set, each touched sector is read
--- back.
-pub record IsWithinBound (scanned writes : ℕ) (verify : Bool) (report : Report) : Type 0 where
-  pub touched : report.touched ≤ scanned
-  pub erases : report.erases ≤ scanned
-  pub programs : report.programs ≤ 16 * scanned
+-- Bounds on the counts of a report, if `reads` sectors are read before the first change, at most `sectors` sectors are
+-- touched, and the status is written at most `writes` times. The identification takes at least four transactions, and
+-- an operation at least three (write enable, the command, a poll). A touched sector may be read once more before its
+-- programs. If `verify` is set, each touched sector is read back.
+pub record IsWithinCounts (reads sectors writes : ℕ) (verify : Bool) (report : Report) : Type 0 where
+  pub touched : report.touched ≤ sectors
+  pub erases : report.erases ≤ sectors
+  pub programs : report.programs ≤ 16 * sectors
   pub few : report.transactions
-      ≤ most_reads scanned + report.touched + (if verify then report.touched else 0)
+      ≤ most_reads reads + report.touched + (if verify then report.touched else 0)
       + most_operation * (report.erases + report.programs + writes)
-  pub least : 4 + scanned + (if verify then report.touched else 0) + 3 * (report.erases + report.programs)
+  pub least : 4 + reads + (if verify then report.touched else 0) + 3 * (report.erases + report.programs)
       ≤ report.transactions
+
+-- The same bounds, if `scanned` sectors are read before the first change, and only these may be touched.
+abbrev pub IsWithinBound : (scanned writes : ℕ) → (verify : Bool) → Report → Type 0
+IsWithinBound scanned writes verify report = IsWithinCounts scanned scanned writes verify report
 
 -- The session ended: the vault is sealed and did not fail, and the report is within its bounds and counts the erases
 -- and page programs that were sent.

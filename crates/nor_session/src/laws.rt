@@ -10,7 +10,7 @@ ghost use Rattle.nor_request.specs.declared.report.Report.{Report};
 ghost use Rattle.nor_request.specs.declared.request.Request.{Request};
 ghost use Rattle.nor_probe.specs.Known.{IsModelled};
 ghost use Rattle.nor_session.specs.InTurn.{LeavesJournal, LosesPower, MayLosePower, IsTakenUp, ChangesNothing};
-ghost use Rattle.nor_session.specs.Headline.{SavesChip, CanRestore};
+ghost use Rattle.nor_session.specs.Headline.{SavesChip, CanRestore, CanBeRewritten};
 ghost use Rattle.nor_session.specs.Restore.{IsRestored};
 ghost use Rattle.nor_session.specs.Session.{CanBeUndone, HoldsBegun};
 ghost use Rattle.nor_session.specs.WrittenOver.{IsWrittenOver};
@@ -29,6 +29,13 @@ pub fn restored_stays()
 pub fn power_lost_restores_original()
     ensures { (journal : Content) (first : Chip) (old new : BusState)
         → CanRestore journal first old → LosesPower old new → CanRestore journal first new }
+{}
+
+/// Proves that the journal of a session saves no sector that a locked status protects (`CanBeRewritten`). So the only
+/// possible error of `rewrite` from that journal is 12, a stop (`RewritesOriginal`).
+pub fn session_can_be_rewritten()
+    ensures { (request : Request) (image : List ℕ) (old new : BusState) (journal : Content)
+        → LeavesJournal request image old new journal → CanBeRewritten journal old.chip }
 {}
 
 /// Two sessions, one after the other, left their journals in sealed `telling` vaults (`LeavesJournal`). Once a restore

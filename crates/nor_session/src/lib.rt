@@ -40,10 +40,10 @@ mod sources;
 pub use announcement::Announcement;
 pub use laws::{
     begun_restores_original, power_lost_restores_original, read_restores_original,
-    restore_written_over, restored_stays, same_written_over, session_written_over, undone_in_turn,
-    undone_is_restorable,
+    restore_written_over, restored_stays, same_written_over, session_can_be_rewritten,
+    session_written_over, undone_in_turn, undone_is_restorable,
 };
 pub use nor_request::{Refusal, Report, Request, What};
 pub use rehearsals::{Rehearsal, rehearse};
-pub use restores::{restore, restore_announced};
+pub use restores::{restore, restore_announced, rewrite, rewrite_announced};
 pub use sessions::{accepted_alone, session, session_announced};

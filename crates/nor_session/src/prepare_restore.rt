@@ -1,15 +1,16 @@
 //! The steps of a restore before it changes anything: it identifies the chip, which the journal must fit, reads the
-//! saved sectors, and finds out which changes are needed.
-ghost use Rattle.std.specs.Prelude.{◌≡◌, ◌<◌, ◌≤◌, true, None, length, IfOk, IfErr, OnOk, OnErr, MatchBool};
+//! saved sectors unless all of them are to be changed, and finds out which changes are needed.
+ghost use Rattle.std.specs.Prelude.{◌≡◌, ◌<◌, ◌≤◌, ℕ, true, None, length, IfOk, IfErr, OnOk, OnErr, MatchBool};
 ghost use Rattle.nor_driver.specs.OnlyReads.{OnlyReads, HasStopped};
 ghost use Rattle.nor_plan.specs.SectorSet.{has};
 ghost use Rattle.nor_scan.specs.Identity.{ReadsIdentity, most_identity};
 ghost use Rattle.nor_request.specs.declared.refusal.Refusal.TheVariants as Refusals;
 ghost use Rattle.nor_session.specs.Bounds.{most_reads};
-ghost use Rattle.nor_session.specs.Restore.{IsOfTypeFound, HasUniqueRead, HasFixedRead, FitsReplies};
+ghost use Rattle.nor_journal.specs.Saved.{is_saved};
+ghost use Rattle.nor_session.specs.Restore.{Choice, differing, every_saved, IsOfTypeFound, HasUniqueRead, HasFixedRead};
 ghost use Rattle.nor_session.specs.PrepareRestore.{IsDeviceRefusal, FitsIdentity, ShowsFixed};
-ghost use Rattle.nor_session.specs.PrepareRestore.{AcceptsDevice, RefusesDevice, PlansSaved, ScansSaved};
-ghost use Rattle.nor_session.specs.PrepareRestore.{AreChanges, MakesChanges, RefusesShut, IsPreparedRestore, PrepareErrors};
+ghost use Rattle.nor_session.specs.PrepareRestore.{AcceptsDevice, RefusesDevice, PlansSaved, MarksChosen, MarksSaved, plan_of_rewritten};
+ghost use Rattle.nor_session.specs.PrepareRestore.{AreChanges, MakesChanges, RefusesShut, HasPrepared, PrepareErrors};
 
 use crate::sources::as_sector;
 use nor_apply::Changes;
@@ -32,8 +33,8 @@ pub(crate) struct PreparedRestore {
     pub transactions: u64,
 }
 
-/// Identifies the chip, reads the sectors that the journal saved, and makes all checks of a restore. Returns error 1,
-/// 2, 16, 20, 17 or 9 (checked in this order), 12 or 13.
+/// Identifies the chip, reads the sectors that the journal saved, and makes all checks of a restore that changes the
+/// sectors that differ. Returns error 1, 2, 16, 20, 17 or 9 (checked in this order), 12 or 13.
 #[tactic(auto, using(crate::proofs::SavedBytes::saved_room))]
 pub(crate) fn prepare_restore<B: Bus>(
     bus: &mut B,
@@ -41,10 +42,9 @@ pub(crate) fn prepare_restore<B: Bus>(
 ) -> Result<PreparedRestore, Refusal>
     ensures room { length journal.now.saved ≤ 4096 }
     ensures leaves { OnlyReads (most_reads (length journal.now.saved)) (B.state bus.old) (B.state bus.new) }
-    ensures prepares { IfOk result (IsPreparedRestore journal.now (B.state bus.old) (B.state bus.new)) }
-    ensures replies { OnOk result (FitsReplies journal.now (B.state bus.old) (B.state bus.new)) }
-    ensures errors { IfErr result
-        (PrepareErrors journal.now (most_reads (length journal.now.saved)) (B.state bus.old) (B.state bus.new)) }
+    ensures prepares { IfOk result (HasPrepared differing journal.now (B.state bus.old) (B.state bus.new)) }
+    ensures errors { IfErr result (PrepareErrors differing journal.now (most_reads (length journal.now.saved))
+        (B.state bus.old) (B.state bus.new)) }
 {
     let sectors = journal.count();
     let identity = identify_saved(bus, journal)?;
@@ -58,6 +58,29 @@ pub(crate) fn prepare_restore<B: Bus>(
     })
 }
 
+/// Identifies the chip, and makes all checks of a restore that changes every sector that the journal saved. Returns
+/// error 1, 2, 16, 20, 17 or 9 (checked in this order), 12 or 13.
+pub(crate) fn prepare_rewrite<B: Bus>(
+    bus: &mut B,
+    journal: &Journal<'_>,
+) -> Result<PreparedRestore, Refusal>
+    ensures leaves { OnlyReads most_identity (B.state bus.old) (B.state bus.new) }
+    ensures prepares { IfOk result (HasPrepared every_saved journal.now (B.state bus.old) (B.state bus.new)) }
+    ensures every { IfOk result (λ prepared. (s : ℕ) → has prepared.changes.raised s ≡ is_saved journal.now s) }
+    ensures errors { IfErr result
+        (PrepareErrors every_saved journal.now most_identity (B.state bus.old) (B.state bus.new)) }
+{
+    let identity = identify_saved(bus, journal)?;
+    let scanned = mark_saved(journal);
+    let changes = judge_changes(journal, &identity, &scanned)?;
+    Ok(PreparedRestore {
+        found: identity.found,
+        changes,
+        touched: scanned.count,
+        transactions: identity.transactions,
+    })
+}
+
 // Identifies the chip, and checks that the journal fits it.
 fn identify_saved<B: Bus>(bus: &mut B, journal: &Journal<'_>) -> Result<Identity, Refusal>
     ensures leaves { OnlyReads most_identity (B.state bus.old) (B.state bus.new) }
@@ -66,7 +89,8 @@ fn identify_saved<B: Bus>(bus: &mut B, journal: &Journal<'_>) -> Result<Identity
     ensures fits { IfOk result (FitsIdentity journal.now) }
     ensures device { IfOk result (HasUniqueRead journal.now) }
     ensures fixed { IfOk result (HasFixedRead journal.now) }
-    ensures errors { IfErr result (PrepareErrors journal.now most_identity (B.state bus.old) (B.state bus.new)) }
+    ensures errors { (choice : Choice)
+        → IfErr result (PrepareErrors choice journal.now most_identity (B.state bus.old) (B.state bus.new)) }
 {
     let identity = identify_type(bus, journal)?;
     judge_device(journal, &identity)?;
@@ -78,7 +102,8 @@ fn identify_type<B: Bus>(bus: &mut B, journal: &Journal<'_>) -> Result<Identity,
     ensures leaves { OnlyReads most_identity (B.state bus.old) (B.state bus.new) }
     ensures identifies { IfOk result (ReadsIdentity None (B.state bus.old) (B.state bus.new)) }
     ensures kind { IfOk result (λ identity. IsOfTypeFound journal.now identity.found) }
-    ensures errors { IfErr result (PrepareErrors journal.now most_identity (B.state bus.old) (B.state bus.new)) }
+    ensures errors { (choice : Choice)
+        → IfErr result (PrepareErrors choice journal.now most_identity (B.state bus.old) (B.state bus.new)) }
 {
     let probed = probe_counted(bus, None)?;
     if !is_of_type(journal, &probed.found) {
@@ -129,7 +154,7 @@ fn has_fixed(journal: &Journal<'_>, identity: &Identity) -> bool
 // Reads each saved sector, in ascending order, and compares it with the journal's bytes.
 fn scan_saved<B: Bus>(bus: &mut B, journal: &Journal<'_>) -> Result<Scanned, Stopped>
     ensures leaves { OnlyReads (length journal.now.saved) (B.state bus.old) (B.state bus.new) }
-    ensures scans { IfOk result (ScansSaved journal.now (B.state bus.old) (B.state bus.new)) }
+    ensures scans { IfOk result (MarksChosen differing journal.now (B.state bus.old) (B.state bus.new)) }
     ensures stops { OnErr result (HasStopped (length journal.now.saved) (B.state bus.old) (B.state bus.new)) }
 {
     let mut scanned = Scanned::none();
@@ -140,6 +165,29 @@ fn scan_saved<B: Bus>(bus: &mut B, journal: &Journal<'_>) -> Result<Scanned, Sto
         scanned.mark(sector, plan);
     }
     Ok(scanned)
+}
+
+// Marks every saved sector as one that is erased and programmed.
+fn mark_saved(journal: &Journal<'_>) -> Scanned
+    ensures { MarksSaved journal.now result }
+{
+    let mut scanned = Scanned::none();
+    for i in 0..journal.count() {
+        let (sector, saved) = journal.sector(i);
+        let plan = plan_rewritten(as_sector(saved));
+        scanned.mark(sector, plan);
+    }
+    scanned
+}
+
+// Returns what a rewrite does to the saved sector with these bytes, whatever the chip has there: an erase and programs.
+fn plan_rewritten(_saved: &[u8; SECTOR_LEN as usize]) -> SectorPlan
+    ensures { result ≡ plan_of_rewritten }
+{
+    SectorPlan {
+        touched: true,
+        raised: true,
+    }
 }
 
 // Reads a sector. Returns what is needed to turn it into the saved sector.

@@ -1,13 +1,20 @@
 //! A restore: writes the sectors and protection bits that a journal saved back to the chip.
-ghost use Rattle.std.specs.Prelude.{◌≡◌, true};
+ghost use Rattle.std.specs.Prelude.{◌≡◌, ◌≤◌, ℕ, true, OnOk};
+ghost use Rattle.nor_model.specs.Bus.{BusState};
+ghost use Rattle.nor_plan.specs.SectorSet.{has};
+ghost use Rattle.nor_journal.specs.Saved.{is_saved};
 ghost use Rattle.nor_probe.specs.Known.{IsModelled};
-ghost use Rattle.nor_session.specs.Headline.{RestoresOriginal};
-ghost use Rattle.nor_session.specs.Restore.{RestoreAlways, RestoreHonest, RestoreModelled};
+ghost use Rattle.nor_apply.specs.Applying.{AreConsistent, ErasesFirst};
+ghost use Rattle.nor_session.specs.Bounds.{most_reads};
+ghost use Rattle.nor_session.specs.Headline.{RestoresOriginal, RewritesOriginal};
+ghost use Rattle.nor_session.specs.Restore.{Choice, RestoreAlways, RestoreHonest, RestoreModelled};
+ghost use Rattle.nor_session.specs.Restore.{RewriteAlways, RewriteHonest, RewriteModelled};
+ghost use Rattle.nor_session.specs.PrepareRestore.{HasPrepared, KeepsPromises};
 ghost use Rattle.nor_session.specs.Announcing.{Announces};
 
 use crate::announcement::{Announcement, announce_changes};
 use crate::kept::{Kept, Restorer};
-use crate::prepare_restore::prepare_restore;
+use crate::prepare_restore::{PreparedRestore, prepare_restore, prepare_rewrite};
 use crate::sources::Saved;
 use nor_journal::Journal;
 use nor_model::Bus;
@@ -65,6 +72,80 @@ pub fn restore_announced<B: Bus, F: FnOnce(Announcement) + Drop>(
         (B.state bus.old) (B.state bus.new) result }
 {
     let prepared = prepare_restore(bus, journal)?;
+    change_chip(bus, journal, &prepared, announce)
+}
+
+/// Restores the saved sectors and the protection bits of `journal` as `restore` does, but erases and programs every
+/// saved sector, whatever its present bytes are, and then verifies it.
+///
+/// After an erase or a program was interrupted, a memory cell may be left between 0 and 1: it may read right once and
+/// wrong later. `restore` doesn't write a sector that reads right, so it can leave such a cell. `rewrite` reads no
+/// sector before it writes it. After success on any bus, an erase was sent for each saved sector, and no erase was sent
+/// after the first page program (`thorough`). If a saved sector is protected, the protection is lifted first.
+///
+/// A rewrite that is stopped can be run again, and so can a `restore`. The errors are those of `restore`, in the same
+/// order. Error 9 (locked status must be written) is also returned if the status is locked and protects a saved sector
+/// that reads right. No session saves such a sector.
+pub fn rewrite<B: Bus>(bus: &mut B, journal: &Journal<'_>) -> Result<Report, Refusal>
+    ensures restores_original { IsModelled (B.state bus.old)
+        → RewritesOriginal journal.now (B.state bus.old) (B.state bus.new) result }
+    ensures always { RewriteAlways journal.now (B.state bus.old) (B.state bus.new) result }
+    ensures honest { (B.state bus.old).honest ≡ true
+        → RewriteHonest journal.now (B.state bus.old) (B.state bus.new) result }
+    ensures modelled { IsModelled (B.state bus.old)
+        → RewriteModelled journal.now (B.state bus.old) (B.state bus.new) result }
+    ensures thorough { OnOk result (ErasesFirst (is_saved journal.now) (B.state bus.old) (B.state bus.new)) }
+{
+    rewrite_announced(bus, journal, |_| ())
+}
+
+/// Runs a restore as `rewrite` does, with the same promises. `announce` must accept every announcement. Before the
+/// first modifying command it receives the numbers of saved sectors and of erases, even if both are 0. A rewrite that
+/// refuses the chip makes no announcement.
+///
+/// The clause `announces` states for every bus that an announcement was made or no modifying command was sent. After
+/// success the announced numbers are those of the report. No clause states that the announcement comes first.
+pub fn rewrite_announced<B: Bus, F: FnOnce(Announcement) + Drop>(
+    bus: &mut B,
+    journal: &Journal<'_>,
+    announce: F,
+) -> Result<Report, Refusal>
+    requires { F.IsAlwaysCallable announce }
+    ensures restores_original { IsModelled (B.state bus.old)
+        → RewritesOriginal journal.now (B.state bus.old) (B.state bus.new) result }
+    ensures always { RewriteAlways journal.now (B.state bus.old) (B.state bus.new) result }
+    ensures honest { (B.state bus.old).honest ≡ true
+        → RewriteHonest journal.now (B.state bus.old) (B.state bus.new) result }
+    ensures modelled { IsModelled (B.state bus.old)
+        → RewriteModelled journal.now (B.state bus.old) (B.state bus.new) result }
+    ensures thorough { OnOk result (ErasesFirst (is_saved journal.now) (B.state bus.old) (B.state bus.new)) }
+    ensures announces { Announces (λ announcement. F.post announce announcement tt)
+        (B.state bus.old) (B.state bus.new) result }
+{
+    let prepared = prepare_rewrite(bus, journal)?;
+    change_chip(bus, journal, &prepared, announce)
+}
+
+// Announces the prepared changes, makes them, and verifies them. The clause `keeps` has the promises of the restore
+// that began in the state `old` and prepared these changes, whatever sectors it chose.
+fn change_chip<B: Bus, F: FnOnce(Announcement) + Drop>(
+    bus: &mut B,
+    journal: &Journal<'_>,
+    prepared: &PreparedRestore,
+    announce: F,
+) -> Result<Report, Refusal>
+    requires callable { F.IsAlwaysCallable announce }
+    requires consistent { AreConsistent prepared.now.changes }
+    requires saved { (s : ℕ) → has prepared.now.changes.touched s ≡ true → is_saved journal.now s ≡ true }
+    requires fits { prepared.now.transactions ≤ most_reads 4096 }
+    ensures keeps { (choice : Choice) (old : BusState)
+        → HasPrepared choice journal.now old (B.state bus.old) prepared.now
+        → KeepsPromises choice journal.now old (B.state bus.new) result }
+    ensures thorough { OnOk result
+        (ErasesFirst (has prepared.now.changes.raised) (B.state bus.old) (B.state bus.new)) }
+    ensures announces { Announces (λ announcement. F.post announce announcement tt)
+        (B.state bus.old) (B.state bus.new) result }
+{
     announce_changes(announce, &prepared.changes, prepared.touched);
     let kept = Kept {
         bus,

@@ -1,5 +1,5 @@
 //! The sources of the target bytes: the merged image of a session, or the records of a journal.
-ghost use Rattle.std.specs.Prelude.{◌≡◌, ◌<◌, ◌+◌, ◌*◌, nat_lt, length, slice_index};
+ghost use Rattle.std.specs.Prelude.{◌≡◌, ℕ, ◌<◌, ◌+◌, ◌*◌, nat_lt, length, slice_index};
 ghost use Rattle.std.proofs.lemmas.Bool.Decides.{nat_tests};
 ghost use Rattle.nor_journal.specs.Saved.{is_saved, saved_byte};
 
@@ -40,10 +40,11 @@ impl Source for Saved<'_> {
     }
 }
 
-/// Returns a slice of 4,096 bytes as an array.
+/// Returns a slice of 4,096 bytes as an array. Each element is below 256.
 pub(crate) fn as_sector(bytes: &[u8]) -> &[u8; SECTOR_LEN as usize]
     requires { length bytes.now ≡ 4096 }
-    ensures { result.now ≡ bytes.now }
+    ensures same { result.now ≡ bytes.now }
+    ensures small { (k : ℕ) → slice_index bytes.now k < 256 }
 {
     bytes.as_array().unwrap()
 }

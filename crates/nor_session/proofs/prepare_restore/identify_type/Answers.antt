@@ -6,8 +6,8 @@ use Rattle.nor_session.proofs.Reopened.{probe_prepare_errors}
 use Rattle.nor_session.proofs.prepare_restore.identify_type.Goals as goal
 
 pub returns-in_err-probed-clause-errors : goal.returns-in_err-probed-clause-errors
-returns-in_err-probed-clause-errors g c =
-    let returned = probe_prepare_errors c.args.journal.now (g.B.Bus.state c.args.bus.now) (g.B.Bus.state c.probe_counted.new.bus) c.in_err-probed.field-0.0 c.in_err-probed.ensures.always.blames
+returns-in_err-probed-clause-errors g c = λ choice.
+    let returned = probe_prepare_errors choice c.args.journal.now (g.B.Bus.state c.args.bus.now) (g.B.Bus.state c.probe_counted.new.bus) c.in_err-probed.field-0.0 c.in_err-probed.ensures.always.blames
     c.in_err-probed.ensures.always.last_transaction
     (λ honest. (c.in_err-probed.ensures.honest honest).errors) in
     grind (arith, common_steps, returned)

@@ -4,7 +4,7 @@ use Rattle.nor_session.proofs.prepare_restore.judge_device.Goals as goal
 use Rattle.nor_session.proofs.prepare_restore.judge_device.Goals.{in_default-via-in-None-1, in_default-via-in-Some+else-ne}
 
 pub returns-clause-errors : goal.returns-clause-errors
-returns-clause-errors c = λ chip small is kind. (
+returns-clause-errors c = λ choice chip small is kind. (
   named_known chip is.config.known,
   kind,
   other_unit c.args.journal.now chip.config c.in-Some.unique (search rules) (λ same. absurd (let read = is.unique in search rules)),
@@ -22,7 +22,7 @@ returns-then-has_fixed-clause-fits c = λ chip small is kind. record {
 }
 
 pub returns-else-has_fixed-clause-errors : goal.returns-else-has_fixed-clause-errors
-returns-else-has_fixed-clause-errors c = λ chip small is kind. (
+returns-else-has_fixed-clause-errors c = λ choice chip small is kind. (
   named_known chip is.config.known,
   kind,
   elim c.in_default.branch [

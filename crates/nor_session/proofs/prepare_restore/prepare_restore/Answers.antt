@@ -2,6 +2,9 @@ use Rattle.std.proofs.Common.{◌≡◌, ◌+◌, length, true, rules, arith}
 use Rattle.std.proofs.lemmas.Grind.{common_steps}
 use Rattle.nor_scan.specs.Identity.{most_identity}
 use Rattle.nor_driver.proofs.ReadsInTurn.{only_reads_then, only_reads_more}
+use Rattle.nor_session.specs.Restore.{differing}
+use Rattle.nor_session.proofs.Reopened.{errors_more}
+use Rattle.nor_session.proofs.RestoredBytes.{differing_sound}
 use Rattle.nor_session.proofs.Changeable.{AreRead, shut_errors, prepared_all}
 use Rattle.nor_session.proofs.prepare_restore.prepare_restore.Goals as goal
 
@@ -9,7 +12,7 @@ pub returns-in_err-changes-clause-errors : goal.returns-in_err-changes-clause-er
 returns-in_err-changes-clause-errors g c =
     let small = λ (honest : (g.B.Bus.state c.args.bus.now).honest ≡ true).
     (g.met.B.Bus.reaches c.args.bus.now honest).kept2 in
-    let read : AreRead c.args.journal.now c.in_ok-identity.identity c.in_ok-scanned.scanned (g.B.Bus.state c.args.bus.now)
+    let read : AreRead differing c.args.journal.now c.in_ok-identity.identity c.in_ok-scanned.scanned (g.B.Bus.state c.args.bus.now)
     (g.B.Bus.state c.identify_saved.new.bus) (g.B.Bus.state c.scan_saved.new.bus) = search rules in
     let returned = shut_errors read (most_identity + length c.args.journal.now.saved) c.in_err-changes.ensures.errors in
     let locked = c.in_err-changes.ensures.locked in
@@ -19,10 +22,32 @@ pub returns-clause-prepares : goal.returns-clause-prepares
 returns-clause-prepares g c =
     let small = λ (honest : (g.B.Bus.state c.args.bus.now).honest ≡ true).
     (g.met.B.Bus.reaches c.args.bus.now honest).kept2 in
-    let read : AreRead c.args.journal.now c.in_ok-identity.identity c.in_ok-scanned.scanned (g.B.Bus.state c.args.bus.now)
+    let read : AreRead differing c.args.journal.now c.in_ok-identity.identity c.in_ok-scanned.scanned (g.B.Bus.state c.args.bus.now)
     (g.B.Bus.state c.identify_saved.new.bus) (g.B.Bus.state c.scan_saved.new.bus) = search rules in
-    prepared_all read c.in_ok-changes.ensures.changes c.in_ok-changes.ensures.accepts _
-    (let count = c.count-sectors.ensures.value in search rules)
+    record {
+      sound = differing_sound;
+      only_reads = search (rules, only_reads_then);
+      is = prepared_all differing_sound read c.in_ok-changes.ensures.changes c.in_ok-changes.ensures.accepts _
+          (let count = c.count-sectors.ensures.value in search rules);
+      replies = record {
+        read = (g.B.Bus.state c.identify_saved.new.bus).history;
+        before = c.identify_saved.ensures.leaves.nature.history;
+        after = c.scan_saved.ensures.leaves.nature.history;
+        identity = c.in_ok-identity.identity;
+        part = c.in_ok-identity.ensures.identifies.part;
+        replied = c.in_ok-identity.ensures.identifies.replied;
+        kind = c.in_ok-identity.ensures.kind;
+        device = c.in_ok-identity.ensures.device;
+        fixed = c.in_ok-identity.ensures.fixed;
+      };
+    }
+
+pub returns-in_err-identity-clause-errors : goal.returns-in_err-identity-clause-errors
+returns-in_err-identity-clause-errors g c =
+    let returned = errors_more differing c.args.journal.now most_identity (most_identity + length c.args.journal.now.saved)
+    (g.B.Bus.state c.args.bus.now) (g.B.Bus.state c.identify_saved.new.bus) c.in_err-identity.field-0.0 (omega arith)
+    (c.in_err-identity.ensures.errors differing) in
+    grind (arith, common_steps, returned)
 
 pub returns-in_err-identity-clause-leaves : goal.returns-in_err-identity-clause-leaves
 returns-in_err-identity-clause-leaves g c = search (rules, arith, only_reads_more)
@@ -35,16 +60,3 @@ returns-in_err-changes-clause-leaves g c = search (rules, only_reads_then)
 
 pub returns-in_err-scanned-clause-leaves : goal.returns-in_err-scanned-clause-leaves
 returns-in_err-scanned-clause-leaves g c = search (rules, only_reads_then)
-
-pub returns-clause-replies : goal.returns-clause-replies
-returns-clause-replies g c = record {
-  read = (g.B.Bus.state c.identify_saved.new.bus).history;
-  before = c.identify_saved.ensures.leaves.nature.history;
-  after = c.scan_saved.ensures.leaves.nature.history;
-  identity = c.in_ok-identity.identity;
-  part = c.in_ok-identity.ensures.identifies.part;
-  replied = c.in_ok-identity.ensures.identifies.replied;
-  kind = c.in_ok-identity.ensures.kind;
-  device = c.in_ok-identity.ensures.device;
-  fixed = c.in_ok-identity.ensures.fixed;
-}

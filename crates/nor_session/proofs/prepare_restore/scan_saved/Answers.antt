@@ -19,7 +19,7 @@ pub loop-i-preserved : goal.loop-i-preserved
 loop-i-preserved g c =
     let found = c.sector-sector.ensures in
     rescanned_more c.count-i-end.ensures.sound found.value found.whole c.loop-i.invariant
-    (rw c.as_sector.ensures at c.in_ok-plan.ensures.plans) c.mark.ensures
+    (rw c.as_sector.ensures.same at c.in_ok-plan.ensures.plans) c.mark.ensures
 
 pub returns-clause-scans : goal.returns-clause-scans
 returns-clause-scans g c =
