@@ -18,6 +18,7 @@
 //! - `undone.rt`: sessions that are stopped, restores that are also stopped, and a second restore
 //! - `torn.rt`: sessions and restores that are stopped inside a transaction
 //! - `lost.rt`: sessions and restores that lose the reply to a transaction
+//! - `rewritten.rt`: restores that rewrite every saved sector, stopped anywhere, and another rewrite or a restore
 //! - `in_turn.rt`: two successive sessions, stopped or run to their end, and their restores in reverse order
 //! - `power.rt`: sessions and restores during which the chip loses its power
 //! - `rehearsed.rt`: rehearsals with each stop of the session and of its first restore, and rehearsals on faulty buses
@@ -93,6 +94,8 @@ mod probes;
 mod readings;
 #[cfg(test)]
 mod rehearsed;
+#[cfg(test)]
+mod rewritten;
 #[cfg(test)]
 mod row;
 #[cfg(test)]
