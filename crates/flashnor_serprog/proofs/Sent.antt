@@ -18,14 +18,16 @@ use Rattle.nor_words.specs.declared.job.Task.{Task}
 use Rattle.nor_words.specs.declared.job.Task.TheVariants as task
 use Rattle.nor_words.specs.declared.job.Wanted.{Wanted}
 use Rattle.nor_words.specs.declared.job.Wanted.TheVariants as wanted
-use Rattle.nor_lines.specs.Messages.{IsReportedAs}
 use Rattle.nor_lines.specs.Requests.{what_of}
 use Rattle.nor_lines.specs.Sessions.{HasRunInFile}
 use Rattle.nor_lines.specs.declared.answers.Answer.{Answer}
 use Rattle.nor_lines.specs.declared.messages.Fault.{Fault}
 use Rattle.nor_lines.specs.declared.messages.Fault.TheVariants as end
-use Rattle.flashnor_serprog.specs.Jobs.{DoesTask, FailsBefore, FailsToChange, HasChangedBy, IsBufferOf, IsNamedFirst}
-use Rattle.flashnor_serprog.specs.Run.{EndsJob}
+use Rattle.flashnor_serprog.specs.Jobs.{DoesTask, FailsBefore, FailsTask, FailsToChange, HasChangedBy, IsBufferOf}
+use Rattle.flashnor_serprog.specs.Jobs.{IsNamedFirst}
+use Rattle.flashnor_serprog.specs.Run.{EndsJob, IsEndedAs}
+use Rattle.flashnor_serprog.specs.declared.chip_faults.JobFault.{JobFault}
+use Rattle.flashnor_serprog.specs.declared.chip_faults.JobFault.TheVariants as ended
 use Rattle.flashnor_serprog.specs.Sends.{KeepsSent, SendsChange, SendsJournalled, SendsOnly}
 
 reads_on : (old mid new : BusState) → KeepsSent old mid → KeepsSent mid new → KeepsSent old new
@@ -68,8 +70,8 @@ module _ (request : Request) (image : List ℕ) (file : Text) (before : View) (a
 
 buffer_reads : (named : Option ChipName) (target : Wanted) (bytes : List ℕ) (old new : BusState) (image : List ℕ)
     → IsBufferOf named target bytes old new image → KeepsSent old new
-buffer_reads named wanted.Erase bytes old new image is = is.1.always.only_reads.sent
-buffer_reads named _ bytes old new image is = same_keeps_sent old new is.0
+buffer_reads named (wanted.Range start len) bytes old new image is = same_keeps_sent old new is.0
+buffer_reads named _ bytes old new image is = is.1.identified.always.only_reads.sent
 
 change_sends : (named : Option ChipName) (change : Change) (ranges : Option (List Span)) (bytes : List ℕ)
     (kept : JournalUse) (before : View) (after : FilesState) (old new : BusState) (outcome : Result Answer Refusal)
@@ -105,9 +107,15 @@ task_sends named (task.Restore journal) ranges bytes before after old new outcom
 fails_change : (named : Option ChipName) (target : Wanted) (kept : JournalUse) (view : View) (old new : BusState)
     (fault : Fault) → FailsToChange named target kept view old new fault → KeepsSent old new
 fails_change named target (uses.Rehearse stops) view old new fault fails = same_keeps_sent old new fails.0
+fails_change named (wanted.Range start len) (uses.Journal file) view old new fault fails =
+    same_keeps_sent old new fails.0
+fails_change named (wanted.Write image) (uses.Journal file) view old new fault (inl found) =
+    found.1.always.only_reads.sent
+fails_change named (wanted.Write image) (uses.Journal file) view old new fault (inr made) =
+    made.1.identified.always.only_reads.sent
 fails_change named wanted.Erase (uses.Journal file) view old new fault (inl found) = found.1.always.only_reads.sent
-fails_change named wanted.Erase (uses.Journal file) view old new fault (inr made) = made.1.always.only_reads.sent
-fails_change named _ (uses.Journal file) view old new fault fails = same_keeps_sent old new fails.0
+fails_change named wanted.Erase (uses.Journal file) view old new fault (inr made) =
+    made.1.identified.always.only_reads.sent
 
 sends_none : (what : What) (kept : JournalUse) (old new : BusState) (after : FilesState) → KeepsSent old new
     → SendsChange what kept old new after
@@ -126,28 +134,40 @@ fails_sends named (task.Restore journal) bytes view after old new fault (inl fou
 fails_sends named (task.Restore journal) bytes view after old new fault (inr none) = inl (same_keeps_sent old new none.0)
 fails_sends named _ bytes view after old new fault fails = absurd fails
 
+task_fails_sends : (named : Option ChipName) (job : Task) (bytes : List ℕ) (view : View) (after : FilesState)
+    (old new : BusState) (fault : JobFault) → FailsTask named job bytes view after old new fault
+    → SendsOnly job bytes old new after
+task_fails_sends named (task.Change change) bytes view after old new (ended.Fault fault) fails =
+    fails_sends named (task.Change change) bytes view after old new fault fails
+task_fails_sends named (task.Change change) bytes view after old new (ended.Protected byte) fails =
+    sends_none _ change.journal_use old new after fails.protected.identified.always.only_reads.sent
+task_fails_sends named job bytes view after old new (ended.Fault fault) fails =
+    fails_sends named job bytes view after old new fault fails
+task_fails_sends named job bytes view after old new (ended.Protected byte) fails = absurd fails
+
 -- ---- the end of a job
 
 module _ (operation : Operation) (ranges : Option (List Span)) (bytes : List ℕ) (before : View) (after : FilesState)
     (old new : BusState) where
-  pub fails_ends : (fault : Fault) → FailsBefore operation.named operation.task bytes before old new fault
+  pub fails_ends : (fault : JobFault)
+      → FailsTask operation.named operation.task bytes before after old new fault
       → EndsJob operation ranges bytes before after old new (Err fault)
-  fails_ends (end.Refused refusal) fails = inr fails
+  fails_ends (ended.Fault (end.Refused refusal)) fails = inr fails
   fails_ends _ fails = fails
 
-  pub does_ends : (outcome : Result Answer Refusal) (result : Result Answer Fault) → IsReportedAs outcome result
+  pub does_ends : (outcome : Result Answer Refusal) (result : Result Answer JobFault) → IsEndedAs outcome result
       → DoesTask operation.named operation.task ranges bytes before after old new outcome
       → EndsJob operation ranges bytes before after old new result
   does_ends (Ok found) result returned does = rw returned does
   does_ends (Err refusal) result returned does = rw returned (inl does)
 
-  pub ends_sends : (result : Result Answer Fault) → EndsJob operation ranges bytes before after old new result
+  pub ends_sends : (result : Result Answer JobFault) → EndsJob operation ranges bytes before after old new result
       → SendsOnly operation.task bytes old new after
   ends_sends (Ok found) ends =
       task_sends operation.named operation.task ranges bytes before after old new (Ok found) ends
-  ends_sends (Err (end.Refused refusal)) (inl does) =
+  ends_sends (Err (ended.Fault (end.Refused refusal))) (inl does) =
       task_sends operation.named operation.task ranges bytes before after old new (Err refusal) does
-  ends_sends (Err (end.Refused refusal)) (inr fails) =
-      fails_sends operation.named operation.task bytes before after old new (end.Refused refusal) fails
+  ends_sends (Err (ended.Fault (end.Refused refusal))) (inr fails) =
+      task_fails_sends operation.named operation.task bytes before after old new (ended.Fault (end.Refused refusal)) fails
   ends_sends (Err fault) fails =
-      fails_sends operation.named operation.task bytes before after old new fault fails
+      task_fails_sends operation.named operation.task bytes before after old new fault fails

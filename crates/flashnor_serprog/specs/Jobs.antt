@@ -1,6 +1,7 @@
 -- The effect of a job on a chip, on every bus: its call to the engine, the result of that call, and the faults before
 -- the call.
-use Rattle.std.specs.Prelude.{◌≡◌, ◌⊎◌, ℕ, true, List, Option, None, Some, Result, Ok, Err, IfOk, replicate}
+use Rattle.std.specs.Prelude.{◌≡◌, ◌&&◌, ◌⊎◌, ℕ, Bool, true, false, List, Option, None, Some, Result, Ok, Err, IfOk}
+use Rattle.std.specs.Prelude.{bit_and, nat_eq, not, replicate}
 use Rattle.nor_model.specs.Bus.{BusState}
 use Rattle.nor_files.specs.Files.{FilesState, View}
 use Rattle.nor_journal.specs.Fault.{HasFault}
@@ -35,6 +36,8 @@ use Rattle.nor_lines.specs.declared.answers.Answer.{Answer}
 use Rattle.nor_lines.specs.declared.answers.Answer.TheVariants as answer
 use Rattle.nor_lines.specs.declared.messages.Fault.{Fault}
 use Rattle.nor_lines.specs.declared.messages.Fault.TheVariants as end
+use Rattle.flashnor_serprog.specs.declared.chip_faults.JobFault.{JobFault}
+use Rattle.flashnor_serprog.specs.declared.chip_faults.JobFault.TheVariants as ended
 
 -- ---- identification
 
@@ -94,23 +97,52 @@ abbrev pub FailsToRead : Option ChipName → Text → View → (old new : BusSta
 FailsToRead named file view old new fault =
     FailsToFind named old new fault ⊎ FailsToMake named file view old new fault
 
+-- ---- chips that may be protected
+
+-- True if the chip has no known block protection (it has no row in the table), and at least one of its status bits 2 to
+-- 6 is set. On nearly every chip these bits protect sectors, which then ignore erases and programs.
+abbrev pub may_be_protected : Found → Bool
+may_be_protected chip = not chip.scheme && not (nat_eq (bit_and chip.status1 0x7C) 0)
+
+-- The chip was identified. Its block protection is known, or its status bits 2 to 6 are clear.
+pub record IsChangeable (named : Option ChipName) (old new : BusState) (chip : Found) : Type 0 where
+  pub identified : HasIdentified named old new (Ok chip)
+  pub unprotected : may_be_protected chip ≡ false
+
+-- The chip was identified, and `may_be_protected` is true for it. The given byte is its status 1.
+pub record IsProtected (named : Option ChipName) (old new : BusState) (byte : ℕ) : Type 0 where
+  pub chip : Found
+  pub identified : HasIdentified named old new (Ok chip)
+  pub protected : may_be_protected chip ≡ true
+  pub shown : byte ≡ chip.status1
+
+-- The faults of finding a chip whose bytes will be changed: the identification returned an error, or the chip may be
+-- protected (chip fault 1). Nothing else was sent.
+abbrev pub FailsToAdmit : Option ChipName → (old new : BusState) → JobFault → Type 0
+FailsToAdmit named old new (ended.Fault fault) = FailsToFind named old new fault
+FailsToAdmit named old new (ended.Protected status1) = IsProtected named old new status1
+
 -- ---- changes
 
--- The buffer of a session. For an erase the chip was identified, and the buffer has FFh for each of its bytes.
--- Otherwise nothing was sent, and the buffer has the given bytes.
+-- The buffer of a session. For a write or an erase the chip was identified, and `may_be_protected` is false for it. The
+-- buffer of an erase has FFh for each of the chip's bytes, and that of a write the given bytes. For a protection range
+-- nothing was sent.
 abbrev pub IsBufferOf : Option ChipName → Wanted → (bytes : List ℕ) → (old new : BusState) → (image : List ℕ) → Type 0
+IsBufferOf named (wanted.Write file) bytes old new image =
+    (chip : Found) × IsChangeable named old new chip × (image ≡ bytes)
 IsBufferOf named wanted.Erase bytes old new image =
-    (chip : Found) × HasIdentified named old new (Ok chip) × (image ≡ replicate chip.size 255)
-IsBufferOf named _ bytes old new image = (new ≡ old) × (image ≡ bytes)
+    (chip : Found) × IsChangeable named old new chip × (image ≡ replicate chip.size 255)
+IsBufferOf named (wanted.Range start len) bytes old new image = (new ≡ old) × (image ≡ bytes)
 
--- the buffer of an erase could not be made: the identification returned an error, or memory ran out
-abbrev pub FailsToFill : Option ChipName → Wanted → (old new : BusState) → Fault → Type 0
-FailsToFill named wanted.Erase old new fault = FailsToFind named old new fault
-    ⊎ ((chip : Found) × HasIdentified named old new (Ok chip) × (fault ≡ end.Refused Memory))
-FailsToFill named _ old new fault = ⊥
+-- The faults of making the buffer of a write or an erase: those of `FailsToAdmit`, or memory ran out after the
+-- identification. For a protection range there is none.
+abbrev pub FailsToFill : Option ChipName → Wanted → (old new : BusState) → JobFault → Type 0
+FailsToFill named (wanted.Range start len) old new fault = ⊥
+FailsToFill named _ old new fault = FailsToAdmit named old new fault
+    ⊎ ((chip : Found) × IsChangeable named old new chip × (fault ≡ ended.Fault (end.Refused Memory)))
 
--- The session of a change was run with its journal in a new file. Only for an erase (`-E`) the chip was identified
--- before the session.
+-- The session of a change was run with its journal in a new file. For a write or an erase the chip was identified
+-- before the session, and `may_be_protected` was false for it (`IsBufferOf`).
 pub record HasRunChange (named : Option ChipName) (change : Change) (ranges : Option (List Span)) (bytes : List ℕ)
     (file : Text) (before : View) (after : FilesState) (old new : BusState)
     (outcome : Result Answer Refusal) : Type 0 where
@@ -127,14 +159,48 @@ HasChangedBy named change ranges bytes (uses.Journal file) before after old new 
     HasRunChange named change ranges bytes file.now before after old new outcome
 HasChangedBy named change ranges bytes (uses.Rehearse stops) before after old new outcome = ⊥
 
--- The faults of a change before its session. Nothing was sent, except for an erase (`-E`), which identifies the chip
--- first. A rehearsal always has a usage fault.
+-- The identification found a chip for which `may_be_protected` is false, and nothing else was sent. Then creating the
+-- journal failed, or memory ran out. The fault is one that `IsMaking` allows.
+abbrev pub FailsToStart : Option ChipName → Text → View → (old new : BusState) → Fault → Type 0
+FailsToStart named file view old new fault =
+    (chip : Found) × IsChangeable named old new chip × IsMaking view file fault
+
+-- The faults of a change before its session, except chip fault 1. Nothing was sent, except for a write or an erase,
+-- which identifies the chip first. A rehearsal always has a usage fault.
 abbrev pub FailsToChange : Option ChipName → Wanted → JournalUse → View → (old new : BusState) → Fault → Type 0
 FailsToChange named wanted (uses.Rehearse stops) view old new fault =
     (new ≡ old) × (fault ≡ end.Usage usage.Journal)
-FailsToChange named wanted.Erase (uses.Journal file) view old new fault =
-    FailsToFind named old new fault ⊎ FailsToMake named file.now view old new fault
-FailsToChange named _ (uses.Journal file) view old new fault = (new ≡ old) × IsMaking view file.now fault
+FailsToChange named (wanted.Range start len) (uses.Journal file) view old new fault =
+    (new ≡ old) × IsMaking view file.now fault
+FailsToChange named _ (uses.Journal file) view old new fault =
+    FailsToFind named old new fault ⊎ FailsToStart named file.now view old new fault
+
+-- true for a write and an erase
+abbrev pub changes_bytes : Wanted → Bool
+changes_bytes (wanted.Range start len) = false
+changes_bytes _ = true
+
+-- true if the journal of a change is kept in a file
+abbrev pub keeps_journal : JournalUse → Bool
+keeps_journal (uses.Journal file) = true
+keeps_journal (uses.Rehearse stops) = false
+
+-- A write or an erase was refused with chip fault 1, which has this byte as the chip's status 1. The files are as they
+-- were, so no journal was created.
+pub record IsRefusedAsProtected (named : Option ChipName) (target : Wanted) (kept : JournalUse) (before : View)
+    (after : FilesState) (old new : BusState) (byte : ℕ) : Type 0 where
+  pub changes : changes_bytes target ≡ true
+  pub journalled : keeps_journal kept ≡ true
+  pub protected : IsProtected named old new byte
+  pub unmade : after.view ≡ before
+
+-- the faults of a change before its session
+abbrev pub FailsChange : Option ChipName → Wanted → JournalUse → (before : View) → (after : FilesState)
+    → (old new : BusState) → JobFault → Type 0
+FailsChange named target kept before after old new (ended.Fault fault) =
+    FailsToChange named target kept before old new fault
+FailsChange named target kept before after old new (ended.Protected status1) =
+    IsRefusedAsProtected named target kept before after old new status1
 
 -- ---- restores
 
@@ -195,3 +261,11 @@ FailsBefore named (task.Change change) bytes view old new fault =
 FailsBefore named (task.Restore journal) bytes view old new fault =
     FailsToFind named old new fault ⊎ IsNoJournal bytes old new fault
 FailsBefore named _ bytes view old new fault = ⊥
+
+-- The faults of `perform`: those before the call of a task, and chip fault 1, which only a change has.
+abbrev pub FailsTask : Option ChipName → Task → (bytes : List ℕ) → (before : View) → (after : FilesState)
+    → (old new : BusState) → JobFault → Type 0
+FailsTask named (task.Change change) bytes before after old new fault =
+    FailsChange named change.wanted change.journal_use before after old new fault
+FailsTask named job bytes before after old new (ended.Fault fault) = FailsBefore named job bytes before old new fault
+FailsTask named job bytes before after old new (ended.Protected status1) = ⊥

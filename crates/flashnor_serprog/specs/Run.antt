@@ -12,12 +12,14 @@ use Rattle.nor_words.specs.declared.job.Operation.{Operation}
 use Rattle.nor_lines.specs.AnswerLines.{AreLines}
 use Rattle.nor_lines.specs.Printing.{IsAnswered, Prints}
 use Rattle.nor_lines.specs.declared.answers.Answer.{Answer}
-use Rattle.nor_lines.specs.declared.messages.Fault.{Fault}
 use Rattle.nor_lines.specs.declared.messages.Fault.TheVariants as end
-use Rattle.flashnor_serprog.specs.Jobs.{DoesTask, FailsBefore}
+use Rattle.nor_request.specs.declared.refusal.Refusal.{Refusal}
+use Rattle.flashnor_serprog.specs.Jobs.{DoesTask, FailsTask}
 use Rattle.flashnor_serprog.specs.Sends.{SendsOnly}
 use Rattle.flashnor_serprog.specs.Setting.{IsDeviceOf}
 use Rattle.flashnor_serprog.specs.Sources.{AreSources, HaveOneRole}
+use Rattle.flashnor_serprog.specs.declared.chip_faults.JobFault.{JobFault}
+use Rattle.flashnor_serprog.specs.declared.chip_faults.JobFault.TheVariants as ended
 use Rattle.flashnor_serprog.specs.declared.trouble.Trouble.{Trouble}
 use Rattle.flashnor_serprog.specs.declared.trouble.Trouble.TheVariants as trouble
 
@@ -43,17 +45,22 @@ pub record IsPrepared (words : List Text) (view : View) (operation : Operation) 
 
 -- A job ends with the result of its call, or with a fault that occurred before the call.
 abbrev pub EndsJob : Operation → (ranges : Option (List Span)) → (bytes : List ℕ) → (before : View)
-    → (after : FilesState) → (old new : BusState) → Result Answer Fault → Type 0
+    → (after : FilesState) → (old new : BusState) → Result Answer JobFault → Type 0
 EndsJob operation ranges bytes before after old new (Ok found) =
     DoesTask operation.named operation.task ranges bytes before after old new (Ok found)
-EndsJob operation ranges bytes before after old new (Err (end.Refused refusal)) =
+EndsJob operation ranges bytes before after old new (Err (ended.Fault (end.Refused refusal))) =
     DoesTask operation.named operation.task ranges bytes before after old new (Err refusal)
-    ⊎ FailsBefore operation.named operation.task bytes before old new (end.Refused refusal)
+    ⊎ FailsTask operation.named operation.task bytes before after old new (ended.Fault (end.Refused refusal))
 EndsJob operation ranges bytes before after old new (Err fault) =
-    FailsBefore operation.named operation.task bytes before old new fault
+    FailsTask operation.named operation.task bytes before after old new fault
+
+-- the job has the answer or the error of its call
+abbrev pub IsEndedAs : Result Answer Refusal → Result Answer JobFault → Type 0
+IsEndedAs (Ok found) result = result ≡ Ok found
+IsEndedAs (Err refusal) result = result ≡ Err (ended.Fault (end.Refused refusal))
 
 -- the run has an answer, whose lines were printed
-abbrev pub HasPrinted : Result Answer Fault → (out out' : Option (List ℕ)) → Type 0
+abbrev pub HasPrinted : Result Answer JobFault → (out out' : Option (List ℕ)) → Type 0
 HasPrinted (Ok found) out out' = Prints (AreLines found) out out'
 HasPrinted (Err fault) out out' = ⊥
 
@@ -63,7 +70,7 @@ pub record HasRun (operation : Operation) (ranges : Option (List Span)) (bytes :
     (after : FilesState) (out out' : Option (List ℕ)) (status : ℕ) : Type 0 where
   pub first : BusState
   pub last : BusState
-  pub outcome : Result Answer Fault
+  pub outcome : Result Answer JobFault
   pub ends : EndsJob operation ranges bytes before after first last outcome
   pub sends : SendsOnly operation.task bytes first last after
   pub few : status ≤ 1

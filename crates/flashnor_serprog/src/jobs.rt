@@ -4,10 +4,12 @@ ghost use Rattle.nor_files.specs.Files.{Name, OthersStay, KeepsFile, is_lawful};
 ghost use Rattle.nor_lines.specs.Tasks.{journal_of, made_by};
 ghost use Rattle.nor_lines.specs.Readings.{HasVerified};
 ghost use Rattle.nor_lines.specs.Stored.{IsNot};
-ghost use Rattle.flashnor_serprog.specs.Jobs.{DoesTask, FailsBefore, FailsToChange, FailsToFill, FailsToFind, FailsToRead};
-ghost use Rattle.flashnor_serprog.specs.Jobs.{HasChangedBy, HasIdentified, HasLookedUp, HasReadChip, HasRestored};
-ghost use Rattle.flashnor_serprog.specs.Jobs.{HasRunRestore, IsBufferOf, IsNamedFirst, IsNoJournal, ReportsFound, ReportsSize};
+ghost use Rattle.flashnor_serprog.specs.Jobs.{DoesTask, FailsChange, FailsTask, FailsToAdmit, FailsToFill, FailsToFind};
+ghost use Rattle.flashnor_serprog.specs.Jobs.{FailsToRead, HasChangedBy, HasIdentified, HasLookedUp, HasReadChip};
+ghost use Rattle.flashnor_serprog.specs.Jobs.{HasRestored, HasRunRestore, IsBufferOf, IsChangeable, IsNamedFirst};
+ghost use Rattle.flashnor_serprog.specs.Jobs.{IsNoJournal, ReportsFound, ReportsSize, may_be_protected};
 
+use crate::chip_faults::JobFault;
 use crate::progress::{Progress, Terminal};
 use crate::sources::Sources;
 use nor_chip::Bus;
@@ -28,24 +30,25 @@ use std::alloc::Global;
 /// occurred before the job's call to the engine.
 ///
 /// The clauses hold on every bus: the promises of each call (`DoesTask`), and the faults before the call with the
-/// commands sent until then (`FailsBefore`). If the files obey the contract of `Store`, each file is as it was whose
+/// commands sent until then (`FailsTask`). If the files obey the contract of `Store`, each file is as it was whose
 /// name is apart from that of the file that the task creates or truncates.
 ///
 /// `terminal` receives the line that says what a session or restore will change.
 ///
-/// A read identifies the chip before it empties its file, so a file is kept if there is no chip. An erase identifies
-/// the chip to know its size, before its journal is created.
+/// A read identifies the chip before it empties its file, so a file is kept if there is no chip. A write or an erase
+/// identifies the chip before its journal is created: an erase to know the chip's size, and both because chip fault 1
+/// refuses a chip that may be protected in a way that this program doesn't know.
 pub fn perform<'a, R: Store, B: Progress>(
     rt: &mut R,
     bus: &mut B,
     terminal: Terminal<'_>,
     operation: &Operation<'a>,
     sources: Sources,
-) -> Result<Outcome, Fault<'a>>
+) -> Result<Outcome, JobFault<'a>>
     ensures ok { IfOk result (DoesTask operation.now.named operation.now.task sources.included sources.bytes.items
         (R.state rt.old).view (R.state rt.new) (B.state bus.old) (B.state bus.new)) }
-    ensures err { IfErr result (FailsBefore operation.now.named operation.now.task sources.bytes.items
-        (R.state rt.old).view (B.state bus.old) (B.state bus.new)) }
+    ensures err { IfErr result (FailsTask operation.now.named operation.now.task sources.bytes.items
+        (R.state rt.old).view (R.state rt.new) (B.state bus.old) (B.state bus.new)) }
     ensures others { is_lawful (R.state rt.old).view ≡ true → (name : Name)
         → IsNot (R.state rt.old).view.nature (made_by operation.now.task) name
         → KeepsFile name (R.state rt.old) (R.state rt.new) }
@@ -56,10 +59,10 @@ pub fn perform<'a, R: Store, B: Progress>(
         Task::FlashSize => Ok(report_size(bus, named)),
         Task::WpStatus => Ok(report_protection(bus, named)),
         Task::WpList => Ok(list_ranges(bus, named)),
-        Task::Read { file, .. } => read_chip(rt, bus, named, *file, sources.included.as_ref()),
+        Task::Read { file, .. } => Ok(read_chip(rt, bus, named, *file, sources.included.as_ref())?),
         Task::Verify { .. } => Ok(verify_chip(bus, named, sources)),
         Task::Change(change) => change_chip(rt, bus, terminal, named, change, sources),
-        Task::Restore { .. } => restore_chip(bus, terminal, named, &sources.bytes),
+        Task::Restore { .. } => Ok(restore_chip(bus, terminal, named, &sources.bytes)?),
     }
 }
 
@@ -94,6 +97,34 @@ fn find_first<'a, B: Bus>(bus: &mut B, named: Option<ChipName>) -> Result<Found,
     or_fault(find(bus, named))
 }
 
+// Identifies a chip whose bytes will be changed. Returns chip fault 1 if it may be protected in a way that this program
+// doesn't know.
+fn find_changeable<'a, B: Bus>(
+    bus: &mut B,
+    named: Option<ChipName>,
+) -> Result<Found, JobFault<'a>>
+    ensures ok { IfOk result (IsChangeable named (B.state bus.old) (B.state bus.new)) }
+    ensures err { IfErr result (FailsToAdmit named (B.state bus.old) (B.state bus.new)) }
+{
+    let found = find_first(bus, named)?;
+    if may_be_protected(&found) {
+        return Err(JobFault::Protected {
+            status1: found.status1,
+        });
+    }
+    Ok(found)
+}
+
+// True if the chip has no known block protection, and at least one of its status bits 2 to 6 is set.
+fn may_be_protected(found: &Found) -> bool
+    ensures { result ≡ may_be_protected found.now }
+{
+    !found.scheme && found.status1 & PROTECTION_BITS != 0
+}
+
+// Bits 2 to 6 of status 1, which protect sectors on nearly every chip.
+const PROTECTION_BITS: u8 = 0x7C;
+
 // Identifies the chip, and reads it into the file of this name.
 fn read_chip<'a, R: Store, B: Progress>(
     rt: &mut R,
@@ -124,7 +155,7 @@ fn verify_chip<B: Progress>(bus: &mut B, named: Option<ChipName>, sources: Sourc
 }
 
 // Changes the chip, with its journal in a new file. Returns a usage fault for a rehearsal, which this program doesn't
-// perform.
+// perform, and chip fault 1 for a write or an erase of a chip that may be protected in a way that isn't known.
 fn change_chip<'a, R: Store, B: Progress>(
     rt: &mut R,
     bus: &mut B,
@@ -132,46 +163,51 @@ fn change_chip<'a, R: Store, B: Progress>(
     named: Option<ChipName>,
     change: &Change<'a>,
     sources: Sources,
-) -> Result<Outcome, Fault<'a>>
+) -> Result<Outcome, JobFault<'a>>
     ensures ok { IfOk result (HasChangedBy named change.now sources.included sources.bytes.items change.now.journal_use
         (R.state rt.old).view (R.state rt.new) (B.state bus.old) (B.state bus.new)) }
-    ensures err { IfErr result (FailsToChange named change.now.wanted change.now.journal_use
-        (R.state rt.old).view (B.state bus.old) (B.state bus.new)) }
+    ensures err { IfErr result (FailsChange named change.now.wanted change.now.journal_use
+        (R.state rt.old).view (R.state rt.new) (B.state bus.old) (B.state bus.new)) }
     ensures others { is_lawful (R.state rt.old).view ≡ true → (name : Name)
         → IsNot (R.state rt.old).view.nature (journal_of change.now.journal_use) name
         → KeepsFile name (R.state rt.old) (R.state rt.new) }
 {
     let JournalUse::Journal { file } = &change.journal_use else {
-        return Err(Fault::Usage(UsageFault::Journal));
+        return Err(JobFault::Fault(Fault::Usage(UsageFault::Journal)));
     };
     let Sources { included, bytes } = sources;
     let request = request_for(change, named, included);
     let mut image = fill_buffer(bus, named, change.wanted, bytes, rt.alloc())?;
     bus.expect_reads(sectors_to_read(image.len(), request.included.as_ref()));
-    session_in_file(rt, bus, *file, &mut image, &request, |announcement| {
+    let outcome = session_in_file(rt, bus, *file, &mut image, &request, |announcement| {
         terminal.print_session(announcement)
-    })
+    })?;
+    Ok(outcome)
 }
 
-// Returns the buffer of a session: for an erase FFh for each byte of the chip, which is identified to know its size;
-// otherwise `bytes`.
+// Returns the buffer of a session: for an erase FFh for each byte of the chip; otherwise `bytes`. For a write or an
+// erase the chip is identified, and must be one that may be changed.
 fn fill_buffer<'a, B: Bus>(
     bus: &mut B,
     named: Option<ChipName>,
     wanted: Wanted<'a>,
     bytes: Vec<u8>,
     alloc: Global,
-) -> Result<Vec<u8>, Fault<'a>>
+) -> Result<Vec<u8>, JobFault<'a>>
     ensures ok { IfOk result (λ image. IsBufferOf named wanted.entry bytes.items
         (B.state bus.old) (B.state bus.new) image.items) }
     ensures err { IfErr result (FailsToFill named wanted.entry (B.state bus.old) (B.state bus.new)) }
 {
     match wanted {
+        Wanted::Write { .. } => {
+            find_changeable(bus, named)?;
+            Ok(bytes)
+        }
         Wanted::Erase => {
-            let found = find_first(bus, named)?;
+            let found = find_changeable(bus, named)?;
             Ok(erased(alloc, found.size)?)
         }
-        _ => Ok(bytes),
+        Wanted::Range { .. } => Ok(bytes),
     }
 }
 

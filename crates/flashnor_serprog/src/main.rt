@@ -14,9 +14,11 @@
 //! - `connect.rt`: opens the device and identifies the programmer
 //! - `jobs.rt`: performs a job on the chip
 //! - `status_line.rt`: the lines for a status write that was refused, or that the chip did not store
+//! - `chip_faults.rt`: the faults with which a job ends, and the lines of those that `flashnor` lacks
 //! - `trouble.rt`: the reasons why a run ends early, and their printed lines
 #![tactic(auto)]
 
+mod chip_faults;
 mod connect;
 mod help;
 mod jobs;

@@ -6,9 +6,10 @@ ghost use Rattle.nor_lines.specs.AnswerLines.{AreLines};
 ghost use Rattle.nor_lines.specs.Printing.{Prints};
 ghost use Rattle.nor_words.specs.Words.{arguments_of};
 ghost use Rattle.flashnor_serprog.specs.Run.{AsksForHelp, EndsJob, HasRun, HasSucceeded, IsAskedFor, IsHelpAskedBy};
-ghost use Rattle.flashnor_serprog.specs.Run.{IsPrepared};
+ghost use Rattle.flashnor_serprog.specs.Run.{IsEndedAs, IsPrepared};
 ghost use Rattle.flashnor_serprog.specs.Sends.{SendsOnly, changes};
 
+use crate::chip_faults::JobFault;
 use crate::connect::{ChipBus, connect};
 use crate::help::HELP;
 use crate::jobs::perform;
@@ -19,7 +20,7 @@ use crate::sources::{Sources, read_sources};
 use crate::trouble::{StopLine, Trouble};
 use nor_files::{Disk, Store};
 use nor_lines::{
-    Answer, DIRECTORY, Fault, help_of, or_fault, print_answer, print_fault, print_help, unread,
+    Answer, DIRECTORY, Fault, Outcome, help_of, print_answer, print_fault, print_help, unread,
 };
 use nor_session::Refusal;
 use nor_words::{HardwareJob, Operation, Task, UsageFault, operation_of};
@@ -191,11 +192,11 @@ fn run_prepared<R: Store, O: Write, E: Write>(
     match end_job(files, &mut bus, terminal, &operation, sources) {
         Ok(answer) => end_well(output, answer),
         Err(fault) => {
-            let status = end_badly(errors, &fault);
-            if let Fault::Refused(Refusal::Stopped) = &fault {
+            let _ = writeln!(errors, "{fault}");
+            if let JobFault::Fault(Fault::Refused(Refusal::Stopped)) = &fault {
                 print_cause(errors, &bus, changes(&operation.task));
             }
-            status
+            1
         }
     }
 }
@@ -207,14 +208,24 @@ fn end_job<'a, R: Store, B: Progress>(
     terminal: Terminal<'_>,
     operation: &Operation<'a>,
     sources: Sources,
-) -> Result<Answer, Fault<'a>>
+) -> Result<Answer, JobFault<'a>>
     ensures ends { EndsJob operation.now sources.included sources.bytes.items (R.state files.old).view
         (R.state files.new) (B.state bus.old) (B.state bus.new) result }
     ensures sends { SendsOnly operation.now.task sources.bytes.items (B.state bus.old) (B.state bus.new)
         (R.state files.new) }
 {
     let outcome = perform(files, bus, terminal, operation, sources)?;
-    or_fault(outcome)
+    end_call(outcome)
+}
+
+// Returns the result of a call as a job reports it: an error of the call is a fault of the job.
+fn end_call<'a>(outcome: Outcome) -> Result<Answer, JobFault<'a>>
+    ensures { IsEndedAs outcome result }
+{
+    match outcome {
+        Ok(answer) => Ok(answer),
+        Err(refusal) => Err(JobFault::Fault(Fault::Refused(refusal))),
+    }
 }
 
 // Prints an answer, and returns the exit status, which is 0 only if all lines were printed.

@@ -1,3 +1,4 @@
+use Rattle.std.proofs.Common.{refl}
 use Rattle.std.proofs.lemmas.Result.{IfOk-weaker, err_from_is_err_and}
 use Rattle.flashnor_serprog.proofs.Found.{fill_fails}
 use Rattle.flashnor_serprog.proofs.jobs.change_chip.Goals as goal
@@ -5,7 +6,7 @@ use Rattle.flashnor_serprog.proofs.jobs.change_chip.Goals as goal
 pub returns-in_err-image-clause-err : goal.returns-in_err-image-clause-err
 returns-in_err-image-clause-err g c =
     let p = err_from_is_err_and c.from_residual.result c.from_residual.ensures.1 in
-    rw (p.1, p.2, c.in-Journal.is) (fill_fails c.args.named _ _ c.args.change.now.wanted c.in-Journal.file _ _
+    rw (p.1, p.2, c.in-Journal.is) (fill_fails c.args.named _ _ c.args.change.now.wanted c.in-Journal.file _ _ _ refl
     c.in_err-image.ensures.err)
 
 pub returns-clause-ok : goal.returns-clause-ok

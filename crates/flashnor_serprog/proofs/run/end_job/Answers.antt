@@ -15,8 +15,8 @@ returns-in_err-outcome-clause-sends g c = ends_sends c.args.operation.now c.args
 
 pub returns-clause-ends : goal.returns-clause-ends
 returns-clause-ends g c =
-    does_ends c.args.operation.now _ _ _ _ _ _ _ _ c.or_fault.ensures c.in_ok-outcome.ensures.ok
+    does_ends c.args.operation.now _ _ _ _ _ _ _ _ c.end_call.ensures c.in_ok-outcome.ensures.ok
 
 pub returns-clause-sends : goal.returns-clause-sends
 returns-clause-sends g c = ends_sends c.args.operation.now _ _ _ _ _ _ _
-    (does_ends c.args.operation.now _ _ _ _ _ _ _ _ c.or_fault.ensures c.in_ok-outcome.ensures.ok)
+    (does_ends c.args.operation.now _ _ _ _ _ _ _ _ c.end_call.ensures c.in_ok-outcome.ensures.ok)

@@ -1,0 +1,53 @@
+//! The faults with which a job ends, and the lines of those that only this program has.
+ghost use Rattle.std.specs.Prelude.{◌≡◌};
+
+use nor_lines::Fault;
+use std::alloc::AllocError;
+use std::fmt;
+
+/// The fault with which a job ends, displayed as its line on standard error.
+#[derive(Drop)]
+pub enum JobFault<'a> {
+    /// A fault that `flashnor` reports too, with the same line.
+    Fault(Fault<'a>),
+    /// Chip fault 1, before a write or an erase: the chip has no row in the table, and at least one of the bits 2 to 6
+    /// of its status 1 is set. Nothing was changed, and the journal was not created.
+    Protected { status1: u8 },
+}
+
+impl<'a> From<Fault<'a>> for JobFault<'a> {
+    ghost use Rattle.flashnor_serprog.specs.declared.chip_faults.JobFault.TheVariants as ended;
+
+    ghost from_gives = { λ fault of_job. of_job ≡ ended.Fault fault };
+
+    fn from(fault: Fault<'a>) -> JobFault<'a> {
+        JobFault::Fault(fault)
+    }
+}
+
+impl From<AllocError> for JobFault<'_> {
+    ghost use Rattle.flashnor_serprog.specs.declared.chip_faults.JobFault.TheVariants as ended;
+    ghost use Rattle.nor_lines.specs.declared.messages.Fault.TheVariants.{Refused};
+    ghost use Rattle.nor_request.specs.declared.refusal.Refusal.TheVariants.{Memory};
+
+    ghost from_gives = { λ _ of_job. of_job ≡ ended.Fault (Refused Memory) };
+
+    fn from(error: AllocError) -> Self {
+        JobFault::Fault(Fault::from(error))
+    }
+}
+
+impl fmt::Display for JobFault<'_> {
+    fn fmt<W: fmt::Write>(&self, f: &mut fmt::Formatter<W>) -> fmt::Result {
+        match self {
+            JobFault::Fault(fault) => write!(f, "{fault}"),
+            JobFault::Protected { status1 } => {
+                write!(f, "Chip fault 1: status 1 of this chip is {status1:02X}h. {PROTECTED}")
+            }
+        }
+    }
+}
+
+const PROTECTED: &str = "On nearly every chip its bits 2 to 6 protect sectors, and this program \
+    doesn't know what they mean on this chip. Nothing was changed. Clear these bits with another \
+    tool (flashrom --wp-disable, then flashrom --wp-range=0,0), and try again.";
