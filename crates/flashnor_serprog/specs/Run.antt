@@ -1,5 +1,6 @@
 -- The end of a run: its job, and its exit status.
-use Rattle.std.specs.Prelude.{◌≡◌, ◌≤◌, ◌⊎◌, ℕ, List, Option, Result, Ok, Err, codes}
+use Rattle.std.specs.Prelude.{◌≡◌, ◌≤◌, ◌⊎◌, ◌&&◌, ◌++◌, ℕ, Bool, true, false, List, [], ◌∷◌, Option, Result, Ok, Err}
+use Rattle.std.specs.Prelude.{codes, not}
 use Rattle.std.specs.Borrow.{Bor}
 use Rattle.clap.specs.Words.{IsAmong}
 use Rattle.clap.specs.declared.error.kind.ErrorKind.TheVariants as kind
@@ -9,12 +10,15 @@ use Rattle.nor_layout.specs.declared.ranges.Span.{Span}
 use Rattle.nor_words.specs.Text.{Text}
 use Rattle.nor_words.specs.Words.{IsHardwareJob, hardware_refusals_of}
 use Rattle.nor_words.specs.declared.job.Operation.{Operation}
+use Rattle.nor_words.specs.declared.job.Task.{Task}
+use Rattle.nor_words.specs.declared.job.Task.TheVariants as task
 use Rattle.nor_lines.specs.AnswerLines.{AreLines}
+use Rattle.nor_lines.specs.Lines.{line}
 use Rattle.nor_lines.specs.Printing.{IsAnswered, Prints}
 use Rattle.nor_lines.specs.declared.answers.Answer.{Answer}
 use Rattle.nor_lines.specs.declared.messages.Fault.TheVariants as end
 use Rattle.nor_request.specs.declared.refusal.Refusal.{Refusal}
-use Rattle.flashnor_serprog.specs.Jobs.{DoesTask, FailsTask}
+use Rattle.flashnor_serprog.specs.Jobs.{DoesTask, FailsTask, changes_bytes}
 use Rattle.flashnor_serprog.specs.Sends.{SendsOnly}
 use Rattle.flashnor_serprog.specs.Setting.{IsDeviceOf}
 use Rattle.flashnor_serprog.specs.Sources.{AreSources, HaveOneRole}
@@ -59,10 +63,24 @@ abbrev pub IsEndedAs : Result Answer Refusal → Result Answer JobFault → Type
 IsEndedAs (Ok found) result = result ≡ Ok found
 IsEndedAs (Err refusal) result = result ≡ Err (ended.Fault (end.Refused refusal))
 
+-- true for a write or an erase with `-n`, after which nothing was verified
+abbrev pub is_unverified : Task → Bool
+is_unverified (task.Change change) = changes_bytes change.wanted && not change.verify
+is_unverified _ = false
+
+-- the line that follows the lines of a change after which nothing was verified
+abbrev pub unverified_line : List ℕ
+unverified_line = line (codes "Nothing was verified (-n)." ∷ [])
+
+-- Holds if `text` is the lines of this answer, with one more line (`unverified_line`) if nothing was verified.
+abbrev pub AreJobLines : (unverified : Bool) → Answer → List ℕ → Type 0
+AreJobLines false found text = AreLines found text
+AreJobLines true found text = (lines : List ℕ) × AreLines found lines × (text ≡ lines ++ unverified_line)
+
 -- the run has an answer, whose lines were printed
-abbrev pub HasPrinted : Result Answer JobFault → (out out' : Option (List ℕ)) → Type 0
-HasPrinted (Ok found) out out' = Prints (AreLines found) out out'
-HasPrinted (Err fault) out out' = ⊥
+abbrev pub HasPrinted : Task → Result Answer JobFault → (out out' : Option (List ℕ)) → Type 0
+HasPrinted job (Ok found) out out' = Prints (AreJobLines (is_unverified job) found) out out'
+HasPrinted job (Err fault) out out' = ⊥
 
 -- A run of a job on a chip, with the states of the bus before and after it. The run sent only what its job may send
 -- (`SendsOnly`). The status is 0 or 1, and 0 only if the job ended with an answer and the answer's lines were printed.
@@ -74,7 +92,7 @@ pub record HasRun (operation : Operation) (ranges : Option (List Span)) (bytes :
   pub ends : EndsJob operation ranges bytes before after first last outcome
   pub sends : SendsOnly operation.task bytes first last after
   pub few : status ≤ 1
-  pub printed : status ≡ 0 → HasPrinted outcome out out'
+  pub printed : status ≡ 0 → HasPrinted operation.task outcome out out'
 
 -- Holds if the arguments ask for help: `clap` may reject them with the help as its error.
 abbrev pub ArgumentsAskForHelp : List Text → Type 0

@@ -7,7 +7,7 @@ ghost use Rattle.nor_lines.specs.Stored.{IsNot};
 ghost use Rattle.flashnor_serprog.specs.Jobs.{DoesTask, FailsChange, FailsTask, FailsToAdmit, FailsToFill, FailsToFind};
 ghost use Rattle.flashnor_serprog.specs.Jobs.{FailsToRead, HasChangedBy, HasIdentified, HasLookedUp, HasReadChip};
 ghost use Rattle.flashnor_serprog.specs.Jobs.{HasRestored, HasRunRestore, IsBufferOf, IsChangeable, IsNamedFirst};
-ghost use Rattle.flashnor_serprog.specs.Jobs.{IsNoJournal, ReportsFound, ReportsSize, may_be_protected};
+ghost use Rattle.flashnor_serprog.specs.Jobs.{IsNoJournal, ReportsFound, ReportsSize, changes_bytes, may_be_protected};
 
 use crate::chip_faults::JobFault;
 use crate::progress::{Progress, Terminal};
@@ -183,6 +183,13 @@ fn change_chip<'a, R: Store, B: Progress>(
         terminal.print_session(announcement)
     })?;
     Ok(outcome)
+}
+
+/// True for a write and an erase.
+pub fn changes_bytes(wanted: Wanted<'_>) -> bool
+    ensures { result ≡ changes_bytes wanted.entry }
+{
+    !matches!(wanted, Wanted::Range { .. })
 }
 
 // Returns the buffer of a session: for an erase FFh for each byte of the chip; otherwise `bytes`. For a write or an

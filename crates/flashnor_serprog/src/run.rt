@@ -1,18 +1,18 @@
 //! A run of the program: from its arguments to its exit status.
-ghost use Rattle.std.specs.Prelude.{◌≡◌, ◌≤◌, IfErr, IfOk, IsOk, map, string_bytes};
+ghost use Rattle.std.specs.Prelude.{◌≡◌, ◌≤◌, IfErr, IfOk, IsOk, OnOk, map, string_bytes};
+ghost use Rattle.std.specs.Io.KnownBytes.{Appends};
 ghost use Rattle.nor_files.specs.Disk.{unknown};
 ghost use Rattle.nor_files.specs.Files.{AreUntouched};
-ghost use Rattle.nor_lines.specs.AnswerLines.{AreLines};
 ghost use Rattle.nor_lines.specs.Printing.{Prints};
 ghost use Rattle.nor_words.specs.Words.{arguments_of};
-ghost use Rattle.flashnor_serprog.specs.Run.{AsksForHelp, EndsJob, HasRun, HasSucceeded, IsAskedFor, IsHelpAskedBy};
-ghost use Rattle.flashnor_serprog.specs.Run.{IsEndedAs, IsPrepared};
+ghost use Rattle.flashnor_serprog.specs.Run.{AreJobLines, AsksForHelp, EndsJob, HasRun, HasSucceeded, IsAskedFor};
+ghost use Rattle.flashnor_serprog.specs.Run.{IsEndedAs, IsHelpAskedBy, IsPrepared, is_unverified, unverified_line};
 ghost use Rattle.flashnor_serprog.specs.Sends.{SendsOnly, changes};
 
 use crate::chip_faults::JobFault;
 use crate::connect::{ChipBus, connect};
 use crate::help::HELP;
-use crate::jobs::perform;
+use crate::jobs::{changes_bytes, perform};
 use crate::progress::{Progress, Terminal};
 use crate::roles::have_one_role;
 use crate::setting::Setting;
@@ -189,8 +189,9 @@ fn run_prepared<R: Store, O: Write, E: Write>(
         bus.begin_session();
     }
     let terminal = bus.terminal();
+    let unverified = is_unverified(&operation.task);
     match end_job(files, &mut bus, terminal, &operation, sources) {
-        Ok(answer) => end_well(output, answer),
+        Ok(answer) => end_well(output, answer, unverified),
         Err(fault) => {
             let _ = writeln!(errors, "{fault}");
             if let JobFault::Fault(Fault::Refused(Refusal::Stopped)) = &fault {
@@ -229,11 +230,43 @@ fn end_call<'a>(outcome: Outcome) -> Result<Answer, JobFault<'a>>
 }
 
 // Prints an answer, and returns the exit status, which is 0 only if all lines were printed.
-fn end_well<O: Write>(output: &mut O, answer: Answer) -> u8
+fn end_well<O: Write>(output: &mut O, answer: Answer, unverified: bool) -> u8
     ensures few { result ≤ 1 }
-    ensures printed { result ≡ 0 → Prints (AreLines answer) (O.contents output.old) (O.contents output.new) }
+    ensures printed { result ≡ 0
+        → Prints (AreJobLines unverified answer) (O.contents output.old) (O.contents output.new) }
 {
-    status_of(print_answer(output, answer))
+    status_of(print_lines(output, answer, unverified))
+}
+
+// Prints the lines of an answer and, if nothing was verified, the line that says so.
+fn print_lines<O: Write>(output: &mut O, answer: Answer, unverified: bool) -> io::Result<()>
+    ensures { OnOk result
+        (Prints (AreJobLines unverified answer) (O.contents output.old) (O.contents output.new)) }
+{
+    if unverified {
+        print_answer(output, answer)?;
+        print_unverified(output)
+    } else {
+        print_answer(output, answer)
+    }
+}
+
+#[tactic(auto, unfolding(nor_lines::specs::Lines::line))]
+fn print_unverified<O: Write>(output: &mut O) -> io::Result<()>
+    ensures { OnOk result (Appends (O.contents output.old) (O.contents output.new) unverified_line) }
+{
+    writeln!(output, "Nothing was verified (-n).")?;
+    output.flush()
+}
+
+// True for a write or an erase with `-n`, after which nothing was verified.
+fn is_unverified(task: &Task<'_>) -> bool
+    ensures { result ≡ is_unverified task.now }
+{
+    match task {
+        Task::Change(change) => changes_bytes(change.wanted) && !change.verify,
+        _ => false,
+    }
 }
 
 // True if the task may change the chip.

@@ -9,7 +9,7 @@ returns-in-Ok g c = record {
   ends = c.in-Ok.ensures.ends;
   sends = c.end_job.ensures.sends;
   few = c.end_well.ensures.few;
-  printed = c.end_well.ensures.printed;
+  printed = rw c.is_unverified.ensures at c.end_well.ensures.printed;
 }
 
 pub returns : goal.returns
