@@ -1,5 +1,5 @@
--- The identification before a call: its error is the fault of the run.
-use Rattle.std.proofs.Common.{◌≡◌, Option, Result, Ok, Err, IfErr, IfOk, inl, inr, refl}
+-- The faults of a job before its call, and after the call of a change.
+use Rattle.std.proofs.Common.{◌≡◌, ℕ, Bool, List, Option, Result, Ok, Err, IfErr, IfOk, false, inl, inr, refl, true}
 use Rattle.std.specs.Borrow.{Bor}
 use Rattle.nor_model.specs.Bus.{BusState}
 use Rattle.nor_probe.specs.declared.probes.Found.{Found}
@@ -7,15 +7,19 @@ use Rattle.nor_probe.specs.declared.table.ChipName.{ChipName}
 use Rattle.nor_request.specs.declared.refusal.Refusal.{Refusal}
 use Rattle.nor_request.specs.declared.refusal.Refusal.TheVariants.{Memory}
 use Rattle.nor_files.specs.Files.{FilesState, View}
+use Rattle.nor_layout.specs.declared.ranges.Span.{Span}
 use Rattle.nor_words.specs.Text.{Text}
+use Rattle.nor_words.specs.declared.job.Change.{Change}
 use Rattle.nor_words.specs.declared.job.JournalUse.TheVariants as uses
 use Rattle.nor_words.specs.declared.job.Wanted.{Wanted}
 use Rattle.nor_words.specs.declared.job.Wanted.TheVariants as wanted
 use Rattle.nor_lines.specs.Messages.{IsReportedAs}
 use Rattle.nor_lines.specs.Files.{IsMaking}
+use Rattle.nor_lines.specs.declared.answers.Answer.{Answer}
 use Rattle.nor_lines.specs.declared.messages.Fault.{Fault}
 use Rattle.nor_lines.specs.declared.messages.Fault.TheVariants as end
-use Rattle.flashnor_serprog.specs.Jobs.{FailsChange, FailsToFill, FailsToFind, HasIdentified}
+use Rattle.flashnor_serprog.specs.Jobs.{FailsChange, FailsToChange, FailsToFill, FailsToFind, FailsToFollow}
+use Rattle.flashnor_serprog.specs.Jobs.{HasIdentified, HasRunChange, IsBufferOf, IsRefusedAsProtected, is_compared}
 use Rattle.flashnor_serprog.specs.declared.chip_faults.JobFault.{JobFault}
 use Rattle.flashnor_serprog.specs.declared.chip_faults.JobFault.TheVariants as ended
 
@@ -33,21 +37,79 @@ module _ (named : Option ChipName) (old new : BusState) where
   memory_making : (file : Text) (view : View) (fault : Fault) → fault ≡ end.Refused Memory → IsMaking view file fault
   memory_making file view fault is = rw is refl
 
-  -- A fault of making the buffer of a session is a fault of a change with a journal in a file, if the files are as they
-  -- were.
-  pub fill_fails : (target : Wanted) (file : Bor Text) (view : View) (after : FilesState) (fault : JobFault)
-      → after.view ≡ view → FailsToFill named target old new fault
-      → FailsChange named target (uses.Journal file) view after old new fault
-  fill_fails (wanted.Write image) file view after (ended.Fault fault) same (inl found) = inl found
-  fill_fails (wanted.Write image) file view after (ended.Fault fault) same (inr made) =
+  fills : (target : Wanted) (file : Bor Text) (view : View) (fault : Fault)
+      → FailsToFill named target old new (ended.Fault fault)
+      → FailsToChange named target (uses.Journal file) view old new fault
+  fills (wanted.Write image) file view fault (inl found) = inl found
+  fills (wanted.Write image) file view fault (inr made) =
       inr (made.0, made.1, memory_making file.now view fault (cc made.2))
-  fill_fails (wanted.Write image) file view after (ended.Protected byte) same (inl refused) =
-      record { changes = refl; journalled = refl; protected = refused; unmade = same }
-  fill_fails (wanted.Write image) file view after (ended.Protected byte) same (inr made) = cc made.2
-  fill_fails wanted.Erase file view after (ended.Fault fault) same (inl found) = inl found
-  fill_fails wanted.Erase file view after (ended.Fault fault) same (inr made) =
+  fills wanted.Erase file view fault (inl found) = inl found
+  fills wanted.Erase file view fault (inr made) =
       inr (made.0, made.1, memory_making file.now view fault (cc made.2))
-  fill_fails wanted.Erase file view after (ended.Protected byte) same (inl refused) =
+  fills (wanted.Range start len) file view fault fails = absurd fails
+
+  refuses : (target : Wanted) (file : Bor Text) (view : View) (after : FilesState) (byte : ℕ) → after.view ≡ view
+      → FailsToFill named target old new (ended.Protected byte)
+      → IsRefusedAsProtected named target (uses.Journal file) view after old new byte
+  refuses (wanted.Write image) file view after byte same (inl refused) =
       record { changes = refl; journalled = refl; protected = refused; unmade = same }
-  fill_fails wanted.Erase file view after (ended.Protected byte) same (inr made) = cc made.2
-  fill_fails (wanted.Range start len) file view after fault same fails = absurd fails
+  refuses (wanted.Write image) file view after byte same (inr made) = absurd (cc made.2)
+  refuses wanted.Erase file view after byte same (inl refused) =
+      record { changes = refl; journalled = refl; protected = refused; unmade = same }
+  refuses wanted.Erase file view after byte same (inr made) = absurd (cc made.2)
+  refuses (wanted.Range start len) file view after byte same fails = absurd fails
+
+  compares_none : (target : Wanted) (refusal : Refusal)
+      → FailsToFill named target old new (ended.NotCompared refusal) → ⊥
+  compares_none (wanted.Write image) refusal (inl fails) = fails
+  compares_none (wanted.Write image) refusal (inr made) = absurd (cc made.2)
+  compares_none wanted.Erase refusal (inl fails) = fails
+  compares_none wanted.Erase refusal (inr made) = absurd (cc made.2)
+  compares_none (wanted.Range start len) refusal fails = fails
+
+  -- A fault of creating the journal, or of copying the buffer of a session, is a fault of a change with a journal in a
+  -- file.
+  pub start_fails : (target : Wanted) (bytes image : List ℕ) (file : Bor Text) (view : View) (fault : Fault)
+      → IsBufferOf named target bytes old new image → IsMaking view file.now fault
+      → FailsToChange named target (uses.Journal file) view old new fault
+  start_fails (wanted.Write from) bytes image file view fault buffer making = inr (buffer.0, buffer.1, making)
+  start_fails wanted.Erase bytes image file view fault buffer making = inr (buffer.0, buffer.1, making)
+  start_fails (wanted.Range start len) bytes image file view fault buffer making = (buffer.0, making)
+
+  module _ (change : Change) (ranges : Option (List Span)) (bytes : List ℕ) (file : Bor Text) (view : View)
+      (after : FilesState) where
+    -- A fault of making the buffer of a session is a fault of a change with a journal in a file, if the files are as
+    -- they were.
+    pub fill_fails : (fault : JobFault) → after.view ≡ view → FailsToFill named change.wanted old new fault
+        → FailsChange named change ranges bytes (uses.Journal file) view after old new fault
+    fill_fails (ended.Fault fault) same fails = fills change.wanted file view fault fails
+    fill_fails (ended.Protected byte) same fails = refuses change.wanted file view after byte same fails
+    fill_fails (ended.NotCompared refusal) same fails = absurd (compares_none change.wanted refusal fails)
+
+-- ---- the comparison after a session
+
+module _ (named : Option ChipName) (ranges : Option (List Span)) (target : List ℕ) (old new : BusState) where
+  follows_none : (found : Answer) (compared : Bool) (fault : Fault)
+      → FailsToFollow (Ok found) compared named ranges target old new (ended.Fault fault) → ⊥
+  follows_none found true fault fails = fails
+  follows_none found false fault fails = fails
+
+  follows_unprotected : (found : Answer) (compared : Bool) (byte : ℕ)
+      → FailsToFollow (Ok found) compared named ranges target old new (ended.Protected byte) → ⊥
+  follows_unprotected found true byte fails = fails
+  follows_unprotected found false byte fails = fails
+
+-- the fault of the comparison after a session is a fault of the change
+module _ (named : Option ChipName) (change : Change) (ranges : Option (List Span)) (bytes : List ℕ) (file : Bor Text)
+    (view : View) (after : FilesState) (old changed new : BusState) where
+  pub follow_fails : (session : Result Answer Refusal) (fault : JobFault)
+      → (ran : HasRunChange named change ranges bytes file.now view after old changed session)
+      → FailsToFollow session (is_compared change) named ranges ran.image changed new fault
+      → FailsChange named change ranges bytes (uses.Journal file) view after old new fault
+  follow_fails (Ok found) (ended.Fault fault) ran fails =
+      absurd (follows_none named ranges ran.image changed new found (is_compared change) fault fails)
+  follow_fails (Ok found) (ended.Protected byte) ran fails =
+      absurd (follows_unprotected named ranges ran.image changed new found (is_compared change) byte fails)
+  follow_fails (Ok found) (ended.NotCompared refusal) ran fails =
+      record { changed = changed; reported = found; session = ran; fails = fails }
+  follow_fails (Err refusal) fault ran fails = absurd fails

@@ -23,8 +23,9 @@ use Rattle.nor_lines.specs.Sessions.{HasRunInFile}
 use Rattle.nor_lines.specs.declared.answers.Answer.{Answer}
 use Rattle.nor_lines.specs.declared.messages.Fault.{Fault}
 use Rattle.nor_lines.specs.declared.messages.Fault.TheVariants as end
-use Rattle.flashnor_serprog.specs.Jobs.{DoesTask, FailsBefore, FailsTask, FailsToChange, HasChangedBy, IsBufferOf}
-use Rattle.flashnor_serprog.specs.Jobs.{IsNamedFirst}
+use Rattle.flashnor_serprog.specs.Jobs.{DoesTask, FailsBefore, FailsComparison, FailsPerform, FailsToChange}
+use Rattle.flashnor_serprog.specs.Jobs.{FailsToFollow, HasChangedBy, HasRunChange, IsBufferOf, IsFollowed}
+use Rattle.flashnor_serprog.specs.Jobs.{IsNamedFirst, is_compared}
 use Rattle.flashnor_serprog.specs.Run.{EndsJob, IsEndedAs}
 use Rattle.flashnor_serprog.specs.declared.chip_faults.JobFault.{JobFault}
 use Rattle.flashnor_serprog.specs.declared.chip_faults.JobFault.TheVariants as ended
@@ -46,6 +47,17 @@ sends_after IsCode journal old mid new same sends = record {
   erases = rw same at sends.erases;
   programs = rw same at sends.programs;
   unknown = rw same at sends.unknown;
+}
+
+-- The limits of `SendsSaved` also hold up to a later state, if nothing that may modify a chip was sent after the call.
+sends_before : (IsCode : ℕ → Type 0) (journal : Journal) (old mid new : BusState)
+    → SendsSaved IsCode 1 journal old mid → KeepsSent mid new → SendsSaved IsCode 1 journal old new
+sends_before IsCode journal old mid new sends same = record {
+  targeted = λ s. rw same (sends.targeted s);
+  written = λ one two. rw same (sends.written one two);
+  erases = rw same sends.erases;
+  programs = rw same sends.programs;
+  unknown = rw same sends.unknown;
 }
 
 -- A session sends no modifying command before its journal is sealed, nor does anything before the session (`same`).
@@ -73,13 +85,52 @@ buffer_reads : (named : Option ChipName) (target : Wanted) (bytes : List ℕ) (o
 buffer_reads named (wanted.Range start len) bytes old new image is = same_keeps_sent old new is.0
 buffer_reads named _ bytes old new image is = is.1.identified.always.only_reads.sent
 
+-- nothing that may modify a chip was sent after the session
+module _ (what : What) (file : Text) (old changed new : BusState) (after : FilesState)
+    (same : KeepsSent changed new) where
+  journalled_before : SendsJournalled what file old changed after → SendsJournalled what file old new after
+  journalled_before sends = record {
+    bytes = sends.bytes;
+    journal = sends.journal;
+    durable = sends.durable;
+    sends = sends_before _ _ old changed new sends.sends same;
+  }
+
+  reads_after : KeepsSent old changed ⊎ (is_lawful after.view ≡ true → SendsJournalled what file old changed after)
+      → KeepsSent old new ⊎ (is_lawful after.view ≡ true → SendsJournalled what file old new after)
+  reads_after (inl kept) = inl (reads_on old changed new kept same)
+  reads_after (inr sends) = inr (λ lawful. journalled_before (sends lawful))
+
+run_sends : (named : Option ChipName) (change : Change) (ranges : Option (List Span)) (bytes : List ℕ)
+    (file : Text) (before : View) (after : FilesState) (old new : BusState) (outcome : Result Answer Refusal)
+    → HasRunChange named change ranges bytes file before after old new outcome
+    → KeepsSent old new ⊎ (is_lawful after.view ≡ true
+    → SendsJournalled (what_of change.wanted) file old new after)
+run_sends named change ranges bytes file before after old new outcome ran =
+    session_sends _ ran.image file before after old ran.found new outcome ran.ran
+    (buffer_reads named change.wanted bytes old ran.found ran.image ran.buffer)
+
+follow_reads : (session : Result Answer Refusal) (compared : Bool) (named : Option ChipName)
+    (ranges : Option (List Span)) (target : List ℕ) (old new : BusState)
+    → IsFollowed session compared named ranges target old new → KeepsSent old new
+follow_reads (Ok found) true named ranges target old new is = is.1.always.only_reads.sent
+follow_reads (Ok found) false named ranges target old new is = same_keeps_sent old new is
+follow_reads (Err refusal) compared named ranges target old new is = same_keeps_sent old new is
+
+fails_reads : (found : Answer) (compared : Bool) (named : Option ChipName) (ranges : Option (List Span))
+    (target : List ℕ) (old new : BusState) (refusal : Refusal)
+    → FailsToFollow (Ok found) compared named ranges target old new (ended.NotCompared refusal) → KeepsSent old new
+fails_reads found true named ranges target old new refusal is = is.always.only_reads.sent
+fails_reads found false named ranges target old new refusal is = absurd is
+
 change_sends : (named : Option ChipName) (change : Change) (ranges : Option (List Span)) (bytes : List ℕ)
     (kept : JournalUse) (before : View) (after : FilesState) (old new : BusState) (outcome : Result Answer Refusal)
     → HasChangedBy named change ranges bytes kept before after old new outcome
     → SendsChange (what_of change.wanted) kept old new after
 change_sends named change ranges bytes (uses.Journal file) before after old new outcome does =
-    session_sends _ does.image file.now before after old does.found new outcome does.ran
-    (buffer_reads named change.wanted bytes old does.found does.image does.buffer)
+    reads_after _ file.now old does.changed new after
+    (follow_reads outcome (is_compared change) named ranges does.session.image does.changed new does.followed)
+    (run_sends named change ranges bytes file.now before after old does.changed outcome does.session)
 change_sends named change ranges bytes (uses.Rehearse stops) before after old new outcome does = absurd does
 
 named_reads : (named : Option ChipName) (old new : BusState) → IsNamedFirst named old new → KeepsSent old new
@@ -134,23 +185,36 @@ fails_sends named (task.Restore journal) bytes view after old new fault (inl fou
 fails_sends named (task.Restore journal) bytes view after old new fault (inr none) = inl (same_keeps_sent old new none.0)
 fails_sends named _ bytes view after old new fault fails = absurd fails
 
-task_fails_sends : (named : Option ChipName) (job : Task) (bytes : List ℕ) (view : View) (after : FilesState)
-    (old new : BusState) (fault : JobFault) → FailsTask named job bytes view after old new fault
-    → SendsOnly job bytes old new after
-task_fails_sends named (task.Change change) bytes view after old new (ended.Fault fault) fails =
+comparison_sends : (named : Option ChipName) (change : Change) (ranges : Option (List Span)) (bytes : List ℕ)
+    (kept : JournalUse) (before : View) (after : FilesState) (old new : BusState) (refusal : Refusal)
+    → FailsComparison named change ranges bytes kept before after old new refusal
+    → SendsChange (what_of change.wanted) kept old new after
+comparison_sends named change ranges bytes (uses.Journal file) before after old new refusal fails =
+    reads_after _ file.now old fails.changed new after
+    (fails_reads fails.reported (is_compared change) named ranges fails.session.image fails.changed new refusal
+    fails.fails)
+    (run_sends named change ranges bytes file.now before after old fails.changed (Ok fails.reported) fails.session)
+comparison_sends named change ranges bytes (uses.Rehearse stops) before after old new refusal fails = absurd fails
+
+task_fails_sends : (named : Option ChipName) (job : Task) (ranges : Option (List Span)) (bytes : List ℕ) (view : View)
+    (after : FilesState) (old new : BusState) (fault : JobFault)
+    → FailsPerform named job ranges bytes view after old new fault → SendsOnly job bytes old new after
+task_fails_sends named (task.Change change) ranges bytes view after old new (ended.Fault fault) fails =
     fails_sends named (task.Change change) bytes view after old new fault fails
-task_fails_sends named (task.Change change) bytes view after old new (ended.Protected byte) fails =
+task_fails_sends named (task.Change change) ranges bytes view after old new (ended.Protected byte) fails =
     sends_none _ change.journal_use old new after fails.protected.identified.always.only_reads.sent
-task_fails_sends named job bytes view after old new (ended.Fault fault) fails =
+task_fails_sends named (task.Change change) ranges bytes view after old new (ended.NotCompared refusal) fails =
+    comparison_sends named change ranges bytes change.journal_use view after old new refusal fails
+task_fails_sends named job ranges bytes view after old new (ended.Fault fault) fails =
     fails_sends named job bytes view after old new fault fails
-task_fails_sends named job bytes view after old new (ended.Protected byte) fails = absurd fails
+task_fails_sends named job ranges bytes view after old new _ fails = absurd fails
 
 -- ---- the end of a job
 
 module _ (operation : Operation) (ranges : Option (List Span)) (bytes : List ℕ) (before : View) (after : FilesState)
     (old new : BusState) where
   pub fails_ends : (fault : JobFault)
-      → FailsTask operation.named operation.task bytes before after old new fault
+      → FailsPerform operation.named operation.task ranges bytes before after old new fault
       → EndsJob operation ranges bytes before after old new (Err fault)
   fails_ends (ended.Fault (end.Refused refusal)) fails = inr fails
   fails_ends _ fails = fails
@@ -168,6 +232,7 @@ module _ (operation : Operation) (ranges : Option (List Span)) (bytes : List ℕ
   ends_sends (Err (ended.Fault (end.Refused refusal))) (inl does) =
       task_sends operation.named operation.task ranges bytes before after old new (Err refusal) does
   ends_sends (Err (ended.Fault (end.Refused refusal))) (inr fails) =
-      task_fails_sends operation.named operation.task bytes before after old new (ended.Fault (end.Refused refusal)) fails
+      task_fails_sends operation.named operation.task ranges bytes before after old new
+      (ended.Fault (end.Refused refusal)) fails
   ends_sends (Err fault) fails =
-      task_fails_sends operation.named operation.task bytes before after old new fault fails
+      task_fails_sends operation.named operation.task ranges bytes before after old new fault fails

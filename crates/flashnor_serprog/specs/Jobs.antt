@@ -121,6 +121,7 @@ pub record IsProtected (named : Option ChipName) (old new : BusState) (byte : �
 abbrev pub FailsToAdmit : Option ChipName → (old new : BusState) → JobFault → Type 0
 FailsToAdmit named old new (ended.Fault fault) = FailsToFind named old new fault
 FailsToAdmit named old new (ended.Protected status1) = IsProtected named old new status1
+FailsToAdmit named old new (ended.NotCompared refusal) = ⊥
 
 -- ---- changes
 
@@ -151,18 +152,60 @@ pub record HasRunChange (named : Option ChipName) (change : Change) (ranges : Op
   pub buffer : IsBufferOf named change.wanted bytes old found image
   pub ran : HasRunInFile (request_for change named ranges) image file before after found new outcome
 
--- The session of a change was run with its journal in a new file (`HasRunChange`). Never holds for a rehearsal, since
--- this program rehearses nothing.
+-- true for a write and an erase
+abbrev pub changes_bytes : Wanted → Bool
+changes_bytes (wanted.Range start len) = false
+changes_bytes _ = true
+
+-- true if all included addresses are compared after this change: after a write or an erase without `-n`
+abbrev pub is_compared : Change → Bool
+is_compared change = changes_bytes change.wanted && change.verify
+
+-- What follows the session of a change. If the session succeeded and the change is compared, the chip was compared with
+-- the target at the included addresses, and was equal (`HasVerified`). Otherwise nothing was sent.
+abbrev pub IsFollowed : (session : Result Answer Refusal) → (compared : Bool) → Option ChipName → Option (List Span)
+    → (target : List ℕ) → (old new : BusState) → Type 0
+IsFollowed (Ok found) true named ranges target old new =
+    (verified : Answer) × HasVerified named ranges target old new (Ok verified)
+IsFollowed (Ok found) false named ranges target old new = new ≡ old
+IsFollowed (Err refusal) compared named ranges target old new = new ≡ old
+
+-- The session of a change succeeded, the change is compared, and the comparison returned the error of this fault.
+abbrev pub FailsToFollow : (session : Result Answer Refusal) → (compared : Bool) → Option ChipName
+    → Option (List Span) → (target : List ℕ) → (old new : BusState) → JobFault → Type 0
+FailsToFollow (Ok found) true named ranges target old new (ended.NotCompared refusal) =
+    HasVerified named ranges target old new (Err refusal)
+FailsToFollow _ compared named ranges target old new fault = ⊥
+
+-- The session of a change was run with its journal in a new file, and followed by its comparison.
+pub record HasChangedAndCompared (named : Option ChipName) (change : Change) (ranges : Option (List Span))
+    (bytes : List ℕ) (file : Text) (before : View) (after : FilesState) (old new : BusState)
+    (outcome : Result Answer Refusal) : Type 0 where
+  pub changed : BusState
+  pub session : HasRunChange named change ranges bytes file before after old changed outcome
+  pub followed : IsFollowed outcome (is_compared change) named ranges session.image changed new
+
+-- A change was made with its journal in a new file (`HasChangedAndCompared`). Never holds for a rehearsal, since this
+-- program rehearses nothing.
 abbrev pub HasChangedBy : Option ChipName → Change → Option (List Span) → (bytes : List ℕ) → JournalUse
     → (before : View) → (after : FilesState) → (old new : BusState) → Result Answer Refusal → Type 0
 HasChangedBy named change ranges bytes (uses.Journal file) before after old new outcome =
-    HasRunChange named change ranges bytes file.now before after old new outcome
+    HasChangedAndCompared named change ranges bytes file.now before after old new outcome
 HasChangedBy named change ranges bytes (uses.Rehearse stops) before after old new outcome = ⊥
+
+-- The session of a change succeeded, with its journal in a new file. Then the comparison returned this error.
+pub record HasNotCompared (named : Option ChipName) (change : Change) (ranges : Option (List Span)) (bytes : List ℕ)
+    (file : Text) (before : View) (after : FilesState) (old new : BusState) (refusal : Refusal) : Type 0 where
+  pub changed : BusState
+  pub reported : Answer
+  pub session : HasRunChange named change ranges bytes file before after old changed (Ok reported)
+  pub fails : FailsToFollow (Ok reported) (is_compared change) named ranges session.image changed new
+      (ended.NotCompared refusal)
 
 -- The identification found a chip for which `may_be_protected` is false, and nothing else was sent. Then creating the
 -- journal failed, or memory ran out. The fault is one that `IsMaking` allows.
-abbrev pub FailsToStart : Option ChipName → Text → View → (old new : BusState) → Fault → Type 0
-FailsToStart named file view old new fault =
+abbrev pub FailsToBeginChange : Option ChipName → Text → View → (old new : BusState) → Fault → Type 0
+FailsToBeginChange named file view old new fault =
     (chip : Found) × IsChangeable named old new chip × IsMaking view file fault
 
 -- The faults of a change before its session, except chip fault 1. Nothing was sent, except for a write or an erase,
@@ -173,34 +216,38 @@ FailsToChange named wanted (uses.Rehearse stops) view old new fault =
 FailsToChange named (wanted.Range start len) (uses.Journal file) view old new fault =
     (new ≡ old) × IsMaking view file.now fault
 FailsToChange named _ (uses.Journal file) view old new fault =
-    FailsToFind named old new fault ⊎ FailsToStart named file.now view old new fault
-
--- true for a write and an erase
-abbrev pub changes_bytes : Wanted → Bool
-changes_bytes (wanted.Range start len) = false
-changes_bytes _ = true
+    FailsToFind named old new fault ⊎ FailsToBeginChange named file.now view old new fault
 
 -- true if the journal of a change is kept in a file
-abbrev pub keeps_journal : JournalUse → Bool
-keeps_journal (uses.Journal file) = true
-keeps_journal (uses.Rehearse stops) = false
+abbrev pub has_journal_file : JournalUse → Bool
+has_journal_file (uses.Journal file) = true
+has_journal_file (uses.Rehearse stops) = false
 
 -- A write or an erase was refused with chip fault 1, which has this byte as the chip's status 1. The files are as they
 -- were, so no journal was created.
 pub record IsRefusedAsProtected (named : Option ChipName) (target : Wanted) (kept : JournalUse) (before : View)
     (after : FilesState) (old new : BusState) (byte : ℕ) : Type 0 where
   pub changes : changes_bytes target ≡ true
-  pub journalled : keeps_journal kept ≡ true
+  pub journalled : has_journal_file kept ≡ true
   pub protected : IsProtected named old new byte
   pub unmade : after.view ≡ before
 
--- the faults of a change before its session
-abbrev pub FailsChange : Option ChipName → Wanted → JournalUse → (before : View) → (after : FilesState)
-    → (old new : BusState) → JobFault → Type 0
-FailsChange named target kept before after old new (ended.Fault fault) =
-    FailsToChange named target kept before old new fault
-FailsChange named target kept before after old new (ended.Protected status1) =
-    IsRefusedAsProtected named target kept before after old new status1
+-- The comparison after a change with its journal in a file returned this error (`HasNotCompared`).
+abbrev pub FailsComparison : Option ChipName → Change → Option (List Span) → (bytes : List ℕ) → JournalUse
+    → (before : View) → (after : FilesState) → (old new : BusState) → Refusal → Type 0
+FailsComparison named change ranges bytes (uses.Journal file) before after old new refusal =
+    HasNotCompared named change ranges bytes file.now before after old new refusal
+FailsComparison named change ranges bytes (uses.Rehearse stops) before after old new refusal = ⊥
+
+-- the faults of a change before its session, and that of the comparison after it
+abbrev pub FailsChange : Option ChipName → Change → Option (List Span) → (bytes : List ℕ) → JournalUse
+    → (before : View) → (after : FilesState) → (old new : BusState) → JobFault → Type 0
+FailsChange named change ranges bytes kept before after old new (ended.Fault fault) =
+    FailsToChange named change.wanted kept before old new fault
+FailsChange named change ranges bytes kept before after old new (ended.Protected status1) =
+    IsRefusedAsProtected named change.wanted kept before after old new status1
+FailsChange named change ranges bytes kept before after old new (ended.NotCompared refusal) =
+    FailsComparison named change ranges bytes kept before after old new refusal
 
 -- ---- restores
 
@@ -262,10 +309,12 @@ FailsBefore named (task.Restore journal) bytes view old new fault =
     FailsToFind named old new fault ⊎ IsNoJournal bytes old new fault
 FailsBefore named _ bytes view old new fault = ⊥
 
--- The faults of `perform`: those before the call of a task, and chip fault 1, which only a change has.
-abbrev pub FailsTask : Option ChipName → Task → (bytes : List ℕ) → (before : View) → (after : FilesState)
-    → (old new : BusState) → JobFault → Type 0
-FailsTask named (task.Change change) bytes before after old new fault =
-    FailsChange named change.wanted change.journal_use before after old new fault
-FailsTask named job bytes before after old new (ended.Fault fault) = FailsBefore named job bytes before old new fault
-FailsTask named job bytes before after old new (ended.Protected status1) = ⊥
+-- The faults of `perform`: those before the call of a task and, only for a change, chip fault 1 and that of the
+-- comparison.
+abbrev pub FailsPerform : Option ChipName → Task → (ranges : Option (List Span)) → (bytes : List ℕ) → (before : View)
+    → (after : FilesState) → (old new : BusState) → JobFault → Type 0
+FailsPerform named (task.Change change) ranges bytes before after old new fault =
+    FailsChange named change ranges bytes change.journal_use before after old new fault
+FailsPerform named job ranges bytes before after old new (ended.Fault fault) =
+    FailsBefore named job bytes before old new fault
+FailsPerform named job ranges bytes before after old new _ = ⊥

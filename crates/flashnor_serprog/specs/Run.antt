@@ -18,7 +18,7 @@ use Rattle.nor_lines.specs.Printing.{IsAnswered, Prints}
 use Rattle.nor_lines.specs.declared.answers.Answer.{Answer}
 use Rattle.nor_lines.specs.declared.messages.Fault.TheVariants as end
 use Rattle.nor_request.specs.declared.refusal.Refusal.{Refusal}
-use Rattle.flashnor_serprog.specs.Jobs.{DoesTask, FailsTask, changes_bytes}
+use Rattle.flashnor_serprog.specs.Jobs.{DoesTask, FailsPerform, changes_bytes}
 use Rattle.flashnor_serprog.specs.Sends.{SendsOnly}
 use Rattle.flashnor_serprog.specs.Setting.{IsDeviceOf}
 use Rattle.flashnor_serprog.specs.Sources.{AreSources, HaveOneRole}
@@ -47,16 +47,17 @@ pub record IsPrepared (words : List Text) (view : View) (operation : Operation) 
   pub roles : HaveOneRole view.nature device operation.task
   pub sources : AreSources view operation.task ranges bytes
 
--- A job ends with the result of its call, or with a fault that occurred before the call.
+-- A job ends with the result of its call, or with a fault that occurred before the call or in the comparison after a
+-- change.
 abbrev pub EndsJob : Operation → (ranges : Option (List Span)) → (bytes : List ℕ) → (before : View)
     → (after : FilesState) → (old new : BusState) → Result Answer JobFault → Type 0
 EndsJob operation ranges bytes before after old new (Ok found) =
     DoesTask operation.named operation.task ranges bytes before after old new (Ok found)
 EndsJob operation ranges bytes before after old new (Err (ended.Fault (end.Refused refusal))) =
     DoesTask operation.named operation.task ranges bytes before after old new (Err refusal)
-    ⊎ FailsTask operation.named operation.task bytes before after old new (ended.Fault (end.Refused refusal))
+    ⊎ FailsPerform operation.named operation.task ranges bytes before after old new (ended.Fault (end.Refused refusal))
 EndsJob operation ranges bytes before after old new (Err fault) =
-    FailsTask operation.named operation.task bytes before after old new fault
+    FailsPerform operation.named operation.task ranges bytes before after old new fault
 
 -- the job has the answer or the error of its call
 abbrev pub IsEndedAs : Result Answer Refusal → Result Answer JobFault → Type 0

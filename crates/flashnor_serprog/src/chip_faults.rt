@@ -2,6 +2,7 @@
 ghost use Rattle.std.specs.Prelude.{◌≡◌};
 
 use nor_lines::Fault;
+use nor_session::Refusal;
 use std::alloc::AllocError;
 use std::fmt;
 
@@ -13,6 +14,9 @@ pub enum JobFault<'a> {
     /// Chip fault 1, before a write or an erase: the chip has no row in the table, and at least one of the bits 2 to 6
     /// of its status 1 is set. Nothing was changed, and the journal was not created.
     Protected { status1: u8 },
+    /// The change was made, and each sector that it touched was read back, except with `-n`. Then the comparison of all
+    /// included addresses with the target returned this error: 14 is printed as chip fault 4.
+    NotCompared { refusal: Refusal },
 }
 
 impl<'a> From<Fault<'a>> for JobFault<'a> {
@@ -37,13 +41,56 @@ impl From<AllocError> for JobFault<'_> {
     }
 }
 
+impl JobFault<'_> {
+    /// True for error 12: the bus stopped.
+    pub fn is_stop(&self) -> bool {
+        matches!(
+            self,
+            JobFault::Fault(Fault::Refused(Refusal::Stopped))
+                | JobFault::NotCompared {
+                    refusal: Refusal::Stopped
+                }
+        )
+    }
+
+    /// Returns the line that follows the fault's own, if there is one: after a change that was made, the comparison
+    /// of all included addresses failed with another error than a difference.
+    pub fn note(&self) -> Option<&'static str> {
+        match self {
+            JobFault::NotCompared {
+                refusal: Refusal::Mismatch { .. },
+            } => None,
+            JobFault::NotCompared { .. } => Some(NOT_COMPARED),
+            _ => None,
+        }
+    }
+}
+
+const NOT_COMPARED: &str =
+    "The change was made, and its sectors were verified. Only the comparison \
+    of all included addresses is missing.";
+
 impl fmt::Display for JobFault<'_> {
     fn fmt<W: fmt::Write>(&self, f: &mut fmt::Formatter<W>) -> fmt::Result {
         match self {
             JobFault::Fault(fault) => write!(f, "{fault}"),
             JobFault::Protected { status1 } => {
-                write!(f, "Chip fault 1: status 1 of this chip is {status1:02X}h. {PROTECTED}")
+                write!(
+                    f,
+                    "Chip fault 1: status 1 of this chip is {status1:02X}h. {PROTECTED}"
+                )
             }
+            JobFault::NotCompared {
+                refusal: Refusal::Mismatch { address },
+            } => write!(
+                f,
+                "Chip fault 4: the chip differs from the image at 0x{address:06x}. {DIFFERS}"
+            ),
+            JobFault::NotCompared { refusal } => write!(
+                f,
+                "Error {}: {refusal}.",
+                refusal.number()
+            ),
         }
     }
 }
@@ -51,3 +98,7 @@ impl fmt::Display for JobFault<'_> {
 const PROTECTED: &str = "On nearly every chip its bits 2 to 6 protect sectors, and this program \
     doesn't know what they mean on this chip. Nothing was changed. Clear these bits with another \
     tool (flashrom --wp-disable, then flashrom --wp-range=0,0), and try again.";
+
+const DIFFERS: &str = "The sectors of this change were verified, so this address is probably in \
+    another sector, which a disturbed address on the wire has erased or programmed. Restore the chip \
+    with --restore and the journal, then compare it with a backup.";

@@ -4,10 +4,11 @@ ghost use Rattle.nor_files.specs.Files.{Name, OthersStay, KeepsFile, is_lawful};
 ghost use Rattle.nor_lines.specs.Tasks.{journal_of, made_by};
 ghost use Rattle.nor_lines.specs.Readings.{HasVerified};
 ghost use Rattle.nor_lines.specs.Stored.{IsNot};
-ghost use Rattle.flashnor_serprog.specs.Jobs.{DoesTask, FailsChange, FailsTask, FailsToAdmit, FailsToFill, FailsToFind};
-ghost use Rattle.flashnor_serprog.specs.Jobs.{FailsToRead, HasChangedBy, HasIdentified, HasLookedUp, HasReadChip};
-ghost use Rattle.flashnor_serprog.specs.Jobs.{HasRestored, HasRunRestore, IsBufferOf, IsChangeable, IsNamedFirst};
-ghost use Rattle.flashnor_serprog.specs.Jobs.{IsNoJournal, ReportsFound, ReportsSize, changes_bytes, may_be_protected};
+ghost use Rattle.flashnor_serprog.specs.Jobs.{DoesTask, FailsChange, FailsPerform, FailsToAdmit, FailsToFill, FailsToFind};
+ghost use Rattle.flashnor_serprog.specs.Jobs.{FailsToFollow, FailsToRead, HasChangedBy, HasIdentified, HasLookedUp};
+ghost use Rattle.flashnor_serprog.specs.Jobs.{HasReadChip, HasRestored, HasRunRestore, IsBufferOf, IsChangeable};
+ghost use Rattle.flashnor_serprog.specs.Jobs.{IsFollowed, IsNamedFirst, IsNoJournal, ReportsFound, ReportsSize};
+ghost use Rattle.flashnor_serprog.specs.Jobs.{changes_bytes, is_compared, may_be_protected};
 
 use crate::chip_faults::JobFault;
 use crate::progress::{Progress, Terminal};
@@ -24,13 +25,13 @@ use nor_lines::{
 use nor_probe::{ChipName, Found, probe};
 use nor_session::{Refusal, restore_announced};
 use nor_words::{Change, JournalUse, Operation, Task, UsageFault, Wanted};
-use std::alloc::Global;
+use std::alloc::{AllocError, Global};
 
 /// Performs the job that the arguments ask for, with the contents of the files that it needs. An error is a fault that
-/// occurred before the job's call to the engine.
+/// occurred before the job's call to the engine, or in the comparison after a write or an erase.
 ///
-/// The clauses hold on every bus: the promises of each call (`DoesTask`), and the faults before the call with the
-/// commands sent until then (`FailsTask`). If the files obey the contract of `Store`, each file is as it was whose
+/// The clauses hold on every bus: the promises of each call (`DoesTask`), and the faults with the commands sent until
+/// then (`FailsPerform`). If the files obey the contract of `Store`, each file is as it was whose
 /// name is apart from that of the file that the task creates or truncates.
 ///
 /// `terminal` receives the line that says what a session or restore will change.
@@ -47,7 +48,7 @@ pub fn perform<'a, R: Store, B: Progress>(
 ) -> Result<Outcome, JobFault<'a>>
     ensures ok { IfOk result (DoesTask operation.now.named operation.now.task sources.included sources.bytes.items
         (R.state rt.old).view (R.state rt.new) (B.state bus.old) (B.state bus.new)) }
-    ensures err { IfErr result (FailsTask operation.now.named operation.now.task sources.bytes.items
+    ensures err { IfErr result (FailsPerform operation.now.named operation.now.task sources.included sources.bytes.items
         (R.state rt.old).view (R.state rt.new) (B.state bus.old) (B.state bus.new)) }
     ensures others { is_lawful (R.state rt.old).view ≡ true → (name : Name)
         → IsNot (R.state rt.old).view.nature (made_by operation.now.task) name
@@ -99,10 +100,7 @@ fn find_first<'a, B: Bus>(bus: &mut B, named: Option<ChipName>) -> Result<Found,
 
 // Identifies a chip whose bytes will be changed. Returns chip fault 1 if it may be protected in a way that this program
 // doesn't know.
-fn find_changeable<'a, B: Bus>(
-    bus: &mut B,
-    named: Option<ChipName>,
-) -> Result<Found, JobFault<'a>>
+fn find_changeable<'a, B: Bus>(bus: &mut B, named: Option<ChipName>) -> Result<Found, JobFault<'a>>
     ensures ok { IfOk result (IsChangeable named (B.state bus.old) (B.state bus.new)) }
     ensures err { IfErr result (FailsToAdmit named (B.state bus.old) (B.state bus.new)) }
 {
@@ -154,8 +152,11 @@ fn verify_chip<B: Progress>(bus: &mut B, named: Option<ChipName>, sources: Sourc
     verify_image(bus, named, &bytes, included.as_ref())
 }
 
-// Changes the chip, with its journal in a new file. Returns a usage fault for a rehearsal, which this program doesn't
-// perform, and chip fault 1 for a write or an erase of a chip that may be protected in a way that isn't known.
+// Changes the chip, with its journal in a new file. After a write or an erase, compares the chip with its target at all
+// included addresses, except with `-n`.
+//
+// Returns a usage fault for a rehearsal, which this program doesn't perform, and chip fault 1 for a write or an erase
+// of a chip that may be protected in a way that isn't known.
 fn change_chip<'a, R: Store, B: Progress>(
     rt: &mut R,
     bus: &mut B,
@@ -166,8 +167,8 @@ fn change_chip<'a, R: Store, B: Progress>(
 ) -> Result<Outcome, JobFault<'a>>
     ensures ok { IfOk result (HasChangedBy named change.now sources.included sources.bytes.items change.now.journal_use
         (R.state rt.old).view (R.state rt.new) (B.state bus.old) (B.state bus.new)) }
-    ensures err { IfErr result (FailsChange named change.now.wanted change.now.journal_use
-        (R.state rt.old).view (R.state rt.new) (B.state bus.old) (B.state bus.new)) }
+    ensures err { IfErr result (FailsChange named change.now sources.included sources.bytes.items
+        change.now.journal_use (R.state rt.old).view (R.state rt.new) (B.state bus.old) (B.state bus.new)) }
     ensures others { is_lawful (R.state rt.old).view ≡ true → (name : Name)
         → IsNot (R.state rt.old).view.nature (journal_of change.now.journal_use) name
         → KeepsFile name (R.state rt.old) (R.state rt.new) }
@@ -177,12 +178,57 @@ fn change_chip<'a, R: Store, B: Progress>(
     };
     let Sources { included, bytes } = sources;
     let request = request_for(change, named, included);
-    let mut image = fill_buffer(bus, named, change.wanted, bytes, rt.alloc())?;
+    let target = fill_buffer(bus, named, change.wanted, bytes, rt.alloc())?;
+    let mut image = copy_of(&target, rt.alloc())?;
     bus.expect_reads(sectors_to_read(image.len(), request.included.as_ref()));
     let outcome = session_in_file(rt, bus, *file, &mut image, &request, |announcement| {
         terminal.print_session(announcement)
     })?;
-    Ok(outcome)
+    let included = request.included.as_ref();
+    follow(bus, outcome, is_compared(change), named, &target, included)
+}
+
+// Returns a copy of these bytes, or an error if memory runs out.
+fn copy_of(bytes: &[u8], alloc: Global) -> Result<Vec<u8>, AllocError>
+    ensures { IfOk result (λ copy. copy.items ≡ bytes.now) }
+{
+    bytes.to_vec(alloc)
+}
+
+// True if all included addresses are compared after this change: after a write or an erase, except with `-n`.
+fn is_compared(change: &Change<'_>) -> bool
+    ensures { result ≡ is_compared change.now }
+{
+    changes_bytes(change.wanted) && change.verify
+}
+
+// After a session that succeeded, compares the chip with the target at the included addresses, if the change is
+// `compared`. Returns the outcome of the session; or, if the comparison fails, its error as the fault of the job.
+fn follow<'a, B: Progress>(
+    bus: &mut B,
+    outcome: Outcome,
+    compared: bool,
+    named: Option<ChipName>,
+    target: &[u8],
+    included: Option<&Ranges>,
+) -> Result<Outcome, JobFault<'a>>
+    ensures ok { IfOk result (λ ended. (ended ≡ outcome) × IsFollowed outcome compared named
+        (option_copied included.entry) target.now (B.state bus.old) (B.state bus.new)) }
+    ensures err { IfErr result (FailsToFollow outcome compared named
+        (option_copied included.entry) target.now (B.state bus.old) (B.state bus.new)) }
+{
+    let answer = match outcome {
+        Ok(answer) => answer,
+        Err(refusal) => return Ok(Err(refusal)),
+    };
+    if !compared {
+        return Ok(Ok(answer));
+    }
+    bus.expect_comparison(sectors_to_read(target.len(), included));
+    match verify_image(bus, named, target, included) {
+        Ok(_) => Ok(Ok(answer)),
+        Err(refusal) => Err(JobFault::NotCompared { refusal }),
+    }
 }
 
 /// True for a write and an erase.

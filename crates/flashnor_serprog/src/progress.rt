@@ -9,7 +9,7 @@ use std::os::unix::fs::FileTypeExt;
 
 // The steps of a job. A job may omit a step, and the order varies: `--unlock` sends a status write before the erases,
 // and some sectors are read again before they are programmed. After the first modifying command each read of a sector
-// counts as `ReadBack`.
+// counts as `ReadBack`, and in the comparison after a change as `Compare`.
 #[derive(Clone, Copy)]
 enum Step {
     Identify,
@@ -18,6 +18,7 @@ enum Step {
     Program,
     Protect,
     ReadBack,
+    Compare,
 }
 
 // The number of transactions sent so far for each step, if the progress is printed.
@@ -29,6 +30,7 @@ struct Counts {
     program: u64,
     protect: u64,
     read_back: u64,
+    compare: u64,
 }
 
 impl Counts {
@@ -41,6 +43,7 @@ impl Counts {
             Step::Program => &mut self.program,
             Step::Protect => &mut self.protect,
             Step::ReadBack => &mut self.read_back,
+            Step::Compare => &mut self.compare,
         };
         *count = count.saturating_add(1);
         *count
@@ -56,6 +59,7 @@ impl Step {
             Step::Program => "program: pages sent",
             Step::Protect => "protect: status writes sent",
             Step::ReadBack => "read back: sectors read",
+            Step::Compare => "compare: sector",
         }
     }
 
@@ -69,6 +73,17 @@ impl Step {
             _ => 256,
         }
     }
+}
+
+// The part of a job that a transaction belongs to.
+#[derive(Clone, Copy, PartialEq)]
+enum Phase {
+    // no modifying command was sent yet
+    Before,
+    // a modifying command was sent
+    Changing,
+    // the change ended, and the chip is compared with its target
+    After,
 }
 
 // The line before the first modifying command of a session. That of a restore is `CHANGED`.
@@ -126,6 +141,11 @@ pub trait Progress: Bus {
     /// contracts see it, stays the same.
     fn expect_reads(&mut self, sectors: usize)
         ensures { Self.state self.new ≡ Self.state self.old };
+
+    /// Records that the comparison after a change begins, and how many sectors it will read, for its progress lines.
+    /// The state of the bus, as contracts see it, stays the same.
+    fn expect_comparison(&mut self, sectors: usize)
+        ensures { Self.state self.new ≡ Self.state self.old };
 }
 
 /// A bus that prints a line to standard error for the first transaction of each step, and then one for each
@@ -139,8 +159,9 @@ pub struct Shown<'a, B> {
     bus: B,
     terminal: Terminal<'a>,
     in_session: bool,
-    changing: bool,
-    // the number of sectors that the job reads before it changes anything, if it is known
+    phase: Phase,
+    // the number of sectors that the job reads before it changes anything, or in the comparison after a change, if that
+    // number is known
     expected: Option<usize>,
     counts: Counts,
 }
@@ -152,7 +173,7 @@ impl<'a, B: Bus + Drop> Shown<'a, B> {
             bus,
             terminal,
             in_session: false,
-            changing: false,
+            phase: Phase::Before,
             expected: None,
             counts: Counts::default(),
         }
@@ -183,12 +204,12 @@ impl<B> Shown<'_, B> {
         if !self.terminal.visible {
             return;
         }
-        if is_changing(out) && !self.changing {
-            self.changing = true;
+        if is_changing(out) && self.phase == Phase::Before {
+            self.phase = Phase::Changing;
             let what = if self.in_session { SEALED } else { CHANGED };
             let _ = eprintln!(self.terminal.rt; "{what}");
         }
-        let Some(step) = step_of(out, self.changing) else {
+        let Some(step) = step_of(out, self.phase) else {
             return;
         };
         let count = self.counts.count(step);
@@ -201,7 +222,7 @@ impl<B> Shown<'_, B> {
     fn show_step(&self, step: Step, count: u64) {
         let text = step.as_str();
         let _ = match (step, self.expected) {
-            (Step::Scan, Some(expected)) => {
+            (Step::Scan | Step::Compare, Some(expected)) => {
                 eprintln!(self.terminal.rt; "{text} {count} of {expected}")
             }
             _ => eprintln!(self.terminal.rt; "{text} {count}"),
@@ -211,11 +232,14 @@ impl<B> Shown<'_, B> {
 
 // Returns the step that a transaction belongs to, or `None` for an opcode that no step counts: a poll, a write enable,
 // or a read of the SFDP, status 2 or the unique ID.
-fn step_of(out: &[u8], changing: bool) -> Option<Step> {
+fn step_of(out: &[u8], phase: Phase) -> Option<Step> {
     match out {
         [0x9F, ..] => Some(Step::Identify),
-        [0x03, ..] if changing => Some(Step::ReadBack),
-        [0x03, ..] => Some(Step::Scan),
+        [0x03, ..] => Some(match phase {
+            Phase::Before => Step::Scan,
+            Phase::Changing => Step::ReadBack,
+            Phase::After => Step::Compare,
+        }),
         [0x20 | 0x52 | 0xD8 | 0xC7, ..] => Some(Step::Erase),
         [0x02, ..] => Some(Step::Program),
         [0x01, ..] => Some(Step::Protect),
@@ -237,5 +261,10 @@ impl<B: Bus> Bus for Shown<'_, B> {
 impl<B: Bus> Progress for Shown<'_, B> {
     fn expect_reads(&mut self, sectors: usize) {
         self.expected = Some(sectors);
+    }
+
+    fn expect_comparison(&mut self, sectors: usize) {
+        self.expected = Some(sectors);
+        self.phase = Phase::After;
     }
 }

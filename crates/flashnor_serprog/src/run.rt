@@ -193,12 +193,25 @@ fn run_prepared<R: Store, O: Write, E: Write>(
     match end_job(files, &mut bus, terminal, &operation, sources) {
         Ok(answer) => end_well(output, answer, unverified),
         Err(fault) => {
-            let _ = writeln!(errors, "{fault}");
-            if let JobFault::Fault(Fault::Refused(Refusal::Stopped)) = &fault {
-                print_cause(errors, &bus, changes(&operation.task));
-            }
+            print_job_fault(errors, &fault, &bus, changes(&operation.task));
             1
         }
+    }
+}
+
+// Prints the lines of a fault with which a job ended: its own, for error 12 the cause, and a note if there is one.
+fn print_job_fault<E: Write>(
+    errors: &mut E,
+    fault: &JobFault<'_>,
+    bus: &ChipBus<'_>,
+    changes: bool,
+) {
+    let _ = writeln!(errors, "{fault}");
+    if fault.is_stop() {
+        print_cause(errors, bus, changes);
+    }
+    if let Some(note) = fault.note() {
+        let _ = writeln!(errors, "{note}");
     }
 }
 
