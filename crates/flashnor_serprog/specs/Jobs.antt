@@ -1,10 +1,12 @@
 -- The effect of a job on a chip, on every bus: its call to the engine, the result of that call, and the faults before
 -- the call.
-use Rattle.std.specs.Prelude.{◌≡◌, ◌&&◌, ◌⊎◌, ℕ, Bool, true, false, List, Option, None, Some, Result, Ok, Err, IfOk}
+use Rattle.std.specs.Prelude.{◌≡◌, ◌&&◌, ◌⊎◌, ℕ, Bool, true, false, List, Option, None, Some, Result, Ok, Err, IfOk, OnOk}
 use Rattle.std.specs.Prelude.{bit_and, nat_eq, not, replicate}
 use Rattle.nor_model.specs.Bus.{BusState}
 use Rattle.nor_files.specs.Files.{FilesState, View}
+use Rattle.nor_apply.specs.Applying.{ErasesFirst}
 use Rattle.nor_journal.specs.Fault.{HasFault}
+use Rattle.nor_journal.specs.Saved.{is_saved}
 use Rattle.nor_journal.specs.Text.{Content as Journal, IsContent, text}
 use Rattle.nor_journal.specs.declared.fault.JournalFault.{JournalFault}
 use Rattle.nor_layout.specs.declared.ranges.Span.{Span}
@@ -17,8 +19,8 @@ use Rattle.nor_request.specs.Refusal.{of_probe}
 use Rattle.nor_request.specs.declared.refusal.Refusal.{Refusal}
 use Rattle.nor_request.specs.declared.refusal.Refusal.TheVariants.{BadJournal, Memory}
 use Rattle.nor_request.specs.declared.report.Report.{Report}
-use Rattle.nor_session.specs.Headline.{RestoresOriginal}
-use Rattle.nor_session.specs.Restore.{RestoreAlways, RestoreHonest, RestoreModelled}
+use Rattle.nor_session.specs.Headline.{RewritesOriginal}
+use Rattle.nor_session.specs.Restore.{RewriteAlways, RewriteHonest, RewriteModelled}
 use Rattle.nor_words.specs.Text.{Text}
 use Rattle.nor_words.specs.declared.job.Change.{Change}
 use Rattle.nor_words.specs.declared.job.JournalUse.{JournalUse}
@@ -251,13 +253,15 @@ FailsChange named change ranges bytes kept before after old new (ended.NotCompar
 
 -- ---- restores
 
--- A restore ended or returned an error. The restore kept all promises of `restore`.
+-- A restore ended or returned an error. It kept all promises of `rewrite`: after success an erase was sent for each saved
+-- sector, and none after the first page program (`thorough`).
 pub record HasRunRestore (journal : Journal) (old new : BusState) (outcome : Result Answer Refusal) : Type 0 where
   pub result : Result Report Refusal
-  pub restores_original : IsModelled old → RestoresOriginal journal old new result
-  pub always : RestoreAlways journal old new result
-  pub honest : old.honest ≡ true → RestoreHonest journal old new result
-  pub modelled : IsModelled old → RestoreModelled journal old new result
+  pub restores_original : IsModelled old → RewritesOriginal journal old new result
+  pub always : RewriteAlways journal old new result
+  pub honest : old.honest ≡ true → RewriteHonest journal old new result
+  pub modelled : IsModelled old → RewriteModelled journal old new result
+  pub thorough : OnOk result (ErasesFirst (is_saved journal) old new)
   pub returned : AnswersCall ReportsDone result outcome
 
 -- if a name is given, the chip was identified and has this name; otherwise nothing was sent

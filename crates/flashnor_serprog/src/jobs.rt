@@ -23,7 +23,7 @@ use nor_lines::{
     request_for, session_in_file, verify_image,
 };
 use nor_probe::{ChipName, Found, probe};
-use nor_session::{Refusal, restore_announced};
+use nor_session::{Refusal, rewrite_announced};
 use nor_words::{Change, JournalUse, Operation, Task, UsageFault, Wanted};
 use std::alloc::{AllocError, Global};
 
@@ -275,8 +275,8 @@ fn sectors_to_read(size: usize, included: Option<&Ranges>) -> usize {
         .count()
 }
 
-// Restores the chip from the bytes of a journal. If `named` is given, the chip must have that name. Returns error 15 if
-// the bytes are no journal.
+// Restores the chip from the bytes of a journal: erases and programs every saved sector, whatever it reads. If `named`
+// is given, the chip must have that name. Returns error 15 if the bytes are no journal.
 fn restore_chip<'a, B: Progress>(
     bus: &mut B,
     terminal: Terminal<'_>,
@@ -292,7 +292,6 @@ fn restore_chip<'a, B: Progress>(
         Err(fault) => return Err(Fault::Refused(Refusal::BadJournal(fault))),
     };
     check_name(bus, named)?;
-    bus.expect_reads(journal.count());
     Ok(run_restore(bus, terminal, &journal))
 }
 
@@ -310,7 +309,7 @@ fn check_name<'a, B: Bus>(bus: &mut B, named: Option<ChipName>) -> Result<(), Fa
 fn run_restore<B: Bus>(bus: &mut B, terminal: Terminal<'_>, journal: &Journal<'_>) -> Outcome
     ensures { HasRunRestore journal.now (B.state bus.old) (B.state bus.new) result }
 {
-    let report = restore_announced(bus, journal, |announcement| {
+    let report = rewrite_announced(bus, journal, |announcement| {
         terminal.print_restore(announcement)
     })?;
     Ok(Answer::Done(report))
