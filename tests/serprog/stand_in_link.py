@@ -234,8 +234,8 @@ class Link:
                 else 1 << 24
         sends, reads = limit(0x08, 3), limit(0x11, 3)
         if sends < 260 and MISTAKE != "takes small limits":
-            raise Fault(f"Programmer fault 9: the programmer sends at most {sends} bytes in a transaction, and a page "
-                        "program needs 260" + FIRMWARE)
+            raise Fault(f"Programmer fault 9: the programmer sends at most {sends} bytes in a transaction, too few "
+                        "for a page program" + FIRMWARE)
         if reads < 4096 and MISTAKE != "takes small limits":
             raise Fault(f"Programmer fault 9: the programmer reads at most {reads} bytes in a transaction, and a "
                         "sector needs 4096" + FIRMWARE)
@@ -246,8 +246,8 @@ class Link:
         size = limit(0x04, 2)
         self.buffer = min(size, 512) if self.has(0x04) else 0
         if size < 267 and not self.has(0x08):
-            raise Fault(f"Programmer fault 9: the serial buffer of the programmer has {size} bytes, and a page program "
-                        "needs 267" + FIRMWARE)
+            raise Fault(f"Programmer fault 9: the serial buffer of the programmer has {size} bytes, too few for a page "
+                        "program" + FIRMWARE)
 
     def transfer(self, out, length):
         self.count += 1

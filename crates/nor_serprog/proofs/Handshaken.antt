@@ -18,7 +18,10 @@ use Rattle.nor_serprog.specs.Firmware.{Firmware, ProgrammerSettings, has_command
 use Rattle.nor_serprog.specs.Frame.{frame_of, four_of}
 use Rattle.nor_serprog.specs.Link.{is_in_step, is_cut}
 use Rattle.nor_serprog.specs.Replies.{AwaitsCommand, OnlyAsks}
-use Rattle.nor_serprog.specs.Identify.{Concludes, Asked, IsInStepWith, refused, clock_refused, first_handshake_fault, identify_faults, identify_fault, settings_if_offered, prepared_settings, prepared_port}
+use Rattle.nor_serprog.specs.declared.programmer.Programmer.{Programmer}
+use Rattle.nor_serprog.specs.declared.programmer.AnyProgrammer.{AnyProgrammer}
+use Rattle.nor_serprog.specs.declared.programmer.Least.{Least}
+use Rattle.nor_serprog.specs.Identify.{Concludes, Asked, IsInStepWith, refused, clock_refused, first_handshake_fault, identify_faults, least_fault, IsAnyProgrammerOf, IsProgrammerOf, settings_if_offered, prepared_settings, prepared_port}
 
 -- ---- one step
 
@@ -215,8 +218,8 @@ abbrev pub after_pins : Firmware → ProgrammerSettings → ProgrammerSettings
 after_pins firmware settings = settings_if_offered firmware 0x15 (SetPins true) settings
 
 -- The first error of `identify_faults` after the first `done` entries of that list.
-abbrev pub faults_from : {C : Type 0} → (done : ℕ) → Firmware → Option ℕ → Option (HandshakeFault C)
-faults_from done firmware hertz = first_handshake_fault (drop done (identify_faults firmware hertz))
+abbrev pub faults_from : {C : Type 0} → Least → (done : ℕ) → Firmware → Option ℕ → Option (HandshakeFault C)
+faults_from least done firmware hertz = first_handshake_fault (drop done (identify_faults least firmware hertz))
 
 -- The link is not cut, and the programmer is idle over an honest port.
 abbrev pub Starts : {P C : Type 0} → (P → PortState) → Link P C → Type 0
@@ -225,22 +228,22 @@ Starts port link = AwaitsCommand (port link.port) × (is_cut link ≡ false)
 -- Holds after steps of a handshake that began at the link `start`. The steps made at most `calls` calls, and found none
 -- of the first `done` errors of `identify_faults`. The link is in step and the programmer is idle, with the settings
 -- that `after` makes of those at the start. `commands` is the programmer's map.
-pub record HasReached {P C : Type 0} (port : P → PortState) (start : Link P C) (hertz : Option ℕ) (calls done : ℕ)
-    (after : Firmware → ProgrammerSettings → ProgrammerSettings) (commands : List ℕ) (link : Link P C) : Type 0 where
+pub record HasReached {P C : Type 0} (port : P → PortState) (start : Link P C) (hertz : Option ℕ) (least : Least)
+    (calls done : ℕ) (after : Firmware → ProgrammerSettings → ProgrammerSettings) (commands : List ℕ) (link : Link P C) : Type 0 where
   pub asks : OnlyAsks calls
       (with_settings (after (port start.port).device.firmware (port start.port).device.settings) (port start.port))
       (port link.port)
   pub ready : IsInStepWith port (port start.port).device.firmware link
-  pub is : identify_fault {C = C} (port start.port).device.firmware hertz
-      ≡ faults_from done (port start.port).device.firmware hertz
+  pub is : least_fault {C = C} least (port start.port).device.firmware hertz
+      ≡ faults_from least done (port start.port).device.firmware hertz
   pub map : commands ≡ (port start.port).device.firmware.commands
 
 -- The link was synchronized.
 pub begins : {P C T : Type 0} {port : P → PortState} {start : Link P C} {IsValue : T → Type 0} {value : T}
-    (hertz : Option ℕ) (link : Link P C)
+    (hertz : Option ℕ) (least : Least) (link : Link P C)
     → Concludes {C = C} 29 None IsValue (Ok value) (port start.port) (port link.port) → is_in_step link ≡ true
-    → HasReached port start hertz 29 0 unchanged (port start.port).device.firmware.commands link
-begins hertz link done in_step = record {
+    → HasReached port start hertz least 29 0 unchanged (port start.port).device.firmware.commands link
+begins hertz least link done in_step = record {
   asks = done.asks;
   ready = record { in_step = in_step; awaits = done.asks.awaits; same = done.asks.firmware };
   is = refl;
@@ -248,19 +251,20 @@ begins hertz link done in_step = record {
 }
 
 -- `HasReached` holds after one more step that succeeded. `sets` is the effect of the step on the settings.
-pub goes : {P C T : Type 0} {port : P → PortState} {start link : Link P C} {hertz : Option ℕ} {calls done : ℕ}
+pub goes : {P C T : Type 0} {port : P → PortState} {start link : Link P C} {hertz : Option ℕ} {least : Least}
+    {calls done : ℕ}
     {after : Firmware → ProgrammerSettings → ProgrammerSettings} {commands commands' : List ℕ}
     {fault : Option (HandshakeFault C)} {IsValue : T → Type 0} {value : T}
     (sets : Firmware → ProgrammerSettings → ProgrammerSettings) (done' : ℕ) (link' : Link P C)
-    → HasReached port start hertz calls done after commands link
+    → HasReached port start hertz least calls done after commands link
     → Concludes 3 fault IsValue (Ok value)
     (with_settings (sets (port start.port).device.firmware (port link.port).device.settings) (port link.port))
     (port link'.port) → is_in_step link' ≡ true → commands' ≡ (port start.port).device.firmware.commands
-    → faults_from done (port start.port).device.firmware hertz
-    ≡ option_or fault (faults_from done' (port start.port).device.firmware hertz)
-    → HasReached port start hertz (calls + 3) done' (λ firmware settings. sets firmware (after firmware settings)) commands'
+    → faults_from least done (port start.port).device.firmware hertz
+    ≡ option_or fault (faults_from least done' (port start.port).device.firmware hertz)
+    → HasReached port start hertz least (calls + 3) done' (λ firmware settings. sets firmware (after firmware settings)) commands'
     link'
-goes {port = port} {start = start} {hertz = hertz} sets done' link' reached step in_step map next = record {
+goes {port = port} {start = start} {hertz = hertz} {least = least} sets done' link' reached step in_step map next = record {
   asks = record {
     left = omega (arith, reached.asks.left, step.asks.left);
     awaits = step.asks.awaits;
@@ -275,30 +279,31 @@ goes {port = port} {start = start} {hertz = hertz} sets done' link' reached step
     same = step.asks.firmware ∙ reached.ready.same;
   };
   is = reached.is ∙ next
-      ∙ ap (λ (o : Option _). option_or o (faults_from done' (port start.port).device.firmware hertz)) step.usable;
+      ∙ ap (λ (o : Option _). option_or o (faults_from least done' (port start.port).device.firmware hertz)) step.usable;
   map = map;
 }
 
 -- If one more step failed, the handshake ends with the error of that step (`Concludes`).
-pub fails_at : {P C T T' : Type 0} {port : P → PortState} {start link : Link P C} {hertz : Option ℕ} {calls done : ℕ}
+pub fails_at : {P C T T' : Type 0} {port : P → PortState} {start link : Link P C} {hertz : Option ℕ} {least : Least}
+    {calls done : ℕ}
     {after : Firmware → ProgrammerSettings → ProgrammerSettings} {commands : List ℕ}
     {fault : Option (HandshakeFault C)} {IsValue : T → Type 0} {IsValue' : T' → Type 0} {error : HandshakeFault C}
     {new : PortState} (sets : Firmware → ProgrammerSettings → ProgrammerSettings) (done' : ℕ)
-    → HasReached port start hertz calls done after commands link
+    → HasReached port start hertz least calls done after commands link
     → Concludes 3 fault IsValue (Err error)
     (with_settings (sets (port start.port).device.firmware (port link.port).device.settings) (port link.port)) new
     → calls ≤ 56
-    → faults_from done (port start.port).device.firmware hertz
-    ≡ option_or fault (faults_from done' (port start.port).device.firmware hertz)
-    → Concludes 59 (identify_fault (port start.port).device.firmware hertz) IsValue' (Err error)
+    → faults_from least done (port start.port).device.firmware hertz
+    ≡ option_or fault (faults_from least done' (port start.port).device.firmware hertz)
+    → Concludes 59 (least_fault least (port start.port).device.firmware hertz) IsValue' (Err error)
     (prepared_port (port start.port)) new
-fails_at {port = port} {start = start} {hertz = hertz} {new = new} sets done' reached failed within next = record {
+fails_at {port = port} {start = start} {hertz = hertz} {least = least} {new = new} sets done' reached failed within next = record {
   usable = tt;
   value = tt;
   asks = tt;
   fails = elim failed.fails [
     | inl found ↦ inl (reached.is ∙ next
-        ∙ ap (λ (o : Option _). option_or o (faults_from done' (port start.port).device.firmware hertz)) found)
+        ∙ ap (λ (o : Option _). option_or o (faults_from least done' (port start.port).device.firmware hertz)) found)
     | inr few ↦ inr (few.0, omega (arith, few.1, reached.asks.left, within))
   ];
   power = record {
@@ -306,3 +311,24 @@ fails_at {port = port} {start = start} {hertz = hertz} {new = new} sets done' re
     worn = λ s. failed.power.worn s ∙ ap (λ (w : ℕ → Bool). w s) reached.asks.worn;
   };
 }
+
+-- The handshake found a programmer whose limits suffice for whole transactions.
+pub is_whole : {C : Type 0} {fault : Option (HandshakeFault C)} {firmware : Firmware} {hertz : Option ℕ}
+    {any : AnyProgrammer} {old new : PortState} (programmer : Programmer)
+    → Concludes 59 fault (IsAnyProgrammerOf firmware hertz) (Ok any) old new → programmer.reported ≡ any
+    → Concludes 59 fault (IsProgrammerOf firmware hertz) (Ok programmer) old new
+is_whole {firmware = firmware} {hertz = hertz} programmer found same =
+    let P : AnyProgrammer → Type 0 = λ p. IsAnyProgrammerOf firmware hertz p in
+    record {
+      usable = found.usable;
+      value = subst P (sym same) found.value;
+      asks = found.asks;
+      fails = tt;
+      power = tt;
+    }
+
+-- An error of a part of the handshake is one of the handshake.
+pub same_error : {C T T' : Type 0} {fault : Option (HandshakeFault C)} {IsValue : T → Type 0} {IsValue' : T' → Type 0}
+    {error : HandshakeFault C} {calls : ℕ} {old new : PortState}
+    → Concludes calls fault IsValue (Err error) old new → Concludes calls fault IsValue' (Err error) old new
+same_error failed = record { usable = tt; value = tt; asks = tt; fails = failed.fails; power = failed.power }

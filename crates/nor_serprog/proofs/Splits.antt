@@ -8,7 +8,7 @@ use Rattle.nor_model.specs.History.{replied, stopped, exchange_of}
 use Rattle.nor_model.specs.declared.bus.Stopped.{Stopped}
 use Rattle.nor_serprog.specs.ReadsAs.{part}
 use Rattle.nor_serprog.specs.Parts.{address_bytes, further, bytes_of_replies, IsReadPart, AreReadParts, SplitsRead}
-use Rattle.nor_serprog.specs.Parts.{program_part, programmed, EndsReady, EndsEnabled, AreProgramSteps, SplitsProgram, ArePolls, WaitsReady, PollsOnce}
+use Rattle.nor_serprog.specs.Parts.{program_part, bytes_programmed, EndsReady, EndsEnabled, AreProgramSteps, SplitsProgram, ArePolls, WaitsReady, PollsOnce}
 
 -- A call that failed did not succeed.
 never : (P : Type 0) (result : Result Unit Stopped) → OnOk result ⊥ → OnOk result P
@@ -81,7 +81,7 @@ pub record ProgramsInParts (most address : ℕ) (bytes : List ℕ) (n : ℕ) (ol
   pub later : List Exchange
   pub is : new ≡ later ++ old
   pub steps : AreProgramSteps most address bytes later
-  pub count : programmed later ≡ n
+  pub count : bytes_programmed later ≡ n
 
 -- Since `old` only polls were sent.
 pub record OnlyPolls (old new : List Exchange) : Type 0 where
@@ -142,7 +142,7 @@ waits_ready result old mid new was once ends =
     }
 
 -- Polls program nothing.
-count_polls : (polls later : List Exchange) → ArePolls polls → programmed (polls ++ later) ≡ programmed later
+count_polls : (polls later : List Exchange) → ArePolls polls → bytes_programmed (polls ++ later) ≡ bytes_programmed later
 count_polls [] later all = refl
 count_polls (poll ∷ polls) later all =
     let rest = count_polls polls later all.1 in
@@ -228,7 +228,7 @@ then_programs most address bytes n len piece result old mid new was enabled is s
     let exchange = exchange_of sent [] result in
     let out : exchange.out ≡ sent = sends_out sent [] result in
     let count = was.count in
-    let whole : sent ≡ program_part address bytes (programmed was.later) len =
+    let whole : sent ≡ program_part address bytes (bytes_programmed was.later) len =
     ap (λ (xs : List ℕ). 2 ∷ address_bytes (address + n) ++ xs) is
     ∙ ap (λ (k : ℕ). program_part address bytes k len) (sym count) in
     let long : length exchange.out ≡ 4 + len =

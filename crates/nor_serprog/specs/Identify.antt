@@ -1,18 +1,19 @@
 -- What the handshake with a programmer finds. Over an honest port the firmware of the programmer determines the result.
 -- (serprog protocol version 1, flashrom's Documentation/serprog-protocol.txt.)
-use Rattle.std.specs.Prelude.{◌≡◌, ◌<◌, ◌⊎◌, ◌==◌, ◌&&◌, ◌||◌, not, nat_lt, bit_and, ℕ, Bool, true, List, [], ◌∷◌, length, slice_index, Option, None, Some, option_and_then, replicate, if◌then◌else◌, Result, IfOk, OnOk, OnErr, IfErr}
+use Rattle.std.specs.Prelude.{◌≡◌, ◌<◌, ◌⊎◌, ◌-◌, ◌==◌, ◌&&◌, ◌||◌, not, nat_lt, bit_and, min, max, ℕ, Bool, true, List, [], ◌∷◌, length, slice_index, Option, None, Some, option_and_then, replicate, if◌then◌else◌, Result, IfOk, OnOk, OnErr, IfErr}
 use Rattle.std.specs.Option.{option_or}
 use Rattle.nor_serprog.specs.declared.programmer.HandshakeFault.{HandshakeFault}
 use Rattle.nor_serprog.specs.declared.programmer.HandshakeFault.TheVariants.{Failure, Version, Lacks, NotSpi, WriteLimit, ReadLimit, SmallBuffer}
 use Rattle.nor_serprog.specs.declared.programmer.Programmer.{Programmer}
+use Rattle.nor_serprog.specs.declared.programmer.Least.{Least}
+use Rattle.nor_serprog.specs.declared.programmer.AnyProgrammer.{AnyProgrammer}
 use Rattle.nor_serprog.specs.declared.link.Failure.TheVariants.{Refused}
 use Rattle.nor_serprog.specs.declared.link.Link.{Link}
 use Rattle.nor_serprog.specs.Device.{PortState, MayLoseDevicePower, with_settings}
 use Rattle.nor_serprog.specs.declared.command.Command.{Command}
 use Rattle.nor_serprog.specs.Frame.{frame_of}
-use Rattle.nor_serprog.specs.Firmware.{Firmware, ProgrammerSettings, has_command, reply_of, settings_after, nak}
+use Rattle.nor_serprog.specs.Firmware.{Firmware, ProgrammerSettings, has_command, is_in_map, reply_of, settings_after, nak}
 use Rattle.nor_serprog.specs.Link.{is_in_step}
-use Rattle.nor_serprog.specs.Programmer.{programmer_name, writes_most, reads_most, buffer_of, frequency_of, has_chip_selects}
 use Rattle.nor_serprog.specs.Replies.{AwaitsCommand, OnlyAsks, IsPortFailure}
 
 -- ---- what a programmer has
@@ -32,15 +33,30 @@ write_limit firmware = limit_in (has_command firmware 0x08) firmware.longest_wri
 abbrev pub read_limit : Firmware → ℕ
 read_limit firmware = limit_in (has_command firmware 0x11) firmware.longest_read
 
+-- The greatest number of bytes that a transaction may send, if `writes` is the limit of the programmer and `buffer` the
+-- size of its serial buffer. If the programmer has Q_SERBUF (04h) but lacks Q_WRNMAXLEN (08h), the frame, which has 7
+-- bytes more, fits into the buffer, if that has at least 12 bytes.
+abbrev pub part_limit_of : (commands : List ℕ) → (writes buffer : ℕ) → ℕ
+part_limit_of commands writes buffer =
+    if is_in_map commands 0x08 then writes
+    else if is_in_map commands 0x04 then max (min writes (buffer - 7)) 5 else writes
+
 -- Holds if `programmer` has what this firmware replied, for a requested clock of `hertz`. Without the query, a limit is
 -- 2^24, the buffer 0 and the name all zeros.
-pub record IsProgrammerOf (firmware : Firmware) (hertz : Option ℕ) (programmer : Programmer) : Type 0 where
-  pub name : programmer_name programmer ≡ (if has_command firmware 0x03 then firmware.name else replicate 16 0)
-  pub writes : writes_most programmer ≡ write_limit firmware
-  pub reads : reads_most programmer ≡ read_limit firmware
-  pub buffer : buffer_of programmer ≡ (if has_command firmware 0x04 then firmware.buffer else 0)
-  pub frequency : frequency_of programmer ≡ option_and_then firmware.clock hertz
-  pub selects : has_chip_selects programmer ≡ has_command firmware 0x16
+pub record IsAnyProgrammerOf (firmware : Firmware) (hertz : Option ℕ) (programmer : AnyProgrammer) : Type 0 where
+  pub name : programmer.name ≡ (if has_command firmware 0x03 then firmware.name else replicate 16 0)
+  pub writes : programmer.longest_write ≡ write_limit firmware
+  pub reads : programmer.longest_read ≡ read_limit firmware
+  pub parts : programmer.longest_part
+      ≡ part_limit_of firmware.commands programmer.longest_write programmer.serial_buffer
+  pub buffer : programmer.serial_buffer ≡ (if has_command firmware 0x04 then firmware.buffer else 0)
+  pub frequency : programmer.frequency ≡ option_and_then firmware.clock hertz
+  pub selects : programmer.selects ≡ has_command firmware 0x16
+
+-- Holds if `programmer`, whose limits suffice for whole transactions, has what this firmware replied, for a requested
+-- clock of `hertz`.
+abbrev pub IsProgrammerOf : (firmware : Firmware) → (hertz : Option ℕ) → Programmer → Type 0
+IsProgrammerOf firmware hertz programmer = IsAnyProgrammerOf firmware hertz programmer.reported
 
 -- ---- why a programmer can't be used
 
@@ -63,18 +79,20 @@ buses_fault firmware =
     if not (bit_and (buses_of firmware) 8 == 0) && (buses_of firmware == 8 || has_command firmware 0x12) then None
     else Some (NotSpi (buses_of firmware))
 
--- `WriteLimit` if a transaction can't send a page program, and `ReadLimit` if it can't read a sector.
-abbrev pub write_fault : {C : Type 0} → Firmware → Option (HandshakeFault C)
-write_fault firmware = if nat_lt (write_limit firmware) 260 then Some (WriteLimit (write_limit firmware)) else None
+-- `WriteLimit` if a transaction can't send `least` bytes, and `ReadLimit` if it can't read `least` bytes.
+abbrev pub write_fault : {C : Type 0} → Firmware → (least : ℕ) → Option (HandshakeFault C)
+write_fault firmware least =
+    if nat_lt (write_limit firmware) least then Some (WriteLimit (write_limit firmware)) else None
 
-abbrev pub read_fault : {C : Type 0} → Firmware → Option (HandshakeFault C)
-read_fault firmware = if nat_lt (read_limit firmware) 4096 then Some (ReadLimit (read_limit firmware)) else None
+abbrev pub read_fault : {C : Type 0} → Firmware → (least : ℕ) → Option (HandshakeFault C)
+read_fault firmware least =
+    if nat_lt (read_limit firmware) least then Some (ReadLimit (read_limit firmware)) else None
 
--- `SmallBuffer` if the programmer has Q_SERBUF but lacks Q_WRNMAXLEN, and its serial buffer holds fewer than the 267
--- bytes of the longest frame.
-abbrev pub buffer_fault : {C : Type 0} → Firmware → Option (HandshakeFault C)
-buffer_fault firmware =
-    if has_command firmware 0x04 && (not (has_command firmware 0x08) && nat_lt firmware.buffer 267)
+-- `SmallBuffer` if the programmer has Q_SERBUF but lacks Q_WRNMAXLEN, and its serial buffer holds fewer than `least`
+-- bytes.
+abbrev pub buffer_fault : {C : Type 0} → Firmware → (least : ℕ) → Option (HandshakeFault C)
+buffer_fault firmware least =
+    if has_command firmware 0x04 && (not (has_command firmware 0x08) && nat_lt firmware.buffer least)
     then Some (SmallBuffer firmware.buffer) else None
 
 -- `Refused` with S_SPI_FREQ (14h), if the programmer set no clock.
@@ -94,24 +112,42 @@ abbrev pub first_handshake_fault : {C : Type 0} → List (Option (HandshakeFault
 first_handshake_fault [] = None
 first_handshake_fault (fault ∷ later) = option_or fault (first_handshake_fault later)
 
--- The errors that the handshake can find, in the order of its steps; `None` for an error that this firmware doesn't
--- cause.
-abbrev pub identify_faults : {C : Type 0} → Firmware → (hertz : Option ℕ) → List (Option (HandshakeFault C))
-identify_faults firmware hertz =
+-- The limits of a programmer that carries out a page program, and the read of a sector, in one transaction each. The
+-- frame of a page program has 267 bytes.
+abbrev pub whole_limits : Least
+whole_limits = record { write = 260; read = 4096; frame = 267 }
+
+-- The least limits with which a bus that splits transactions works: a program of one byte sends 5 bytes, in a frame of
+-- 12, and a read has at least one byte.
+abbrev pub part_limits : Least
+part_limits = record { write = 5; read = 1; frame = 12 }
+
+-- The errors that a handshake which requires these limits can find, in the order of its steps; `None` for an error that
+-- this firmware doesn't cause.
+abbrev pub identify_faults : {C : Type 0} → Least → Firmware → (hertz : Option ℕ) → List (Option (HandshakeFault C))
+identify_faults least firmware hertz =
     version_fault firmware
     ∷ operation_fault firmware
     ∷ buses_fault firmware
     ∷ refused 0x12 (has_command firmware 0x12) (firmware.takes_buses 8)
-    ∷ write_fault firmware
-    ∷ read_fault firmware
-    ∷ buffer_fault firmware
+    ∷ write_fault firmware least.write
+    ∷ read_fault firmware least.read
+    ∷ buffer_fault firmware least.frame
     ∷ clock_fault firmware hertz
     ∷ refused 0x15 (has_command firmware 0x15) (firmware.takes_pins true)
     ∷ []
 
--- Why the programmer can't be used: the first of `identify_faults`. `None` if it can.
+-- Why the programmer can't be used, if these limits are required: the first of `identify_faults`. `None` if it can.
+abbrev pub least_fault : {C : Type 0} → Least → Firmware → (hertz : Option ℕ) → Option (HandshakeFault C)
+least_fault least firmware hertz = first_handshake_fault (identify_faults least firmware hertz)
+
+-- Why the programmer can't be used in whole transactions (`whole_limits`). `None` if it can.
 abbrev pub identify_fault : {C : Type 0} → Firmware → (hertz : Option ℕ) → Option (HandshakeFault C)
-identify_fault firmware hertz = first_handshake_fault (identify_faults firmware hertz)
+identify_fault firmware hertz = least_fault whole_limits firmware hertz
+
+-- Why the programmer can't be used even in parts (`part_limits`). `None` if it can.
+abbrev pub narrow_fault : {C : Type 0} → Firmware → (hertz : Option ℕ) → Option (HandshakeFault C)
+narrow_fault firmware hertz = least_fault part_limits firmware hertz
 
 -- Why this chip select can't be used. `None` if it can.
 abbrev pub select_fault : {C : Type 0} → Firmware → (number : ℕ) → Option (HandshakeFault C)

@@ -60,9 +60,9 @@ program_part address bytes from n = 0x02 ∷ address_bytes (address + from) ++ p
 
 -- The number of data bytes that the programs among these transactions send. A program sends four bytes before its data.
 -- Polls (05h) and write enables (06h) send one byte, so they add nothing.
-abbrev pub programmed : List Exchange → ℕ
-programmed [] = 0
-programmed (exchange ∷ earlier) = programmed earlier + (length exchange.out - 4)
+abbrev pub bytes_programmed : List Exchange → ℕ
+bytes_programmed [] = 0
+bytes_programmed (exchange ∷ earlier) = bytes_programmed earlier + (length exchange.out - 4)
 
 -- The last of these transactions is a poll (05h) that succeeded, and each of its reply bytes, at least one, shows that
 -- the chip is ready.
@@ -79,7 +79,7 @@ pub record EndsEnabled (history : List Exchange) : Type 0 where
   pub is : history ≡ replied (0x06 ∷ []) [] ∷ before
 
 -- The transaction is a poll (05h).
-pub record Polls (exchange : Exchange) : Type 0 where
+pub record SendsPoll (exchange : Exchange) : Type 0 where
   pub sends : exchange.out ≡ 0x05 ∷ []
 
 -- The transaction is a write enable (06h), immediately after a poll that showed that the chip is ready.
@@ -91,10 +91,10 @@ pub record Enables (exchange : Exchange) (earlier : List Exchange) : Type 0 wher
 -- programmed. It sends at most `most` bytes. It is the first transaction, or immediately follows a write enable.
 pub record ProgramsPart (most address : ℕ) (bytes : List ℕ) (exchange : Exchange) (earlier : List Exchange) : Type 0 where
   pub len : ℕ
-  pub sends : exchange.out ≡ program_part address bytes (programmed earlier) len
+  pub sends : exchange.out ≡ program_part address bytes (bytes_programmed earlier) len
   pub some : 0 < len
   pub few : 4 + len ≤ most
-  pub within : programmed earlier + len ≤ length bytes
+  pub within : bytes_programmed earlier + len ≤ length bytes
   pub enabled : (earlier ≡ []) ⊎ EndsEnabled earlier
 
 -- Each of these transactions is a poll, a write enable after a poll that showed that the chip is ready, or a part of
@@ -102,7 +102,7 @@ pub record ProgramsPart (most address : ℕ) (bytes : List ℕ) (exchange : Exch
 abbrev pub AreProgramSteps : (most address : ℕ) → (bytes : List ℕ) → List Exchange → Type 0
 AreProgramSteps most address bytes [] = ⊤
 AreProgramSteps most address bytes (exchange ∷ earlier) =
-    (Polls exchange ⊎ (Enables exchange earlier ⊎ ProgramsPart most address bytes exchange earlier))
+    (SendsPoll exchange ⊎ (Enables exchange earlier ⊎ ProgramsPart most address bytes exchange earlier))
     × AreProgramSteps most address bytes earlier
 
 -- Since `old` only parts of the program of `bytes` at this address were sent, in order and without a gap, and before
@@ -113,12 +113,12 @@ pub record SplitsProgram (most address : ℕ) (bytes : List ℕ) (result : Resul
   pub later : List Exchange
   pub is : new ≡ later ++ old
   pub steps : AreProgramSteps most address bytes later
-  pub all : OnOk result (programmed later ≡ length bytes)
+  pub all : OnOk result (bytes_programmed later ≡ length bytes)
 
 -- Each of these transactions is a poll.
 abbrev pub ArePolls : List Exchange → Type 0
 ArePolls [] = ⊤
-ArePolls (exchange ∷ earlier) = Polls exchange × ArePolls earlier
+ArePolls (exchange ∷ earlier) = SendsPoll exchange × ArePolls earlier
 
 -- Since `old` only polls were sent. If the wait succeeded, the last poll showed that the chip is ready.
 pub record WaitsReady (result : Result Unit Stopped) (old new : List Exchange) : Type 0 where
@@ -130,5 +130,5 @@ pub record WaitsReady (result : Result Unit Stopped) (old new : List Exchange) :
 -- One poll was sent.
 pub record PollsOnce (old new : List Exchange) : Type 0 where
   pub exchange : Exchange
-  pub poll : Polls exchange
+  pub poll : SendsPoll exchange
   pub is : new ≡ exchange ∷ old

@@ -3,7 +3,7 @@ ghost use Rattle.std.specs.Prelude.{◌≡◌, ◌<◌, ◌≤◌, ◌⊎◌, �
 ghost use Rattle.nor_model.specs.Command.{begins_change};
 ghost use Rattle.nor_serprog.specs.Link.{is_in_step};
 
-use crate::{Command, Failure, Frame, Link, Port, Programmer, Sync};
+use crate::{AnyProgrammer, Command, Failure, Frame, Link, Port, Sync};
 use arrayvec::ArrayVec;
 use nor_model::is_changing;
 
@@ -29,7 +29,7 @@ impl<P: Port + Drop> Batch<P> {
     ghost use Rattle.nor_serprog.specs.Batch.{waiting_in, batch_link, most_in};
 
     /// Returns a batch without frames, over a link whose programmer was identified.
-    pub(crate) fn new(link: Link<P>, programmer: &Programmer) -> Batch<P>
+    pub(crate) fn new(link: Link<P>, programmer: &AnyProgrammer) -> Batch<P>
         ensures link { batch_link result ≡ link }
         ensures empty { waiting_in result ≡ [] }
     {

@@ -5,7 +5,7 @@ ghost use Rattle.nor_model.specs.Bus.{IsHonestFor, SameNature, Records, Stops, C
 ghost use Rattle.nor_model.specs.Command.{begins_change};
 
 use crate::batch::Batch;
-use crate::{Failure, Link, Port, Programmer, Sync};
+use crate::{AnyProgrammer, Failure, Link, Port, Programmer, Sync};
 use nor_model::{Bus, History, Stopped};
 
 /// A bus to the chip at a serial programmer, over any port. It needs fewer round trips than `SerprogBus`: a modifying
@@ -32,7 +32,7 @@ use nor_model::{Bus, History, Stopped};
 #[derive(Drop)]
 pub struct BatchingBus<P: Port + Drop> {
     batch: Batch<P>,
-    programmer: Programmer,
+    programmer: AnyProgrammer,
     cause: Option<Failure<P::Cause>>,
     history: History,
 }
@@ -49,6 +49,18 @@ impl<P: Port + Drop> BatchingBus<P> {
         ensures sent { sent_of result ≡ [] }
         ensures polled_ready { polled_ready_of result ≡ false }
     {
+        BatchingBus::over(link, *programmer.reported())
+    }
+
+    /// Returns a bus over a link whose programmer was identified (`AnyProgrammer::identify`). It rejects each transaction
+    /// that reads more than the programmer can, but sends up to 260 bytes. A `SplittingBus` around it splits programs.
+    pub fn over(link: Link<P>, programmer: AnyProgrammer) -> BatchingBus<P>
+        ensures link { link_of result ≡ link }
+        ensures empty { waiting_of result ≡ [] }
+        ensures history { history_of result ≡ [] }
+        ensures sent { sent_of result ≡ [] }
+        ensures polled_ready { polled_ready_of result ≡ false }
+    {
         let batch = Batch::new(link, &programmer);
         BatchingBus {
             batch,
@@ -59,7 +71,7 @@ impl<P: Port + Drop> BatchingBus<P> {
     }
 
     /// Returns what the programmer replied when it was identified.
-    pub fn programmer(&self) -> &Programmer {
+    pub fn programmer(&self) -> &AnyProgrammer {
         &self.programmer
     }
 

@@ -1,5 +1,5 @@
-//! The handshake that precedes the first transaction: identifies a programmer, and prepares it for SPI.
-ghost use Rattle.std.specs.Prelude.{◌≡◌, ◌<◌, ◌≤◌, ℕ, Bool, true, false, List, length, slice_index, None, Some, OnOk, IfOk, IsErr};
+//! The steps of the handshake that precedes the first transaction.
+ghost use Rattle.std.specs.Prelude.{◌≡◌, ◌<◌, ◌≤◌, ℕ, Bool, true, false, List, length, slice_index, None, Some, OnOk, IfOk};
 ghost use Rattle.std.specs.Prelude.{option_and_then, replicate, if◌then◌else◌, ◌||◌, ◌&&◌, ◌==◌, not, bit_and, ⊤};
 ghost use Rattle.nor_serprog.specs.Device.{with_settings};
 ghost use Rattle.nor_serprog.specs.Firmware.{Firmware, HasReply, ProgrammerSettings, has_command, is_in_map, reply_of, queried};
@@ -7,131 +7,35 @@ ghost use Rattle.nor_serprog.specs.Firmware.{settings_after, taken};
 ghost use Rattle.nor_serprog.specs.Frame.{frame_of, three_of};
 ghost use Rattle.nor_serprog.specs.Link.{port_of, is_in_step, is_cut};
 ghost use Rattle.nor_serprog.specs.Replies.{AwaitsCommand};
-ghost use Rattle.nor_serprog.specs.Identify.{Asked, Concludes, IsInStepWith, IsProgrammerOf, identify_fault, select_fault};
-ghost use Rattle.nor_serprog.specs.Identify.{prepared_port, settings_if_offered};
+ghost use Rattle.nor_serprog.specs.Identify.{Asked, Concludes, IsInStepWith};
+ghost use Rattle.nor_serprog.specs.Identify.{settings_if_offered};
 ghost use Rattle.nor_serprog.specs.Identify.{version_fault, operation_fault, buses_fault, write_fault, read_fault};
 ghost use Rattle.nor_serprog.specs.Identify.{buffer_fault, clock_fault, refused, buses_of, write_limit, read_limit, limit_in};
 
-use crate::{Command, HandshakeFault, LONGEST_OUT, Link, Port, Programmer};
-
-/// The number of bytes that a transaction must be able to read: a sector.
-pub const LONGEST_REPLY: u32 = 4096;
+use crate::{Command, HandshakeFault, Link, Port};
 
 // The flag of SPI in the reply to Q_BUSTYPE and in S_BUSTYPE.
-const SPI: u8 = 0x08;
+pub(crate) const SPI: u8 = 0x08;
 
 // The limit that 0 means, and that is assumed if the programmer lacks the query.
 const NO_LIMIT: u32 = 1 << 24;
 
-// The length of the frame of a full page program.
-const LONGEST_FRAME: u16 = 267;
-
-const S_BUSTYPE: u8 = 0x12;
-
 const O_SPIOP: u8 = 0x13;
 
-const S_PIN_STATE: u8 = 0x15;
-
-const S_SPI_CS: u8 = 0x16;
-
-impl Programmer {
-    ghost use Rattle.nor_serprog.specs.Programmer.{has_chip_selects};
-
-    /// Identifies the programmer on a new link, and prepares it for SPI transactions. It sends no transaction, so the
-    /// chip is not selected.
-    ///
-    /// The steps:
-    ///
-    /// - synchronize
-    /// - require version 1 of the protocol (Q_IFACE), and the command O_SPIOP (Q_CMDMAP)
-    /// - require that the programmer supports SPI (Q_BUSTYPE), and select it (S_BUSTYPE); without S_BUSTYPE, require
-    ///   that SPI is its only type of bus
-    /// - require that a transaction may send 260 bytes (Q_WRNMAXLEN) and read 4,096 bytes (Q_RDNMAXLEN)
-    /// - without Q_WRNMAXLEN, require that 267 bytes fit into the serial buffer (Q_SERBUF)
-    /// - read the name (Q_PGMNAME)
-    /// - if `hertz` is given, request a clock of at most that frequency (S_SPI_FREQ)
-    /// - switch the pin drivers on (S_PIN_STATE)
-    ///
-    /// A step whose command the programmer's map lacks is skipped. It is an error, however, if `hertz` is given and the
-    /// map lacks S_SPI_FREQ. (serprog protocol, flashrom's Documentation/serprog-protocol.txt.)
-    ///
-    /// If the port is honest, the programmer is idle, and no frame may have been cut off on the link, the firmware
-    /// determines the result, unless the port fails because fewer than 59 calls were left. The errors are those of
-    /// `identify_fault`, in the order of the steps. Under these premises, after `Ok`:
-    ///
-    /// - The programmer is idle again, and its chip is as it was.
-    /// - SPI is selected if the programmer has S_BUSTYPE; otherwise the type of bus is as it was.
-    /// - The pin drivers are on if the programmer has S_PIN_STATE; otherwise their state is as it was.
-    pub fn identify<P: Port + Drop>(
-        link: &mut Link<P>,
-        hertz: Option<u32>,
-    ) -> Result<Programmer, HandshakeFault<P::Cause>>
-        ensures in_step { OnOk result (is_in_step link.new ≡ true) }
-        ensures identifies { AwaitsCommand (P.state (port_of link.old)) → is_cut link.old ≡ false
-            → Concludes 59 (identify_fault (P.state (port_of link.old)).device.firmware hertz)
-            (IsProgrammerOf (P.state (port_of link.old)).device.firmware hertz) result
-            (prepared_port (P.state (port_of link.old))) (P.state (port_of link.new)) }
-    {
-        synchronize(link)?;
-        require_version(link)?;
-        let commands = query_commands(link)?;
-        require_spi(link, &commands)?;
-        set(link, &commands, Command::SetBuses(SPI), S_BUSTYPE)?;
-        let longest_write = query_write_limit(link, &commands)?;
-        let longest_read = query_read_limit(link, &commands)?;
-        let serial_buffer = query_buffer(link, &commands)?;
-        let name = query_name(link, &commands)?;
-        let frequency = set_frequency(link, &commands, hertz)?;
-        set(link, &commands, Command::SetPins(true), S_PIN_STATE)?;
-        Ok(Programmer {
-            name,
-            longest_write,
-            longest_read,
-            serial_buffer,
-            frequency,
-            selects: offers(&commands, S_SPI_CS),
-        })
-    }
-
-    /// Makes the programmer use the chip select with this number (S_SPI_CS, 16h) for all transactions from now on.
-    /// `link` must be the one to this programmer.
-    ///
-    /// Returns `Lacks` if the programmer lacks the command. Nothing is sent then: the programmer would take the number
-    /// for a command. Returns a `Failure` if the exchange failed: `Refused` if the programmer has no chip select with
-    /// this number. If the link is in step, the port is honest and the programmer is idle, the only errors are `Lacks`,
-    /// `Refused`, and a failure of the port because fewer than three calls were left.
-    pub fn select_chip<P: Port + Drop>(
-        &self,
-        link: &mut Link<P>,
-        number: u8,
-    ) -> Result<(), HandshakeFault<P::Cause>>
-        ensures unsent { has_chip_selects self.now ≡ false → link.new ≡ link.old }
-        ensures lacks { has_chip_selects self.now ≡ false → IsErr result }
-        ensures ok { OnOk result (is_in_step link.new ≡ true) }
-        ensures selects { (firmware : Firmware) → IsInStepWith P.state firmware link.old
-            → has_chip_selects self.now ≡ has_command firmware 0x16
-            → Concludes 3 (select_fault firmware number) (λ _. ⊤) result
-            (P.state (port_of link.old)) (P.state (port_of link.new)) }
-    {
-        if !self.selects {
-            return Err(HandshakeFault::Lacks(S_SPI_CS));
-        }
-        ask(link, Command::SelectChip(number), &mut [])
-    }
-}
-
 /// The commands that a programmer has: command `n` is bit `n % 8` of byte `n / 8`.
-type Map = [u8; 32];
+pub(crate) type Map = [u8; 32];
 
 // Returns whether the map has the command with this opcode.
-fn offers(commands: &Map, opcode: u8) -> bool
+pub(crate) fn offers(commands: &Map, opcode: u8) -> bool
     ensures { result ≡ is_in_map commands.now opcode }
 {
     let byte = commands.get(usize::from(opcode / 8)).copied().unwrap_or(0);
     byte >> (opcode % 8) & 1 == 1
 }
 
-fn synchronize<P: Port + Drop>(link: &mut Link<P>) -> Result<(), HandshakeFault<P::Cause>>
+pub(crate) fn synchronize<P: Port + Drop>(
+    link: &mut Link<P>,
+) -> Result<(), HandshakeFault<P::Cause>>
     ensures in_step { OnOk result (is_in_step link.new ≡ true) }
     ensures concludes { AwaitsCommand (P.state (port_of link.old)) → is_cut link.old ≡ false
         → Concludes 29 None (λ _. ⊤) result (P.state (port_of link.old)) (P.state (port_of link.new)) }
@@ -143,7 +47,7 @@ fn synchronize<P: Port + Drop>(link: &mut Link<P>) -> Result<(), HandshakeFault<
 }
 
 // Makes one exchange of the handshake.
-fn ask<P: Port + Drop>(
+pub(crate) fn ask<P: Port + Drop>(
     link: &mut Link<P>,
     command: Command<'_>,
     reply: &mut [u8],
@@ -183,7 +87,7 @@ fn query<P: Port + Drop, const LEN: usize>(
 }
 
 // Makes a setting. Sends nothing if the programmer lacks the command of the setting, which has this opcode.
-fn set<P: Port + Drop>(
+pub(crate) fn set<P: Port + Drop>(
     link: &mut Link<P>,
     commands: &Map,
     setting: Command<'_>,
@@ -204,7 +108,9 @@ fn set<P: Port + Drop>(
 }
 
 // Returns `Version` if the programmer doesn't speak version 1.
-fn require_version<P: Port + Drop>(link: &mut Link<P>) -> Result<(), HandshakeFault<P::Cause>>
+pub(crate) fn require_version<P: Port + Drop>(
+    link: &mut Link<P>,
+) -> Result<(), HandshakeFault<P::Cause>>
     ensures in_step { is_in_step link.old ≡ true → OnOk result (is_in_step link.new ≡ true) }
     ensures concludes { (firmware : Firmware) → IsInStepWith P.state firmware link.old
         → Concludes 3 (version_fault firmware) (λ _. ⊤) result
@@ -220,7 +126,9 @@ fn require_version<P: Port + Drop>(link: &mut Link<P>) -> Result<(), HandshakeFa
 }
 
 // Returns the map of commands, or `Lacks` if the programmer lacks O_SPIOP.
-fn query_commands<P: Port + Drop>(link: &mut Link<P>) -> Result<Map, HandshakeFault<P::Cause>>
+pub(crate) fn query_commands<P: Port + Drop>(
+    link: &mut Link<P>,
+) -> Result<Map, HandshakeFault<P::Cause>>
     ensures in_step { is_in_step link.old ≡ true → OnOk result (is_in_step link.new ≡ true) }
     ensures concludes { (firmware : Firmware) → IsInStepWith P.state firmware link.old
         → Concludes 3 (operation_fault firmware) (λ commands. commands ≡ firmware.commands) result
@@ -235,7 +143,7 @@ fn query_commands<P: Port + Drop>(link: &mut Link<P>) -> Result<Map, HandshakeFa
 }
 
 // Returns `NotSpi` if the programmer can't be set to SPI.
-fn require_spi<P: Port + Drop>(
+pub(crate) fn require_spi<P: Port + Drop>(
     link: &mut Link<P>,
     commands: &Map,
 ) -> Result<(), HandshakeFault<P::Cause>>
@@ -245,7 +153,7 @@ fn require_spi<P: Port + Drop>(
         (P.state (port_of link.old)) (P.state (port_of link.new)) }
 {
     let buses = query_buses(link, commands)?;
-    if !can_select_spi(buses, offers(commands, S_BUSTYPE)) {
+    if !can_select_spi(buses, offers(commands, 0x12)) {
         return Err(HandshakeFault::NotSpi(buses));
     }
     Ok(())
@@ -275,37 +183,39 @@ fn can_select_spi(buses: u8, selects: bool) -> bool
     buses & SPI != 0 && (buses == SPI || selects)
 }
 
-fn query_write_limit<P: Port + Drop>(
+pub(crate) fn query_write_limit<P: Port + Drop>(
     link: &mut Link<P>,
     commands: &Map,
+    least: u32,
 ) -> Result<u32, HandshakeFault<P::Cause>>
-    ensures enough { IfOk result (λ limit. 260 ≤ limit) }
+    ensures enough { IfOk result (λ limit. least ≤ limit) }
     ensures in_step { is_in_step link.old ≡ true → OnOk result (is_in_step link.new ≡ true) }
     ensures concludes { (firmware : Firmware) → IsInStepWith P.state firmware link.old
         → commands.now ≡ firmware.commands
-        → Concludes 3 (write_fault firmware) (λ limit. limit ≡ write_limit firmware) result
+        → Concludes 3 (write_fault firmware least) (λ limit. limit ≡ write_limit firmware) result
         (P.state (port_of link.old)) (P.state (port_of link.new)) }
 {
     let limit = limit_of(query(link, commands, Command::QueryLongestWrite, 0x08)?);
-    if limit < LONGEST_OUT as u32 {
+    if limit < least {
         return Err(HandshakeFault::WriteLimit(limit));
     }
     Ok(limit)
 }
 
-fn query_read_limit<P: Port + Drop>(
+pub(crate) fn query_read_limit<P: Port + Drop>(
     link: &mut Link<P>,
     commands: &Map,
+    least: u32,
 ) -> Result<u32, HandshakeFault<P::Cause>>
-    ensures enough { IfOk result (λ limit. 4096 ≤ limit) }
+    ensures enough { IfOk result (λ limit. least ≤ limit) }
     ensures in_step { is_in_step link.old ≡ true → OnOk result (is_in_step link.new ≡ true) }
     ensures concludes { (firmware : Firmware) → IsInStepWith P.state firmware link.old
         → commands.now ≡ firmware.commands
-        → Concludes 3 (read_fault firmware) (λ limit. limit ≡ read_limit firmware) result
+        → Concludes 3 (read_fault firmware least) (λ limit. limit ≡ read_limit firmware) result
         (P.state (port_of link.old)) (P.state (port_of link.new)) }
 {
     let limit = limit_of(query(link, commands, Command::QueryLongestRead, 0x11)?);
-    if limit < LONGEST_REPLY {
+    if limit < least {
         return Err(HandshakeFault::ReadLimit(limit));
     }
     Ok(limit)
@@ -328,15 +238,16 @@ fn limit_of(reply: Option<[u8; 3]>) -> u32
 }
 
 // Returns the size of the serial buffer, or 0 if the programmer lacks the query. Returns `SmallBuffer` if the
-// programmer lacks Q_WRNMAXLEN, and the longest frame does not fit into the buffer. A programmer that has Q_WRNMAXLEN
-// accepts frames of the length that it allows, regardless of its buffer.
-fn query_buffer<P: Port + Drop>(
+// programmer lacks Q_WRNMAXLEN, and a frame of `least` bytes does not fit into the buffer. A programmer that has
+// Q_WRNMAXLEN accepts frames of the length that it allows, regardless of its buffer.
+pub(crate) fn query_buffer<P: Port + Drop>(
     link: &mut Link<P>,
     commands: &Map,
+    least: u16,
 ) -> Result<u16, HandshakeFault<P::Cause>>
     ensures in_step { is_in_step link.old ≡ true → OnOk result (is_in_step link.new ≡ true) }
     ensures concludes { (firmware : Firmware) → IsInStepWith P.state firmware link.old
-        → commands.now ≡ firmware.commands → Concludes 3 (buffer_fault firmware)
+        → commands.now ≡ firmware.commands → Concludes 3 (buffer_fault firmware least)
         (λ size. size ≡ (if has_command firmware 0x04 then firmware.buffer else 0)) result
         (P.state (port_of link.old)) (P.state (port_of link.new)) }
 {
@@ -347,13 +258,13 @@ fn query_buffer<P: Port + Drop>(
     if offers(commands, 0x08) {
         return Ok(size);
     }
-    if size < LONGEST_FRAME {
+    if size < least {
         return Err(HandshakeFault::SmallBuffer(size));
     }
     Ok(size)
 }
 
-fn query_name<P: Port + Drop>(
+pub(crate) fn query_name<P: Port + Drop>(
     link: &mut Link<P>,
     commands: &Map,
 ) -> Result<[u8; 16], HandshakeFault<P::Cause>>
@@ -367,7 +278,7 @@ fn query_name<P: Port + Drop>(
     Ok(name.unwrap_or([0; 16]))
 }
 
-fn set_frequency<P: Port + Drop>(
+pub(crate) fn set_frequency<P: Port + Drop>(
     link: &mut Link<P>,
     commands: &Map,
     hertz: Option<u32>,

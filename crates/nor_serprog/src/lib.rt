@@ -4,7 +4,8 @@
 //! - `command.rt`: commands as bytes (frames), and the first byte of a reply
 //! - `port.rt`: the contract of a port to a programmer
 //! - `link.rt`: exchanges of a frame and its reply, and synchronization
-//! - `handshake.rt`: identifies a programmer and prepares it for SPI
+//! - `handshake.rt`: the steps of the handshake
+//! - `identification.rt`: identifies a programmer and prepares it for SPI
 //! - `programmer.rt`: what a programmer replied when it was identified, or why it cannot be used
 //! - `bus.rt`: the bus; one transaction is one O_SPIOP
 //! - `batch.rt`: frames that are sent together
@@ -23,6 +24,7 @@ mod batching;
 mod bus;
 mod command;
 mod handshake;
+mod identification;
 mod link;
 mod paced;
 mod parts;
@@ -39,7 +41,7 @@ pub use command::{Answer, Command, Frame, LONGEST_OUT, TooLong, frame_len};
 pub use link::{Failure, Link, Sync};
 pub use paced::Paced;
 pub use port::Port;
-pub use programmer::{HandshakeFault, Programmer};
+pub use programmer::{AnyProgrammer, HandshakeFault, Programmer};
 pub use splitting::SplittingBus;
 pub use status::{CheckedStatus, StatusFault};
 pub use twice::ReadTwice;

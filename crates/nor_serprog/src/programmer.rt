@@ -22,31 +22,99 @@ pub enum HandshakeFault<C> {
     /// value is the flags that it returned: 1 parallel, 2 LPC, 4 FWH, 8 SPI.
     #[error("the programmer cannot be set to SPI: its types of bus are {0:02X}h")]
     NotSpi(u8),
-    /// An O_SPIOP may send at most this many bytes, and a page program needs 260.
-    #[error("the programmer sends at most {0} bytes in a transaction, and a page program needs 260")]
+    /// An O_SPIOP may send at most this many bytes. A page program in one transaction needs 260, and its shortest part 5.
+    #[error("the programmer sends at most {0} bytes in a transaction, too few for a page program")]
     WriteLimit(u32),
     /// An O_SPIOP may read at most this many bytes, and reading a sector needs 4,096.
     #[error("the programmer reads at most {0} bytes in a transaction, and a sector needs 4096")]
     ReadLimit(u32),
     /// The programmer lacks Q_WRNMAXLEN, so its serial buffer limits the length of a frame. The buffer has this many
-    /// bytes, and the longest frame has 267.
-    #[error("the serial buffer of the programmer has {0} bytes, and a page program needs 267")]
+    /// bytes. The frame of a page program has 267 bytes, and that of its shortest part 12.
+    #[error("the serial buffer of the programmer has {0} bytes, too few for a page program")]
     SmallBuffer(u16),
 }
 
-/// The replies of a programmer to its identification.
+/// The replies of a programmer to its identification. Its limits may be small: if a transaction can't send a page program
+/// or read a sector, use a `SplittingBus`.
 #[derive(Clone, Copy, Debug, PartialEq, Eq)]
-pub struct Programmer {
+pub struct AnyProgrammer {
     pub(crate) name: [u8; 16],
     pub(crate) longest_write: u32,
     pub(crate) longest_read: u32,
+    // `longest_write`, or fewer bytes if only a shorter frame fits into the serial buffer.
+    pub(crate) longest_part: u32,
     pub(crate) serial_buffer: u16,
     pub(crate) frequency: Option<u32>,
     // The programmer has the command S_SPI_CS.
     pub(crate) selects: bool,
-    // A transaction may send a page program, and read a sector.
-    ghost writes: { 260 ≤ longest_write },
-    ghost reads: { 4096 ≤ longest_read },
+    // A part of a program sends an opcode, an address and at least one data byte.
+    ghost parts: { 5 ≤ longest_part },
+    ghost reads: { 1 ≤ longest_read },
+}
+
+/// The replies of a programmer to its identification, if its transactions can send a page program and read a sector.
+#[derive(Clone, Copy, Debug, PartialEq, Eq)]
+pub struct Programmer {
+    pub(crate) reported: AnyProgrammer,
+    ghost writes: { 260 ≤ reported.longest_write },
+    ghost reads: { 4096 ≤ reported.longest_read },
+}
+
+// The limits that a programmer must have at least: the numbers of bytes that a transaction sends and reads, and the
+// number of bytes in the frame of a program.
+#[derive(Clone, Copy)]
+pub(crate) struct Least {
+    pub(crate) write: u32,
+    pub(crate) read: u32,
+    pub(crate) frame: u16,
+}
+
+impl AnyProgrammer {
+    /// Returns the name of the programmer, 16 bytes padded with zeros. It is all zeros if the programmer has none.
+    pub fn name(&self) -> [u8; 16]
+        ensures { result ≡ self.now.name }
+    {
+        self.name
+    }
+
+    /// Returns the greatest number of bytes that a transaction may send, if the serial buffer does not matter.
+    pub fn longest_write(&self) -> u32
+        ensures { result ≡ self.now.longest_write }
+    {
+        self.longest_write
+    }
+
+    /// Returns the greatest number of bytes that a transaction may send, which is at least 5. If the programmer has
+    /// Q_SERBUF but lacks Q_WRNMAXLEN, the frame of such a transaction fits into the serial buffer.
+    pub fn longest_part(&self) -> u32
+        ensures value { result ≡ self.now.longest_part }
+        ensures enough { 5 ≤ result }
+    {
+        self.longest_part
+    }
+
+    /// Returns the greatest number of bytes that a transaction may read, which is at least 1.
+    pub fn longest_read(&self) -> u32
+        ensures value { result ≡ self.now.longest_read }
+        ensures enough { 1 ≤ result }
+    {
+        self.longest_read
+    }
+
+    /// Returns the size of the serial buffer in bytes, or 0 if the programmer lacks the query (Q_SERBUF). That number
+    /// of bytes may be sent before their replies are read.
+    pub fn serial_buffer(&self) -> u16
+        ensures { result ≡ self.now.serial_buffer }
+    {
+        self.serial_buffer
+    }
+
+    /// Returns the clock in hertz that the programmer set, or `None` if no clock was requested.
+    pub fn frequency(&self) -> Option<u32>
+        ensures { result ≡ self.now.frequency }
+    {
+        self.frequency
+    }
 }
 
 impl Programmer {
@@ -56,7 +124,14 @@ impl Programmer {
     pub fn name(&self) -> [u8; 16]
         ensures { result ≡ programmer_name self.now }
     {
-        self.name
+        self.reported.name
+    }
+
+    /// Returns the replies of the programmer, as those of a programmer with any limits.
+    pub fn reported(&self) -> &AnyProgrammer
+        ensures { result.now ≡ self.now.reported }
+    {
+        &self.reported
     }
 
     /// Returns the greatest number of bytes that a transaction may send, which is at least 260.
@@ -64,7 +139,7 @@ impl Programmer {
         ensures value { result ≡ writes_most self.now }
         ensures enough { 260 ≤ result }
     {
-        self.longest_write
+        self.reported.longest_write
     }
 
     /// Returns the greatest number of bytes that a transaction may read, which is at least 4,096.
@@ -72,7 +147,7 @@ impl Programmer {
         ensures value { result ≡ reads_most self.now }
         ensures enough { 4096 ≤ result }
     {
-        self.longest_read
+        self.reported.longest_read
     }
 
     /// Returns the size of the serial buffer in bytes, or 0 if the programmer lacks the query (Q_SERBUF). That number
@@ -80,13 +155,13 @@ impl Programmer {
     pub fn serial_buffer(&self) -> u16
         ensures { result ≡ buffer_of self.now }
     {
-        self.serial_buffer
+        self.reported.serial_buffer
     }
 
     /// Returns the clock in hertz that the programmer set, or `None` if no clock was requested.
     pub fn frequency(&self) -> Option<u32>
         ensures { result ≡ frequency_of self.now }
     {
-        self.frequency
+        self.reported.frequency
     }
 }

@@ -109,6 +109,8 @@ mod serprog_handshakes;
 #[cfg(test)]
 mod serprog_model;
 #[cfg(test)]
+mod serprog_narrow;
+#[cfg(test)]
 mod serprog_stops;
 #[cfg(test)]
 mod serprog_wrappers;

@@ -64,7 +64,7 @@ fn a_limit_that_is_too_small_is_an_error(rt: HostRuntime) -> Result<(), Fail> {
     model.longest_write = [0x03, 0x01, 0];
     assert_eq!(rt;
         refusal(alloc, model)?.as_str(),
-        "the programmer sends at most 259 bytes in a transaction, and a page program needs 260"
+        "the programmer sends at most 259 bytes in a transaction, too few for a page program"
     );
     let mut model = Model::new(alloc)?;
     model.longest_read = [0xFF, 0x0F, 0];
@@ -77,7 +77,7 @@ fn a_limit_that_is_too_small_is_an_error(rt: HostRuntime) -> Result<(), Fail> {
     model.buffer = [0x0A, 0x01];
     assert_eq!(rt;
         refusal(alloc, model)?.as_str(),
-        "the serial buffer of the programmer has 266 bytes, and a page program needs 267"
+        "the serial buffer of the programmer has 266 bytes, too few for a page program"
     );
     let mut model = Model::new(alloc)?;
     model.longest_write = [0x04, 0x01, 0];

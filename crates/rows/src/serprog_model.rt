@@ -145,7 +145,7 @@ impl Model {
     }
 
     // Carries out one O_SPIOP command: a transaction with the chip, and its reply. At the command `fault_at` the reply
-    // has the fault; with `Nak` there is no transaction.
+    // has the fault; with `Nak`, or if the command exceeds a limit of the programmer, there is no transaction.
     fn operate(&mut self, out: &[u8], replies: u16) {
         let fault = if self.operations == self.fault_at {
             self.fault
@@ -153,7 +153,10 @@ impl Model {
             None
         };
         self.operations = self.operations.saturating_add(1);
-        if fault == Some(Fault::Nak) {
+        if fault == Some(Fault::Nak)
+            || exceeds(out.len(), self.longest_write)
+            || exceeds(usize::from(replies), self.longest_read)
+        {
             return self.reply(&[0x15]);
         }
         let mut reply = [0; 4096];
@@ -177,6 +180,13 @@ impl Model {
         self.reply(&[0x06]);
         self.reply(reply);
     }
+}
+
+// Returns whether a number of bytes exceeds a limit that is 0 if there is none.
+fn exceeds(len: usize, limit: [u8; 3]) -> bool {
+    let [low, middle, high] = limit;
+    let limit = u32::from_le_bytes([low, middle, high, 0]) as usize;
+    limit != 0 && len > limit
 }
 
 impl Port for Model {

@@ -22,13 +22,13 @@ returns-then-offers-clause-concludes g c firmware ready same =
     let h8 = offered firmware c.args.commands.now 0x08 _ true c.offers.ensures same c.if-offers.true in
     goes_on done (rw (r.has_query, h8)) (rw r.has_query e)
 
-pub returns-then-size-lt-LONGEST_FRAME-clause-concludes : goal.returns-then-size-lt-LONGEST_FRAME-clause-concludes
-returns-then-size-lt-LONGEST_FRAME-clause-concludes g c firmware ready same =
+pub returns-then-size-least-clause-concludes : goal.returns-then-size-least-clause-concludes
+returns-then-size-least-clause-concludes g c firmware ready same =
     let done = c.in_ok-size.ensures.concludes firmware (two_of firmware.buffer) ready same tt refl refl (λ s. refl) in
     let r = replied (has_command firmware 0x04) (two_of firmware.buffer) _ _ c.in-Some.is done.value in
     let e = two_read firmware.buffer _ _ c.from_le_bytes-size.ensures r.bytes_are firmware.buffer_fits in
     let h8 = offered firmware c.args.commands.now 0x08 _ false c.offers.ensures same c.if-offers.false in
-    stops_after done (rw (r.has_query, h8, ← e, below _ 267 c.if-size-lt-LONGEST_FRAME.true))
+    stops_after done (rw (r.has_query, h8, ← e, below _ c.args.least c.if-size-least.true))
 
 pub returns-clause-concludes : goal.returns-clause-concludes
 returns-clause-concludes g c firmware ready same =
@@ -36,4 +36,4 @@ returns-clause-concludes g c firmware ready same =
     let r = replied (has_command firmware 0x04) (two_of firmware.buffer) _ _ c.in-Some.is done.value in
     let e = two_read firmware.buffer _ _ c.from_le_bytes-size.ensures r.bytes_are firmware.buffer_fits in
     let h8 = offered firmware c.args.commands.now 0x08 _ false c.offers.ensures same c.if-offers.false in
-    goes_on done (rw (r.has_query, h8, ← e, not_below _ 267 c.if-size-lt-LONGEST_FRAME.false)) (rw r.has_query e)
+    goes_on done (rw (r.has_query, h8, ← e, not_below _ c.args.least c.if-size-least.false)) (rw r.has_query e)

@@ -9,14 +9,14 @@ returns-in_err-query-clause-concludes g c firmware ready same =
     port_failed c.from_residual.result c.from_residual.ensures.1
     (c.in_err-query.ensures.concludes firmware (three_of firmware.longest_write) ready same tt refl refl (λ s. refl))
 
-pub returns-then-limit-clause-concludes : goal.returns-then-limit-clause-concludes
-returns-then-limit-clause-concludes g c firmware ready same =
+pub returns-then-limit-least-clause-concludes : goal.returns-then-limit-least-clause-concludes
+returns-then-limit-least-clause-concludes g c firmware ready same =
     let done = c.in_ok-query.ensures.concludes firmware (three_of firmware.longest_write) ready same tt refl refl (λ s. refl) in
     let e = c.limit_of-limit.ensures (has_command firmware 0x08) firmware.longest_write firmware.write_fits done.value in
-    stops_after done (rw (← e, below _ 260 c.if-limit.true))
+    stops_after done (rw (← e, below _ c.args.least c.if-limit-least.true))
 
 pub returns-clause-concludes : goal.returns-clause-concludes
 returns-clause-concludes g c firmware ready same =
     let done = c.in_ok-query.ensures.concludes firmware (three_of firmware.longest_write) ready same tt refl refl (λ s. refl) in
     let e = c.limit_of-limit.ensures (has_command firmware 0x08) firmware.longest_write firmware.write_fits done.value in
-    goes_on done (rw (← e, not_below _ 260 c.if-limit.false)) e
+    goes_on done (rw (← e, not_below _ c.args.least c.if-limit-least.false)) e

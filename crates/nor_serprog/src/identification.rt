@@ -1,0 +1,205 @@
+//! The handshake that precedes the first transaction: identifies a programmer, and prepares it for SPI.
+ghost use Rattle.std.specs.Prelude.{◌≡◌, ◌≤◌, true, false, OnOk, IfOk, IsErr, ⊤};
+ghost use Rattle.nor_serprog.specs.Firmware.{Firmware, has_command};
+ghost use Rattle.nor_serprog.specs.Link.{port_of, is_in_step, is_cut};
+ghost use Rattle.nor_serprog.specs.Replies.{AwaitsCommand};
+ghost use Rattle.nor_serprog.specs.Identify.{Concludes, IsInStepWith, IsAnyProgrammerOf, IsProgrammerOf, prepared_port};
+ghost use Rattle.nor_serprog.specs.Identify.{least_fault, identify_fault, narrow_fault, select_fault, part_limit_of};
+
+use crate::handshake::{
+    Map, SPI, ask, offers, query_buffer, query_commands, query_name, query_read_limit,
+    query_write_limit, require_spi, require_version, set, set_frequency, synchronize,
+};
+use crate::programmer::Least;
+use crate::{AnyProgrammer, Command, HandshakeFault, Link, Port, Programmer};
+
+const Q_SERBUF: u8 = 0x04;
+
+const Q_WRNMAXLEN: u8 = 0x08;
+
+const S_BUSTYPE: u8 = 0x12;
+
+const S_PIN_STATE: u8 = 0x15;
+
+const S_SPI_CS: u8 = 0x16;
+
+// The length of a frame of O_SPIOP without the bytes that it sends to the chip.
+const HEADER_LEN: u32 = 7;
+
+// An opcode, an address and one data byte.
+const SHORTEST_PART: u32 = 5;
+
+impl AnyProgrammer {
+    /// Identifies the programmer on a new link, and prepares it for SPI transactions, as `Programmer::identify` does. It
+    /// requires only that a transaction may send 5 bytes and read 1 byte, and without Q_WRNMAXLEN that 12 bytes fit into
+    /// the serial buffer. The errors are those of `narrow_fault`.
+    pub fn identify<P: Port + Drop>(
+        link: &mut Link<P>,
+        hertz: Option<u32>,
+    ) -> Result<AnyProgrammer, HandshakeFault<P::Cause>>
+        ensures in_step { OnOk result (is_in_step link.new ≡ true) }
+        ensures identifies { AwaitsCommand (P.state (port_of link.old)) → is_cut link.old ≡ false
+            → Concludes 59 (narrow_fault (P.state (port_of link.old)).device.firmware hertz)
+            (IsAnyProgrammerOf (P.state (port_of link.old)).device.firmware hertz) result
+            (prepared_port (P.state (port_of link.old))) (P.state (port_of link.new)) }
+    {
+        let least = Least {
+            write: 5,
+            read: 1,
+            frame: 12,
+        };
+        identify_for(link, hertz, least)
+    }
+
+    /// Makes the programmer use the chip select with this number (S_SPI_CS, 16h) for all transactions from now on.
+    /// `link` must be the one to this programmer.
+    ///
+    /// Returns `Lacks` if the programmer lacks the command. Nothing is sent then: the programmer would take the number
+    /// for a command. Returns a `Failure` if the exchange failed: `Refused` if the programmer has no chip select with
+    /// this number. If the link is in step, the port is honest and the programmer is idle, the only errors are `Lacks`,
+    /// `Refused`, and a failure of the port because fewer than three calls were left.
+    pub fn select_chip<P: Port + Drop>(
+        &self,
+        link: &mut Link<P>,
+        number: u8,
+    ) -> Result<(), HandshakeFault<P::Cause>>
+        ensures unsent { self.now.selects ≡ false → link.new ≡ link.old }
+        ensures lacks { self.now.selects ≡ false → IsErr result }
+        ensures ok { OnOk result (is_in_step link.new ≡ true) }
+        ensures selects { (firmware : Firmware) → IsInStepWith P.state firmware link.old
+            → self.now.selects ≡ has_command firmware 0x16
+            → Concludes 3 (select_fault firmware number) (λ _. ⊤) result
+            (P.state (port_of link.old)) (P.state (port_of link.new)) }
+    {
+        if !self.selects {
+            return Err(HandshakeFault::Lacks(S_SPI_CS));
+        }
+        ask(link, Command::SelectChip(number), &mut [])
+    }
+}
+
+impl Programmer {
+    ghost use Rattle.nor_serprog.specs.Programmer.{has_chip_selects};
+
+    /// Identifies the programmer on a new link, and prepares it for SPI transactions. It sends no transaction, so the
+    /// chip is not selected.
+    ///
+    /// The steps:
+    ///
+    /// - synchronize
+    /// - require version 1 of the protocol (Q_IFACE), and the command O_SPIOP (Q_CMDMAP)
+    /// - require that the programmer supports SPI (Q_BUSTYPE), and select it (S_BUSTYPE); without S_BUSTYPE, require
+    ///   that SPI is its only type of bus
+    /// - require that a transaction may send 260 bytes (Q_WRNMAXLEN) and read 4,096 bytes (Q_RDNMAXLEN)
+    /// - without Q_WRNMAXLEN, require that 267 bytes fit into the serial buffer (Q_SERBUF)
+    /// - read the name (Q_PGMNAME)
+    /// - if `hertz` is given, request a clock of at most that frequency (S_SPI_FREQ)
+    /// - switch the pin drivers on (S_PIN_STATE)
+    ///
+    /// A step whose command the programmer's map lacks is skipped. It is an error, however, if `hertz` is given and the
+    /// map lacks S_SPI_FREQ. (serprog protocol, flashrom's Documentation/serprog-protocol.txt.)
+    ///
+    /// If the port is honest, the programmer is idle, and no frame may have been cut off on the link, the firmware
+    /// determines the result, unless the port fails because fewer than 59 calls were left. The errors are those of
+    /// `identify_fault`, in the order of the steps. Under these premises, after `Ok`:
+    ///
+    /// - The programmer is idle again, and its chip is as it was.
+    /// - SPI is selected if the programmer has S_BUSTYPE; otherwise the type of bus is as it was.
+    /// - The pin drivers are on if the programmer has S_PIN_STATE; otherwise their state is as it was.
+    pub fn identify<P: Port + Drop>(
+        link: &mut Link<P>,
+        hertz: Option<u32>,
+    ) -> Result<Programmer, HandshakeFault<P::Cause>>
+        ensures in_step { OnOk result (is_in_step link.new ≡ true) }
+        ensures identifies { AwaitsCommand (P.state (port_of link.old)) → is_cut link.old ≡ false
+            → Concludes 59 (identify_fault (P.state (port_of link.old)).device.firmware hertz)
+            (IsProgrammerOf (P.state (port_of link.old)).device.firmware hertz) result
+            (prepared_port (P.state (port_of link.old))) (P.state (port_of link.new)) }
+    {
+        let least = Least {
+            write: 260,
+            read: 4096,
+            frame: 267,
+        };
+        let reported = identify_for(link, hertz, least)?;
+        Ok(Programmer { reported })
+    }
+
+    /// Makes the programmer use the chip select with this number (S_SPI_CS, 16h) for all transactions from now on.
+    /// `link` must be the one to this programmer.
+    ///
+    /// Returns `Lacks` if the programmer lacks the command. Nothing is sent then: the programmer would take the number
+    /// for a command. Returns a `Failure` if the exchange failed: `Refused` if the programmer has no chip select with
+    /// this number. If the link is in step, the port is honest and the programmer is idle, the only errors are `Lacks`,
+    /// `Refused`, and a failure of the port because fewer than three calls were left.
+    pub fn select_chip<P: Port + Drop>(
+        &self,
+        link: &mut Link<P>,
+        number: u8,
+    ) -> Result<(), HandshakeFault<P::Cause>>
+        ensures unsent { has_chip_selects self.now ≡ false → link.new ≡ link.old }
+        ensures lacks { has_chip_selects self.now ≡ false → IsErr result }
+        ensures ok { OnOk result (is_in_step link.new ≡ true) }
+        ensures selects { (firmware : Firmware) → IsInStepWith P.state firmware link.old
+            → has_chip_selects self.now ≡ has_command firmware 0x16
+            → Concludes 3 (select_fault firmware number) (λ _. ⊤) result
+            (P.state (port_of link.old)) (P.state (port_of link.new)) }
+    {
+        self.reported.select_chip(link, number)
+    }
+}
+
+// Identifies the programmer, and requires that its limits are at least these.
+fn identify_for<P: Port + Drop>(
+    link: &mut Link<P>,
+    hertz: Option<u32>,
+    least: Least,
+) -> Result<AnyProgrammer, HandshakeFault<P::Cause>>
+    requires write { 5 ≤ least.write }
+    requires read { 1 ≤ least.read }
+    ensures in_step { OnOk result (is_in_step link.new ≡ true) }
+    ensures writes { IfOk result (λ programmer. least.write ≤ programmer.longest_write) }
+    ensures reads { IfOk result (λ programmer. least.read ≤ programmer.longest_read) }
+    ensures identifies { AwaitsCommand (P.state (port_of link.old)) → is_cut link.old ≡ false
+        → Concludes 59 (least_fault least (P.state (port_of link.old)).device.firmware hertz)
+        (IsAnyProgrammerOf (P.state (port_of link.old)).device.firmware hertz) result
+        (prepared_port (P.state (port_of link.old))) (P.state (port_of link.new)) }
+{
+    synchronize(link)?;
+    require_version(link)?;
+    let commands = query_commands(link)?;
+    require_spi(link, &commands)?;
+    set(link, &commands, Command::SetBuses(SPI), S_BUSTYPE)?;
+    let longest_write = query_write_limit(link, &commands, least.write)?;
+    let longest_read = query_read_limit(link, &commands, least.read)?;
+    let serial_buffer = query_buffer(link, &commands, least.frame)?;
+    let name = query_name(link, &commands)?;
+    let frequency = set_frequency(link, &commands, hertz)?;
+    set(link, &commands, Command::SetPins(true), S_PIN_STATE)?;
+    Ok(AnyProgrammer {
+        name,
+        longest_write,
+        longest_read,
+        longest_part: part_limit(&commands, longest_write, serial_buffer),
+        serial_buffer,
+        frequency,
+        selects: offers(&commands, S_SPI_CS),
+    })
+}
+
+// Returns the greatest number of bytes that a transaction may send. Without Q_WRNMAXLEN the serial buffer limits the
+// length of its frame.
+fn part_limit(commands: &Map, longest_write: u32, serial_buffer: u16) -> u32
+    requires { 5 ≤ longest_write }
+    ensures value { result ≡ part_limit_of commands.now longest_write serial_buffer }
+    ensures enough { 5 ≤ result }
+{
+    if offers(commands, Q_WRNMAXLEN) {
+        return longest_write;
+    }
+    if offers(commands, Q_SERBUF) {
+        let fits = u32::from(serial_buffer).saturating_sub(HEADER_LEN);
+        return longest_write.min(fits).max(SHORTEST_PART);
+    }
+    longest_write
+}

@@ -1,0 +1,210 @@
+//! A bus over a serprog programmer whose limits are too small for a page program or for the read of a sector.
+
+use crate::serprog_model::{Fault, Model};
+use nor_chip::{Bus, Config, Delays, Meter, SimBus};
+use nor_serprog::{AnyProgrammer, BatchingBus, Link, SplittingBus};
+use std::alloc::Global;
+use std::test::Fail;
+
+// Returns a programmer whose transactions send and read at most `limit` bytes. Its chip holds `bytes`, and shows BUSY in
+// two polls after each operation.
+fn narrow(bytes: Vec<u8>, alloc: Global, limit: u16) -> Result<Model, Fail> {
+    let delays = Delays { now: 0, each: 2 };
+    let mut model = Model::new(alloc)?;
+    model.chip = SimBus::new(Config::tiny64(), bytes, [0x00, 0x00], delays)?;
+    model.chip.allow(u64::MAX);
+    let [low, high] = limit.to_le_bytes();
+    model.longest_write = [low, high, 0];
+    model.longest_read = [low, high, 0];
+    Ok(model)
+}
+
+fn open(model: Model) -> Result<SplittingBus<BatchingBus<Model>>, Fail> {
+    let mut link = Link::new(model);
+    let programmer = AnyProgrammer::identify(&mut link, None).map_err(|_| "not identified")?;
+    let (writes, reads) = (programmer.longest_part(), programmer.longest_read());
+    Ok(SplittingBus::new(BatchingBus::over(link, programmer), writes, reads))
+}
+
+// Returns the program of 256 different bytes at address 001100h.
+fn page_program() -> [u8; 260] {
+    let mut program = [0; 260];
+    for (index, byte) in program.iter_mut().enumerate() {
+        *byte = (index % 256) as u8 ^ 0xA5;
+    }
+    program[0] = 0x02;
+    program[1] = 0x00;
+    program[2] = 0x11;
+    program[3] = 0x00;
+    program
+}
+
+// Returns whether all of these bytes are FFh, and there are bytes.
+fn are_erased(bytes: Option<&[u8]>) -> bool {
+    bytes.is_some_and(|bytes| bytes.iter().all(|byte| *byte == 0xFF))
+}
+
+// A page of 256 bytes needs a part for each `limit - 4` bytes: 256, 5 or 2 parts. Each part but the first follows three
+// polls and a write enable. The caller sends the first write enable, and three polls after the last part. So there are
+// five operations for each part.
+#[test]
+fn a_page_is_programmed_in_parts(rt: HostRuntime) -> Result<(), Fail> {
+    for (limit, reads, operations) in [
+        (5, 1, 1280_u32),
+        (5, 5, 1280),
+        (64, 64, 25),
+        (256, 2, 10),
+        (259, 1, 10),
+    ] {
+        let erased = vec![in rt.alloc(); 0xFF; 65536]?;
+        let mut model = narrow(erased, rt.alloc(), limit)?;
+        model.longest_read = [reads, 0, 0];
+        let mut bus = open(model)?;
+        let program = page_program();
+        bus.transfer(&[0x06], &mut [])?;
+        bus.transfer(&program, &mut [])?;
+        for busy in [true, true, false] {
+            let mut status = [0];
+            bus.transfer(&[0x05], &mut status)?;
+            assert_eq!(rt; status[0] % 2 != 0, busy, "limit {limit}");
+        }
+        let model = bus.inner().port();
+        assert_eq!(rt; model.operations, operations, "limit {limit}");
+        let bytes = model.chip.bytes();
+        assert!(rt;
+            bytes.get(0x1100..0x1200) == Some(&program[4..]),
+            "limit {limit}"
+        );
+        assert!(rt; are_erased(bytes.get(..0x1100)), "limit {limit}");
+        assert!(rt; are_erased(bytes.get(0x1200..)), "limit {limit}");
+    }
+    Ok(())
+}
+
+// Returns the bytes of a chip that differ from their neighbours.
+fn pattern(alloc: Global) -> Result<Vec<u8>, Fail> {
+    let mut bytes = vec![in alloc; 0; 65536]?;
+    for (address, byte) in bytes.iter_mut().enumerate() {
+        *byte = (address % 251) as u8;
+    }
+    Ok(bytes)
+}
+
+// Reads of data, of SFDP bytes and of the status become reads of at most `limit` bytes.
+#[test]
+fn reads_are_split(rt: HostRuntime) -> Result<(), Fail> {
+    for (limit, parts) in [(5, 820_u32), (64, 64), (256, 16), (259, 16), (4096, 1)] {
+        let mut bus = open(narrow(pattern(rt.alloc())?, rt.alloc(), limit)?)?;
+        let mut sector = [0; 4096];
+        bus.transfer(&[0x03, 0x00, 0x20, 0x00], &mut sector)?;
+        let model = bus.inner().port();
+        assert_eq!(rt; model.operations, parts, "limit {limit}");
+        assert!(rt;
+            model.chip.bytes().get(0x2000..0x3000) == Some(&sector[..]),
+            "limit {limit}"
+        );
+    }
+    let mut bus = open(narrow(pattern(rt.alloc())?, rt.alloc(), 7)?)?;
+    let mut whole = [0; 16];
+    let mut wide = open(narrow(pattern(rt.alloc())?, rt.alloc(), 64)?)?;
+    wide.transfer(&[0x5A, 0x00, 0x00, 0x00, 0x00], &mut whole)?;
+    let mut split = [0; 16];
+    bus.transfer(&[0x5A, 0x00, 0x00, 0x00, 0x00], &mut split)?;
+    assert_eq!(rt; split, whole);
+    assert_eq!(rt; &split[..4], b"SFDP");
+    assert_eq!(rt; bus.inner().port().operations, 3);
+    Ok(())
+}
+
+// Transactions that can't be split send nothing, and the bus works afterwards.
+#[test]
+fn what_cannot_be_split_is_rejected(rt: HostRuntime) -> Result<(), Fail> {
+    let mut bus = open(narrow(pattern(rt.alloc())?, rt.alloc(), 5)?)?;
+    let mut past = [0; 260];
+    past[0] = 0x02;
+    past[3] = 0x01;
+    assert!(rt; bus.transfer(&past, &mut []).is_err());
+    assert!(rt; bus.transfer(&[0x4B, 0, 0, 0, 0], &mut [0; 8]).is_err());
+    assert!(rt; bus.transfer(&[0x9F], &mut [0; 6]).is_err());
+    assert!(rt;
+        bus.transfer(&[0x03, 0xFF, 0xFF, 0xFB], &mut [0; 6])
+            .is_err()
+    );
+    assert_eq!(rt; bus.inner().port().operations, 0);
+    let mut id = [0; 3];
+    bus.transfer(&[0x9F], &mut id)?;
+    assert_eq!(rt; id, [0xFE, 0x10, 0x10]);
+    Ok(())
+}
+
+// A programmer that reads one byte at a time gets a poll of two bytes as two polls.
+#[test]
+fn polls_are_split(rt: HostRuntime) -> Result<(), Fail> {
+    let mut model = Model::new(rt.alloc())?;
+    model.longest_read = [1, 0, 0];
+    let mut bus = open(model)?;
+    bus.transfer(&[0x06], &mut [])?;
+    let mut status = [0xFF; 2];
+    bus.transfer(&[0x05], &mut status)?;
+    assert_eq!(rt; status, [0x02, 0x02]);
+    assert_eq!(rt; bus.inner().port().operations, 3);
+    Ok(())
+}
+
+// If the programmer refuses a poll between two parts, the bus stops, and later parts are not programmed. The first part
+// has 60 bytes; the operations before the poll are a write enable and that part.
+#[test]
+fn a_program_stops_between_its_parts(rt: HostRuntime) -> Result<(), Fail> {
+    let erased = vec![in rt.alloc(); 0xFF; 65536]?;
+    let mut model = narrow(erased, rt.alloc(), 64)?;
+    model.fault = Some(Fault::Nak);
+    model.fault_at = 2;
+    let mut bus = open(model)?;
+    let program = page_program();
+    bus.transfer(&[0x06], &mut [])?;
+    assert!(rt; bus.transfer(&program, &mut []).is_err());
+    let bytes = bus.inner().port().chip.bytes();
+    assert!(rt; bytes.get(0x1100..0x113C) == Some(&program[4..64]));
+    assert!(rt; are_erased(bytes.get(0x113C..)));
+    Ok(())
+}
+
+// Returns the text of the error with which a programmer is refused, or its limit for parts.
+fn limit_or_fault(alloc: Global, model: Model) -> Result<String, Fail> {
+    let mut link = Link::new(model);
+    match AnyProgrammer::identify(&mut link, None) {
+        Ok(programmer) => Ok(format!(in alloc; "{}", programmer.longest_part())?),
+        Err(fault) => Ok(format!(in alloc; "{fault}")?),
+    }
+}
+
+// Five bytes are enough: an opcode, an address and one data byte. A programmer without Q_WRNMAXLEN is limited by its
+// serial buffer, which has to hold 7 bytes more.
+#[test]
+fn a_programmer_with_small_limits_is_identified(rt: HostRuntime) -> Result<(), Fail> {
+    let alloc = rt.alloc();
+    let mut model = Model::new(alloc)?;
+    model.longest_write = [4, 0, 0];
+    assert_eq!(rt;
+        limit_or_fault(alloc, model)?.as_str(),
+        "the programmer sends at most 4 bytes in a transaction, too few for a page program"
+    );
+    let mut model = Model::new(alloc)?;
+    model.longest_write = [5, 0, 0];
+    model.longest_read = [1, 0, 0];
+    assert_eq!(rt; limit_or_fault(alloc, model)?.as_str(), "5");
+    for (buffer, wanted) in [
+        (
+            11,
+            "the serial buffer of the programmer has 11 bytes, too few for a page program",
+        ),
+        (12, "5"),
+        (64, "57"),
+    ] {
+        let mut model = Model::new(alloc)?;
+        model.lacks = Some(0x08);
+        model.buffer = [buffer, 0];
+        assert_eq!(rt; limit_or_fault(alloc, model)?.as_str(), wanted);
+    }
+    Ok(())
+}
