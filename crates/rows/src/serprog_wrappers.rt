@@ -1,44 +1,82 @@
 //! Pauses between polls that show BUSY, and two reads of the same bytes that differ.
 
 use crate::serprog_model::{Fault, Model};
-use nor_chip::{Bus, Config, Delays, Meter, SimBus};
+use nor_chip::{Bus, Config, Delays, Meter, SimBus, Spoil, SpoiltBus};
 use nor_serprog::{Link, Paced, Programmer, ReadTwice, SerprogBus};
 use std::cell::Cell;
 use std::io;
 use std::test::Fail;
 use std::time::{Clock, Duration};
 
-// A clock whose time never advances. It adds up the milliseconds for which it is asked to sleep.
+// A clock whose time advances only while it is asked to sleep, and when a test moves it. It has microseconds. It may
+// also fail to say the time.
 #[derive(Drop)]
-struct Asked<'a> {
-    millis: &'a Cell<u64>,
+struct Timer<'a> {
+    now: &'a Cell<u64>,
+    fails: bool,
 }
 
-impl Clock for Asked<'_> {
+impl Clock for Timer<'_> {
     fn monotonic(&self) -> io::Result<Duration> {
-        Ok(Duration::from_millis(0))
+        if self.fails {
+            return Err(io::Error::from(io::ErrorKind::Unsupported));
+        }
+        Ok(Duration::from_micros(self.now.get()))
     }
 
     fn since_1970(&self) -> io::Result<Duration> {
-        Ok(Duration::from_millis(0))
+        self.monotonic()
     }
 
     fn sleep(&self, duration: Duration) {
-        let millis = u64::try_from(duration.as_millis()).unwrap_or(u64::MAX);
-        self.millis.set(self.millis.get().saturating_add(millis));
+        let micros = u64::try_from(duration.as_micros()).unwrap_or(u64::MAX);
+        self.now.set(self.now.get().saturating_add(micros));
     }
 }
 
-// The chip shows BUSY in 600 polls. The bus sends 16 polls without a pause, polls 17 to 512 after 1 ms each, and polls
-// 513 to 601 after 8 ms each. Poll 601 shows that the chip is ready, so the poll after it is sent without a pause.
-#[test]
-fn polls_of_a_busy_chip_are_paced(rt: HostRuntime) -> Result<(), Fail> {
-    let delays = Delays { now: 600, each: 0 };
+fn tiny64(rt: &HostRuntime, delays: Delays) -> Result<SimBus, Fail> {
     let erased = vec![in rt.alloc(); 0xFF; 65536]?;
     let mut chip = SimBus::new(Config::tiny64(), erased, [0x00, 0x00], delays)?;
     chip.allow(u64::MAX);
-    let millis = Cell::new(0);
-    let mut bus = Paced::new(chip, Asked { millis: &millis });
+    Ok(chip)
+}
+
+// A paced bus whose transactions all succeed, and whose polls all show BUSY.
+fn always_busy<'a>(
+    rt: &HostRuntime,
+    now: &'a Cell<u64>,
+    fails: bool,
+) -> Result<Paced<SpoiltBus<SimBus>, Timer<'a>>, Fail> {
+    let chip = tiny64(rt, Delays { now: 0, each: 0 })?;
+    Ok(Paced::new(
+        SpoiltBus::new(chip, Spoil::Fill(0xFF)),
+        Timer { now, fails },
+    ))
+}
+
+// Commands, the typical time in microseconds of the operation that each one begins, and the pause before the third poll
+// after it. The last one begins no operation.
+const COMMANDS: [(&[u8], u64, u64); 7] = [
+    (&[0x02, 0, 0, 0, 0], 700, 100),
+    (&[0x01, 0, 0], 10_000, 625),
+    (&[0x20, 0, 0, 0], 45_000, 2812),
+    (&[0x52, 0, 0, 0], 120_000, 6250),
+    (&[0xD8, 0, 0, 0], 150_000, 6250),
+    (&[0xC7], 150_000, 6250),
+    (&[0x06], 0, 100),
+];
+
+// The chip shows BUSY in 600 polls, and no command was sent. The bus sends 2 polls without a pause, and polls 3 to 16
+// after 0.1 ms each. Then 16 polls each have pauses of 0.2, 0.4, 0.8, 1.6 and 3.2 ms, and polls 97 to 601 have 6.25 ms.
+// Poll 601 shows that the chip is ready, so the poll after it is sent without a pause.
+#[test]
+fn polls_of_a_busy_chip_are_paced(rt: HostRuntime) -> Result<(), Fail> {
+    let now = Cell::new(0);
+    let clock = Timer {
+        now: &now,
+        fails: false,
+    };
+    let mut bus = Paced::new(tiny64(&rt, Delays { now: 600, each: 0 })?, clock);
     let mut polls = 0_u32;
     for _ in 0..1000 {
         let mut status = [0];
@@ -49,9 +87,53 @@ fn polls_of_a_busy_chip_are_paced(rt: HostRuntime) -> Result<(), Fail> {
         }
     }
     assert_eq!(rt; polls, 601);
-    assert_eq!(rt; millis.get(), 496 + 89 * 8);
+    assert_eq!(rt; now.get(), 14 * 100 + 16 * 6200 + 505 * 6250);
     bus.transfer(&[0x05], &mut [0])?;
-    assert_eq!(rt; millis.get(), 496 + 89 * 8);
+    assert_eq!(rt; now.get(), 14 * 100 + 16 * 6200 + 505 * 6250);
+    Ok(())
+}
+
+// The chip shows BUSY in each poll. The first poll after a command has no pause. The second one has the typical time of
+// the operation, less the time since the command, which may be longer; if the clock fails, the whole typical time. The
+// reply to a poll has one or two bytes.
+#[test]
+fn the_second_poll_comes_after_the_typical_time(rt: HostRuntime) -> Result<(), Fail> {
+    for (command, typical, third) in COMMANDS {
+        for (passed, fails) in [(0, false), (300, false), (1 << 40, false), (0, true)] {
+            let now = Cell::new(1000);
+            let mut bus = always_busy(&rt, &now, fails)?;
+            bus.transfer(command, &mut [])?;
+            bus.transfer(&[0x05], &mut [0, 0])?;
+            assert_eq!(rt; now.get(), 1000, "{command:?}");
+            now.set(1000_u64.saturating_add(passed));
+            bus.transfer(&[0x05], &mut [0])?;
+            let second = 1000_u64.saturating_add(typical.max(passed));
+            assert_eq!(rt; now.get(), second, "{command:?} after {passed}");
+            bus.transfer(&[0x05], &mut [0, 0])?;
+            assert_eq!(rt;
+                now.get(),
+                second.saturating_add(third),
+                "{command:?} after {passed}"
+            );
+        }
+    }
+    Ok(())
+}
+
+// If all 65,536 polls of a wait show BUSY, its pauses add up to 400 s at least and 410 s at most, after each command.
+#[test]
+fn a_wait_without_end_takes_400_seconds(rt: HostRuntime) -> Result<(), Fail> {
+    for (command, _, _) in COMMANDS {
+        let now = Cell::new(0);
+        let mut bus = always_busy(&rt, &now, false)?;
+        bus.transfer(command, &mut [])?;
+        for _ in 0..65_536 {
+            bus.transfer(&[0x05], &mut [0])?;
+        }
+        let waited = now.get();
+        assert!(rt; waited >= 400_000_000, "{command:?}: {waited}");
+        assert!(rt; waited <= 410_000_000, "{command:?}: {waited}");
+    }
     Ok(())
 }
 
