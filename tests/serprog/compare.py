@@ -5,9 +5,9 @@ Both write the same image to the same chip: a W25Q64FV with the typical duration
 sectors change, or with --whole all of them. The programmer is at a bare pseudo-terminal; then it needs 1 ms for each
 way there and back; then it also carries only 1 MB/s. Both must leave the same bytes, and read and verify them.
 
-For each wire the seconds, the transactions, the ways and the bytes of both are printed, and their ratios. The exit
-status is 1 if the bytes of the chip, or of a file, differ. A ratio above the project's goal is marked. It is no
-failure, since it depends on the machine.
+For each wire the seconds, the transactions, the polls (05h), the ways and the bytes of both are printed, and their
+ratios. The exit status is 1 if the bytes of the chip, or of a file, differ. A ratio above the project's goal is marked.
+It is no failure, since it depends on the machine.
 """
 import os
 import random
@@ -23,11 +23,12 @@ from chip import PARTS, SECTOR, Chip
 from server import Server, Traits
 
 PART = "W25Q64FV"
+POLL = b"\x05"
 # Debian installs it in a directory that PATH often lacks.
 FLASHROM = shutil.which("flashrom") or shutil.which("flashrom", path="/usr/sbin:/usr/local/sbin")
 FLASHROM_NAME = "W25Q64BV/W25Q64CV/W25Q64FV"
 # Each wire with its traits, and the greatest ratio of the seconds that is the goal.
-WIRES = (("bare pty", {}, 1.2), ("1 ms", {"latency": 0.001}, None),
+WIRES = (("bare pty", {}, 1.0), ("1 ms", {"latency": 0.001}, None),
          ("1 ms and 1 MB/s", {"latency": 0.001, "rate": 1e6}, 0.8))
 GOAL_WHOLE = 0.8
 
@@ -37,6 +38,7 @@ class Run(NamedTuple):
 
     seconds: float
     transactions: int
+    polls: int
     ways: int
     bytes: int
 
@@ -64,7 +66,8 @@ class Clients:
             seconds = time.monotonic() - begun
             if done.returncode != 0:
                 sys.exit(f"{client} {job}: status {done.returncode}\n{done.stdout[-2000:]}{done.stderr[-2000:]}")
-            return Run(seconds, len(server.log), len(server.ways), len(server.received) + server.sent)
+            polls = sum(out == POLL for out, _ in server.log)
+            return Run(seconds, len(server.log), polls, len(server.ways), len(server.received) + server.sent)
         finally:
             server.close()
 
@@ -117,7 +120,7 @@ def print_row(wire, runs, goal):
     ratio = own.seconds / other.seconds
     mark = "" if goal is None else f", {'within' if ratio <= goal else 'ABOVE'} the goal of {goal}"
     print(f"{wire}: {own.seconds:.1f} s and {other.seconds:.1f} s, ratio {ratio:.2f}{mark}")
-    for name in "transactions", "ways", "bytes":
+    for name in "transactions", "polls", "ways", "bytes":
         print(f"    {name}: {getattr(own, name)} and {getattr(other, name)}, "
               f"ratio {getattr(own, name) / getattr(other, name):.2f}")
 
