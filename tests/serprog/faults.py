@@ -162,13 +162,11 @@ def needs_spi(start):
 
 
 def needs_wide_limits(start):
-    """Limits that are too small for a page or a sector are programmer fault 9."""
+    """Limits that are too small for one byte of a page are programmer fault 9."""
     for traits, text in (
-        ({"longest_write": 259},
-         "the programmer sends at most 259 bytes in a transaction, too few for a page program"),
-        ({"longest_read": 4095}, "the programmer reads at most 4095 bytes in a transaction, and a sector needs 4096"),
-        ({"lacks": (0x08,), "buffer": 266},
-         "the serial buffer of the programmer has 266 bytes, too few for a page program"),
+        ({"longest_write": 4}, "the programmer sends at most 4 bytes in a transaction, too few for a page program"),
+        ({"lacks": (0x08,), "buffer": 11},
+         "the serial buffer of the programmer has 11 bytes, too few for a page program"),
     ):
         refuse(start(**traits), f"{text}. {FIRMWARE}", number=9)
 

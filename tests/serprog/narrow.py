@@ -1,9 +1,4 @@
-"""Cases of programmers with small limits, whose programs and reads are split, and of a port that nobody has set up.
-
-run.py runs them only by their names, or with the name `narrow`.
-"""
-import subprocess
-
+"""Cases of programmers with small limits, whose programs and reads are split."""
 import reference
 from bench import check
 from losses import FEW, chip_images
@@ -77,27 +72,4 @@ def restores_parts(start):
             bench.check_chip(old)
 
 
-def needs_some_limits(start):
-    """A programmer that can't send one byte of data, or read none, is programmer fault 9."""
-    for traits, text in (({"longest_write": 4}, "the programmer sends at most 4 bytes in a transaction"),):
-        bench = start(**traits)
-        got = bench.run("-r", "out")
-        begins = f"Programmer fault 9: {text}"
-        check("the line", (got.err[0][: len(begins)], got.status), (begins, 1))
-        bench.check_unselected()
-
-
-def says_how_to_set_the_port(start):
-    """With a port that nobody has set up, and a programmer that is silent, the run ends, or says how to set it up."""
-    bench = start(is_silent=True, is_set_up=False)
-    process = bench.start(["-r", "out"])
-    try:
-        _, err = process.communicate(timeout=8)
-        check("the exit status", process.returncode, 1)
-    except subprocess.TimeoutExpired:
-        process.kill()
-        _, err = process.communicate()
-    check("a line that says it", b"stty" in err and str(bench.folder / "dev").encode() in err, True)
-
-
-CASES = [splits_transactions, splits_on_a_busy_chip, restores_parts, needs_some_limits, says_how_to_set_the_port]
+CASES = [splits_transactions, splits_on_a_busy_chip, restores_parts]

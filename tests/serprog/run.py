@@ -28,14 +28,12 @@ import refusals
 import wire
 from bench import Bench, Differs
 
-CASES = {case.__name__: case for module in (options, refusals, faults, wire, busy) for case in module.CASES}
-# Cases that run only by their names, or with the name `narrow`.
-NARROW = {case.__name__: case for case in narrow.CASES}
+CASES = {case.__name__: case for module in (options, refusals, faults, wire, narrow, busy) for case in module.CASES}
 
 
 def try_case(program, name):
     """Runs a case, and returns nothing, or the lines that say what was wrong."""
-    case, benches = {**CASES, **NARROW}[name], []
+    case, benches = CASES[name], []
     with tempfile.TemporaryDirectory() as folder:
 
         def start(part="TINY64", **chosen):
@@ -74,7 +72,7 @@ def main(words):
     sys.stdout.reconfigure(errors="backslashreplace", line_buffering=True)
     program, names = Path(words[0]).resolve(), words[1:] or [*CASES, "losses", *bits.WORKS]
     jobs = [it for it in names if it.startswith("bits_")]
-    names = [it for it in names if it not in (*jobs, "narrow")] + [*NARROW] * ("narrow" in names)
+    names = [it for it in names if it not in jobs]
     tries = [partial(try_case, program, name) for name in names if name != "losses"]
     tries += bits.tries(program, jobs)
     if "losses" in names:

@@ -233,21 +233,17 @@ class Link:
             return int.from_bytes(self.exchange(bytes([opcode]), length), "little") or 1 << 24 if self.has(opcode) \
                 else 1 << 24
         sends, reads = limit(0x08, 3), limit(0x11, 3)
-        if sends < 260 and MISTAKE != "takes small limits":
+        if sends < 5 and MISTAKE != "takes small limits":
             raise Fault(f"Programmer fault 9: the programmer sends at most {sends} bytes in a transaction, too few "
                         "for a page program" + FIRMWARE)
-        if reads < 4096 and MISTAKE != "takes small limits":
-            raise Fault(f"Programmer fault 9: the programmer reads at most {reads} bytes in a transaction, and a "
-                        "sector needs 4096" + FIRMWARE)
-        if MISTAKE == "takes small limits":
-            self.sends, self.receives = sends, reads
         if MISTAKE != "reads past the limit":
             self.longest = min(reads, BLOCK) // SECTOR * SECTOR
         size = limit(0x04, 2)
         self.buffer = min(size, 512) if self.has(0x04) else 0
-        if size < 267 and not self.has(0x08):
+        if size < 12 and not self.has(0x08):
             raise Fault(f"Programmer fault 9: the serial buffer of the programmer has {size} bytes, too few for a page "
                         "program" + FIRMWARE)
+        self.sends, self.receives = sends if self.has(0x08) else min(sends, size - 7), reads
 
     def transfer(self, out, length):
         self.count += 1

@@ -6,8 +6,8 @@ use crate::setting::Setting;
 use crate::trouble::ProgrammerFault;
 use nor_files::LockFile;
 use nor_serprog::{
-    BatchingBus, CheckedStatus, Command, HandshakeFault, Link, Paced, Programmer, ReadAhead,
-    ReadTwice,
+    AnyProgrammer, BatchingBus, CheckedStatus, Command, HandshakeFault, Link, Paced, ReadAhead,
+    ReadTwice, SplittingBus,
 };
 use std::fs;
 use std::fs::{File, OpenOptions};
@@ -15,12 +15,13 @@ use std::os::unix::fs::FileTypeExt;
 
 const RELEASE_POWER_DOWN: u8 = 0xAB;
 
-/// The bus to a chip at a serial programmer: commands are sent together, polls are paced, status registers are read
-/// twice and checked, IDs, SFDP and data are read twice, data is read ahead, and a terminal shows the progress.
-pub type ChipBus<'a> = Shown<
-    'a,
-    ReadAhead<ReadTwice<CheckedStatus<Paced<BatchingBus<DevicePort>, &'a HostRuntime>>>>,
->;
+/// The bus to a chip at a serial programmer: commands are sent together, and split if the programmer needs that; polls
+/// are paced; status registers are read twice and checked; IDs, SFDP and data are read twice; data is read ahead; and a
+/// terminal shows the progress.
+pub type ChipBus<'a> = Shown<'a, ReadAhead<ReadTwice<CheckedStatus<PacedBus<'a>>>>>;
+
+// The bus whose polls are paced.
+type PacedBus<'a> = Paced<SplittingBus<BatchingBus<DevicePort>>, &'a HostRuntime>;
 
 /// Opens and locks the device, identifies the programmer, sets its clock if `spispeed=` is given, and sets its chip
 /// select if `cs=` is given. Then wakes the chip, and sends no other transaction. Returns a programmer fault from 1 to
@@ -35,7 +36,7 @@ pub fn connect<'a>(
 ) -> Result<ChipBus<'a>, ProgrammerFault> {
     let device = open_device(rt, setting.device)?;
     let mut link = Link::new(DevicePort::new(device));
-    let programmer = Programmer::identify(&mut link, setting.hertz).map_err(
+    let programmer = AnyProgrammer::identify(&mut link, setting.hertz).map_err(
         ProgrammerFault::Handshake,
     )?;
     if let Some(chip_select) = setting.chip_select {
@@ -45,7 +46,9 @@ pub fn connect<'a>(
     }
     wake(&mut link).map_err(ProgrammerFault::Handshake)?;
     let longest_read = programmer.longest_read();
-    let bus = CheckedStatus::new(Paced::new(BatchingBus::new(link, programmer), rt));
+    let batching = BatchingBus::over(link, programmer);
+    let splitting = SplittingBus::new(batching, programmer.longest_part(), longest_read);
+    let bus = CheckedStatus::new(Paced::new(splitting, rt));
     let bus = match image {
         Some(image) => ReadTwice::expecting(bus, image),
         None => ReadTwice::new(bus),

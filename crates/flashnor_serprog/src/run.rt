@@ -294,7 +294,7 @@ fn print_cause<E: Write>(errors: &mut E, bus: &ChipBus<'_>, changes: bool) {
     let twice = bus.inner().inner();
     let checked = twice.inner();
     let line = StopLine {
-        failure: checked.inner().inner().cause(),
+        failure: checked.inner().inner().inner().cause(),
         status: checked.fault(),
         differed: twice.differed(),
         changes,
