@@ -61,14 +61,15 @@ def read_all(terminal):
 class Bench:
     """A directory with a programmer at the link `dev`, and a chip behind it.
 
-    `plug` connects a programmer, after the one before was unplugged or closed. The chip stays the same.
+    `plug` connects a programmer, after the one before was unplugged or closed. The chip stays the same. Without
+    `remembers` the chip before a run isn't kept, so `carried` can't be used.
     """
 
     def __init__(self, program, folder, part="TINY64", data=None, status=b"\0\0", unique=bytes(8), scale=0.0, **traits):
         self.program, self.folder, self.part = program, Path(folder), part
         self.chip = Chip(part, data, status, unique, scale)
         self.server, self.command = None, ""
-        self.before, self.image = None, None
+        self.before, self.image, self.remembers = None, None, True
         self.plug(**traits)
 
     def plug(self, **traits):
@@ -92,8 +93,8 @@ class Bench:
 
     def start_words(self, words, err=subprocess.PIPE, out=subprocess.PIPE):
         self.command = " ".join(map(str, words[1:]))
-        self.before = copy.deepcopy(self.chip)
-        names = [name for option, name in zip(words, words[1:]) if option in ("-w", "-v")]
+        self.before = copy.deepcopy(self.chip) if self.remembers else None
+        names = [name for option, name in zip(words, words[1:]) if option in ("-w", "-v") and self.remembers]
         self.image = self.path(names[0]).read_bytes() if names and self.path(names[0]).exists() else None
         process = subprocess.Popen(words, cwd=self.folder, stdin=subprocess.DEVNULL, stdout=out,
                                    stderr=err, env=dict(os.environ, LC_ALL="C"))

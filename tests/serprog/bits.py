@@ -179,6 +179,7 @@ def try_sweep(program, sweep):
     lines = []
     with tempfile.TemporaryDirectory() as folder:
         bench = bench_of(program, folder, work, 0.0 if isinstance(sweep.at, int) else 1.0)
+        bench.remembers = False
         try:
             for kind, fault in faults(work, sweep):
                 try:
@@ -218,7 +219,8 @@ def try_fault(bench, work, traits):
     check("one-time bits", chip.status[1] & ONCE, work.status[1] & ONCE)
     check("the exit status is 0 or 1", got.status in (0, 1), True)
     if got.status == 0:
-        bench.check_chip(work.after, work.new_status)
+        check("the chip is as asked", chip.data == work.after, True)
+        check("status bytes", bytes(chip.status), work.new_status)
         bench.check_file("j", work.journal)
         return
     if chip.data == work.before and chip.status == work.status:
@@ -229,4 +231,5 @@ def try_fault(bench, work, traits):
         bench.check_file("j", work.journal)
     again = run(bench, RESTORE, {})
     check("the restore", (again.err, again.status), ([], 0))
-    bench.check_chip(*back)
+    check("the chip after the restore", chip.data == back[0], True)
+    check("status bytes after the restore", bytes(chip.status), back[1])
