@@ -70,7 +70,7 @@ def main(words):
     if not words or not os.access(words[0], os.X_OK):
         sys.exit("usage: tests/serprog/run.py PROGRAM [NAME..]")
     sys.stdout.reconfigure(errors="backslashreplace", line_buffering=True)
-    program, names = Path(words[0]).resolve(), words[1:] or [*CASES, "losses", *bits.WORKS]
+    program, names = Path(words[0]).resolve(), words[1:] or [*CASES, "losses", *bits.GATE]
     jobs = [it for it in names if it.startswith("bits_")]
     names = [it for it in names if it not in jobs]
     tries = [partial(try_case, program, name) for name in names if name != "losses"]
