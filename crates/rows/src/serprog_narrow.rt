@@ -111,7 +111,7 @@ fn reads_are_split(rt: HostRuntime) -> Result<(), Fail> {
     let mut split = [0; 16];
     bus.transfer(&[0x5A, 0x00, 0x00, 0x00, 0x00], &mut split)?;
     assert_eq!(rt; split, whole);
-    assert_eq!(rt; &split[..4], b"SFDP");
+    assert_eq!(rt; &split[..4], b"SFDP".as_slice());
     assert_eq!(rt; bus.inner().port().operations, 3);
     Ok(())
 }
