@@ -64,7 +64,7 @@ PLANTS = {
         ROWS, "docs/PROMISES.md", r"`session`, `restore`: `unwritten`, `spares`",
         "`session`: `unwritten`, `restore`: `spares`", "two colons between names"),
     "a parenthesis that is open": (
-        ROWS, "docs/PROMISES.md", r"`done` \(`IsReported`\) \|", "`done` (`IsReported` |",
+        ROWS, "docs/PROMISES.md", r"`done` \(`IsReportedFor`\) \|", "`done` (`IsReportedFor` |",
         "a parenthesis isn't closed"),
     "a test that isn't there": (
         ROWS, "docs/PROMISES.md", r"`a_busy_chip_is_waited_for`", "`a_busy_chip_waits`",
