@@ -10,6 +10,7 @@ use Rattle.nor_files.specs.Files.{FilesState, View}
 use Rattle.nor_layout.specs.declared.ranges.Span.{Span}
 use Rattle.nor_words.specs.Text.{Text}
 use Rattle.nor_words.specs.declared.job.Change.{Change}
+use Rattle.nor_words.specs.declared.job.JournalUse.{JournalUse}
 use Rattle.nor_words.specs.declared.job.JournalUse.TheVariants as uses
 use Rattle.nor_words.specs.declared.job.Wanted.{Wanted}
 use Rattle.nor_words.specs.declared.job.Wanted.TheVariants as wanted
@@ -18,8 +19,9 @@ use Rattle.nor_lines.specs.Files.{IsMaking}
 use Rattle.nor_lines.specs.declared.answers.Answer.{Answer}
 use Rattle.nor_lines.specs.declared.messages.Fault.{Fault}
 use Rattle.nor_lines.specs.declared.messages.Fault.TheVariants as end
-use Rattle.flashnor_serprog.specs.Jobs.{FailsChange, FailsToChange, FailsToFill, FailsToFind, FailsToFollow}
-use Rattle.flashnor_serprog.specs.Jobs.{HasIdentified, HasRunChange, IsBufferOf, IsRefusedAsProtected, is_compared}
+use Rattle.flashnor_serprog.specs.Jobs.{FailsChange, FailsComparison, FailsToChange, FailsToFill, FailsToFind}
+use Rattle.flashnor_serprog.specs.Jobs.{FailsToFollow, HasChangedAndCompared, HasChangedBy, HasIdentified}
+use Rattle.flashnor_serprog.specs.Jobs.{HasNotCompared, HasRunChange, IsBufferOf, IsRefusedAsProtected, is_compared}
 use Rattle.flashnor_serprog.specs.declared.chip_faults.JobFault.{JobFault}
 use Rattle.flashnor_serprog.specs.declared.chip_faults.JobFault.TheVariants as ended
 
@@ -80,11 +82,12 @@ module _ (named : Option ChipName) (old new : BusState) where
       (after : FilesState) where
     -- A fault of making the buffer of a session is a fault of a change with a journal in a file, if the files are as
     -- they were.
-    pub fill_fails : (fault : JobFault) → after.view ≡ view → FailsToFill named change.wanted old new fault
-        → FailsChange named change ranges bytes (uses.Journal file) view after old new fault
-    fill_fails (ended.Fault fault) same fails = fills change.wanted file view fault fails
-    fill_fails (ended.Protected byte) same fails = refuses change.wanted file view after byte same fails
-    fill_fails (ended.NotCompared refusal) same fails = absurd (compares_none change.wanted refusal fails)
+    pub fill_fails : (kept : JournalUse) (fault : JobFault) → kept ≡ uses.Journal file → after.view ≡ view
+        → FailsToFill named change.wanted old new fault
+        → FailsChange named change ranges bytes kept view after old new fault
+    fill_fails kept (ended.Fault fault) is same fails = rw is (fills change.wanted file view fault fails)
+    fill_fails kept (ended.Protected byte) is same fails = rw is (refuses change.wanted file view after byte same fails)
+    fill_fails kept (ended.NotCompared refusal) is same fails = absurd (compares_none change.wanted refusal fails)
 
 -- ---- the comparison after a session
 
@@ -99,17 +102,27 @@ module _ (named : Option ChipName) (ranges : Option (List Span)) (target : List 
   follows_unprotected found true byte fails = fails
   follows_unprotected found false byte fails = fails
 
--- the fault of the comparison after a session is a fault of the change
-module _ (named : Option ChipName) (change : Change) (ranges : Option (List Span)) (bytes : List ℕ) (file : Bor Text)
-    (view : View) (after : FilesState) (old changed new : BusState) where
+-- a change with its journal in a file: what was done, and the fault of the comparison after the session
+module _ (named : Option ChipName) (change : Change) (ranges : Option (List Span)) (bytes : List ℕ)
+    (kept : JournalUse) (file : Bor Text) (is : kept ≡ uses.Journal file) (view : View) (after : FilesState)
+    (old changed new : BusState) where
+  pub changed_by : (outcome : Result Answer Refusal)
+      → HasChangedAndCompared named change ranges bytes file.now view after old new outcome
+      → HasChangedBy named change ranges bytes kept view after old new outcome
+  changed_by outcome does = rw is does
+
+  not_compared : (refusal : Refusal) → HasNotCompared named change ranges bytes file.now view after old new refusal
+      → FailsComparison named change ranges bytes kept view after old new refusal
+  not_compared refusal fails = rw is fails
+
   pub follow_fails : (session : Result Answer Refusal) (fault : JobFault)
       → (ran : HasRunChange named change ranges bytes file.now view after old changed session)
       → FailsToFollow session (is_compared change) named ranges ran.image changed new fault
-      → FailsChange named change ranges bytes (uses.Journal file) view after old new fault
+      → FailsChange named change ranges bytes kept view after old new fault
   follow_fails (Ok found) (ended.Fault fault) ran fails =
       absurd (follows_none named ranges ran.image changed new found (is_compared change) fault fails)
   follow_fails (Ok found) (ended.Protected byte) ran fails =
       absurd (follows_unprotected named ranges ran.image changed new found (is_compared change) byte fails)
   follow_fails (Ok found) (ended.NotCompared refusal) ran fails =
-      record { changed = changed; reported = found; session = ran; fails = fails }
+      not_compared refusal (record { changed = changed; reported = found; session = ran; fails = fails })
   follow_fails (Err refusal) fault ran fails = absurd fails

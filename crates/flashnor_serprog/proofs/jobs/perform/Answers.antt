@@ -1,4 +1,5 @@
 use Rattle.std.proofs.Common.{rules}
+use Rattle.std.proofs.lemmas.Result.{err_from_is_err_and}
 use Rattle.nor_lines.proofs.Lent.{stays_same}
 use Rattle.flashnor_serprog.proofs.jobs.perform.Goals as goal
 
@@ -16,10 +17,16 @@ returns-in-WpList g c = rw c.in-WpList.is (search (rules, stays_same, c.list_ran
 
 pub returns-in-Read : goal.returns-in-Read
 returns-in-Read g c = rw c.in-Read.is (record {
-  ok = rw c.as_ref.ensures.value at c.read_chip.ensures.ok;
-  err = c.read_chip.ensures.err;
+  ok = rw c.as_ref.ensures.value at c.in_ok-read_chip-in-Read.ensures.ok;
+  err = tt;
   others = c.read_chip.ensures.others;
 })
+
+pub returns-in_err-restore_chip-in-Restore-clause-err : goal.returns-in_err-restore_chip-in-Restore-clause-err
+returns-in_err-restore_chip-in-Restore-clause-err g c =
+    let p = err_from_is_err_and c.from_residual-in_err-restore_chip-in-Restore.result
+    c.from_residual-in_err-restore_chip-in-Restore.ensures.1 in
+    rw (p.1, p.2, c.in-Restore.is) (rw c.deref.ensures.value at c.in_err-restore_chip-in-Restore.ensures.err)
 
 pub returns-in-Change : goal.returns-in-Change
 returns-in-Change g c = rw c.in-Change.is (record {

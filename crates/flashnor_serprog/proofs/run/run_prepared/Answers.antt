@@ -9,7 +9,7 @@ returns-in-Ok g c = record {
   ends = c.in-Ok.ensures.ends;
   sends = c.end_job.ensures.sends;
   few = c.end_well.ensures.few;
-  printed = rw c.is_unverified.ensures at c.end_well.ensures.printed;
+  printed = rw c.is_unverified-unverified.ensures at c.end_well.ensures.printed;
 }
 
 pub returns : goal.returns
@@ -19,6 +19,6 @@ returns g c = record {
   outcome = Err c.in-Err.fault;
   ends = c.in-Err.ensures.ends;
   sends = c.in-Err.ensures.sends;
-  few = omega (arith, c.end_badly-status.ensures);
-  printed = λ zero. absurd (omega (arith, zero, c.end_badly-status.ensures));
+  few = omega arith;
+  printed = λ zero. absurd (omega (arith, zero));
 }
