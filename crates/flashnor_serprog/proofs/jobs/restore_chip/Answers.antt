@@ -7,5 +7,5 @@ returns-clause-ok g c = record {
   read = c.in-Ok.ensures.found.1;
   found = g.B.Bus.state c.check_name.new.bus;
   first = c.in_ok-check_name.ensures.ok;
-  ran = rw c.expect_reads.ensures at c.run_restore.ensures;
+  ran = c.run_restore.ensures;
 }
