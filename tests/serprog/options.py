@@ -155,12 +155,13 @@ def writes(start):
 
 
 def writes_without_verification(start):
-    """-n leaves out the last reads."""
+    """-n leaves out the last reads, and a line says so."""
     old, new = images("writes_without_verification")
     bench = start(data=old)
     bench.write("new", new)
     plan = reference.session("TINY64", old, new, verifies=False)
-    bench.expect("-w", "new", "-n", "--journal", "j", out=[reference.found("TINY64"), reference.done(plan, old, new)])
+    lines = [reference.found("TINY64"), reference.done(plan, old, new), "Nothing was verified (-n)."]
+    bench.expect("-w", "new", "-n", "--journal", "j", out=lines)
     bench.check_chip(new)
     bench.check_frames(reference.whole_run("TINY64", plan))
 

@@ -63,7 +63,7 @@ fn rows() -> [Rewritten; 6] {
 }
 
 // Rewrites the chip with `allowed` transactions. Returns the result.
-fn rewritten(rt: &impl Abort, cut: &mut Cut, allowed: u64) -> Result<Report, Refusal> {
+fn run_rewrite(rt: &impl Abort, cut: &mut Cut, allowed: u64) -> Result<Report, Refusal> {
     let journal = Journal::read(cut.vault.bytes()).expect(rt, "a journal");
     cut.bus.allow(allowed);
     rewrite(&mut cut.bus, &journal)
@@ -85,7 +85,7 @@ fn undone(rt: &impl Abort, cut: &mut Cut, by_rewrite: bool) {
 // afterwards. Asserts that the chip is as before the session, and that the rewrite ends only with all its transactions.
 fn stop_a_rewrite(rt: &impl Abort, runs: &Runs, each: &Rewritten, allowed: u64, by_rewrite: bool) {
     let mut cut = runs.cut(rt, each.row.ends_at(Start::IDLE));
-    let answer = rewritten(rt, &mut cut, allowed);
+    let answer = run_rewrite(rt, &mut cut, allowed);
     if allowed < each.length() {
         assert_held(rt, matches!(answer, Err(Refusal::Stopped)), allowed);
         undone(rt, &mut cut, by_rewrite);
@@ -127,7 +127,7 @@ fn a_rewrite_writes_what_reads_right(rt: HostRuntime) {
         let runs = Runs::new(&rt, rt.alloc(), each.row, Start::IDLE);
         let mut cut = runs.cut(&rt, each.row.ends_at(Start::IDLE));
         for _ in 0..2 {
-            let answer = rewritten(&rt, &mut cut, AMPLE);
+            let answer = run_rewrite(&rt, &mut cut, AMPLE);
             assert!(rt; is_reported(each, answer));
             runs.assert_as_before(&rt, &cut.bus);
         }
