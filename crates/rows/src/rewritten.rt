@@ -140,7 +140,7 @@ fn a_rewrite_announces_every_saved_sector(rt: HostRuntime) {
         let runs = Runs::new(&rt, rt.alloc(), each.row, Start::IDLE);
         let mut cut = runs.cut(&rt, each.row.ends_at(Start::IDLE));
         let identified = u64::from(each.identified);
-        for allowed in [identified - 1, identified, AMPLE, AMPLE] {
+        for allowed in [identified.saturating_sub(1), identified, AMPLE, AMPLE] {
             let journal = Journal::read(cut.vault.bytes()).expect(&rt, "a journal");
             cut.bus.allow(allowed);
             let mut seen = None;
