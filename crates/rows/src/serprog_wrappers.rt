@@ -146,8 +146,8 @@ fn readings_that_differ_stop_the_bus(rt: HostRuntime) -> Result<(), Fail> {
         let mut link = Link::new(model);
         let programmer = Programmer::identify(&mut link, None).map_err(|_| "not identified")?;
         let mut bus = ReadTwice::new(SerprogBus::new(link, programmer));
-        let mut id = [0; 3];
-        bus.transfer(&[0x9F], &mut id)?;
+        let mut status = [0];
+        bus.transfer(&[0x05], &mut status)?;
         let mut sector = [0; 4096];
         let read = bus.transfer(&[0x03, 0x00, 0x00, 0x00], &mut sector);
         let flipped = fault_at == 1 || fault_at == 2;
