@@ -14,6 +14,10 @@ from server import ARGUMENTS, O_SPIOP, Server, Traits, trace_line
 # How long a run may take, in seconds. A run that takes longer hangs, even on a busy machine.
 LONGEST = 300
 
+# The line that a terminal shows before the first exchange, with DEV in the place of the device.
+WAITING = ("Waiting for the programmer. If no line follows in 10 seconds, press Ctrl-C and run: "
+           "stty -F DEV raw -echo clocal -hupcl min 0 time 50")
+
 
 class Differs(Exception):
     """A check that failed. Its arguments are lines."""
@@ -123,7 +127,10 @@ class Bench:
         return got
 
     def expect_at_terminal(self, *words, lines):
-        """Runs the program with standard error at a terminal, and checks that it succeeds and prints these lines."""
+        """Runs the program with standard error at a terminal, and checks that it succeeds and prints these lines.
+
+        The line on a programmer that never replies comes before them.
+        """
         terminal, slave = os.openpty()
         self.server.begin({})
         process = self.start(words, err=slave)
@@ -131,8 +138,23 @@ class Bench:
         with ThreadPoolExecutor(1) as pool:
             shown = pool.submit(read_all, terminal)
             process.communicate(timeout=LONGEST)
-        check("lines at the terminal", shown.result().decode().splitlines(), lines)
+        check("lines at the terminal", shown.result().decode().splitlines(), [self.device(WAITING), *lines])
         check("exit status", process.returncode, 0)
+
+    def expect_to_wait(self, *words):
+        """Runs the program with standard error at a terminal, and kills it when it has printed a line and waits."""
+        terminal, slave = os.openpty()
+        self.server.begin({})
+        process = self.start(words, err=slave)
+        os.close(slave)
+        with os.fdopen(terminal, "rb") as source:
+            check("the line at the terminal", source.readline().decode().splitlines(), [self.device(WAITING)])
+            try:
+                process.wait(1)
+                raise Differs("the run ended, and should wait")
+            except subprocess.TimeoutExpired:
+                process.kill()
+        process.communicate()
 
     def run_unprinted(self, *words):
         """Runs the program with standard output at /dev/full, and returns its exit status and the faults' lines."""

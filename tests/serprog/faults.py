@@ -100,6 +100,15 @@ def needs_an_answer(start):
     refuse(bench, f"the programmer is silent. Check its cable, and set up the port: {STTY}", number=4)
 
 
+def says_why_it_waits(start):
+    """At a port that isn't set up, the program waits for a silent programmer. A line before that says what to do."""
+    bench = start(is_silent=True, is_set_up=False)
+    bench.write("new", b"\xff" * 65536)
+    bench.expect_to_wait("-w", "new", "--journal", "j")
+    check("bytes that were sent", bytes(bench.server.received), b"\x10")
+    bench.check_absent("j")
+
+
 def needs_its_step(start):
     """A device that sends text without end is programmer fault 5."""
     bench = start(babbles=True)
@@ -223,6 +232,6 @@ def reads_twice(start):
     check("a wrong bit", bench.run("-v", "same").err[-1][: len(DIFFER)], DIFFER)
 
 
-CASES = [needs_a_device, needs_a_character_device, locks_the_device, holds_its_lock, needs_an_answer, needs_its_step,
-         needs_right_replies, needs_a_port, needs_version_1, needs_commands, has_the_chip_select, needs_spi,
-         needs_wide_limits, reports_causes, reports_the_port, reads_twice]
+CASES = [needs_a_device, needs_a_character_device, locks_the_device, holds_its_lock, needs_an_answer,
+         says_why_it_waits, needs_its_step, needs_right_replies, needs_a_port, needs_version_1, needs_commands,
+         has_the_chip_select, needs_spi, needs_wide_limits, reports_causes, reports_the_port, reads_twice]

@@ -24,8 +24,8 @@ pub type ChipBus<'a> = Shown<'a, ReadAhead<ReadTwice<CheckedStatus<PacedBus<'a>>
 type PacedBus<'a> = Paced<SplittingBus<BatchingBus<DevicePort>>, &'a HostRuntime>;
 
 /// Opens and locks the device, identifies the programmer, sets its clock if `spispeed=` is given, and sets its chip
-/// select if `cs=` is given. Then wakes the chip, and sends no other transaction. Returns a programmer fault from 1 to
-/// 11 if one of these steps fails.
+/// select if `cs=` is given. Then wakes the chip, and sends no other transaction. A terminal shows, before the first
+/// exchange, what to do if no reply ever arrives. Returns a programmer fault from 1 to 11 if one of these steps fails.
 ///
 /// If `image` is given, data that equals `image` is read once. It must be the image that the job writes or compares:
 /// then no data that was read once gets into a journal.
@@ -35,6 +35,8 @@ pub fn connect<'a>(
     image: Option<Vec<u8>>,
 ) -> Result<ChipBus<'a>, ProgrammerFault> {
     let device = open_device(rt, setting.device)?;
+    let terminal = Terminal::new(rt);
+    terminal.print_waiting(setting.device);
     let mut link = Link::new(DevicePort::new(device));
     let programmer = AnyProgrammer::identify(&mut link, setting.hertz).map_err(
         ProgrammerFault::Handshake,
@@ -53,7 +55,7 @@ pub fn connect<'a>(
         Some(image) => ReadTwice::expecting(bus, image),
         None => ReadTwice::new(bus),
     };
-    Ok(Shown::new(ReadAhead::new(bus, longest_read), Terminal::new(rt)))
+    Ok(Shown::new(ReadAhead::new(bus, longest_read), terminal))
 }
 
 // Sends ABh, which wakes a chip in deep power-down; any other chip ignores it. The chip is awake after 3 microseconds,

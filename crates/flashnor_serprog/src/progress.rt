@@ -1,8 +1,10 @@
 //! The progress of a job on standard error: a bus that prints the steps, and the line with what a change will do.
 ghost use Rattle.std.specs.Prelude.{◌≡◌, ◌≤◌};
 
+use crate::trouble::MODES;
 use nor_chip::{Bus, Stopped, is_changing};
 use nor_journal::journal_len;
+use nor_lines::Escaped;
 use nor_session::Announcement;
 use std::fs;
 use std::os::unix::fs::FileTypeExt;
@@ -91,6 +93,10 @@ const SEALED: &str = "SEALED: the chip is changed from here on.";
 
 const CHANGED: &str = "The chip is changed from here on.";
 
+// The line before the first exchange, without the command that sets up the port.
+const WAITING: &str =
+    "Waiting for the programmer. If no line follows in 10 seconds, press Ctrl-C and run:";
+
 /// Standard error, on which progress is printed if it is a character device.
 #[derive(Clone, Copy)]
 pub struct Terminal<'a> {
@@ -104,6 +110,14 @@ impl<'a> Terminal<'a> {
         Terminal {
             rt,
             visible: is_terminal(rt),
+        }
+    }
+
+    /// If standard error is a character device, prints what to do if the programmer at this device never replies. A
+    /// read from a port that isn't set up waits without a limit, and std has no call that ends it.
+    pub fn print_waiting(&self, device: &str) {
+        if self.visible {
+            let _ = eprintln!(self.rt; "{WAITING} stty -F {} {MODES}", Escaped(device));
         }
     }
 

@@ -94,8 +94,8 @@ impl fmt::Display for WrongSetting<'_> {
     }
 }
 
-// The arguments with which `stty` sets up a serial port for this program.
-const MODES: &str = "raw -echo clocal -hupcl min 0 time 50";
+/// The arguments with which `stty` sets up a serial port for this program.
+pub const MODES: &str = "raw -echo clocal -hupcl min 0 time 50";
 
 /// The reason why the programmer can't be used. It occurs before the first transaction.
 #[derive(Drop)]
