@@ -253,8 +253,8 @@ FailsChange named change ranges bytes kept before after old new (ended.NotCompar
 
 -- ---- restores
 
--- A restore ended or returned an error. It kept all promises of `rewrite`: after success an erase was sent for each saved
--- sector, and none after the first page program (`thorough`).
+-- A restore ended or returned an error. It kept all promises of `rewrite`: after success an erase was sent for each
+-- saved sector, and none after the first page program (`thorough`).
 pub record HasRunRestore (journal : Journal) (old new : BusState) (outcome : Result Answer Refusal) : Type 0 where
   pub result : Result Report Refusal
   pub restores_original : IsModelled old → RewritesOriginal journal old new result

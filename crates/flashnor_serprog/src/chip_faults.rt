@@ -14,8 +14,8 @@ pub enum JobFault<'a> {
     /// Chip fault 1, before a write or an erase: the chip has no row in the table, and at least one of the bits 2 to 6
     /// of its status 1 is set. Nothing was changed, and the journal was not created.
     Protected { status1: u8 },
-    /// The change was made, and each sector that it touched was read back. Then the comparison of all included addresses
-    /// with the target returned this error: 14 is printed as chip fault 4.
+    /// The change was made, and each sector that it touched was read back. Then the comparison of all included
+    /// addresses with the target returned this error: 14 is printed as chip fault 4.
     NotCompared { refusal: Refusal },
 }
 

@@ -23,9 +23,9 @@ pub record KeepsKnown (known : Known) (out sent : List ℕ) : Type 0 where
   pub idle : one % 4 ≡ 0
   pub awake : two / 128 ≡ 0
 
--- A poll that shows that the chip is ready, from what was known before it. Both bytes of its reply were `status`. Before
--- the first modifying command, a second poll had the same reply. After a status write, a second poll had the same
--- reply, and then the status that was sent was read back (`HasStored`).
+-- A poll that shows that the chip is ready, from what was known before it. Both bytes of its reply were `status`.
+-- Before the first modifying command, a second poll had the same reply. After a status write, a second poll had the
+-- same reply, and then the status that was sent was read back (`HasStored`).
 pub record PollAgrees (known : Known) (status : ℕ) (old new : List Exchange) : Type 0 where
   pub unchanged : known.is_changing ≡ false → known.written ≡ None → new ≡ pair status ∷ pair status ∷ old
   pub changing : known.is_changing ≡ true → known.written ≡ None → new ≡ pair status ∷ old

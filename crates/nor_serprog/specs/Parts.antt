@@ -89,7 +89,8 @@ pub record Enables (exchange : Exchange) (earlier : List Exchange) : Type 0 wher
 
 -- The transaction programs bytes of `bytes`, at least one: those that follow the bytes that the earlier transactions
 -- programmed. It sends at most `most` bytes. It is the first transaction, or immediately follows a write enable.
-pub record ProgramsPart (most address : ℕ) (bytes : List ℕ) (exchange : Exchange) (earlier : List Exchange) : Type 0 where
+pub record ProgramsPart (most address : ℕ) (bytes : List ℕ) (exchange : Exchange)
+    (earlier : List Exchange) : Type 0 where
   pub len : ℕ
   pub sends : exchange.out ≡ program_part address bytes (bytes_programmed earlier) len
   pub some : 0 < len

@@ -52,8 +52,9 @@ impl<P: Port + Drop> BatchingBus<P> {
         BatchingBus::over(link, *programmer.reported())
     }
 
-    /// Returns a bus over a link whose programmer was identified (`AnyProgrammer::identify`). It rejects each transaction
-    /// that reads more than the programmer can, but sends up to 260 bytes. A `SplittingBus` around it splits programs.
+    /// Returns a bus over a link whose programmer was identified (`AnyProgrammer::identify`). It rejects each
+    /// transaction that reads more than the programmer can, but sends up to 260 bytes. A `SplittingBus` around it
+    /// splits programs.
     pub fn over(link: Link<P>, programmer: AnyProgrammer) -> BatchingBus<P>
         ensures link { link_of result ≡ link }
         ensures empty { waiting_of result ≡ [] }

@@ -30,9 +30,9 @@ const HEADER_LEN: u32 = 7;
 const SHORTEST_PART: u32 = 5;
 
 impl AnyProgrammer {
-    /// Identifies the programmer on a new link, and prepares it for SPI transactions, as `Programmer::identify` does. It
-    /// requires only that a transaction may send 5 bytes and read 1 byte, and without Q_WRNMAXLEN that 12 bytes fit into
-    /// the serial buffer. The errors are those of `narrow_fault`.
+    /// Identifies the programmer on a new link, and prepares it for SPI transactions, as `Programmer::identify` does.
+    /// It requires only that a transaction may send 5 bytes and read 1 byte, and without Q_WRNMAXLEN that 12 bytes fit
+    /// into the serial buffer. The errors are those of `narrow_fault`.
     pub fn identify<P: Port + Drop>(
         link: &mut Link<P>,
         hertz: Option<u32>,

@@ -22,7 +22,7 @@ pub enum HandshakeFault<C> {
     /// value is the flags that it returned: 1 parallel, 2 LPC, 4 FWH, 8 SPI.
     #[error("the programmer cannot be set to SPI: its types of bus are {0:02X}h")]
     NotSpi(u8),
-    /// An O_SPIOP may send at most this many bytes. A page program in one transaction needs 260, and its shortest part 5.
+    /// An O_SPIOP may send at most this many bytes. A page program in one transaction needs 260, its shortest part 5.
     #[error("the programmer sends at most {0} bytes in a transaction, too few for a page program")]
     WriteLimit(u32),
     /// An O_SPIOP may read at most this many bytes, and reading a sector needs 4,096.
@@ -34,8 +34,8 @@ pub enum HandshakeFault<C> {
     SmallBuffer(u16),
 }
 
-/// The replies of a programmer to its identification. Its limits may be small: if a transaction can't send a page program
-/// or read a sector, use a `SplittingBus`.
+/// The replies of a programmer to its identification. Its limits may be small: if a transaction can't send a page
+/// program or read a sector, use a `SplittingBus`.
 #[derive(Clone, Copy, Debug, PartialEq, Eq)]
 pub struct AnyProgrammer {
     pub(crate) name: [u8; 16],

@@ -18,9 +18,9 @@ use nor_model::{Bus, History, Stopped};
 ///   enable comes before the first part. Each further part follows polls (05h), of which the last one shows that the
 ///   chip is ready, and a write enable (06h) of its own. The polls after the last part are the caller's.
 ///
-/// Any other transaction that exceeds a limit is rejected, and nothing is sent: an ID (9Fh, 4Bh) can't be read in parts.
-/// A read that passes address FFFFFFh, or a program that passes the end of its page, is also rejected if it is too long
-/// for the bus inside.
+/// Any other transaction that exceeds a limit is rejected, and nothing is sent: an ID (9Fh, 4Bh) can't be read in
+/// parts. A read that passes address FFFFFFh, or a program that passes the end of its page, is also rejected if it is
+/// too long for the bus inside.
 ///
 /// A program in parts stops if the bus inside stops, or after 65,536 polls in a row that show BUSY. The first parts are
 /// then programmed, the others are not. To a restore that is a program that was interrupted: the bytes lie in a sector

@@ -224,7 +224,8 @@ impl<B: Bus + Drop> CheckedStatus<B> {
     // Passes a status write on, if both status registers were read and it keeps the bits that are not protection bits.
     fn write(&mut self, out: &[u8], reply: &mut [u8]) -> Result<(), Stopped>
         ensures history { history_of self.new ≡ history_of self.old }
-        ensures kept { (inner_state self.new ≡ inner_state self.old) ⊎ IsStatusKept out.now (inner_state self.old).history }
+        ensures kept { (inner_state self.new ≡ inner_state self.old)
+            ⊎ IsStatusKept out.now (inner_state self.old).history }
         ensures sent { ((inner_state self.new).sent ≡ (inner_state self.old).sent)
             ⊎ ((inner_state self.new).sent ≡ with_sent out.now (inner_state self.old).sent) }
         ensures begun { OnOk result (has_begun self.new ≡ true) }

@@ -6,8 +6,8 @@ use nor_serprog::{AnyProgrammer, BatchingBus, Link, SplittingBus};
 use std::alloc::Global;
 use std::test::Fail;
 
-// Returns a programmer whose transactions send and read at most `limit` bytes. Its chip holds `bytes`, and shows BUSY in
-// two polls after each operation.
+// Returns a programmer whose transactions send and read at most `limit` bytes. Its chip holds `bytes`, and shows BUSY
+// in two polls after each operation.
 fn narrow(bytes: Vec<u8>, alloc: Global, limit: u16) -> Result<Model, Fail> {
     let delays = Delays { now: 0, each: 2 };
     let mut model = Model::new(alloc)?;
