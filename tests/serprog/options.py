@@ -371,6 +371,27 @@ def shows_long_progress(start):
         "SEALED: the chip is changed from here on.", "protect: status writes sent 1"])
 
 
+def shows_what_a_power_loss_means(start):
+    """On a terminal a line before the first change says what a loss of power means for SRP1, and for QE if it can."""
+    srp1 = "Keep its power on: a loss of power clears SRP1, and a restore then ends with error 17."
+    quad = "Keep its power on: a status write that is cut off may clear QE, and a restore then ends with error 17."
+    old, new = images("shows_what_a_power_loss_means")
+    large = b"\xff" * (1 << 23)
+    words = "-E", "--journal", "j", "-l", "layout", "-i", "first"
+    for status, lines in (b"\0\1", [srp1]), (b"\x80\1", []), (b"\0\2", []):
+        bench = start("W25Q64FV", data=old[:4096] + large[4096:], status=status)
+        bench.write("layout", b"0:fff first\n")
+        bench.expect_at_terminal(*words, lines=[
+            "identify 1", "scan: sector 1 of 1", "Sectors to change: 1. Erases: 1. Bytes of journal: 4161.",
+            "SEALED: the chip is changed from here on.", *lines, "erase: erases sent 1", "read back: sectors read 1",
+            "compare: sector 1 of 1"])
+    for status, lines in (b"\0\2", [quad]), (b"\0\0", []):
+        bench = start("W25Q64FV", data=large, status=status)
+        bench.expect_at_terminal("--wp-range", "0,0x800000", "--journal", "k", lines=[
+            "identify 1", "Sectors to change: 0. Erases: 0. Bytes of journal: 61.",
+            "SEALED: the chip is changed from here on.", *lines, "protect: status writes sent 1"])
+
+
 def needs_its_output(start):
     """If a line can't be printed, the exit status is 1, and the job is done nevertheless."""
     old, new = images("needs_its_output")
@@ -385,4 +406,4 @@ def needs_its_output(start):
 CASES = [identifies, sets_the_clock, selects_a_chip, keeps_to_the_protocol, names_the_chip, reads, reads_regions,
          reads_inside, verifies, verifies_regions, writes, writes_without_verification, writes_regions, writes_at_random,
          writes_large_chips, changes_nothing, erases, erases_regions, prints_the_size, shows_protection, lists_ranges,
-         protects, shows_progress, shows_long_progress, needs_its_output]
+         protects, shows_progress, shows_long_progress, shows_what_a_power_loss_means, needs_its_output]

@@ -5,6 +5,7 @@ use crate::trouble::MODES;
 use nor_chip::{Bus, Stopped, is_changing};
 use nor_journal::journal_len;
 use nor_lines::Escaped;
+use nor_model::{Status, Status1, Status2};
 use nor_session::Announcement;
 use std::fs;
 use std::os::unix::fs::FileTypeExt;
@@ -93,6 +94,14 @@ const SEALED: &str = "SEALED: the chip is changed from here on.";
 
 const CHANGED: &str = "The chip is changed from here on.";
 
+// The line after `SEALED` or `CHANGED` if SRP1 is set without SRP0 (W25Q64FV datasheet, Status Register Protect).
+const POWER_LOCKED: &str =
+    "Keep its power on: a loss of power clears SRP1, and a restore then ends with error 17.";
+
+// The line before the first status write if QE is set.
+const QUAD: &str =
+    "Keep its power on: a status write that is cut off may clear QE, and a restore then ends with error 17.";
+
 // The line before the first exchange, without the command that sets up the port.
 const WAITING: &str =
     "Waiting for the programmer. If no line follows in 10 seconds, press Ctrl-C and run:";
@@ -167,7 +176,8 @@ pub trait Progress: Bus {
 ///
 /// A step is recognized by the opcode of a transaction. Before the first modifying command a line says that the chip is
 /// changed from here on. In a session that line begins with `SEALED`, since a session sends no modifying command before
-/// its journal is sealed. In contracts, the state of this bus is that of the bus inside.
+/// its journal is sealed. If SRP1 is set without SRP0, or QE is set before a status write, another line says what a
+/// loss of power would mean. In contracts, the state of this bus is that of the bus inside.
 #[derive(Drop)]
 pub struct Shown<'a, B> {
     bus: B,
@@ -178,6 +188,8 @@ pub struct Shown<'a, B> {
     // number is known
     expected: Option<usize>,
     counts: Counts,
+    // status 1 and 2 as last read before the first modifying command; 0 if they were not read
+    status: [u8; 2],
 }
 
 impl<'a, B: Bus + Drop> Shown<'a, B> {
@@ -190,6 +202,7 @@ impl<'a, B: Bus + Drop> Shown<'a, B> {
             phase: Phase::Before,
             expected: None,
             counts: Counts::default(),
+            status: [0, 0],
         }
     }
 
@@ -222,13 +235,37 @@ impl<B> Shown<'_, B> {
             self.phase = Phase::Changing;
             let what = if self.in_session { SEALED } else { CHANGED };
             let _ = eprintln!(self.terminal.rt; "{what}");
+            if self.has_power_lock() {
+                let _ = eprintln!(self.terminal.rt; "{POWER_LOCKED}");
+            }
         }
         let Some(step) = step_of(out, self.phase) else {
             return;
         };
         let count = self.counts.count(step);
+        let has_quad = Status::of(self.status).two.contains(Status2::QE);
+        if count == 1 && matches!(step, Step::Protect) && has_quad {
+            let _ = eprintln!(self.terminal.rt; "{QUAD}");
+        }
         if count % step.stride() == 1 {
             self.show_step(step, count);
+        }
+    }
+
+    // True if SRP1 was set without SRP0 before the first modifying command.
+    fn has_power_lock(&self) -> bool {
+        let status = Status::of(self.status);
+        status.two.contains(Status2::SRP1) && !status.one.contains(Status1::SRP0)
+    }
+
+    // Stores a status byte that the chip replied before the first modifying command.
+    fn remember(&mut self, out: &[u8], reply: &[u8])
+        ensures { self.new.bus ≡ self.old.bus }
+    {
+        match (self.phase, out, reply) {
+            (Phase::Before, [0x05, ..], [status1, ..]) => self.status[0] = *status1,
+            (Phase::Before, [0x35, ..], [status2, ..]) => self.status[1] = *status2,
+            _ => {}
         }
     }
 
@@ -268,7 +305,9 @@ impl<B: Bus> Bus for Shown<'_, B> {
 
     fn transfer(&mut self, out: &[u8], reply: &mut [u8]) -> Result<(), Stopped> {
         self.show(out);
-        self.bus.transfer(out, reply)
+        self.bus.transfer(out, reply)?;
+        self.remember(out, reply);
+        Ok(())
     }
 }
 
