@@ -3,5 +3,6 @@ pub mod Replied
 pub mod Scans
 pub mod Begun
 pub mod Cuts
+pub mod WholeChips
 pub mod Held
 pub mod OneVerdict

@@ -4,4 +4,5 @@ pub mod Identity
 pub mod Judging
 pub mod Saving
 pub mod SavedScan
+pub mod SavedWhole
 pub mod Verdict

@@ -6,6 +6,7 @@
 //! - `judging.rt`: checks a request against the identification, and against the touched sectors
 //! - `scanning.rt`: reads the sectors, and finds those that the session will touch
 //! - `saving.rt`: scans the sectors, checks the touched ones, and seals the journal
+//! - `whole.rt`: saves every sector, and seals the journal
 //!
 //! ```rust
 //! use nor_chip::{Config, Delays, Meter, SimBus};
@@ -38,9 +39,11 @@ mod identity;
 mod judging;
 mod saving;
 mod scanning;
+mod whole;
 
 pub use identifying::{identify, read_on};
 pub use identity::Identity;
 pub use judging::{first_protected, judge_identity};
 pub use saving::{SavedScan, save};
 pub use scanning::Scanned;
+pub use whole::save_whole;

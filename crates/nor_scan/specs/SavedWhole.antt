@@ -1,0 +1,33 @@
+-- The effect of saving a whole chip in a journal.
+use Rattle.std.specs.Prelude.{◌≡◌, ◌/◌, ℕ, true}
+use Rattle.nor_model.specs.Chip.{Chip}
+use Rattle.nor_model.specs.Bus.{BusState}
+use Rattle.nor_driver.specs.OnlyReads.{HasStopped}
+use Rattle.nor_journal.specs.Saved.{JournalSaves, IsJournalPrefix}
+use Rattle.nor_journal.specs.Vault.{VaultState, Refused, Accepted}
+use Rattle.nor_request.specs.declared.refusal.Refusal.{Refusal}
+use Rattle.nor_request.specs.declared.refusal.Refusal.TheVariants.{Vault, Stopped}
+use Rattle.nor_scan.specs.declared.identity.Identity.{Identity}
+use Rattle.nor_scan.specs.Saving.{IsIdentityOf, HasIdleChip, header_of}
+use Rattle.nor_scan.specs.Scanning.{sectors_below}
+
+-- Holds if a `telling` vault has the journal of every sector of the chip on the bus. The bus must be well-behaved, and
+-- its chip idle and one with this identification.
+abbrev pub HasWholeChip : Identity → BusState → VaultState → Type 0
+HasWholeChip identity old vault = vault.telling ≡ true
+    → (chip : Chip) → IsIdentityOf chip identity → HasIdleChip chip old
+    → JournalSaves (header_of chip) chip.bytes (sectors_below (chip.config.size / 4096)) vault.bytes
+
+-- Holds if a `telling` vault has a prefix of that journal, under the same premises.
+abbrev pub BeginsWholeChip : Identity → BusState → VaultState → Type 0
+BeginsWholeChip identity old vault = vault.telling ≡ true
+    → (chip : Chip) → IsIdentityOf chip identity → HasIdleChip chip old
+    → IsJournalPrefix (header_of chip) chip.bytes (sectors_below (chip.config.size / 4096)) vault.bytes
+
+-- Holds for the errors of saving a whole chip. After error 12 the bus stopped at the last transaction, on a
+-- well-behaved bus fewer than `most` transactions were left, and the vault refused nothing. After error 11 the vault
+-- refused one call. In both cases it is sealed if and only if it was sealed before.
+abbrev pub SaveWholeErrors : (most : ℕ) → (old new : BusState) → (vault vault' : VaultState) → Refusal → Type 0
+SaveWholeErrors most old new vault vault' Stopped = HasStopped most old new × Accepted vault vault'
+SaveWholeErrors most old new vault vault' Vault = Refused vault vault'
+SaveWholeErrors most old new vault vault' _ = ⊥
