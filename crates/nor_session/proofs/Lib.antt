@@ -21,6 +21,8 @@ pub mod OfJournal
 pub mod RepliedJournal
 pub mod RestoresOriginal
 pub mod BegunRestore
+pub mod BackupRestores
+pub mod BackedUp
 pub mod WrittenBack
 pub mod InTurn
 pub mod RehearsedRestores

@@ -9,6 +9,7 @@ pub mod Judged
 pub mod Restore
 pub mod WrittenOver
 pub mod PrepareRestore
+pub mod Backup
 pub mod InTurn
 pub mod Rehearsal
 pub mod Rehearsing

@@ -8,7 +8,9 @@ ghost use Rattle.nor_journal.specs.Text.{Content, IsContent, text};
 ghost use Rattle.nor_journal.specs.Vault.{VaultState};
 ghost use Rattle.nor_request.specs.declared.report.Report.{Report};
 ghost use Rattle.nor_request.specs.declared.request.Request.{Request};
-ghost use Rattle.nor_probe.specs.Known.{IsModelled};
+ghost use Rattle.nor_probe.specs.Known.{IsKnown, IsModelled};
+ghost use Rattle.nor_apply.specs.Within.{IsWithin};
+ghost use Rattle.nor_session.specs.Backup.{SavesWholeChip, IsBackupOf, writable_addresses};
 ghost use Rattle.nor_session.specs.InTurn.{LeavesJournal, LosesPower, MayLosePower, IsTakenUp, ChangesNothing};
 ghost use Rattle.nor_session.specs.Headline.{SavesChip, CanRestore, CanBeRewritten};
 ghost use Rattle.nor_session.specs.Restore.{IsRestored};
@@ -109,4 +111,26 @@ pub fn restore_written_over()
 /// Files that are overwritten with the same chip that they hold still hold that chip at each moment.
 pub fn same_written_over()
     ensures { (old new opened : Chip) → IsSame old new → IsWrittenOver old new opened → IsSame old opened }
+{}
+
+/// A backup can restore its chip wherever the journal of a session, or any other journal that saves that chip, can.
+pub fn backup_restores_original()
+    ensures { (journal backup : Content) (first : Chip) (state : BusState)
+        → SavesWholeChip backup first → CanRestore journal first state → CanRestore backup first state }
+{}
+
+/// A backup can restore its chip even if bytes in sectors changed that no session touched, for example because an erase
+/// went to a wrong address. The chip on the bus may differ from the one in the backup in bytes at any addresses that a
+/// restore can write, and in protection bits that can be written. The other status bits must be those of the backup. An
+/// operation in progress is limited as `IsWithin` says.
+pub fn backup_restores_any()
+    ensures { (backup : Content) (first : Chip) (state : BusState) → IsKnown first.config
+        → SavesWholeChip backup first → IsWithin (writable_addresses first) first state → CanRestore backup first state }
+{}
+
+/// After a backup on a modelled bus, the journal that is read from its sealed `telling` vault saves the whole chip. So
+/// what `backup` promises is what the laws above need.
+pub fn read_is_backup()
+    ensures { (first : Chip) (bytes : List ℕ) (journal : Content) → IsBackupOf bytes first → IsContent journal
+        → bytes ≡ text journal → SavesWholeChip journal first }
 {}

@@ -1,4 +1,5 @@
-//! Sessions that change a flash chip and can be undone, the restores that undo them, and rehearsals of both.
+//! Sessions that change a flash chip and can be undone, the restores that undo them, rehearsals of both, and backups of
+//! whole chips.
 //!
 //! ```rust
 //! use nor_chip::{Config, Delays, Meter, SimBus};
@@ -21,12 +22,13 @@
 //! assert_eq!(rt; bus.bytes(), before.as_slice());
 //! ```
 //!
-//! `specs/` has what each call promises: first `Headline.antt`, then `Session.antt`, `Restore.antt` and
-//! `Rehearsal.antt`. `IsVerdict` of nor_scan is the verdict on a request, and `IsModelled` of nor_probe says for which
+//! `specs/` has what each call promises: first `Headline.antt`, then `Session.antt`, `Restore.antt`, `Rehearsal.antt`
+//! and `Backup.antt`. `IsVerdict` of nor_scan is the verdict on a request, and `IsModelled` of nor_probe says for which
 //! buses most promises are made. `InTurn.antt` and `WrittenOver.antt` have the definitions of the laws.
 #![tactic(auto)]
 
 mod announcement;
+mod backups;
 mod checks;
 mod judged;
 mod kept;
@@ -38,10 +40,12 @@ mod sessions;
 mod sources;
 
 pub use announcement::Announcement;
+pub use backups::backup;
 pub use laws::{
-    begun_restores_original, power_lost_restores_original, read_restores_original,
-    restore_written_over, restored_stays, same_written_over, session_can_be_rewritten,
-    session_written_over, undone_in_turn, undone_is_restorable,
+    backup_restores_any, backup_restores_original, begun_restores_original,
+    power_lost_restores_original, read_is_backup, read_restores_original, restore_written_over,
+    restored_stays, same_written_over, session_can_be_rewritten, session_written_over,
+    undone_in_turn, undone_is_restorable,
 };
 pub use nor_request::{Refusal, Report, Request, What};
 pub use rehearsals::{Rehearsal, rehearse};

@@ -1,0 +1,5 @@
+use Rattle.nor_session.proofs.BackupRestores as backup
+use Rattle.nor_session.proofs.laws.backup_restores_original.Goals as goal
+
+pub returns : goal.returns
+returns c = backup.backup_restores_original

@@ -1,0 +1,144 @@
+-- The promises of a backup, which saves every sector of a chip in a journal, and the chips that this journal can
+-- restore.
+use Rattle.std.specs.Prelude.{◌≡◌, ◌≤◌, ◌<◌, ◌+◌, ◌/◌, ◌&&◌, ◌⊎◌, ℕ, Bool, true, not, nat_lt, List, [], Option, Some, Result, Err, IfOk, IfErr, OnOk, OnErr, ⊤}
+use Rattle.nor_model.specs.Chip.{Chip, IsSame, is_locked}
+use Rattle.nor_model.specs.Guard.{is_protected}
+use Rattle.nor_model.specs.Bus.{BusState}
+use Rattle.nor_driver.specs.OnlyReads.{OnlyReads, RanOut}
+use Rattle.nor_driver.specs.Reads.{unique_of}
+use Rattle.nor_journal.specs.Text.{Content}
+use Rattle.nor_journal.specs.Saved.{JournalSaves, IsJournalPrefix, is_saved}
+use Rattle.nor_journal.specs.Vault.{VaultState, Refused, Accepted, Completed}
+use Rattle.nor_probe.specs.declared.table.ChipName.{ChipName}
+use Rattle.nor_probe.specs.declared.probes.Found.{Found}
+use Rattle.nor_probe.specs.declared.probes.ProbeFault.TheVariants as Probes
+use Rattle.nor_probe.specs.Known.{shown_as}
+use Rattle.nor_probe.specs.Found.{IsPart, IsWanted, IsConfigOf, HasOtherName}
+use Rattle.nor_request.specs.declared.report.Report.{Report}
+use Rattle.nor_request.specs.declared.refusal.Refusal.{Refusal}
+use Rattle.nor_request.specs.declared.refusal.Refusal.TheVariants.{NoChip, UnknownChip, OtherName, Vault, Stopped, Timeout}
+use Rattle.nor_request.specs.Errors.{EndsAtError}
+use Rattle.nor_scan.specs.declared.identity.Identity.{Identity}
+use Rattle.nor_scan.specs.Replied.{IsIdentifiedBy, bytes_read}
+use Rattle.nor_scan.specs.Saving.{header_of, header_found}
+use Rattle.nor_scan.specs.SavedScan.{IsJournal}
+use Rattle.nor_scan.specs.Scanning.{sectors_below}
+use Rattle.nor_session.specs.Bounds.{most_reads}
+use Rattle.nor_session.specs.Headline.{SavesChip, CanRestoreFrom}
+
+-- ---- which chips a backup can restore
+
+-- Holds if the journal saves this chip (`SavesChip`), with its unique ID and every sector of it.
+pub record SavesWholeChip (journal : Content) (first : Chip) : Type 0 where
+  pub chip : SavesChip journal first
+  pub device : journal.unique ≡ Some (unique_of first.config)
+  pub every : (s : ℕ) → s < first.config.size / 4096 → is_saved journal s ≡ true
+
+-- Holds if these bytes are the encoding of a journal that saves this whole chip.
+pub record IsBackupOf (bytes : List ℕ) (first : Chip) : Type 0 where
+  pub journal : IsJournal bytes
+  pub saves : SavesWholeChip journal.content first
+
+-- True at the addresses of a chip that a restore can write: all those on the chip, except the protected ones if the
+-- status is locked.
+abbrev pub writable_addresses : Chip → (a : ℕ) → Bool
+writable_addresses first a = nat_lt a first.config.size && not (is_locked first.kept && is_protected first a)
+
+-- ---- on every bus
+
+-- Describes the report of a backup. The chip found has the requested name, if any, and nothing was changed. The
+-- identification took at least four transactions, and each sector one.
+pub record ReportsBackup (named : Option ChipName) (report : Report) : Type 0 where
+  pub part : IsPart report.found
+  pub has_name : IsWanted named report.found.name
+  pub touched : report.touched ≡ 0
+  pub erases : report.erases ≡ 0
+  pub programs : report.programs ≡ 0
+  pub least : 4 + report.found.size / 4096 ≤ report.transactions
+  pub most : report.transactions ≤ most_reads (report.found.size / 4096)
+
+-- Holds if the bytes are a journal that has what the bus replied during the backup. Its header has the ID, the unique
+-- ID and the non-volatile status bits that the bus replied. The size in the header is that of the table's row of the ID
+-- or, without a row, of the SFDP replies. Every sector of a chip of this size is saved, with the bytes of the last
+-- reply to a read of it.
+pub record IsBackupOfReplies (found : Found) (new : BusState) (bytes : List ℕ) : Type 0 where
+  pub identity : Identity
+  pub same : identity.found ≡ found
+  pub replied : IsIdentifiedBy new.history identity
+  pub saves : JournalSaves (header_found identity) (bytes_read new.history) (sectors_below (found.size / 4096)) bytes
+
+-- Holds for the errors of a backup. After errors 1 to 3 and 13, from the identification, the vault is as it was. After
+-- error 12 it refused nothing, and after error 11 it refused one call: in both cases it isn't sealed, because it wasn't
+-- sealed before. A timeout has address 0.
+abbrev pub BackupReturns : (vault vault' : VaultState) → Refusal → Type 0
+BackupReturns vault vault' NoChip = vault' ≡ vault
+BackupReturns vault vault' (UnknownChip fault) = vault' ≡ vault
+BackupReturns vault vault' OtherName = vault' ≡ vault
+BackupReturns vault vault' (Timeout address) = (vault' ≡ vault) × (address ≡ 0)
+BackupReturns vault vault' Vault = Refused vault vault'
+BackupReturns vault vault' Stopped = Accepted vault vault'
+BackupReturns vault vault' _ = ⊥
+
+-- ---- on a well-behaved bus
+
+-- The meaning of errors on a well-behaved bus. Errors 1 to 3 say what the chip shows. A stop occurs only if no
+-- transaction is left and fewer than `most` were left at the start. A timeout does not occur. `BackupReturns` says when
+-- error 11 occurs.
+abbrev pub BackupErrors : (most : ℕ) → Option ChipName → (old new : BusState) → Refusal → Type 0
+BackupErrors most named old new NoChip = shown_as old.chip.config ≡ Err Probes.NoChip
+BackupErrors most named old new (UnknownChip fault) = shown_as old.chip.config ≡ Err (Probes.UnknownChip fault)
+BackupErrors most named old new OtherName = HasOtherName named old.chip.config
+BackupErrors most named old new Stopped = RanOut most old new
+BackupErrors most named old new Vault = ⊤
+BackupErrors most named old new _ = ⊥
+
+-- ---- on a modelled bus
+
+-- Holds if there are no bytes, or they are a prefix of the only journal that a backup of this chip can write.
+abbrev pub HoldsBackupBegun : Chip → (bytes : List ℕ) → Type 0
+HoldsBackupBegun chip bytes = (bytes ≡ [])
+    ⊎ IsJournalPrefix (header_of chip) chip.bytes (sectors_below (chip.config.size / 4096)) bytes
+
+-- ---- the promises of a backup
+
+-- The promises of a backup on every bus and with every vault.
+pub record BackupAlways (named : Option ChipName) (old new : BusState) (vault vault' : VaultState)
+    (result : Result Report Refusal) : Type 0 where
+  -- No modifying command is sent, and on a well-behaved bus at most the transactions of identifying and reading the
+  -- largest chip. Bytes and non-volatile status bits are then as before, if the bus was steady or the chip idle.
+  pub only_reads : OnlyReads (most_reads 4096) old new
+  -- after success the vault is sealed, and it refused nothing
+  pub sealed : OnOk result (Completed vault vault')
+  -- an error is one that `BackupReturns` allows; the vault isn't sealed after it
+  pub answers : IfErr result (BackupReturns vault vault')
+  -- after success a faithful vault holds a journal of every sector that has what the bus replied
+  pub replied : IfOk result (λ report. vault'.telling ≡ true → IsBackupOfReplies report.found new vault'.bytes)
+  -- after success the report has a chip with the requested name, counts no change, and is within its bounds
+  pub reported : IfOk result (ReportsBackup named)
+  -- a backup succeeds only if the last poll showed that the chip is ready
+  pub polled_ready : OnOk result (new.polled_ready ≡ true)
+  -- after error 12 the last transaction is the one at which the bus stopped, after 13 a poll that showed BUSY
+  pub last_transaction : IfErr result (λ refusal. EndsAtError refusal new.history)
+
+-- The promises of a backup on a well-behaved bus.
+pub record BackupHonest (named : Option ChipName) (old new : BusState) (result : Result Report Refusal) : Type 0 where
+  -- an error says what the chip shows, that the vault failed, or that too few transactions were left
+  pub errors : IfErr result (BackupErrors (most_reads 4096) named old new)
+  -- after success bytes and non-volatile status bits are as before
+  pub same : OnOk result (IsSame old.chip new.chip)
+  -- the report counts exactly the transactions that were sent
+  pub counted : IfOk result (λ report. old.left ≡ new.left + report.transactions)
+
+-- The promises of a backup on a modelled bus: a well-behaved one whose chip is what its ID or SFDP says.
+pub record BackupModelled (named : Option ChipName) (old new : BusState) (vault' : VaultState)
+    (result : Result Report Refusal) : Type 0 where
+  -- a stop occurs only if fewer transactions were left than the bound for a chip of this size
+  pub errors : IfErr result (BackupErrors (most_reads (old.chip.config.size / 4096)) named old new)
+  -- after success the report has the chip's configuration
+  pub config : IfOk result (λ report. IsConfigOf old.chip.config report.found)
+  -- after success a faithful vault holds a journal that saves the whole chip
+  pub saves : OnOk result (vault'.telling ≡ true → IsBackupOf vault'.bytes old.chip)
+  -- after success that journal can restore the chip
+  pub restorable : OnOk result (vault'.telling ≡ true → CanRestoreFrom vault'.bytes old.chip new)
+  -- after an error a faithful vault is empty, or holds a prefix of the only journal that the backup can write
+  pub cut : vault'.telling ≡ true → OnErr result (HoldsBackupBegun old.chip vault'.bytes)

@@ -1,0 +1,50 @@
+//! A backup: saves the whole chip, and changes nothing.
+ghost use Rattle.std.specs.Prelude.{◌≡◌, true};
+ghost use Rattle.nor_journal.specs.Vault.{IsFresh};
+ghost use Rattle.nor_probe.specs.Known.{IsModelled};
+ghost use Rattle.nor_session.specs.Backup.{BackupAlways, BackupHonest, BackupModelled};
+
+use nor_geometry::SECTOR_LEN;
+use nor_journal::Vault;
+use nor_model::Bus;
+use nor_probe::ChipName;
+use nor_request::{Refusal, Report};
+use nor_scan::{identify, save_whole};
+
+/// Saves every sector of the chip, its protection bits and its unique ID to `vault`, and changes nothing. With `named`
+/// the chip must have this name. `vault` must be empty and unsealed.
+///
+/// The journal of a session saves only the sectors that the session will change, and can undo only that session. If a
+/// faulty wire or chip changes another sector, the session's journal doesn't have its bytes. A backup has them. On a
+/// modelled bus, after success, a `telling` vault holds a journal from which `restore` and `rewrite` can restore the
+/// chip: now, and after any changes of bytes and protection bits that they can write (`backup_restores_original`).
+///
+/// On any bus no modifying command is sent, and the journal of a `telling` vault has what the bus replied. The vault is
+/// sealed if and only if the call succeeds. The report counts no change, and all transactions.
+///
+/// Returns error 1 (no chip), 2 (unknown chip), 3 (other name), 11 (the vault failed), 12 (the bus stopped) or 13 (the
+/// chip stayed busy during the identification; not on a well-behaved bus). On any bus nothing is sent after the
+/// transaction that error 12 or 13 reports.
+pub fn backup<B: Bus, V: Vault>(
+    bus: &mut B,
+    vault: &mut V,
+    named: Option<ChipName>,
+) -> Result<Report, Refusal>
+    requires { IsFresh (V.state vault.old) }
+    ensures always { BackupAlways named (B.state bus.old) (B.state bus.new) (V.state vault.old)
+        (V.state vault.new) result }
+    ensures honest { (B.state bus.old).honest ≡ true → BackupHonest named (B.state bus.old) (B.state bus.new) result }
+    ensures modelled { IsModelled (B.state bus.old)
+        → BackupModelled named (B.state bus.old) (B.state bus.new) (V.state vault.new) result }
+{
+    let identity = identify(bus, named)?;
+    save_whole(bus, vault, &identity)?;
+    let sectors = identity.found.size / SECTOR_LEN;
+    Ok(Report {
+        found: identity.found,
+        touched: 0,
+        erases: 0,
+        programs: 0,
+        transactions: identity.transactions + u64::from(sectors),
+    })
+}
