@@ -1,18 +1,21 @@
--- The results of the jobs that run a session, with its journal in a file: all that the engine promises for the session.
-use Rattle.std.specs.Prelude.{◌≡◌, ℕ, true, List, None, Result}
+-- The results of the jobs that run a session or a backup, with its journal in a file: all that the engine promises for
+-- the call.
+use Rattle.std.specs.Prelude.{◌≡◌, ℕ, true, List, Option, None, Result}
 use Rattle.nor_model.specs.Bus.{BusState}
 use Rattle.nor_files.specs.Files.{FilesState, IsKnownFile, View, is_lawful}
 use Rattle.nor_journal.specs.Vault.{IsFresh, VaultState}
+use Rattle.nor_probe.specs.declared.table.ChipName.{ChipName}
 use Rattle.nor_probe.specs.Known.{IsModelled}
 use Rattle.nor_request.specs.declared.refusal.Refusal.{Refusal}
 use Rattle.nor_request.specs.declared.report.Report.{Report}
 use Rattle.nor_request.specs.declared.request.Request.{Request}
+use Rattle.nor_session.specs.Backup.{BackupAlways, BackupHonest, BackupModelled}
 use Rattle.nor_session.specs.Headline.{KeepsOriginal}
 use Rattle.nor_session.specs.Session.{SessionAlways, SessionHonest, SessionModelled}
 use Rattle.nor_session.specs.Announcing.{Announces}
 use Rattle.nor_session.specs.declared.announcement.Announcement.{Announcement}
 use Rattle.nor_words.specs.Text.{Text}
-use Rattle.nor_lines.specs.Readings.{AnswersCall}
+use Rattle.nor_lines.specs.Readings.{AnswersCall, ReportsReadOut}
 use Rattle.nor_lines.specs.Stored.{IsKeptFile}
 use Rattle.nor_lines.specs.declared.answers.Answer.{Answer}
 use Rattle.nor_lines.specs.declared.answers.Answer.TheVariants as answer
@@ -52,3 +55,27 @@ pub record HasRunInFile (request : Request) (image : List ℕ) (file : Text) (be
   pub fresh : IsFresh vault
   pub kept_in : is_lawful after.view ≡ true → IsKeptFile file vault' after
   pub ran : HasRunSession request image old new vault vault' outcome
+
+-- ---- backups
+
+-- The job called `backup` with a vault for the journal. The call kept all its promises, and the job returned its report
+-- or its error.
+pub record HasBackedUp (named : Option ChipName) (old new : BusState) (vault vault' : VaultState)
+    (outcome : Result Answer Refusal) : Type 0 where
+  pub result : Result Report Refusal
+  pub always : BackupAlways named old new vault vault' result
+  pub honest : old.honest ≡ true → BackupHonest named old new result
+  pub modelled : IsModelled old → BackupModelled named old new vault' result
+  pub returned : AnswersCall ReportsReadOut result outcome
+
+-- A backup was made, with its journal in a new file. If the files obey their contract, the file has exactly the bytes
+-- of the backup's vault; if the vault is sealed, a host crash does not lose them. If also no vault or log in the file
+-- was borrowed before, the file was missing then.
+pub record HasBackedUpInFile (named : Option ChipName) (file : Text) (before : View) (after : FilesState)
+    (old new : BusState) (outcome : Result Answer Refusal) : Type 0 where
+  pub missing : IsKnownFile file before → before.seen file ≡ None
+  pub vault : VaultState
+  pub vault' : VaultState
+  pub fresh : IsFresh vault
+  pub kept_in : is_lawful after.view ≡ true → IsKeptFile file vault' after
+  pub ran : HasBackedUp named old new vault vault' outcome

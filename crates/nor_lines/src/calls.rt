@@ -5,7 +5,7 @@ ghost use Rattle.nor_files.specs.Files.{OthersStay, is_lawful};
 ghost use Rattle.nor_journal.specs.Vault.{IsFresh};
 ghost use Rattle.nor_lines.specs.Files.{IsMaking};
 ghost use Rattle.nor_lines.specs.Readings.{HasReadInto, HasReadOut, HasReported, HasVerified, ListsRanges, ReportsProtection};
-ghost use Rattle.nor_lines.specs.Sessions.{HasAnnounced, HasRunInFile, HasRunSession};
+ghost use Rattle.nor_lines.specs.Sessions.{HasAnnounced, HasBackedUp, HasBackedUpInFile, HasRunInFile, HasRunSession};
 
 use crate::answers::{Answer, Outcome};
 use crate::files::{empty, make};
@@ -16,7 +16,7 @@ use nor_layout::Ranges;
 use nor_model::{Bus, offered};
 use nor_probe::ChipName;
 use nor_read::{read_out, verify, wp_status};
-use nor_session::{Announcement, Request, session_announced};
+use nor_session::{Announcement, Request, backup, session_announced};
 use std::alloc::{AllocError, Global};
 
 /// Returns the chip's protected range, if the datasheets define one for its protection bits, and whether its status is
@@ -148,4 +148,40 @@ fn run_session<B: Bus, V: Vault, F: FnOnce(Announcement) + Drop>(
 {
     let report = session_announced(bus, vault, image, request, announce)?;
     Ok(Answer::Done(report))
+}
+
+/// Saves the whole chip in a journal in the file of this name, which must not exist. With `named` the chip must have
+/// this name.
+///
+/// The outer error is one of `make`, which occurred before the first transaction. The inner error is one of `backup`,
+/// after which the file may hold only a part of the journal.
+pub fn backup_in_file<'a, R: Store, B: Bus>(
+    rt: &mut R,
+    bus: &mut B,
+    named: Option<ChipName>,
+    file: &'a str,
+) -> Result<Outcome, Fault<'a>>
+    ensures nature { (R.state rt.new).view.nature ≡ (R.state rt.old).view.nature }
+    ensures others { is_lawful (R.state rt.old).view ≡ true
+        → OthersStay file.now (R.state rt.old) (R.state rt.new) }
+    ensures ok { IfOk result (HasBackedUpInFile named file.now (R.state rt.old).view (R.state rt.new)
+        (B.state bus.old) (B.state bus.new)) }
+    ensures unmade { is_lawful (R.state rt.old).view ≡ true
+        → OnErr result (BorrowsNone file.now (R.state rt.old) (R.state rt.new)) }
+    ensures unsent { OnErr result (B.state bus.new ≡ B.state bus.old) }
+    ensures err { IfErr result (IsMaking (R.state rt.old).view file.now) }
+{
+    let mut journal = make(rt, file)?;
+    let outcome = run_backup(bus, &mut journal, named);
+    rt.return_vault(journal);
+    Ok(outcome)
+}
+
+// Saves the whole chip in a journal in `vault`. The answer is that of a chip that was read.
+fn run_backup<B: Bus, V: Vault>(bus: &mut B, vault: &mut V, named: Option<ChipName>) -> Outcome
+    requires { IsFresh (V.state vault.old) }
+    ensures { HasBackedUp named (B.state bus.old) (B.state bus.new) (V.state vault.old) (V.state vault.new) result }
+{
+    let report = backup(bus, vault, named)?;
+    Ok(Answer::Read(report))
 }

@@ -30,7 +30,8 @@ mod streams;
 
 pub use answers::{Answer, Outcome};
 pub use calls::{
-    erased, list_ranges, read_to_file, report_protection, session_in_file, verify_image,
+    backup_in_file, erased, list_ranges, read_to_file, report_protection, session_in_file,
+    verify_image,
 };
 pub use escapes::Escaped;
 pub use files::{
