@@ -19,6 +19,7 @@
 //! - `torn.rt`: sessions and restores that are stopped inside a transaction
 //! - `lost.rt`: sessions and restores that lose the reply to a transaction
 //! - `rewritten.rt`: restores that rewrite every saved sector, stopped anywhere, and another rewrite or a restore
+//! - `backups.rt`: backups of a chip, stopped anywhere, and restores from one after changes that no session made
 //! - `in_turn.rt`: two successive sessions, stopped or run to their end, and their restores in reverse order
 //! - `power.rt`: sessions and restores during which the chip loses its power
 //! - `rehearsed.rt`: rehearsals with each stop of the session and of its first restore, and rehearsals on faulty buses
@@ -62,6 +63,8 @@
 mod allowances;
 #[cfg(test)]
 mod announced;
+#[cfg(test)]
+mod backups;
 #[cfg(test)]
 mod bounds;
 #[cfg(test)]
