@@ -242,6 +242,16 @@ APPENDICES = {
         "original chip can't be restored.",
         {"work_on_chip": "flashnor/src/run.rt keeps holds"},
     ),
+    "Backups": (
+        "If this is wrong, the journal of a backup may lack a sector, or can't restore the chip after a change that no "
+        "session made.",
+        {
+            "backup": "nor_session/src/backups.rt",
+            "backup_restores_original": "nor_session/src/laws.rt",
+            "backup_restores_any": "nor_session/src/laws.rt",
+            "read_is_backup": "nor_session/src/laws.rt",
+        },
+    ),
 }
 
 # Names of the appendices whose definitions are left out: the results of a run, and the text of a layout.
@@ -292,6 +302,7 @@ SUBJECTS = {
     "Sessions": "nor_session: specs/Session",
     "Restores": "nor_session: specs/Restore",
     "Rehearsals": "nor_session: src/rehearsals specs/Rehearsal",
+    "Backups": "nor_scan: specs/Scanning nor_session: specs/Backup",
     "Calls in turn": "nor_session: specs/WrittenOver specs/InTurn",
     "Files": "nor_files: specs/Files specs/Faults specs/Calls src/store",
     "Jobs": "nor_words: specs/Text src/programmer specs/Programmer src/job",
