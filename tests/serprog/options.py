@@ -166,6 +166,50 @@ def writes_without_verification(start):
     bench.check_frames(reference.whole_run("TINY64", plan))
 
 
+def leaves_out_the_comparison(start):
+    """-N leaves out the comparison after -w and -E, and not the last reads of the session. -n leaves out both."""
+    old, new = images("leaves_out_the_comparison")
+    last = ["Nothing was verified (-n)."]
+    for words, verifies, lines in (("-N",), True, []), (("--noverify-all",), True, []), (("-n", "-N"), False, last):
+        for operation, target in (("-w", "new"), new), (("-E",), FREE):
+            bench = start(data=old)
+            bench.write("new", new)
+            plan = reference.session("TINY64", old, target, verifies=verifies)
+            bench.expect(*operation, *words, "--journal", "j",
+                         out=[reference.found("TINY64"), reference.done(plan, old, target), *lines])
+            bench.check_chip(target)
+            bench.check_frames(reference.whole_run("TINY64", plan))
+
+
+def refuses_needless_options(start):
+    """-N needs -w or -E, and --quick needs --restore: usage fault 8, and nothing is sent."""
+    bench = start()
+    bench.write("new", FREE)
+    change = "--wp-range", "0,0", "--journal", "j"
+    for words in (("-N",), ("-r", "out", "-N"), ("-v", "new", "--noverify-all"), ("-N", *change), ("--quick",),
+                  ("--restore", "j", "-N"), ("-w", "new", "--journal", "j", "--quick"), ("--quick", *change)):
+        got = bench.run(*words)
+        check(" ".join(words), (got.out, got.err[-1:], got.status), ([], ["Usage fault 8."], 1))
+        bench.check_nothing_sent()
+
+
+def restores_quickly(start):
+    """--restore --quick reads the saved sectors, and erases and programs only those that differ."""
+    old, new = images("restores_quickly")
+    bench = start(data=old)
+    bench.write("new", new)
+    check("the session", bench.run("-w", "new", "--journal", "j").status, 0)
+    for equal in (), (2,), (1, 15), (1, 2, 7, 15):
+        now = bytearray(new)
+        for number in equal:
+            now[number * SECTOR : (number + 1) * SECTOR] = reference.sector_of(old, number)
+        bench.chip.data[:] = now
+        plan = reference.session("TINY64", bytes(now), old, (1, 2, 7, 15))
+        bench.expect("--restore", "j", "--quick", out=[reference.found("TINY64"), reference.done(plan, now, old)])
+        bench.check_frames(plan)
+        bench.check_chip(old)
+
+
 def writes_regions(start):
     """-w with -l and -i changes only the regions; other bytes of their sectors stay."""
     old, _ = images("writes_regions")
@@ -339,6 +383,8 @@ def shows_progress(start):
         "identify 1", "Sectors to change: 4. Erases: 4.", "The chip is changed from here on.", "erase: erases sent 1",
         "program: pages sent 1", "read back: sectors read 1"])
     bench.check_chip(old)
+    bench.expect_at_terminal("--restore", "j", "--quick", lines=[
+        "identify 1", "scan: sector 1 of 4", "Sectors to change: 0. Erases: 0."])
     bench.write("old", old)
     bench.expect_at_terminal("-w", "old", "--journal", "k", lines=[
         "identify 1", "scan: sector 1 of 16", "Sectors to change: 0. Erases: 0. Bytes of journal: 61.",
@@ -404,6 +450,7 @@ def needs_its_output(start):
 
 
 CASES = [identifies, sets_the_clock, selects_a_chip, keeps_to_the_protocol, names_the_chip, reads, reads_regions,
-         reads_inside, verifies, verifies_regions, writes, writes_without_verification, writes_regions, writes_at_random,
-         writes_large_chips, changes_nothing, erases, erases_regions, prints_the_size, shows_protection, lists_ranges,
-         protects, shows_progress, shows_long_progress, shows_what_a_power_loss_means, needs_its_output]
+         reads_inside, verifies, verifies_regions, writes, writes_without_verification, leaves_out_the_comparison,
+         refuses_needless_options, restores_quickly, writes_regions, writes_at_random, writes_large_chips,
+         changes_nothing, erases, erases_regions, prints_the_size, shows_protection, lists_ranges, protects,
+         shows_progress, shows_long_progress, shows_what_a_power_loss_means, needs_its_output]

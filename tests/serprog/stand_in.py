@@ -134,10 +134,11 @@ class Job:
         self.put_journal(old, [] if MISTAKE == "saves nothing" else saved, status)
         self.apply(old, target, saved, status, "-n" not in self.given)
         done = self.done(saved)
-        if "-n" not in self.given and MISTAKE != "compares nothing":
+        leaves_out = "-n" in self.given or ("-N" in self.given and MISTAKE != "compares with -N")
+        if not leaves_out and MISTAKE != "compares nothing":
             self.found(self.given.get("-c"))
             self.compare(target, [reference.read_sector(it) for it in numbers])
-        return line, done
+        return line, done, *["Nothing was verified (-n)."] * ("-n" in self.given)
 
     def check_unknown(self):
         """Refuses a chip whose protection bits are unknown and may be set."""
@@ -219,10 +220,11 @@ class Job:
     def rewrite(self, target, saved, status, wanted):
         """Erases and programs sectors, sets the protection bits, and compares the sectors."""
         self.steps = [] if MISTAKE == "restores nothing" else reference.rewriting(target, saved)
-        if MISTAKE == "skips equal sectors":
+        if MISTAKE == "skips equal sectors" or ("--quick" in self.given and MISTAKE != "is never quick"):
             now = self.scan(saved)
             changed = [it for it in saved if reference.sector_of(now, it) != reference.sector_of(target, it)]
-            self.steps = reference.rewriting(target, changed)
+            self.steps = reference.change(now, target, changed)
+            saved[:] = changed
         verifies = [it for it in self.steps if it[0][0] == 0x03]
         steps = self.steps[: len(self.steps) - len(verifies)]
         if PARTS[self.part].has_row and protects(status, self.size, saved):

@@ -17,7 +17,9 @@ TAKE_VALUES = ("-p", "-c", "-r", "-w", "-v", "--wp-range", "--restore", "-l", "-
 # Mistakes that don't forget what was read at these opcodes.
 KEPT = {"keeps blocks at programs": (0x05, 0x06, 0x02), "keeps blocks at erases": (0x05, 0x06, *ERASES, 0xC7),
         "keeps blocks at status writes": (0x05, 0x06, 0x01)}
-HELP = "options: -h -n --unlock -E --flash-size --wp-status --wp-list " + " ".join(TAKE_VALUES)
+FLAGS = ("-E", "-n", "-N", "--noverify-all", "--quick", "--unlock", "--flash-size", "--wp-status", "--wp-list",
+         "-h")
+HELP = "options: -h -n -N --noverify-all --quick --unlock -E --flash-size --wp-status --wp-list " + " ".join(TAKE_VALUES)
 
 
 class Fault(Exception):
@@ -41,9 +43,9 @@ def arguments(words):
     found, words = {}, list(words)
     while words:
         word = words.pop(0)
-        if word not in (*TAKE_VALUES, "-E", "-n", "--unlock", "--flash-size", "--wp-status", "--wp-list", "-h"):
+        if word not in (*TAKE_VALUES, *FLAGS):
             raise usage(1, f"unexpected argument {word}")
-        found[word] = words.pop(0) if word in TAKE_VALUES else ""
+        found["-N" if word == "--noverify-all" else word] = words.pop(0) if word in TAKE_VALUES else ""
     return found
 
 
@@ -90,6 +92,8 @@ def check_usage(given):
     if ("-l" in given) != ("-i" in given) or ("-l" in given and not has_regions):
         raise usage(7)
     if ("-n" in given or "--unlock" in given) and not ("-w" in given or "-E" in given):
+        raise usage(8)
+    if ("-N" in given and not ("-w" in given or "-E" in given)) or ("--quick" in given and "--restore" not in given):
         raise usage(8)
     return keys
 

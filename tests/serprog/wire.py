@@ -203,6 +203,20 @@ def compares_the_rest(start):
     bench.expect("-v", "old", err=[f"Error 14: bytes differ at 0x{first_difference(bench.chip.data, old):06x}."])
 
 
+def leaves_the_rest_out(start):
+    """With -N the same wrong address bit isn't noticed. A later -v finds it, and the journal has the saved sectors."""
+    old, new = images("leaves_the_rest_out", (2, 7, 15))
+    wire = session_wire(old, new)
+    first = next(at for at, (out, _) in enumerate(wire, 1) if out[0] in reference.CHANGING)
+    bench = start(data=old, wrong_address=(first, len(wire), 14))
+    bench.write("new", new)
+    plan = reference.session("TINY64", old, new)
+    bench.expect("-w", "new", "-N", "--journal", "j", out=[reference.found("TINY64"), reference.done(plan, old, new)])
+    bench.check_file("j", reference.journal("TINY64", old, (2, 7, 15)))
+    bench.server.traits.wrong_address = ()
+    bench.expect("-v", "new", err=[f"Error 14: bytes differ at 0x{first_difference(bench.chip.data, new):06x}."])
+
+
 def refuses_unknown_protection(start):
     """A chip without a row in the table, with one of the status bits 2 to 6, isn't changed: chip fault 1."""
     old, new = images("refuses_unknown_protection")
@@ -275,4 +289,4 @@ def loses_the_power_lock(start):
 
 CASES = [compares_replies, believes_busy, reads_status_writes_back, reports_an_unprotected_chip,
          finds_torn_status_writes, restores_marginal_bytes, finds_a_wrong_erase, compares_the_rest,
-         refuses_unknown_protection, finds_lost_programs, wakes_the_chip, loses_the_power_lock]
+         leaves_the_rest_out, refuses_unknown_protection, finds_lost_programs, wakes_the_chip, loses_the_power_lock]

@@ -12,6 +12,9 @@ use Rattle.nor_words.specs.Text.{Text}
 use Rattle.nor_words.specs.declared.job.Change.{Change}
 use Rattle.nor_words.specs.declared.job.JournalUse.{JournalUse}
 use Rattle.nor_words.specs.declared.job.JournalUse.TheVariants as uses
+use Rattle.nor_words.specs.declared.job.Operation.{Operation}
+use Rattle.nor_words.specs.declared.job.Task.{Task}
+use Rattle.nor_words.specs.declared.job.Task.TheVariants as task
 use Rattle.nor_words.specs.declared.job.Wanted.{Wanted}
 use Rattle.nor_words.specs.declared.job.Wanted.TheVariants as wanted
 use Rattle.nor_lines.specs.Messages.{IsReportedAs}
@@ -19,7 +22,8 @@ use Rattle.nor_lines.specs.Files.{IsMaking}
 use Rattle.nor_lines.specs.declared.answers.Answer.{Answer}
 use Rattle.nor_lines.specs.declared.messages.Fault.{Fault}
 use Rattle.nor_lines.specs.declared.messages.Fault.TheVariants as end
-use Rattle.flashnor_serprog.specs.Jobs.{FailsChange, FailsComparison, FailsToChange, FailsToFill, FailsToFind}
+use Rattle.flashnor_serprog.specs.Jobs.{DoesTask, FailsChange, FailsComparison, FailsPerform, FailsToChange}
+use Rattle.flashnor_serprog.specs.Jobs.{FailsToFill, FailsToFind}
 use Rattle.flashnor_serprog.specs.Jobs.{FailsToFollow, HasChangedAndCompared, HasChangedBy, HasIdentified}
 use Rattle.flashnor_serprog.specs.Jobs.{HasNotCompared, HasRunChange, IsBufferOf, IsRefusedAsProtected, is_compared}
 use Rattle.flashnor_serprog.specs.declared.chip_faults.JobFault.{JobFault}
@@ -78,16 +82,19 @@ module _ (named : Option ChipName) (old new : BusState) where
   start_fails wanted.Erase bytes image file view fault buffer making = inr (buffer.0, buffer.1, making)
   start_fails (wanted.Range start len) bytes image file view fault buffer making = (buffer.0, making)
 
-  module _ (change : Change) (ranges : Option (List Span)) (bytes : List ℕ) (file : Bor Text) (view : View)
-      (after : FilesState) where
-    -- A fault of making the buffer of a session is a fault of a change with a journal in a file, if the files are as
-    -- they were.
-    pub fill_fails : (kept : JournalUse) (fault : JobFault) → kept ≡ uses.Journal file → after.view ≡ view
-        → FailsToFill named change.wanted old new fault
-        → FailsChange named change ranges bytes kept view after old new fault
-    fill_fails kept (ended.Fault fault) is same fails = rw is (fills change.wanted file view fault fails)
-    fill_fails kept (ended.Protected byte) is same fails = rw is (refuses change.wanted file view after byte same fails)
-    fill_fails kept (ended.NotCompared refusal) is same fails = absurd (compares_none change.wanted refusal fails)
+module _ (operation : Operation) (old new : BusState) (change : Change) (ranges : Option (List Span))
+    (bytes : List ℕ) (file : Bor Text) (view : View) (after : FilesState) where
+  -- A fault of making the buffer of a session is a fault of a change with a journal in a file, if the files are as they
+  -- were.
+  pub fill_fails : (kept : JournalUse) (fault : JobFault) → kept ≡ uses.Journal file → after.view ≡ view
+      → FailsToFill operation.named change.wanted old new fault
+      → FailsChange operation change ranges bytes kept view after old new fault
+  fill_fails kept (ended.Fault fault) is same fails =
+      rw is (fills operation.named old new change.wanted file view fault fails)
+  fill_fails kept (ended.Protected byte) is same fails =
+      rw is (refuses operation.named old new change.wanted file view after byte same fails)
+  fill_fails kept (ended.NotCompared refusal) is same fails =
+      absurd (compares_none operation.named old new change.wanted refusal fails)
 
 -- ---- the comparison after a session
 
@@ -103,26 +110,40 @@ module _ (named : Option ChipName) (ranges : Option (List Span)) (target : List 
   follows_unprotected found false byte fails = fails
 
 -- a change with its journal in a file: what was done, and the fault of the comparison after the session
-module _ (named : Option ChipName) (change : Change) (ranges : Option (List Span)) (bytes : List ℕ)
+module _ (operation : Operation) (change : Change) (ranges : Option (List Span)) (bytes : List ℕ)
     (kept : JournalUse) (file : Bor Text) (is : kept ≡ uses.Journal file) (view : View) (after : FilesState)
     (old changed new : BusState) where
   pub changed_by : (outcome : Result Answer Refusal)
-      → HasChangedAndCompared named change ranges bytes file.now view after old new outcome
-      → HasChangedBy named change ranges bytes kept view after old new outcome
+      → HasChangedAndCompared operation change ranges bytes file.now view after old new outcome
+      → HasChangedBy operation change ranges bytes kept view after old new outcome
   changed_by outcome does = rw is does
 
-  not_compared : (refusal : Refusal) → HasNotCompared named change ranges bytes file.now view after old new refusal
-      → FailsComparison named change ranges bytes kept view after old new refusal
+  not_compared : (refusal : Refusal) → HasNotCompared operation change ranges bytes file.now view after old new refusal
+      → FailsComparison operation change ranges bytes kept view after old new refusal
   not_compared refusal fails = rw is fails
 
   pub follow_fails : (session : Result Answer Refusal) (fault : JobFault)
-      → (ran : HasRunChange named change ranges bytes file.now view after old changed session)
-      → FailsToFollow session (is_compared change) named ranges ran.image changed new fault
-      → FailsChange named change ranges bytes kept view after old new fault
+      → (ran : HasRunChange operation.named change ranges bytes file.now view after old changed session)
+      → FailsToFollow session (is_compared operation change) operation.named ranges ran.image changed new fault
+      → FailsChange operation change ranges bytes kept view after old new fault
   follow_fails (Ok found) (ended.Fault fault) ran fails =
-      absurd (follows_none named ranges ran.image changed new found (is_compared change) fault fails)
+      absurd (follows_none operation.named ranges ran.image changed new found (is_compared operation change) fault fails)
   follow_fails (Ok found) (ended.Protected byte) ran fails =
-      absurd (follows_unprotected named ranges ran.image changed new found (is_compared change) byte fails)
+      absurd (follows_unprotected operation.named ranges ran.image changed new found (is_compared operation change) byte fails)
   follow_fails (Ok found) (ended.NotCompared refusal) ran fails =
       not_compared refusal (record { changed = changed; reported = found; session = ran; fails = fails })
   follow_fails (Err refusal) fault ran fails = absurd fails
+
+-- a change, as the job that the arguments ask for
+module _ (operation : Operation) (change : Change) (ranges : Option (List Span)) (bytes : List ℕ) (view : View)
+    (after : FilesState) (old new : BusState) (job : Task) (is : job ≡ task.Change change)
+    (result : Result (Result Answer Refusal) JobFault) where
+  pub change_done :
+      IfOk result (HasChangedBy operation change ranges bytes change.journal_use view after old new)
+      → IfOk result (DoesTask operation job ranges bytes view after old new)
+  change_done does = rw is does
+
+  pub change_failed :
+      IfErr result (FailsChange operation change ranges bytes change.journal_use view after old new)
+      → IfErr result (FailsPerform operation job ranges bytes view after old new)
+  change_failed fails = rw is fails

@@ -123,35 +123,35 @@ fails_reads : (found : Answer) (compared : Bool) (named : Option ChipName) (rang
 fails_reads found true named ranges target old new refusal is = is.always.only_reads.sent
 fails_reads found false named ranges target old new refusal is = absurd is
 
-change_sends : (named : Option ChipName) (change : Change) (ranges : Option (List Span)) (bytes : List ℕ)
+change_sends : (operation : Operation) (change : Change) (ranges : Option (List Span)) (bytes : List ℕ)
     (kept : JournalUse) (before : View) (after : FilesState) (old new : BusState) (outcome : Result Answer Refusal)
-    → HasChangedBy named change ranges bytes kept before after old new outcome
+    → HasChangedBy operation change ranges bytes kept before after old new outcome
     → SendsChange (what_of change.wanted) kept old new after
-change_sends named change ranges bytes (uses.Journal file) before after old new outcome does =
+change_sends operation change ranges bytes (uses.Journal file) before after old new outcome does =
     reads_after _ file.now old does.changed new after
-    (follow_reads outcome (is_compared change) named ranges does.session.image does.changed new does.followed)
-    (run_sends named change ranges bytes file.now before after old does.changed outcome does.session)
-change_sends named change ranges bytes (uses.Rehearse stops) before after old new outcome does = absurd does
+    (follow_reads outcome (is_compared operation change) operation.named ranges does.session.image does.changed new does.followed)
+    (run_sends operation.named change ranges bytes file.now before after old does.changed outcome does.session)
+change_sends operation change ranges bytes (uses.Rehearse stops) before after old new outcome does = absurd does
 
 named_reads : (named : Option ChipName) (old new : BusState) → IsNamedFirst named old new → KeepsSent old new
 named_reads None old new same = same_keeps_sent old new same
 named_reads (Some name) old new found = found.1.always.only_reads.sent
 
-task_sends : (named : Option ChipName) (job : Task) (ranges : Option (List Span)) (bytes : List ℕ) (before : View)
+task_sends : (operation : Operation) (job : Task) (ranges : Option (List Span)) (bytes : List ℕ) (before : View)
     (after : FilesState) (old new : BusState) (outcome : Result Answer Refusal)
-    → DoesTask named job ranges bytes before after old new outcome → SendsOnly job bytes old new after
-task_sends named task.Probe ranges bytes before after old new outcome does = does.identified.always.only_reads.sent
-task_sends named task.FlashSize ranges bytes before after old new outcome does = does.identified.always.only_reads.sent
-task_sends named task.WpStatus ranges bytes before after old new outcome does = does.always.only_reads.sent
-task_sends named task.WpList ranges bytes before after old new outcome does = does.always.only_reads.sent
-task_sends named (task.Read file regions) ranges bytes before after old new outcome does =
+    → DoesTask operation job ranges bytes before after old new outcome → SendsOnly job bytes old new after
+task_sends operation task.Probe ranges bytes before after old new outcome does = does.identified.always.only_reads.sent
+task_sends operation task.FlashSize ranges bytes before after old new outcome does = does.identified.always.only_reads.sent
+task_sends operation task.WpStatus ranges bytes before after old new outcome does = does.always.only_reads.sent
+task_sends operation task.WpList ranges bytes before after old new outcome does = does.always.only_reads.sent
+task_sends operation (task.Read file regions) ranges bytes before after old new outcome does =
     reads_on old does.found new does.identified.always.only_reads.sent does.read.read.always.only_reads.sent
-task_sends named (task.Verify file regions) ranges bytes before after old new outcome does = does.always.only_reads.sent
-task_sends named (task.Change change) ranges bytes before after old new outcome does =
-    change_sends named change ranges bytes change.journal_use before after old new outcome does
-task_sends named (task.Restore journal) ranges bytes before after old new outcome does = inr (record {
+task_sends operation (task.Verify file regions) ranges bytes before after old new outcome does = does.always.only_reads.sent
+task_sends operation (task.Change change) ranges bytes before after old new outcome does =
+    change_sends operation change ranges bytes change.journal_use before after old new outcome does
+task_sends operation (task.Restore journal) ranges bytes before after old new outcome does = inr (record {
   journal = record { content = does.journal; is = does.sound; same = does.read };
-  sends = sends_after _ _ old does.found new (named_reads named old does.found does.first) does.ran.always.sends;
+  sends = sends_after _ _ old does.found new (named_reads operation.named old does.found does.first) does.ran.always.sends;
 })
 
 -- a change that fails before its session sends no modifying command
@@ -185,42 +185,42 @@ fails_sends named (task.Restore journal) bytes view after old new fault (inl fou
 fails_sends named (task.Restore journal) bytes view after old new fault (inr none) = inl (same_keeps_sent old new none.0)
 fails_sends named _ bytes view after old new fault fails = absurd fails
 
-comparison_sends : (named : Option ChipName) (change : Change) (ranges : Option (List Span)) (bytes : List ℕ)
+comparison_sends : (operation : Operation) (change : Change) (ranges : Option (List Span)) (bytes : List ℕ)
     (kept : JournalUse) (before : View) (after : FilesState) (old new : BusState) (refusal : Refusal)
-    → FailsComparison named change ranges bytes kept before after old new refusal
+    → FailsComparison operation change ranges bytes kept before after old new refusal
     → SendsChange (what_of change.wanted) kept old new after
-comparison_sends named change ranges bytes (uses.Journal file) before after old new refusal fails =
+comparison_sends operation change ranges bytes (uses.Journal file) before after old new refusal fails =
     reads_after _ file.now old fails.changed new after
-    (fails_reads fails.reported (is_compared change) named ranges fails.session.image fails.changed new refusal
+    (fails_reads fails.reported (is_compared operation change) operation.named ranges fails.session.image fails.changed new refusal
     fails.fails)
-    (run_sends named change ranges bytes file.now before after old fails.changed (Ok fails.reported) fails.session)
-comparison_sends named change ranges bytes (uses.Rehearse stops) before after old new refusal fails = absurd fails
+    (run_sends operation.named change ranges bytes file.now before after old fails.changed (Ok fails.reported) fails.session)
+comparison_sends operation change ranges bytes (uses.Rehearse stops) before after old new refusal fails = absurd fails
 
-task_fails_sends : (named : Option ChipName) (job : Task) (ranges : Option (List Span)) (bytes : List ℕ) (view : View)
+task_fails_sends : (operation : Operation) (job : Task) (ranges : Option (List Span)) (bytes : List ℕ) (view : View)
     (after : FilesState) (old new : BusState) (fault : JobFault)
-    → FailsPerform named job ranges bytes view after old new fault → SendsOnly job bytes old new after
-task_fails_sends named (task.Change change) ranges bytes view after old new (ended.Fault fault) fails =
-    fails_sends named (task.Change change) bytes view after old new fault fails
-task_fails_sends named (task.Change change) ranges bytes view after old new (ended.Protected byte) fails =
+    → FailsPerform operation job ranges bytes view after old new fault → SendsOnly job bytes old new after
+task_fails_sends operation (task.Change change) ranges bytes view after old new (ended.Fault fault) fails =
+    fails_sends operation.named (task.Change change) bytes view after old new fault fails
+task_fails_sends operation (task.Change change) ranges bytes view after old new (ended.Protected byte) fails =
     sends_none _ change.journal_use old new after fails.protected.identified.always.only_reads.sent
-task_fails_sends named (task.Change change) ranges bytes view after old new (ended.NotCompared refusal) fails =
-    comparison_sends named change ranges bytes change.journal_use view after old new refusal fails
-task_fails_sends named job ranges bytes view after old new (ended.Fault fault) fails =
-    fails_sends named job bytes view after old new fault fails
-task_fails_sends named job ranges bytes view after old new _ fails = absurd fails
+task_fails_sends operation (task.Change change) ranges bytes view after old new (ended.NotCompared refusal) fails =
+    comparison_sends operation change ranges bytes change.journal_use view after old new refusal fails
+task_fails_sends operation job ranges bytes view after old new (ended.Fault fault) fails =
+    fails_sends operation.named job bytes view after old new fault fails
+task_fails_sends operation job ranges bytes view after old new _ fails = absurd fails
 
 -- ---- the end of a job
 
 module _ (operation : Operation) (ranges : Option (List Span)) (bytes : List ℕ) (before : View) (after : FilesState)
     (old new : BusState) where
   pub fails_ends : (fault : JobFault)
-      → FailsPerform operation.named operation.task ranges bytes before after old new fault
+      → FailsPerform operation operation.task ranges bytes before after old new fault
       → EndsJob operation ranges bytes before after old new (Err fault)
   fails_ends (ended.Fault (end.Refused refusal)) fails = inr fails
   fails_ends _ fails = fails
 
   pub does_ends : (outcome : Result Answer Refusal) (result : Result Answer JobFault) → IsEndedAs outcome result
-      → DoesTask operation.named operation.task ranges bytes before after old new outcome
+      → DoesTask operation operation.task ranges bytes before after old new outcome
       → EndsJob operation ranges bytes before after old new result
   does_ends (Ok found) result returned does = rw returned does
   does_ends (Err refusal) result returned does = rw returned (inl does)
@@ -228,11 +228,11 @@ module _ (operation : Operation) (ranges : Option (List Span)) (bytes : List ℕ
   pub ends_sends : (result : Result Answer JobFault) → EndsJob operation ranges bytes before after old new result
       → SendsOnly operation.task bytes old new after
   ends_sends (Ok found) ends =
-      task_sends operation.named operation.task ranges bytes before after old new (Ok found) ends
+      task_sends operation operation.task ranges bytes before after old new (Ok found) ends
   ends_sends (Err (ended.Fault (end.Refused refusal))) (inl does) =
-      task_sends operation.named operation.task ranges bytes before after old new (Err refusal) does
+      task_sends operation operation.task ranges bytes before after old new (Err refusal) does
   ends_sends (Err (ended.Fault (end.Refused refusal))) (inr fails) =
-      task_fails_sends operation.named operation.task ranges bytes before after old new
+      task_fails_sends operation operation.task ranges bytes before after old new
       (ended.Fault (end.Refused refusal)) fails
   ends_sends (Err fault) fails =
-      task_fails_sends operation.named operation.task ranges bytes before after old new fault fails
+      task_fails_sends operation operation.task ranges bytes before after old new fault fails

@@ -19,12 +19,13 @@ use Rattle.nor_request.specs.Refusal.{of_probe}
 use Rattle.nor_request.specs.declared.refusal.Refusal.{Refusal}
 use Rattle.nor_request.specs.declared.refusal.Refusal.TheVariants.{BadJournal, Memory}
 use Rattle.nor_request.specs.declared.report.Report.{Report}
-use Rattle.nor_session.specs.Headline.{RewritesOriginal}
-use Rattle.nor_session.specs.Restore.{RewriteAlways, RewriteHonest, RewriteModelled}
+use Rattle.nor_session.specs.Headline.{RestoresOriginal, RewritesOriginal}
+use Rattle.nor_session.specs.Restore.{AlwaysBy, Choice, HonestBy, ModelledBy, differing, every_saved}
 use Rattle.nor_words.specs.Text.{Text}
 use Rattle.nor_words.specs.declared.job.Change.{Change}
 use Rattle.nor_words.specs.declared.job.JournalUse.{JournalUse}
 use Rattle.nor_words.specs.declared.job.JournalUse.TheVariants as uses
+use Rattle.nor_words.specs.declared.job.Operation.{Operation}
 use Rattle.nor_words.specs.declared.job.Task.{Task}
 use Rattle.nor_words.specs.declared.job.Task.TheVariants as task
 use Rattle.nor_words.specs.declared.job.Wanted.{Wanted}
@@ -159,9 +160,9 @@ abbrev pub changes_bytes : Wanted → Bool
 changes_bytes (wanted.Range start len) = false
 changes_bytes _ = true
 
--- true if all included addresses are compared after this change: after a write or an erase without `-n`
-abbrev pub is_compared : Change → Bool
-is_compared change = changes_bytes change.wanted && change.verify
+-- true if all included addresses are compared after this change: after a write or an erase without `-n` and `-N`
+abbrev pub is_compared : Operation → Change → Bool
+is_compared operation change = changes_bytes change.wanted && (change.verify && operation.verifies_all)
 
 -- What follows the session of a change. If the session succeeded and the change is compared, the chip was compared with
 -- the target at the included addresses, and was equal (`HasVerified`). Otherwise nothing was sent.
@@ -180,28 +181,28 @@ FailsToFollow (Ok found) true named ranges target old new (ended.NotCompared ref
 FailsToFollow _ compared named ranges target old new fault = ⊥
 
 -- The session of a change was run with its journal in a new file, and followed by its comparison.
-pub record HasChangedAndCompared (named : Option ChipName) (change : Change) (ranges : Option (List Span))
+pub record HasChangedAndCompared (operation : Operation) (change : Change) (ranges : Option (List Span))
     (bytes : List ℕ) (file : Text) (before : View) (after : FilesState) (old new : BusState)
     (outcome : Result Answer Refusal) : Type 0 where
   pub changed : BusState
-  pub session : HasRunChange named change ranges bytes file before after old changed outcome
-  pub followed : IsFollowed outcome (is_compared change) named ranges session.image changed new
+  pub session : HasRunChange operation.named change ranges bytes file before after old changed outcome
+  pub followed : IsFollowed outcome (is_compared operation change) operation.named ranges session.image changed new
 
 -- A change was made with its journal in a new file (`HasChangedAndCompared`). Never holds for a rehearsal, since this
 -- program rehearses nothing.
-abbrev pub HasChangedBy : Option ChipName → Change → Option (List Span) → (bytes : List ℕ) → JournalUse
+abbrev pub HasChangedBy : Operation → Change → Option (List Span) → (bytes : List ℕ) → JournalUse
     → (before : View) → (after : FilesState) → (old new : BusState) → Result Answer Refusal → Type 0
-HasChangedBy named change ranges bytes (uses.Journal file) before after old new outcome =
-    HasChangedAndCompared named change ranges bytes file.now before after old new outcome
-HasChangedBy named change ranges bytes (uses.Rehearse stops) before after old new outcome = ⊥
+HasChangedBy operation change ranges bytes (uses.Journal file) before after old new outcome =
+    HasChangedAndCompared operation change ranges bytes file.now before after old new outcome
+HasChangedBy operation change ranges bytes (uses.Rehearse stops) before after old new outcome = ⊥
 
 -- The session of a change succeeded, with its journal in a new file. Then the comparison returned this error.
-pub record HasNotCompared (named : Option ChipName) (change : Change) (ranges : Option (List Span)) (bytes : List ℕ)
+pub record HasNotCompared (operation : Operation) (change : Change) (ranges : Option (List Span)) (bytes : List ℕ)
     (file : Text) (before : View) (after : FilesState) (old new : BusState) (refusal : Refusal) : Type 0 where
   pub changed : BusState
   pub reported : Answer
-  pub session : HasRunChange named change ranges bytes file before after old changed (Ok reported)
-  pub fails : FailsToFollow (Ok reported) (is_compared change) named ranges session.image changed new
+  pub session : HasRunChange operation.named change ranges bytes file before after old changed (Ok reported)
+  pub fails : FailsToFollow (Ok reported) (is_compared operation change) operation.named ranges session.image changed new
       (ended.NotCompared refusal)
 
 -- The identification found a chip for which `may_be_protected` is false, and nothing else was sent. Then creating the
@@ -235,33 +236,44 @@ pub record IsRefusedAsProtected (named : Option ChipName) (target : Wanted) (kep
   pub unmade : after.view ≡ before
 
 -- The comparison after a change with its journal in a file returned this error (`HasNotCompared`).
-abbrev pub FailsComparison : Option ChipName → Change → Option (List Span) → (bytes : List ℕ) → JournalUse
+abbrev pub FailsComparison : Operation → Change → Option (List Span) → (bytes : List ℕ) → JournalUse
     → (before : View) → (after : FilesState) → (old new : BusState) → Refusal → Type 0
-FailsComparison named change ranges bytes (uses.Journal file) before after old new refusal =
-    HasNotCompared named change ranges bytes file.now before after old new refusal
-FailsComparison named change ranges bytes (uses.Rehearse stops) before after old new refusal = ⊥
+FailsComparison operation change ranges bytes (uses.Journal file) before after old new refusal =
+    HasNotCompared operation change ranges bytes file.now before after old new refusal
+FailsComparison operation change ranges bytes (uses.Rehearse stops) before after old new refusal = ⊥
 
 -- the faults of a change before its session, and that of the comparison after it
-abbrev pub FailsChange : Option ChipName → Change → Option (List Span) → (bytes : List ℕ) → JournalUse
+abbrev pub FailsChange : Operation → Change → Option (List Span) → (bytes : List ℕ) → JournalUse
     → (before : View) → (after : FilesState) → (old new : BusState) → JobFault → Type 0
-FailsChange named change ranges bytes kept before after old new (ended.Fault fault) =
-    FailsToChange named change.wanted kept before old new fault
-FailsChange named change ranges bytes kept before after old new (ended.Protected status1) =
-    IsRefusedAsProtected named change.wanted kept before after old new status1
-FailsChange named change ranges bytes kept before after old new (ended.NotCompared refusal) =
-    FailsComparison named change ranges bytes kept before after old new refusal
+FailsChange operation change ranges bytes kept before after old new (ended.Fault fault) =
+    FailsToChange operation.named change.wanted kept before old new fault
+FailsChange operation change ranges bytes kept before after old new (ended.Protected status1) =
+    IsRefusedAsProtected operation.named change.wanted kept before after old new status1
+FailsChange operation change ranges bytes kept before after old new (ended.NotCompared refusal) =
+    FailsComparison operation change ranges bytes kept before after old new refusal
 
 -- ---- restores
 
--- A restore ended or returned an error. It kept all promises of `rewrite`: after success an erase was sent for each
--- saved sector, and none after the first page program (`thorough`).
-pub record HasRunRestore (journal : Journal) (old new : BusState) (outcome : Result Answer Refusal) : Type 0 where
+-- the sectors that a restore rewrites: with `--quick` those that differ, otherwise every saved one
+abbrev pub choice_of : (quick : Bool) → Choice
+choice_of true = differing
+choice_of false = every_saved
+
+-- the headline of `restore` (with `--quick`), or that of `rewrite`
+abbrev pub RestoresBy : (quick : Bool) → Journal → (old new : BusState) → Result Report Refusal → Type 0
+RestoresBy true journal old new result = RestoresOriginal journal old new result
+RestoresBy false journal old new result = RewritesOriginal journal old new result
+
+-- A restore ended or returned an error. It kept all promises of `restore` (with `--quick`), or those of `rewrite`: then
+-- after success an erase was sent for each saved sector, and none after the first page program (`thorough`).
+pub record HasRunRestore (quick : Bool) (journal : Journal) (old new : BusState)
+    (outcome : Result Answer Refusal) : Type 0 where
   pub result : Result Report Refusal
-  pub restores_original : IsModelled old → RewritesOriginal journal old new result
-  pub always : RewriteAlways journal old new result
-  pub honest : old.honest ≡ true → RewriteHonest journal old new result
-  pub modelled : IsModelled old → RewriteModelled journal old new result
-  pub thorough : OnOk result (ErasesFirst (is_saved journal) old new)
+  pub restores_original : IsModelled old → RestoresBy quick journal old new result
+  pub always : AlwaysBy (choice_of quick) journal old new result
+  pub honest : old.honest ≡ true → HonestBy (choice_of quick) journal old new result
+  pub modelled : IsModelled old → ModelledBy (choice_of quick) journal old new result
+  pub thorough : quick ≡ false → OnOk result (ErasesFirst (is_saved journal) old new)
   pub returned : AnswersCall ReportsDone result outcome
 
 -- if a name is given, the chip was identified and has this name; otherwise nothing was sent
@@ -270,14 +282,14 @@ IsNamedFirst None old new = new ≡ old
 IsNamedFirst (Some name) old new = (chip : Found) × HasIdentified (Some name) old new (Ok chip)
 
 -- The bytes are a journal. A restore from that journal was run, after the chip's name was checked if a name is given.
-pub record HasRestored (named : Option ChipName) (bytes : List ℕ) (old new : BusState)
+pub record HasRestored (operation : Operation) (bytes : List ℕ) (old new : BusState)
     (outcome : Result Answer Refusal) : Type 0 where
   pub journal : Journal
   pub sound : IsContent journal
   pub read : bytes ≡ text journal
   pub found : BusState
-  pub first : IsNamedFirst named old found
-  pub ran : HasRunRestore journal found new outcome
+  pub first : IsNamedFirst operation.named old found
+  pub ran : HasRunRestore operation.is_quick journal found new outcome
 
 -- the bytes are no journal, which is error 15, and nothing was sent
 abbrev pub IsNoJournal : (bytes : List ℕ) → (old new : BusState) → Fault → Type 0
@@ -287,21 +299,23 @@ IsNoJournal bytes old new fault = (new ≡ old)
 -- ---- tasks
 
 -- The call of each task, with the given ranges and the bytes of its image or journal.
-abbrev pub DoesTask : Option ChipName → Task → (ranges : Option (List Span)) → (bytes : List ℕ) → (before : View)
+abbrev pub DoesTask : Operation → Task → (ranges : Option (List Span)) → (bytes : List ℕ) → (before : View)
     → (after : FilesState) → (old new : BusState) → Result Answer Refusal → Type 0
-DoesTask named task.Probe ranges bytes before after old new outcome = HasLookedUp ReportsFound named old new outcome
-DoesTask named task.FlashSize ranges bytes before after old new outcome = HasLookedUp ReportsSize named old new outcome
-DoesTask named task.WpStatus ranges bytes before after old new outcome =
-    HasReported ReportsProtection named old new outcome
-DoesTask named task.WpList ranges bytes before after old new outcome = HasReported ListsRanges named old new outcome
-DoesTask named (task.Read file regions) ranges bytes before after old new outcome =
-    HasReadChip named file.now ranges after.view old new outcome
-DoesTask named (task.Verify file regions) ranges bytes before after old new outcome =
-    HasVerified named ranges bytes old new outcome
-DoesTask named (task.Change change) ranges bytes before after old new outcome =
-    HasChangedBy named change ranges bytes change.journal_use before after old new outcome
-DoesTask named (task.Restore journal) ranges bytes before after old new outcome =
-    HasRestored named bytes old new outcome
+DoesTask operation task.Probe ranges bytes before after old new outcome =
+    HasLookedUp ReportsFound operation.named old new outcome
+DoesTask operation task.FlashSize ranges bytes before after old new outcome =
+    HasLookedUp ReportsSize operation.named old new outcome
+DoesTask operation task.WpStatus ranges bytes before after old new outcome =
+    HasReported ReportsProtection operation.named old new outcome
+DoesTask operation task.WpList ranges bytes before after old new outcome = HasReported ListsRanges operation.named old new outcome
+DoesTask operation (task.Read file regions) ranges bytes before after old new outcome =
+    HasReadChip operation.named file.now ranges after.view old new outcome
+DoesTask operation (task.Verify file regions) ranges bytes before after old new outcome =
+    HasVerified operation.named ranges bytes old new outcome
+DoesTask operation (task.Change change) ranges bytes before after old new outcome =
+    HasChangedBy operation change ranges bytes change.journal_use before after old new outcome
+DoesTask operation (task.Restore journal) ranges bytes before after old new outcome =
+    HasRestored operation bytes old new outcome
 
 -- the faults with which each task may end before the call that `DoesTask` describes; none for a task that isn't named
 -- here
@@ -315,10 +329,10 @@ FailsBefore named _ bytes view old new fault = ⊥
 
 -- The faults of `perform`: those before the call of a task and, only for a change, chip fault 1 and that of the
 -- comparison.
-abbrev pub FailsPerform : Option ChipName → Task → (ranges : Option (List Span)) → (bytes : List ℕ) → (before : View)
+abbrev pub FailsPerform : Operation → Task → (ranges : Option (List Span)) → (bytes : List ℕ) → (before : View)
     → (after : FilesState) → (old new : BusState) → JobFault → Type 0
-FailsPerform named (task.Change change) ranges bytes before after old new fault =
-    FailsChange named change ranges bytes change.journal_use before after old new fault
-FailsPerform named job ranges bytes before after old new (ended.Fault fault) =
-    FailsBefore named job bytes before old new fault
-FailsPerform named job ranges bytes before after old new _ = ⊥
+FailsPerform operation (task.Change change) ranges bytes before after old new fault =
+    FailsChange operation change ranges bytes change.journal_use before after old new fault
+FailsPerform operation job ranges bytes before after old new (ended.Fault fault) =
+    FailsBefore operation.named job bytes before old new fault
+FailsPerform operation job ranges bytes before after old new _ = ⊥

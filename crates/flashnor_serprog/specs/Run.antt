@@ -52,12 +52,12 @@ pub record IsPrepared (words : List Text) (view : View) (operation : Operation) 
 abbrev pub EndsJob : Operation → (ranges : Option (List Span)) → (bytes : List ℕ) → (before : View)
     → (after : FilesState) → (old new : BusState) → Result Answer JobFault → Type 0
 EndsJob operation ranges bytes before after old new (Ok found) =
-    DoesTask operation.named operation.task ranges bytes before after old new (Ok found)
+    DoesTask operation operation.task ranges bytes before after old new (Ok found)
 EndsJob operation ranges bytes before after old new (Err (ended.Fault (end.Refused refusal))) =
-    DoesTask operation.named operation.task ranges bytes before after old new (Err refusal)
-    ⊎ FailsPerform operation.named operation.task ranges bytes before after old new (ended.Fault (end.Refused refusal))
+    DoesTask operation operation.task ranges bytes before after old new (Err refusal)
+    ⊎ FailsPerform operation operation.task ranges bytes before after old new (ended.Fault (end.Refused refusal))
 EndsJob operation ranges bytes before after old new (Err fault) =
-    FailsPerform operation.named operation.task ranges bytes before after old new fault
+    FailsPerform operation operation.task ranges bytes before after old new fault
 
 -- the job has the answer or the error of its call
 abbrev pub IsEndedAs : Result Answer Refusal → Result Answer JobFault → Type 0

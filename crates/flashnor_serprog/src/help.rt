@@ -24,6 +24,13 @@ Data is read twice, unless it equals the image; a difference stops the run. A
 journal holds the old content and status of all that a change touches, and
 --restore needs it: keep it until you have accepted the change.
 
+After -w and -E all included addresses are compared with the image. -N leaves
+that out: a wrong address on the wire, which erased or programmed another
+sector, then stays unnoticed.
+
+--restore rewrites each saved sector. --quick rewrites only those that differ:
+use it only if the chip never lost its power while it was being changed.
+
 After a run that was killed, disconnect the programmer from power for a second
 before the next run.
 
@@ -39,5 +46,5 @@ Usage fault 4: there is more than one operation
 Usage fault 5: --wp-range needs two numbers, decimal or 0x..
 Usage fault 6: -w, -E, --wp-range need --journal, and nothing else takes it
 Usage fault 7: -l and -i need each other, and one of -r, -w, -v, -E
-Usage fault 8: -n and --unlock need -w or -E
+Usage fault 8: -n, -N, --unlock or --quick with an operation that can't have it
 Usage fault 10: out of memory";

@@ -1,5 +1,5 @@
 //! Performs a job on a chip, over any bus.
-ghost use Rattle.std.specs.Prelude.{◌≡◌, ◌⊎◌, IfErr, IfOk, Ok, OnOk, option_copied, true};
+ghost use Rattle.std.specs.Prelude.{◌≡◌, ◌⊎◌, IfErr, IfOk, Ok, OnOk, false, option_copied, true};
 ghost use Rattle.nor_files.specs.Files.{Name, OthersStay, KeepsFile, is_lawful};
 ghost use Rattle.nor_lines.specs.Tasks.{journal_of, made_by};
 ghost use Rattle.nor_lines.specs.Readings.{HasVerified};
@@ -23,7 +23,7 @@ use nor_lines::{
     request_for, session_in_file, verify_image,
 };
 use nor_probe::{ChipName, Found, probe};
-use nor_session::{Refusal, rewrite_announced};
+use nor_session::{Refusal, restore_announced, rewrite_announced};
 use nor_words::{Change, JournalUse, Operation, Task, UsageFault, Wanted};
 use std::alloc::{AllocError, Global};
 
@@ -46,9 +46,9 @@ pub fn perform<'a, R: Store, B: Progress>(
     operation: &Operation<'a>,
     sources: Sources,
 ) -> Result<Outcome, JobFault<'a>>
-    ensures ok { IfOk result (DoesTask operation.now.named operation.now.task sources.included sources.bytes.items
+    ensures ok { IfOk result (DoesTask operation.now operation.now.task sources.included sources.bytes.items
         (R.state rt.old).view (R.state rt.new) (B.state bus.old) (B.state bus.new)) }
-    ensures err { IfErr result (FailsPerform operation.now.named operation.now.task sources.included sources.bytes.items
+    ensures err { IfErr result (FailsPerform operation.now operation.now.task sources.included sources.bytes.items
         (R.state rt.old).view (R.state rt.new) (B.state bus.old) (B.state bus.new)) }
     ensures others { is_lawful (R.state rt.old).view ≡ true → (name : Name)
         → IsNot (R.state rt.old).view.nature (made_by operation.now.task) name
@@ -62,8 +62,8 @@ pub fn perform<'a, R: Store, B: Progress>(
         Task::WpList => Ok(list_ranges(bus, named)),
         Task::Read { file, .. } => Ok(read_chip(rt, bus, named, *file, sources.included.as_ref())?),
         Task::Verify { .. } => Ok(verify_chip(bus, named, sources)),
-        Task::Change(change) => change_chip(rt, bus, terminal, named, change, sources),
-        Task::Restore { .. } => Ok(restore_chip(bus, terminal, named, &sources.bytes)?),
+        Task::Change(change) => change_chip(rt, bus, terminal, operation, change, sources),
+        Task::Restore { .. } => Ok(restore_chip(bus, terminal, operation, &sources.bytes)?),
     }
 }
 
@@ -153,7 +153,7 @@ fn verify_chip<B: Progress>(bus: &mut B, named: Option<ChipName>, sources: Sourc
 }
 
 // Changes the chip, with its journal in a new file. After a write or an erase, compares the chip with its target at all
-// included addresses, except with `-n`.
+// included addresses, except with `-n` or `-N`.
 //
 // Returns a usage fault for a rehearsal, which this program doesn't perform, and chip fault 1 for a write or an erase
 // of a chip that may be protected in a way that isn't known.
@@ -161,13 +161,13 @@ fn change_chip<'a, R: Store, B: Progress>(
     rt: &mut R,
     bus: &mut B,
     terminal: Terminal<'_>,
-    named: Option<ChipName>,
+    operation: &Operation<'a>,
     change: &Change<'a>,
     sources: Sources,
 ) -> Result<Outcome, JobFault<'a>>
-    ensures ok { IfOk result (HasChangedBy named change.now sources.included sources.bytes.items change.now.journal_use
+    ensures ok { IfOk result (HasChangedBy operation.now change.now sources.included sources.bytes.items change.now.journal_use
         (R.state rt.old).view (R.state rt.new) (B.state bus.old) (B.state bus.new)) }
-    ensures err { IfErr result (FailsChange named change.now sources.included sources.bytes.items
+    ensures err { IfErr result (FailsChange operation.now change.now sources.included sources.bytes.items
         change.now.journal_use (R.state rt.old).view (R.state rt.new) (B.state bus.old) (B.state bus.new)) }
     ensures others { is_lawful (R.state rt.old).view ≡ true → (name : Name)
         → IsNot (R.state rt.old).view.nature (journal_of change.now.journal_use) name
@@ -176,6 +176,7 @@ fn change_chip<'a, R: Store, B: Progress>(
     let JournalUse::Journal { file } = &change.journal_use else {
         return Err(JobFault::Fault(Fault::Usage(UsageFault::Journal)));
     };
+    let named = operation.named;
     let Sources { included, bytes } = sources;
     let request = request_for(change, named, included);
     let target = fill_buffer(bus, named, change.wanted, bytes, rt.alloc())?;
@@ -184,8 +185,8 @@ fn change_chip<'a, R: Store, B: Progress>(
     let outcome = session_in_file(rt, bus, *file, &mut image, &request, |announcement| {
         terminal.print_session(announcement)
     })?;
-    let included = request.included.as_ref();
-    follow(bus, outcome, is_compared(change), named, &target, included)
+    let (compared, included) = (is_compared(operation, change), request.included.as_ref());
+    follow(bus, outcome, compared, named, &target, included)
 }
 
 // Returns a copy of these bytes, or an error if memory runs out.
@@ -195,11 +196,11 @@ fn copy_of(bytes: &[u8], alloc: Global) -> Result<Vec<u8>, AllocError>
     bytes.to_vec(alloc)
 }
 
-// True if all included addresses are compared after this change: after a write or an erase, except with `-n`.
-fn is_compared(change: &Change<'_>) -> bool
-    ensures { result ≡ is_compared change.now }
+// True if all included addresses are compared after this change: after a write or an erase, except with `-n` or `-N`.
+fn is_compared(operation: &Operation<'_>, change: &Change<'_>) -> bool
+    ensures { result ≡ is_compared operation.now change.now }
 {
-    changes_bytes(change.wanted) && change.verify
+    changes_bytes(change.wanted) && (change.verify && operation.verifies_all)
 }
 
 // After a session that succeeded, compares the chip with the target at the included addresses, if the change is
@@ -275,24 +276,25 @@ fn sectors_to_read(size: usize, included: Option<&Ranges>) -> usize {
         .count()
 }
 
-// Restores the chip from the bytes of a journal: erases and programs every saved sector, whatever it reads. If `named`
-// is given, the chip must have that name. Returns error 15 if the bytes are no journal.
+// Restores the chip from the bytes of a journal: erases and programs every saved sector, whatever it reads, or with
+// `--quick` each one that differs. If `-c` is given, the chip must have that name. Returns error 15 if the bytes are no
+// journal.
 fn restore_chip<'a, B: Progress>(
     bus: &mut B,
     terminal: Terminal<'_>,
-    named: Option<ChipName>,
+    operation: &Operation<'a>,
     bytes: &[u8],
 ) -> Result<Outcome, Fault<'a>>
-    ensures ok { IfOk result (HasRestored named bytes.now (B.state bus.old) (B.state bus.new)) }
-    ensures err { IfErr result (λ fault. FailsToFind named (B.state bus.old) (B.state bus.new) fault
+    ensures ok { IfOk result (HasRestored operation.now bytes.now (B.state bus.old) (B.state bus.new)) }
+    ensures err { IfErr result (λ fault. FailsToFind operation.now.named (B.state bus.old) (B.state bus.new) fault
         ⊎ IsNoJournal bytes.now (B.state bus.old) (B.state bus.new) fault) }
 {
     let journal = match Journal::read(bytes) {
         Ok(journal) => journal,
         Err(fault) => return Err(Fault::Refused(Refusal::BadJournal(fault))),
     };
-    check_name(bus, named)?;
-    Ok(run_restore(bus, terminal, &journal))
+    check_name(bus, operation.named)?;
+    Ok(run_restore(bus, terminal, &journal, operation.is_quick))
 }
 
 // If `named` is given, identifies the chip and checks that it has that name. If not, sends nothing.
@@ -306,8 +308,36 @@ fn check_name<'a, B: Bus>(bus: &mut B, named: Option<ChipName>) -> Result<(), Fa
     Ok(())
 }
 
-fn run_restore<B: Bus>(bus: &mut B, terminal: Terminal<'_>, journal: &Journal<'_>) -> Outcome
-    ensures { HasRunRestore journal.now (B.state bus.old) (B.state bus.new) result }
+// Erases and programs every saved sector; or, if the restore is `quick`, those that differ.
+fn run_restore<B: Progress>(
+    bus: &mut B,
+    terminal: Terminal<'_>,
+    journal: &Journal<'_>,
+    quick: bool,
+) -> Outcome
+    ensures { HasRunRestore quick journal.now (B.state bus.old) (B.state bus.new) result }
+{
+    if quick {
+        bus.expect_reads(journal.count());
+        restore_differing(bus, terminal, journal)
+    } else {
+        restore_all(bus, terminal, journal)
+    }
+}
+
+// Reads the saved sectors, and erases and programs those that differ.
+fn restore_differing<B: Bus>(bus: &mut B, terminal: Terminal<'_>, journal: &Journal<'_>) -> Outcome
+    ensures { HasRunRestore true journal.now (B.state bus.old) (B.state bus.new) result }
+{
+    let report = restore_announced(bus, journal, |announcement| {
+        terminal.print_restore(announcement)
+    })?;
+    Ok(Answer::Done(report))
+}
+
+// Erases and programs every saved sector.
+fn restore_all<B: Bus>(bus: &mut B, terminal: Terminal<'_>, journal: &Journal<'_>) -> Outcome
+    ensures { HasRunRestore false journal.now (B.state bus.old) (B.state bus.new) result }
 {
     let report = rewrite_announced(bus, journal, |announcement| {
         terminal.print_restore(announcement)

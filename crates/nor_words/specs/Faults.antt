@@ -33,6 +33,16 @@ abbrev pub has_wrong_regions : Texts → Bool
 has_wrong_regions given = (is_some given.layout || is_some given.names)
     && not (is_some given.layout && (is_some given.names && takes_regions given))
 
+-- true for `-N` without `-w` or `-E`, and for `--quick` without `--restore`; flashnor has neither option
+abbrev pub has_unneeded_for_hardware : Texts → Bool
+has_unneeded_for_hardware given =
+    (given.no_verify_all && not (is_new_content given)) || (given.quick && not (is_some given.restore))
+
+-- fault 8: true for `-n` or `--unlock` without `-w` or `-E`, or if `has_unneeded_for_hardware` is true
+abbrev pub has_unneeded : Texts → Bool
+has_unneeded given =
+    ((given.no_verify || given.unlock) && not (is_new_content given)) || has_unneeded_for_hardware given
+
 -- the faults 2 to 9, in this order, each with whether the options have it
 abbrev pub usage_faults : Texts → List Case
 usage_faults given =
@@ -42,7 +52,7 @@ usage_faults given =
     ∷ (is_no (reads range_of) given.wp_range, why.Range)
     ∷ (has_wrong_journal given, why.Journal)
     ∷ (has_wrong_regions given, why.Layout)
-    ∷ ((given.no_verify || given.unlock) && not (is_new_content given), why.Unneeded)
+    ∷ (has_unneeded given, why.Unneeded)
     ∷ (
       is_no (reads stops_of) given.rehearse
           || (is_some given.rehearse && passes_test has_stop given.programmer),

@@ -26,14 +26,17 @@ pub record Texts : Type 0 where
   pub erase : Bool
   pub wp_range : Option Text
   pub restore : Option Text
+  -- `--quick`
+  pub quick : Bool
   -- `--journal FILE`, `--rehearse N,N,..`
   pub journal : Option Text
   pub rehearse : Option Text
   -- `-l FILE`, `-i NAMES`
   pub layout : Option Text
   pub names : Option Text
-  -- `-n`, `--unlock`
+  -- `-n`, `-N`, `--unlock`
   pub no_verify : Bool
+  pub no_verify_all : Bool
   pub unlock : Bool
 
 -- true if the value is `true`, which `clap` gives a flag that is set
@@ -48,7 +51,7 @@ text_in rows id = first_of id rows
 abbrev pub is_set_in : List Row → Text → Bool
 is_set_in rows id = is_flag_set (first_of id rows)
 
--- the options in the matches of a parse
+-- the options in the matches of a parse for flashnor, which has neither `-N` nor `--quick`
 abbrev pub given_in : List Row → Texts
 given_in rows = record {
   programmer = text_in rows (codes "programmer");
@@ -63,11 +66,13 @@ given_in rows = record {
   erase = is_set_in rows (codes "erase");
   wp_range = text_in rows (codes "wp-range");
   restore = text_in rows (codes "restore");
+  quick = false;
   journal = text_in rows (codes "journal");
   rehearse = text_in rows (codes "rehearse");
   layout = text_in rows (codes "layout");
   names = text_in rows (codes "include");
   no_verify = is_set_in rows (codes "no-verify");
+  no_verify_all = false;
   unlock = is_set_in rows (codes "unlock");
 }
 
@@ -75,9 +80,15 @@ given_in rows = record {
 abbrev pub given_by : List Text → Texts
 given_by words = given_in (matches_of options words)
 
--- the options in the matches of a parse for a program for hardware, which has neither `-L` nor `--rehearse`
+-- the options in the matches of a parse for a program for hardware, which has `-N` and `--quick`, but neither `-L` nor
+-- `--rehearse`
 abbrev pub hardware_given_in : List Row → Texts
-hardware_given_in rows = record (given_in rows) { list = false; rehearse = None }
+hardware_given_in rows = record (given_in rows) {
+  list = false;
+  rehearse = None;
+  quick = is_set_in rows (codes "quick");
+  no_verify_all = is_set_in rows (codes "noverify-all");
+}
 
 -- the options that the arguments give a program for hardware with this name, as `clap` parses them
 abbrev pub hardware_given_by : (program : Text) → List Text → Texts
@@ -98,11 +109,13 @@ texts_of given = record {
   erase = given.erase;
   wp_range = option_map (λ text. text.now) given.wp_range;
   restore = option_map (λ text. text.now) given.restore;
+  quick = given.quick;
   journal = option_map (λ text. text.now) given.journal;
   rehearse = option_map (λ text. text.now) given.rehearse;
   layout = option_map (λ text. text.now) given.layout;
   names = option_map (λ text. text.now) given.names;
   no_verify = given.no_verify;
+  no_verify_all = given.no_verify_all;
   unlock = given.unlock;
 }
 

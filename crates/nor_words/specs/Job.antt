@@ -77,10 +77,13 @@ IsAsked given (job.Chip on_chip) = (given.list ≡ false) × IsChipJob given on_
 
 -- ---- programs for hardware
 
--- Holds if the options have none of the faults 4 to 9, and ask for this operation: the name is the value of `-c`.
+-- Holds if the options have none of the faults 4 to 9, and ask for this operation: the name is the value of `-c`, and
+-- `-N` and `--quick` say how the operation is performed.
 pub record IsOperation (given : Texts) (operation : Operation) : Type 0 where
   pub sound : first_fault (operation_faults given) ≡ None
   pub named : operation.named ≡ option_map name_of given.chip
+  pub verifies_all : operation.verifies_all ≡ not given.no_verify_all
+  pub is_quick : operation.is_quick ≡ given.quick
   pub task : IsTask given operation.task
 
 -- Holds if the programmer's text is the value of `-p`, and the operation is the one that the options ask for, or the

@@ -97,14 +97,28 @@ options =
 
 -- ---- programs for hardware
 
--- true for an option that a program for hardware has: it has all options except `-L` and `--rehearse`
+-- true for an option of flashnor that a program for hardware has, too: all except `-L` and `--rehearse`
 abbrev pub is_for_hardware : Text → Bool
 is_for_hardware id = not (bytes_eq id (codes "list")) && not (bytes_eq id (codes "rehearse"))
 
--- the command of a program for hardware with this name: the options of flashnor except `-L` and `--rehearse`
+-- `-N` or `--noverify-all`, which only programs for hardware have
+abbrev pub no_verify_all_rule : Rule
+no_verify_all_rule = by_letter (codes "N") (by_name (flag (codes "noverify-all")))
+
+-- `--quick`, which only programs for hardware have
+abbrev pub quick_rule : Rule
+quick_rule = by_name (flag (codes "quick"))
+
+-- the options of flashnor that a program for hardware with this name has
+abbrev pub shared_options : Text → App
+shared_options program =
+    with_rules (no_options_of program) (filter (λ rule. is_for_hardware rule.id) most_rules)
+
+-- the command of a program for hardware with this name: the options of flashnor except `-L` and `--rehearse`, and `-N`
+-- and `--quick`
 abbrev pub hardware_options : Text → App
 hardware_options program =
-    with_rule (with_rules (no_options_of program) (filter (λ rule. is_for_hardware rule.id) most_rules)) help_rule
+    with_rule (with_rule (with_rule (shared_options program) no_verify_all_rule) quick_rule) help_rule
 
 -- ---- the table in src/options.rt
 

@@ -1,13 +1,10 @@
 //! The values that the arguments give the options; the job that the options ask for, or the first fault that they have.
-ghost use Rattle.std.specs.Prelude.{◌≡◌, ◌&&◌, ◌||◌, None, Some, false, true, is_some, not, option_map, option_and_then};
-ghost use Rattle.std.specs.Prelude.{MatchOption, MatchResult};
+ghost use Rattle.std.specs.Prelude.{◌≡◌, ◌&&◌, ◌||◌, None, Some, false, true, is_some, not, option_map, option_and_then, MatchOption, MatchResult};
 ghost use Rattle.std.specs.Option.{IsSomeAnd};
 ghost use Rattle.clap.specs.Words.{found_of, rows_of};
 ghost use Rattle.nor_words.specs.Given.{given_in, hardware_given_in, is_set_in, operations, is_new_content, asks_change, takes_regions};
-ghost use Rattle.nor_words.specs.Faults.{first_fault, has_wrong_journal, has_wrong_regions, is_no, operation_faults, passes_test};
-ghost use Rattle.nor_words.specs.Faults.{usage_faults};
-ghost use Rattle.nor_words.specs.Job.{IsAsked, IsHardwareAsked, IsJournalUse, IsOperation, IsRegions, IsTask};
-ghost use Rattle.nor_words.specs.Job.{IsWantedByArguments};
+ghost use Rattle.nor_words.specs.Faults.{first_fault, has_unneeded, has_wrong_journal, has_wrong_regions, is_no, operation_faults, passes_test, usage_faults};
+ghost use Rattle.nor_words.specs.Job.{IsAsked, IsHardwareAsked, IsJournalUse, IsOperation, IsRegions, IsTask, IsWantedByArguments};
 ghost use Rattle.nor_words.specs.Numbers.{range_of};
 ghost use Rattle.nor_words.specs.Programmer.{IsProgrammer, has_stop, is_programmer_text};
 ghost use Rattle.nor_words.specs.Stops.{stops_of};
@@ -41,9 +38,11 @@ pub struct Given<'a> {
     erase: bool,
     wp_range: Option<&'a str>,
     restore: Option<&'a str>,
+    quick: bool,
     layout: Option<&'a str>,
     names: Option<&'a str>,
     no_verify: bool,
+    no_verify_all: bool,
     unlock: bool,
     journal: Option<&'a str>,
     rehearse: Option<&'a str>,
@@ -52,7 +51,7 @@ pub struct Given<'a> {
 impl<'a> Given<'a> {
     ghost use Rattle.nor_words.specs.Given.{texts_of};
 
-    /// Collects the options from the matches of `clap`.
+    /// Collects the options of flashnor, which has neither `-N` nor `--quick`, from the matches of `clap`.
     pub fn of(matches: &ArgMatches<'a>) -> Given<'a>
         ensures { texts_of result ≡ given_in (rows_of (found_of matches.now)) }
     {
@@ -69,22 +68,26 @@ impl<'a> Given<'a> {
             erase: is_set(matches, "erase"),
             wp_range: matches.get_str("wp-range"),
             restore: matches.get_str("restore"),
+            quick: false,
             layout: matches.get_str("layout"),
             names: matches.get_str("include"),
             no_verify: is_set(matches, "no-verify"),
+            no_verify_all: false,
             unlock: is_set(matches, "unlock"),
             journal: matches.get_str("journal"),
             rehearse: matches.get_str("rehearse"),
         }
     }
 
-    /// Collects the options of a program for hardware, which has neither `-L` nor `--rehearse`.
+    /// Collects the options of a program for hardware: also `-N` and `--quick`, but neither `-L` nor `--rehearse`.
     pub fn of_hardware(matches: &ArgMatches<'a>) -> Given<'a>
         ensures { texts_of result ≡ hardware_given_in (rows_of (found_of matches.now)) }
     {
         Given {
             list: false,
             rehearse: None,
+            quick: is_set(matches, "quick"),
+            no_verify_all: is_set(matches, "noverify-all"),
             ..Given::of(matches)
         }
     }
@@ -137,7 +140,12 @@ impl<'a> Given<'a> {
             ..self
         };
         match emulated.job() {
-            Ok(Job::Chip(ChipJob { named, task, .. })) => Ok(Operation { named, task }),
+            Ok(Job::Chip(ChipJob { named, task, .. })) => Ok(Operation {
+                named,
+                verifies_all: !self.no_verify_all,
+                is_quick: self.quick,
+                task,
+            }),
             Ok(Job::List) => Err(UsageFault::TwoOperations),
             Err(fault) => Err(fault),
         }
@@ -285,12 +293,13 @@ impl<'a> Given<'a> {
         }
     }
 
-    // Fault 8: true for `-n` or `--unlock` without `-w` or `-E`.
+    // Fault 8: true if `-n`, `-N`, `--unlock` or `--quick` is given without an operation that takes it.
     fn has_unneeded(&self) -> bool
-        ensures { result ≡ (((texts_of self.now).no_verify || (texts_of self.now).unlock)
-            && not (is_new_content (texts_of self.now))) }
+        ensures { result ≡ has_unneeded (texts_of self.now) }
     {
-        (self.no_verify || self.unlock) && !self.is_new_content()
+        let (changes, restores) = (self.is_new_content(), self.restore.is_some());
+        ((self.no_verify || self.unlock) && !changes)
+            || ((self.no_verify_all && !changes) || (self.quick && !restores))
     }
 
     // Fault 7: true if there is only one of `-l` and `-i`, or both without any of `-r`, `-v`, `-w` and `-E`.

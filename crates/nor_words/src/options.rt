@@ -2,6 +2,7 @@
 ghost use Rattle.std.specs.Prelude.{◌≡◌, IfOk, fold, map};
 ghost use Rattle.clap.specs.Words.{app_of};
 ghost use Rattle.nor_words.specs.Options.{options, no_options_of, help_rule, most_rules, IsOption};
+ghost use Rattle.nor_words.specs.Options.{no_verify_all_rule, quick_rule};
 ghost use Rattle.nor_words.specs.Options.{hardware_options, is_for_hardware, named, chosen, with_choice, with_hardware_choice};
 
 use clap::{Arg, ArgAction, Command};
@@ -219,12 +220,15 @@ pub struct Help {
 }
 
 /// Returns the `clap` command of a program for hardware. It has all options except `-L`, which needs no chip, and
-/// `--rehearse`, which needs an emulated one. Fails only if memory runs out.
+/// `--rehearse`, which needs an emulated one; and two that flashnor lacks, `-N`
+/// and `--quick`. Fails only if memory runs out.
 pub fn make_hardware_options<'a>(alloc: Global, help: Help) -> Result<Command<'a>, AllocError>
     ensures { IfOk result (λ command. app_of command ≡ hardware_options help.program.now) }
 {
     let chosen = add_hardware_choices(alloc, new_command(alloc, help), choices())?;
-    chosen.arg(help_option(alloc))
+    let compared = chosen.arg(no_verify_all_option(alloc))?;
+    let restored = compared.arg(quick_option(alloc))?;
+    restored.arg(help_option(alloc))
 }
 
 // Adds an option for each row that a program for hardware has, in the order of the table.
@@ -306,6 +310,25 @@ impl Choice {
             None => arg.long(self.name),
         }
     }
+}
+
+fn no_verify_all_option<'a>(alloc: Global) -> Arg<'a>
+    ensures { IsOption no_verify_all_rule result }
+{
+    Arg::new(alloc, "noverify-all")
+        .short('N')
+        .long("noverify-all")
+        .help("Do not compare the rest of the chip; with -w or -E")
+        .action(ArgAction::SetTrue)
+}
+
+fn quick_option<'a>(alloc: Global) -> Arg<'a>
+    ensures { IsOption quick_rule result }
+{
+    Arg::new(alloc, "quick")
+        .long("quick")
+        .help("Rewrite only sectors that differ; with --restore")
+        .action(ArgAction::SetTrue)
 }
 
 fn help_option<'a>(alloc: Global) -> Arg<'a>

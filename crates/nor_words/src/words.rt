@@ -30,7 +30,8 @@ pub enum UsageFault {
     Journal,
     /// 7: `-l` or `-i` without the other, or both without any of `-r`, `-v`, `-w` and `-E`.
     Layout,
-    /// 8: `-n` or `--unlock` without `-w` or `-E`.
+    /// 8: `-n` or `--unlock` without `-w` or `-E`. For a program for hardware also `-N` without `-w` or `-E`, or
+    /// `--quick` without `--restore`.
     Unneeded,
     /// 9: the value of `--rehearse` isn't 1 to 64 numbers, or both `--rehearse` and a `stop=` of the programmer are
     /// given.
@@ -110,7 +111,8 @@ pub fn request_of<'a>(alloc: Global, words: &'a [String]) -> Result<Job<'a>, Usa
 
 /// Returns the job of a program for hardware that the arguments ask for, or one of the usage faults 1, 2 and 10.
 /// `words` has the arguments without the program's name. The options are those of flashnor except `-L` and
-/// `--rehearse`. The value of `-p` isn't parsed. Fault 10, out of memory, may be returned for any arguments.
+/// `--rehearse`, and `-N` and `--quick`. The value of `-p` isn't parsed. Fault 10, out of memory, may be returned for
+/// any arguments.
 pub fn operation_of<'a>(
     alloc: Global,
     help: Help,

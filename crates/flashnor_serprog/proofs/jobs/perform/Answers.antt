@@ -1,6 +1,7 @@
 use Rattle.std.proofs.Common.{rules}
 use Rattle.std.proofs.lemmas.Result.{err_from_is_err_and}
 use Rattle.nor_lines.proofs.Lent.{stays_same}
+use Rattle.flashnor_serprog.proofs.Found.{change_done, change_failed}
 use Rattle.flashnor_serprog.proofs.jobs.perform.Goals as goal
 
 pub returns-in-Probe : goal.returns-in-Probe
@@ -28,9 +29,13 @@ returns-in_err-restore_chip-in-Restore-clause-err g c =
     c.from_residual-in_err-restore_chip-in-Restore.ensures.1 in
     rw (p.1, p.2, c.in-Restore.is) (rw c.deref.ensures.value at c.in_err-restore_chip-in-Restore.ensures.err)
 
-pub returns-in-Change : goal.returns-in-Change
-returns-in-Change g c = rw c.in-Change.is (record {
-  ok = c.change_chip.ensures.ok;
-  err = c.change_chip.ensures.err;
-  others = c.change_chip.ensures.others;
-})
+pub returns-in-Change-clause-ok : goal.returns-in-Change-clause-ok
+returns-in-Change-clause-ok g c = change_done c.args.operation.now c.in-Change.change _ _ _ _ _ _
+    c.args.operation.now.task c.in-Change.is c.change_chip.result c.change_chip.ensures.ok
+
+pub returns-in-Change-clause-err : goal.returns-in-Change-clause-err
+returns-in-Change-clause-err g c = change_failed c.args.operation.now c.in-Change.change _ _ _ _ _ _
+    c.args.operation.now.task c.in-Change.is c.change_chip.result c.change_chip.ensures.err
+
+pub returns-in-Change-clause-others : goal.returns-in-Change-clause-others
+returns-in-Change-clause-others g c = rw c.in-Change.is c.change_chip.ensures.others
