@@ -5,7 +5,6 @@ use crate::trouble::MODES;
 use nor_chip::{Bus, Stopped, is_changing};
 use nor_journal::journal_len;
 use nor_lines::Escaped;
-use nor_model::{Status, Status1, Status2};
 use nor_session::Announcement;
 use std::fs;
 use std::os::unix::fs::FileTypeExt;
@@ -88,6 +87,13 @@ enum Phase {
     // the change ended, and the chip is compared with its target
     After,
 }
+
+// A bit of status 1, and two of status 2 (W25Q64FV datasheet, Status Registers).
+const SRP0: u8 = 0x80;
+
+const SRP1: u8 = 0x01;
+
+const QE: u8 = 0x02;
 
 // The line before the first modifying command of a session. That of a restore is `CHANGED`.
 const SEALED: &str = "SEALED: the chip is changed from here on.";
@@ -243,8 +249,7 @@ impl<B> Shown<'_, B> {
             return;
         };
         let count = self.counts.count(step);
-        let has_quad = Status::of(self.status).two.contains(Status2::QE);
-        if count == 1 && matches!(step, Step::Protect) && has_quad {
+        if count == 1 && matches!(step, Step::Protect) && self.status[1] & QE != 0 {
             let _ = eprintln!(self.terminal.rt; "{QUAD}");
         }
         if count % step.stride() == 1 {
@@ -254,8 +259,7 @@ impl<B> Shown<'_, B> {
 
     // True if SRP1 was set without SRP0 before the first modifying command.
     fn has_power_lock(&self) -> bool {
-        let status = Status::of(self.status);
-        status.two.contains(Status2::SRP1) && !status.one.contains(Status1::SRP0)
+        self.status[1] & SRP1 != 0 && self.status[0] & SRP0 == 0
     }
 
     // Stores a status byte that the chip replied before the first modifying command.
