@@ -147,12 +147,15 @@ rescue() {
     done
 }
 
+# What a restore prints if its journal was never sealed.
+unsealed=$'error: the journal was never sealed, or was cut off later\nError 15: journal fault 1.'
+
 # Succeeds if the rescue restores the chip. Only a session may have left an incomplete journal, or none.
 is_given_back() {
     if [[ -e journal ]]; then
         rescue
         [[ $ended == 0 && ! -s faults ]] ||
-            [[ -z $sealed && $ended == 1 && $(cat said faults) == 'Error 15: journal fault 1.' ]]
+            [[ -z $sealed && $ended == 1 && $(cat said faults) == "$unsealed" ]]
     else
         [[ -z $sealed ]]
     fi && have "${before[@]}"

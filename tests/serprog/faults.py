@@ -7,7 +7,7 @@ import os
 
 import reference
 from bench import check
-from losses import session_wire
+from losses import UNSEALED, session_wire
 from options import images
 
 STTY = "stty -F DEV raw -echo clocal -hupcl min 0 time 50"
@@ -225,7 +225,7 @@ def reads_twice(start):
         journal = bench.path(f"j{first}").read_bytes()
         whole = reference.journal("TINY64", old, (1, 2, 7, 15))
         check("the journal is a prefix", journal == whole[: len(journal)] and len(journal) < len(whole), True)
-        bench.expect("--restore", f"j{first}", err=["Error 15: journal fault 1."])
+        bench.expect("--restore", f"j{first}", err=UNSEALED)
     bench.write("same", old)
     wire = reference.carried(reference.probe("TINY64"))
     bench.server.traits.wrong_bits = {len(wire) + 2: (0, 4)}

@@ -15,7 +15,7 @@ from options import images
 # erase.
 FEW = (1, 2, 12, 13, 14, 15)
 MANY = (1, 2, *range(8, 16))
-UNSEALED = ["Error 15: journal fault 1."]
+UNSEALED = ["error: the journal was never sealed, or was cut off later", "Error 15: journal fault 1."]
 STOPPED = "Error 12: stopped."
 
 

@@ -1,7 +1,10 @@
 """Cases of --unlock, of --restore, of refusals, and of usage faults. The lines are those of docs/SPECIFICATION.md."""
+import re
+
 import reference
 from bench import check
 from chip import SECTOR
+from losses import UNSEALED
 from options import ALL, FREE, SIZE, images
 
 LARGE = 1 << 23
@@ -92,7 +95,7 @@ def restores_no_other(start):
     bench.write("large", reference.journal("W25Q64FV", bytes(LARGE), []))
     bench.write("device", reference.journal("TINY64", old, [1]))
     bench.write("status", reference.journal("TINY64", old, [1], b"\x80\0", unique))
-    bench.expect("--restore", "short", err=["Error 15: journal fault 1."])
+    bench.expect("--restore", "short", err=UNSEALED)
     bench.check_nothing_sent()
     bench.expect("--restore", "large", err=["Error 16: another chip than the journal's."])
     bench.expect("--restore", "device", err=["Error 20: another unit than the journal's."])
@@ -133,9 +136,11 @@ def refuses_regions(start):
     bench.write("layout", b"0:fff a\n10000:10fff b\n")
     bench.write("wrong", b"0:fff a\n2000:1000 b\n")
     bench.expect("-E", "-l", "layout", "-i", "b", "--journal", "j", err=["Error 5: region outside the chip."])
-    bench.expect("-E", "-l", "wrong", "-i", "a", "--journal", "k", err=["Layout fault 3 at line 2."])
+    bench.expect("-E", "-l", "wrong", "-i", "a", "--journal", "k",
+                 err=["error: the end is below the start", "Layout fault 3 at line 2."])
     bench.check_nothing_sent()
-    bench.expect("-E", "-l", "layout", "-i", "c", "--journal", "k", err=["Layout fault 8."])
+    bench.expect("-E", "-l", "layout", "-i", "c", "--journal", "k",
+                 err=["error: the layout has no region 'c'", "Layout fault 8."])
     bench.check_absent("k")
     bench.check_chip(bytes(SIZE))
 
@@ -206,25 +211,34 @@ def takes_stale_bytes(start):
         bench.expect(out=[reference.found("TINY64")])
 
 
-# Values of -p that are usage fault 3.
-WRONG_PROGRAMMERS = (
-    "dummy:emulate=TINY64", "serprog", "serprog:", "serprog:dev=", "serprog:spispeed=1", "serprog:dev=DEV,",
-    "serprog:dev=DEV,dev=DEV", "serprog:dev=DEV,image=x", "serprog:dev=DEV,spispeed=0", "serprog:dev=DEV,spispeed=1M",
-    "serprog:dev=DEV,spispeed=4294967296", "serprog:dev=DEV,spispeed=", "serprog:dev=DEV,cs=256", "serprog:dev=DEV,cs=",
-    "serprog:dev=DEV,cs=1,cs=1")
-WRONG_ARGUMENTS = ((4, "-E --flash-size"), (5, "--wp-range 1 --journal j"), (6, "-E"), (6, "--flash-size --journal j"),
-                   (7, "-r out -l layout"), (7, "--wp-status -l layout -i a"), (8, "-r out -n"), (8, "-v x --unlock"))
+# Values of -p that are usage fault 3: those whose first wrong setting is the last one, and others with what is wrong.
+WRONG_SETTINGS = (
+    "serprog:dev=", "serprog:dev=DEV,", "serprog:dev=DEV,dev=DEV", "serprog:dev=DEV,image=x", "serprog:dev=DEV,spispeed=0",
+    "serprog:dev=DEV,spispeed=1M", "serprog:dev=DEV,spispeed=4294967296", "serprog:dev=DEV,spispeed=",
+    "serprog:dev=DEV,cs=256", "serprog:dev=DEV,cs=", "serprog:dev=DEV,cs=1,cs=1")
+WRONG_PROGRAMMERS = {
+    "dummy:emulate=TINY64": "the value of -p does not begin with 'serprog:'",
+    "serprog": "the value of -p does not begin with 'serprog:'", "serprog:": "wrong key or value in -p: ''",
+    "serprog:spispeed=1": "the value of -p lacks dev="}
+WRONG_ARGUMENTS = (
+    (4, "-E --flash-size", "--flash-size and -E cannot be used together"),
+    (5, "--wp-range 1 --journal j", "invalid value of --wp-range: '1'"), (6, "-E", "-E needs --journal"),
+    (6, "--flash-size --journal j", "--journal needs -w, -E or --wp-range"), (7, "-r out -l layout", "-l needs -i"),
+    (7, "--wp-status -l layout -i a", "-l and -i need -r, -v, -w or -E"), (8, "-r out -n", "-n needs -w or -E"),
+    (8, "-v x --unlock", "--unlock needs -w or -E"))
 
 
 def refuses_arguments(start):
     """Wrong arguments are usage faults, and nothing is sent."""
     bench = start()
-    for text in WRONG_PROGRAMMERS:
+    settings = {text: f"wrong key or value in -p: '{re.split('[:,]', text)[-1]}'" for text in WRONG_SETTINGS}
+    for text, why in {**settings, **WRONG_PROGRAMMERS}.items():
         got = bench.finish(bench.start_words([bench.program, "-p", bench.device(text)]))
-        bench.compare(got, [], ["Usage fault 3."])
-    for fault, words in WRONG_ARGUMENTS:
-        bench.expect(*words.split(), err=[f"Usage fault {fault}."])
-    bench.compare(bench.finish(bench.start_words([bench.program, "--flash-size"])), [], ["Usage fault 2."])
+        bench.compare(got, [], [bench.device(f"error: {why}"), "Usage fault 3."])
+    for fault, words, why in WRONG_ARGUMENTS:
+        bench.expect(*words.split(), err=[f"error: {why}", f"Usage fault {fault}."])
+    got = bench.finish(bench.start_words([bench.program, "--flash-size"]))
+    bench.compare(got, [], ["error: the option -p is missing", "Usage fault 2."])
     for words in ["-L"], ["--rehearse", "1"], ["--none"]:
         got = bench.run(*words)
         check("the last line", (got.out, got.err[-1:], got.status), ([], ["Usage fault 1."], 1))

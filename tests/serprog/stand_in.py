@@ -16,6 +16,7 @@ RESTORE = " Then restore the chip with --restore and the journal."
 # The bits of both status bytes that protect.
 PROTECTION = 0x7C40
 UNPLUG = "Disconnect the programmer from power for a second before the next run."
+UNSEALED = ("error: the journal was never sealed, or was cut off later", "Error 15: journal fault 1.")
 
 
 def read_file(name):
@@ -34,10 +35,11 @@ def regions(given):
         addresses, name = line.split()
         start, end = (int(it, 16) for it in addresses.split(":"))
         if end < start:
-            raise Fault(f"Layout fault 3 at line {number}.")
+            raise Fault("error: the end is below the start", f"Layout fault 3 at line {number}.")
         found[name] = range(start, end + 1)
-    if any(it not in found for it in given["-i"].split(",")):
-        raise Fault("Layout fault 8.")
+    for name in given["-i"].split(","):
+        if name not in found:
+            raise Fault(f"error: the layout has no region '{name}'", "Layout fault 8.")
     return [found[it] for it in given["-i"].split(",")]
 
 
@@ -192,7 +194,7 @@ class Job:
         name = self.given["--restore"]
         whole = read_file(name)
         if hashlib.sha256(whole[:-32]).digest() != whole[-32:]:
-            raise Fault("Error 15: journal fault 1.")
+            raise Fault(*UNSEALED)
         return self.restore_from(whole)
 
     def restore_from(self, whole):
@@ -315,7 +317,7 @@ def run(words):
             image = content if option in ("-w", "-v") else image
     regions(given)
     if "--restore" in given and len(Path(given["--restore"]).read_bytes()) % (SECTOR + 4) not in (61,):
-        raise Fault("Error 15: journal fault 1.")
+        raise Fault(*UNSEALED)
     journal = given.get("--journal")
     if journal and Path(journal).exists() and MISTAKE != "overwrites journals":
         raise Fault(f"File fault 4: {journal}.")

@@ -12,7 +12,7 @@ MISTAKE = os.environ.get("MISTAKE", "")
 STTY = "stty -F {} raw -echo clocal -hupcl min 0 time 50"
 ROW = bytes.fromhex("10100010000010101000000010001010")
 FIRMWARE = ". Install other firmware on it."
-OPERATIONS = ("-r", "-w", "-v", "-E", "--flash-size", "--wp-status", "--wp-list", "--wp-range", "--restore")
+OPERATIONS = ("--flash-size", "--wp-status", "--wp-list", "-r", "-v", "-w", "-E", "--wp-range", "--restore")
 TAKE_VALUES = ("-p", "-c", "-r", "-w", "-v", "--wp-range", "--restore", "-l", "-i", "--journal")
 # Mistakes that don't forget what was read at these opcodes.
 KEPT = {"keeps blocks at programs": (0x05, 0x06, 0x02), "keeps blocks at erases": (0x05, 0x06, *ERASES, 0xC7),
@@ -56,18 +56,20 @@ def command(out, address):
 
 def programmer_keys(text):
     """Returns the keys of -p."""
+    if not text.startswith("serprog:"):
+        raise usage(3, "error: the value of -p does not begin with 'serprog:'")
     if text.startswith("serprog:ip="):
         raise usage(3, "ip= is not supported. Give a device: -p serprog:dev=PATH.")
     found = {}
     for part in text.removeprefix("serprog:").split(","):
         key, _, value = part.partition("=")
         rule = {"dev": ".+", "spispeed": "0*[1-9][0-9]{0,9}", "cs": "[0-9]{1,3}"}.get(key)
-        if not rule or key in found or not re.fullmatch(rule, value) or (key != "dev" and len(value) > 20):
-            raise usage(3)
+        if not rule or key in found or not re.fullmatch(rule, value) or \
+                (key != "dev" and (len(value) > 20 or int(value) > {"cs": 255, "spispeed": 0xFFFFFFFF}[key])):
+            raise usage(3, f"error: wrong key or value in -p: '{part}'")
         found[key] = value
-    if not text.startswith("serprog:") or "dev" not in found or int(found.get("cs", 0)) > 255 or \
-            int(found.get("spispeed", 1)) > 0xFFFFFFFF:
-        raise usage(3)
+    if "dev" not in found:
+        raise usage(3, "error: the value of -p lacks dev=")
     baud = re.search(":([0-9]+)$", found["dev"])
     if baud:
         line = STTY.replace("{}", "{} " + baud[1]).format(found["dev"][: baud.start()])
@@ -78,23 +80,29 @@ def programmer_keys(text):
 def check_usage(given):
     """Raises the first usage fault of these options, and returns the keys of -p."""
     if "-p" not in given:
-        raise usage(2)
+        raise usage(2, "error: the option -p is missing")
     keys = programmer_keys(given["-p"])
     asked = [it for it in OPERATIONS if it in given]
     changes = any(it in given for it in ("-w", "-E", "--wp-range"))
     has_regions = any(it in given for it in ("-r", "-w", "-v", "-E"))
     if len(asked) > 1:
-        raise usage(4)
+        raise usage(4, f"error: {asked[0]} and {asked[-1]} cannot be used together")
     if "--wp-range" in given and not re.fullmatch("[0-9a-fx]+,[0-9a-fx]+", given["--wp-range"]):
-        raise usage(5)
-    if changes != ("--journal" in given):
-        raise usage(6)
-    if ("-l" in given) != ("-i" in given) or ("-l" in given and not has_regions):
-        raise usage(7)
-    if ("-n" in given or "--unlock" in given) and not ("-w" in given or "-E" in given):
-        raise usage(8)
-    if ("-N" in given and not ("-w" in given or "-E" in given)) or ("--quick" in given and "--restore" not in given):
-        raise usage(8)
+        raise usage(5, f"error: invalid value of --wp-range: '{given['--wp-range']}'")
+    if changes and "--journal" not in given:
+        raise usage(6, f"error: {asked[0]} needs --journal")
+    if "--journal" in given and not changes:
+        raise usage(6, "error: --journal needs -w, -E or --wp-range")
+    for option, other in ("-l", "-i"), ("-i", "-l"):
+        if option in given and other not in given:
+            raise usage(7, f"error: {option} needs {other}")
+    if "-l" in given and not has_regions:
+        raise usage(7, "error: -l and -i need -r, -v, -w or -E")
+    for option in "-n", "-N", "--unlock":
+        if option in given and not ("-w" in given or "-E" in given):
+            raise usage(8, f"error: {option} needs -w or -E")
+    if "--quick" in given and "--restore" not in given:
+        raise usage(8, "error: --quick needs --restore")
     return keys
 
 

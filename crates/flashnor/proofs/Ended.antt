@@ -5,6 +5,7 @@ use Rattle.nor_words.specs.Text.{Text}
 use Rattle.nor_words.specs.Words.{IsJob}
 use Rattle.nor_words.specs.declared.job.ChipJob.{ChipJob}
 use Rattle.nor_words.specs.declared.job.Job.TheVariants as job
+use Rattle.nor_words.specs.declared.reasons.Reason.TheVariants as because
 use Rattle.nor_words.specs.declared.words.UsageFault.TheVariants as usage
 use Rattle.flashnor.specs.Endings.{HasPrinted, all_written}
 use Rattle.nor_files.specs.Files.{AreAtRest, FilesState}
@@ -28,7 +29,12 @@ module _ (files after : FilesState) (on_chip : ChipJob) (unwritten : Unwritten) 
 
   -- a fault from before the call ends the job
   fails_ends : (fault : Fault) → FailsJob files.view on_chip fault → EndsChipJob files after on_chip unwritten (Err fault)
-  fails_ends fault fails = grind arith
+  fails_ends (end.Refused refusal) fails = inr fails
+  fails_ends (end.Usage fault reason) fails = fails
+  fails_ends end.NoText fails = fails
+  fails_ends (end.Layout fault) fails = fails
+  fails_ends (end.NoRegion name) fails = fails
+  fails_ends (end.File fault name) fails = fails
 
   pub answer_ended : (words : List Text) (returned : Result Answer Fault) → IsJob words (job.Chip on_chip)
       → (AreAtRest files → KeepsFiles on_chip.programmer on_chip.task files after)
@@ -68,5 +74,5 @@ module _ (files after : FilesState) (words : List Text) where
 
 -- `IsStatus` holds for a run that had no memory for its arguments: it changes no file, and prints that fault.
 pub is_without_memory : (files : FilesState) (words : List Text) (out out' err err' : Option (List ℕ)) (ending : Ending)
-    → HasPrinted (Err (end.Usage usage.Memory)) all_written out out' err err' ending → IsStatus files files words out out' err err' ending
+    → HasPrinted (Err (end.Usage usage.Memory because.Unsaid)) all_written out out' err err' ending → IsStatus files files words out out' err err' ending
 is_without_memory files words out out' err err' ending prints = grind arith

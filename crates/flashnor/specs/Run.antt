@@ -16,7 +16,7 @@ use Rattle.nor_request.specs.declared.refusal.Refusal.TheVariants.{Memory, BadJo
 use Rattle.nor_words.specs.Text.{Text}
 use Rattle.clap.specs.Words.{IsAmong}
 use Rattle.clap.specs.declared.error.kind.ErrorKind.TheVariants as kind
-use Rattle.nor_words.specs.Words.{IsJob, IsFault, IsRefusedArguments, refusals_of}
+use Rattle.nor_words.specs.Words.{AreWrong, IsJob, IsRefusedArguments, refusals_of}
 use Rattle.nor_words.specs.declared.job.Change.{Change}
 use Rattle.nor_words.specs.declared.job.ChipJob.{ChipJob}
 use Rattle.nor_words.specs.declared.job.Job.{Job}
@@ -303,11 +303,11 @@ AnswersJob files after (job.Chip on_chip) unwritten outcome = EndsChipJob files 
     × (AreAtRest files → HoldsResult on_chip unwritten outcome files after)
 
 -- Holds if the arguments lead to this result. A usage fault, or the request for help, is one that the arguments may
--- have (`IsFault`), and no file is changed. Every other result is that of the job given by the arguments, with the
--- names of the files that could not be written.
+-- have (`AreWrong`) with its reason, and no file is changed. Every other result is that of the job given by the
+-- arguments, with the names of the files that could not be written.
 abbrev pub AnswersArguments : (files after : FilesState) → List Text → Result Answer Fault → Unwritten → Type 0
-AnswersArguments files after words (Err (end.Usage fault)) unwritten =
-    IsFault words fault × (unwritten ≡ all_written) × AllStay files after
+AnswersArguments files after words (Err (end.Usage fault reason)) unwritten =
+    AreWrong words (record { fault = fault; reason = reason }) × (unwritten ≡ all_written) × AllStay files after
 AnswersArguments files after words outcome unwritten =
     (asked : Job) × IsJob words asked × AnswersJob files after asked unwritten outcome
 

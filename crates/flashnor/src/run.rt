@@ -26,7 +26,7 @@ use nor_files::{Disk, LockFile, Store};
 use nor_lines::{
     Answer, DIRECTORY, Fault, Outcome, create_log, list_ranges, or_fault, report_protection, unread,
 };
-use nor_words::{Change, ChipJob, Job, JournalUse, Task, UsageFault, request_of};
+use nor_words::{Change, ChipJob, Job, JournalUse, Task, WrongArguments, explained_request_of};
 use std::alloc::{AllocError, Global};
 use std::env::Args;
 use std::io;
@@ -81,7 +81,7 @@ fn run_given<R: Store, O: Write, E: Write>(
 {
     match arguments_after_name(rt.alloc(), args) {
         Ok(words) => run_over(rt, words.as_slice(), output, errors),
-        Err(_) => end_before(Fault::Usage(UsageFault::Memory), output, errors),
+        Err(_) => end_before(Fault::out_of_memory(), output, errors),
     }
 }
 
@@ -146,13 +146,13 @@ fn run<'a, R: Store>(rt: &mut R, words: &'a [String]) -> Work<'a>
     ensures { AnswersArguments (R.state rt.old) (R.state rt.new) (map string_bytes words.now) result.answer
         result.unwritten }
 {
-    match request_of(rt.alloc(), words) {
+    match explained_request_of(rt.alloc(), words) {
         Ok(Job::List) => Work::before(Ok(Answer::Chips)),
         Ok(Job::Chip(job)) => match work_on_chip(rt, &job) {
             Ok(work) => work,
             Err(fault) => Work::before(Err(fault)),
         },
-        Err(fault) => Work::before(Err(Fault::Usage(fault))),
+        Err(WrongArguments { fault, reason }) => Work::before(Err(Fault::Usage { fault, reason })),
     }
 }
 

@@ -2,6 +2,7 @@
 use Rattle.std.proofs.Common.{◌≡◌, ℕ, Bool, true, false, not, List, [], ◌∷◌, Option, None, Some}
 use Rattle.std.proofs.Common.{drop, length, is_some, sym, inl, inr, arith}
 use Rattle.std.specs.Prelude.{option_and_then, if◌then◌else◌}
+use Rattle.std.specs.Borrow.{Bor}
 use Rattle.std.specs.Option.{option_or}
 use Rattle.std.specs.List.{list_any}
 use Rattle.std.specs.Str.{bytes_eq}
@@ -16,7 +17,7 @@ use Rattle.flashnor_serprog.specs.Setting.{HasFirstWrong, EndsWithRate, IsDevice
 use Rattle.flashnor_serprog.specs.Setting.{may_have_value, names_network, serprog_settings}
 use Rattle.flashnor_serprog.specs.declared.setting.Settings.{Settings}
 use Rattle.flashnor_serprog.specs.declared.setting.WrongSetting.{WrongSetting}
-use Rattle.flashnor_serprog.specs.declared.setting.WrongSetting.TheVariants.{BaudRate, Network, Other}
+use Rattle.flashnor_serprog.specs.declared.setting.WrongSetting.TheVariants.{BaudRate, Flawed, Network}
 
 -- ---- one key
 
@@ -93,11 +94,12 @@ settings-last all n settings before end =
 -- ---- the texts that describe no programmer
 
 -- the error of a setting that can't be stored is that of its text, if this setting is the first wrong one
-pub wrong_is : (text setting : Text) (wrong : WrongSetting)
-    → wrong ≡ (if names_network setting then Network else Other) → HasFirstWrong text setting → IsWrongSetting text wrong
-wrong_is text setting wrong same begins = elim (cases_Bool (names_network setting)) [
-  | inl is ↦ let named : wrong ≡ Network = rw is at same in rw named (setting, begins, is)
-  | inr is ↦ let other : wrong ≡ Other = rw is at same in rw other (inr (inl (setting, begins, is)))
+pub wrong_is : (text : Text) (setting : Bor Text) (wrong : WrongSetting)
+    → wrong ≡ (if names_network setting.now then Network else Flawed setting) → HasFirstWrong text setting.now
+    → IsWrongSetting text wrong
+wrong_is text setting wrong same begins = elim (cases_Bool (names_network setting.now)) [
+  | inl is ↦ let named : wrong ≡ Network = rw is at same in rw named (setting.now, begins, is)
+  | inr is ↦ let other : wrong ≡ Flawed setting = rw is at same in rw other (begins, is)
 ]
 
 -- if no setting is wrong and the value of `dev=` ends with a colon and a number, the error is `BaudRate`

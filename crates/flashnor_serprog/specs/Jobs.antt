@@ -30,6 +30,7 @@ use Rattle.nor_words.specs.declared.job.Task.{Task}
 use Rattle.nor_words.specs.declared.job.Task.TheVariants as task
 use Rattle.nor_words.specs.declared.job.Wanted.{Wanted}
 use Rattle.nor_words.specs.declared.job.Wanted.TheVariants as wanted
+use Rattle.nor_words.specs.declared.reasons.Reason.TheVariants as because
 use Rattle.nor_words.specs.declared.words.UsageFault.TheVariants as usage
 use Rattle.nor_lines.specs.Files.{IsMaking}
 use Rattle.nor_lines.specs.Readings.{AnswersCall, HasReadOut, HasReported, HasVerified, ListsRanges, ReportsProtection}
@@ -215,7 +216,7 @@ FailsToBeginChange named file view old new fault =
 -- which identifies the chip first. A rehearsal always has a usage fault.
 abbrev pub FailsToChange : Option ChipName → Wanted → JournalUse → View → (old new : BusState) → Fault → Type 0
 FailsToChange named wanted (uses.Rehearse stops) view old new fault =
-    (new ≡ old) × (fault ≡ end.Usage usage.Journal)
+    (new ≡ old) × (fault ≡ end.Usage usage.Journal because.Unsaid)
 FailsToChange named (wanted.Range start len) (uses.Journal file) view old new fault =
     (new ≡ old) × IsMaking view file.now fault
 FailsToChange named _ (uses.Journal file) view old new fault =

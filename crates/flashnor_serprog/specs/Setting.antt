@@ -1,5 +1,5 @@
 -- The value of `-p`.
-use Rattle.std.specs.Prelude.{◌≡◌, ◌==◌, ◌&&◌, ◌⊎◌, ◌++◌, ℕ, Bool, true, false, not, List, [], ◌∷◌, Option, None, Some, codes, drop, is_some, nat_eq, nat_le, nat_lt, option_and_then, option_map, if◌then◌else◌}
+use Rattle.std.specs.Prelude.{◌≡◌, ◌==◌, ◌&&◌, ◌++◌, ℕ, Bool, true, false, not, List, [], ◌∷◌, Option, None, Some, codes, drop, is_some, nat_eq, nat_le, nat_lt, option_and_then, option_map, if◌then◌else◌}
 use Rattle.std.specs.List.{list_any, starts_with}
 use Rattle.std.specs.Str.{bytes_eq}
 use Rattle.nor_words.specs.Numbers.{decimal_number}
@@ -8,7 +8,7 @@ use Rattle.nor_words.specs.Text.{Text, key_of, pieces_of, reads, value_of}
 use Rattle.flashnor_serprog.specs.declared.setting.Setting.{Setting}
 use Rattle.flashnor_serprog.specs.declared.setting.Settings.{Settings}
 use Rattle.flashnor_serprog.specs.declared.setting.WrongSetting.{WrongSetting}
-use Rattle.flashnor_serprog.specs.declared.setting.WrongSetting.TheVariants.{Network, BaudRate, Other}
+use Rattle.flashnor_serprog.specs.declared.setting.WrongSetting.TheVariants.{Network, BaudRate, Flawed, NoDevice, NoPrefix}
 
 -- a clock in hertz: 1 to 20 decimal digits with a value from 1 to 4,294,967,295
 abbrev pub clock_of : Text → Option ℕ
@@ -96,17 +96,19 @@ pub record HasFirstWrong (text setting : Text) : Type 0 where
 
 -- Why the value of `-p` describes no programmer.
 --
+-- - `NoPrefix`: the text doesn't begin with `serprog:`.
 -- - `Network`: the first wrong setting is `ip=..`.
+-- - `Flawed`: the first wrong setting is this one, which isn't `ip=..`.
+-- - `NoDevice`: no setting is wrong, but `dev=` is missing.
 -- - `BaudRate`: no setting is wrong, and the value of `dev=` is the given device, a colon and the given number.
--- - `Other`: the text doesn't begin with `serprog:`, or its first wrong setting is another one, or no setting is wrong
---   and `dev=` is missing.
 abbrev pub IsWrongSetting : Text → WrongSetting → Type 0
+IsWrongSetting text NoPrefix = names_serprog text ≡ false
 IsWrongSetting text Network = (setting : Text) × HasFirstWrong text setting × (names_network setting ≡ true)
+IsWrongSetting text (Flawed setting) = HasFirstWrong text setting.now × (names_network setting.now ≡ false)
+IsWrongSetting text NoDevice =
+    (first_wrong [] (serprog_settings text) ≡ None) × (device_in (serprog_settings text) ≡ None)
 IsWrongSetting text (BaudRate device rate) = (value : Text) × IsDeviceOf text value
     × (first_wrong [] (serprog_settings text) ≡ None) × HasRate value device.now rate.now
-IsWrongSetting text Other = (names_serprog text ≡ false)
-    ⊎ ((setting : Text) × HasFirstWrong text setting × (names_network setting ≡ false))
-    ⊎ ((first_wrong [] (serprog_settings text) ≡ None) × (device_in (serprog_settings text) ≡ None))
 
 -- Holds if the error is `BaudRate`, and the text is its device, a colon and its number.
 abbrev pub EndsWithRate : Text → WrongSetting → Type 0

@@ -24,7 +24,7 @@ use nor_lines::{
 };
 use nor_probe::{ChipName, Found, probe};
 use nor_session::{Refusal, restore_announced, rewrite_announced};
-use nor_words::{Change, JournalUse, Operation, Task, UsageFault, Wanted};
+use nor_words::{Change, JournalUse, Operation, Reason, Task, UsageFault, Wanted};
 use std::alloc::{AllocError, Global};
 
 /// Performs the job that the arguments ask for, with the contents of the files that it needs. An error is a fault that
@@ -174,7 +174,10 @@ fn change_chip<'a, R: Store, B: Progress>(
         → KeepsFile name (R.state rt.old) (R.state rt.new) }
 {
     let JournalUse::Journal { file } = &change.journal_use else {
-        return Err(JobFault::Fault(Fault::Usage(UsageFault::Journal)));
+        return Err(JobFault::Fault(Fault::Usage {
+            fault: UsageFault::Journal,
+            reason: Reason::Unsaid,
+        }));
     };
     let named = operation.named;
     let Sources { included, bytes } = sources;

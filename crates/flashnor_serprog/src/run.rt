@@ -23,7 +23,7 @@ use nor_lines::{
     Answer, DIRECTORY, Fault, Outcome, help_of, print_answer, print_fault, print_help, unread,
 };
 use nor_session::Refusal;
-use nor_words::{HardwareJob, Operation, Task, UsageFault, operation_of};
+use nor_words::{HardwareJob, Operation, Task, operation_of};
 use std::alloc::{AllocError, Global};
 use std::env::Args;
 use std::io;
@@ -48,7 +48,7 @@ pub fn run_words<O: Write, E: Write>(
     match given {
         Ok(args) => match arguments_after_name(rt.alloc(), args) {
             Ok(words) => run_over(rt, &mut Disk::new(rt), words.as_slice(), output, errors),
-            Err(_) => end_badly(errors, &Fault::Usage(UsageFault::Memory)),
+            Err(_) => end_badly(errors, &Fault::out_of_memory()),
         },
         Err(error) => end_badly(errors, &Fault::of_words(&error)),
     }

@@ -7,7 +7,7 @@ ghost use Rattle.nor_words.specs.Programmer.{is_file};
 ghost use Rattle.nor_words.specs.Text.{key_of, value_of};
 ghost use Rattle.flashnor_serprog.specs.Setting.{EndsWithRate, CannotBeStored, HasNoRate, IsSetting, IsWrongSetting, StoresSetting};
 ghost use Rattle.flashnor_serprog.specs.Setting.{chip_select_of, clock_of, may_have_value, names_network};
-ghost use Rattle.flashnor_serprog.specs.declared.setting.WrongSetting.TheVariants.{Network, Other};
+ghost use Rattle.flashnor_serprog.specs.declared.setting.WrongSetting.TheVariants.{Flawed, Network};
 
 use nor_words::read_number;
 
@@ -30,8 +30,12 @@ pub enum WrongSetting<'a> {
     Network,
     /// The device is followed by a colon and a baud rate, which `stty` sets.
     BaudRate { device: &'a str, rate: &'a str },
-    /// Anything else: another prefix, an unknown key, a wrong value, a key twice, or no `dev=`.
-    Other,
+    /// The value doesn't begin with `serprog:`.
+    NoPrefix,
+    /// The first wrong setting: its key is unknown, its value is wrong, or an earlier setting has its key.
+    Flawed(&'a str),
+    /// No setting is wrong, but `dev=` is missing.
+    NoDevice,
 }
 
 // The values parsed so far, by their keys.
@@ -45,21 +49,21 @@ struct Settings<'a> {
 impl<'a> Setting<'a> {
     /// Parses the value of `-p`. A `KEY=VALUE` pair ends at the next comma, and its key at the first `=`.
     ///
-    /// If the text begins with `serprog:`, returns `Network` if the first wrong setting is `ip=..`, and `BaudRate` if
-    /// no setting is wrong but the device ends with a colon and a decimal number (at most 20 digits, below 2^64).
-    /// Returns `Other` for all other texts that describe no programmer.
+    /// Returns `NoPrefix` if the text doesn't begin with `serprog:`. Otherwise returns `Network` if the first wrong
+    /// setting is `ip=..`, and `Flawed` if it is another one. If no setting is wrong, returns `NoDevice` if `dev=` is
+    /// missing, and `BaudRate` if the device ends with a colon and a decimal number (at most 20 digits, below 2^64).
     pub fn read(text: &'a str) -> Result<Setting<'a>, WrongSetting<'a>>
         ensures { MatchResult result (IsSetting text.now) (IsWrongSetting text.now) }
     {
         let Some(list) = text.strip_prefix("serprog:") else {
-            return Err(WrongSetting::Other);
+            return Err(WrongSetting::NoPrefix);
         };
         let mut settings = Settings::default();
         for setting in list.split(',') {
             settings.take_in(setting)?;
         }
         let Some(device) = settings.device else {
-            return Err(WrongSetting::Other);
+            return Err(WrongSetting::NoDevice);
         };
         refuse_rate(device)?;
         Ok(Setting {
@@ -72,18 +76,20 @@ impl<'a> Setting<'a> {
 
 impl<'a> Settings<'a> {
     // Parses and stores one `KEY=VALUE` pair. Returns an error if the key is unknown or already stored, or the value is
-    // invalid: `Network` for `ip=..`, otherwise `Other`.
+    // invalid: `Network` for `ip=..`, otherwise `Flawed`.
     fn take_in(&mut self, setting: &'a str) -> Result<(), WrongSetting<'a>>
         ensures { MatchResult result
             (λ _. (may_have_value (key_of setting.now) (value_of setting.now) ≡ true)
             × StoresSetting (key_of setting.now) (value_of setting.now) self.old self.new)
-            (λ wrong. (wrong ≡ (if names_network setting.now then Network else Other))
+            (λ wrong. (wrong ≡ (if names_network setting.now then Network else Flawed setting.entry))
             × CannotBeStored (key_of setting.now) (value_of setting.now) self.old) }
     {
         match setting.split_once('=') {
             Some(("ip", _)) => Err(WrongSetting::Network),
-            Some((key, value)) => self.take_value(key, value).ok_or(WrongSetting::Other),
-            None => Err(WrongSetting::Other),
+            Some((key, value)) => self
+                .take_value(key, value)
+                .ok_or(WrongSetting::Flawed(setting)),
+            None => Err(WrongSetting::Flawed(setting)),
         }
     }
 

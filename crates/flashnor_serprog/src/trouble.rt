@@ -6,7 +6,7 @@ use crate::setting::WrongSetting;
 use crate::status_line::{DIFFERED, StatusLine};
 use nor_lines::{Escaped, Fault};
 use nor_serprog::{Failure, HandshakeFault, StatusFault};
-use nor_words::UsageFault;
+use nor_words::WrongArguments;
 use std::fmt;
 
 /// The reason why a run ends before the first transaction.
@@ -33,14 +33,15 @@ impl<'a> From<Fault<'a>> for Trouble<'a> {
     }
 }
 
-impl<'a> From<UsageFault> for Trouble<'a> {
+impl<'a> From<WrongArguments<'a>> for Trouble<'a> {
     ghost use Rattle.flashnor_serprog.specs.declared.trouble.Trouble.TheVariants as trouble;
     ghost use Rattle.nor_lines.specs.declared.messages.Fault.TheVariants as end;
 
-    ghost from_gives = { λ fault ended. ended ≡ trouble.Fault (end.Usage fault) };
+    ghost from_gives = { λ wrong ended. ended ≡ trouble.Fault (end.Usage wrong.fault wrong.reason) };
 
-    fn from(fault: UsageFault) -> Trouble<'a> {
-        Trouble::Fault(Fault::Usage(fault))
+    fn from(wrong: WrongArguments<'a>) -> Trouble<'a> {
+        let WrongArguments { fault, reason } = wrong;
+        Trouble::Fault(Fault::Usage { fault, reason })
     }
 }
 
@@ -77,7 +78,7 @@ impl fmt::Display for Trouble<'_> {
     }
 }
 
-// Prints the advice that precedes the line of usage fault 3. `Other` has none.
+// Prints the line that precedes the line of usage fault 3, and says what is wrong or what to give instead.
 impl fmt::Display for WrongSetting<'_> {
     fn fmt<W: fmt::Write>(&self, f: &mut fmt::Formatter<W>) -> fmt::Result {
         match self {
@@ -89,7 +90,14 @@ impl fmt::Display for WrongSetting<'_> {
                 "dev= takes no baud rate. Set it with stty: stty -F {} {rate} {MODES}",
                 Escaped(device)
             ),
-            WrongSetting::Other => Ok(()),
+            WrongSetting::NoPrefix => {
+                f.write_str("error: the value of -p does not begin with 'serprog:'\n")
+            }
+            WrongSetting::Flawed(setting) => {
+                let setting = Escaped(setting);
+                writeln!(f, "error: wrong key or value in -p: '{setting}'")
+            }
+            WrongSetting::NoDevice => f.write_str("error: the value of -p lacks dev=\n"),
         }
     }
 }

@@ -1,12 +1,17 @@
 -- The reasons why names include nothing of a layout's text.
-use Rattle.std.proofs.Common.{◌≡◌, ℕ, ◌+◌, false, List, [], ◌∷◌, Result, Ok, Err, arith, refl}
+use Rattle.std.proofs.Common.{◌≡◌, ℕ, ◌+◌, Bool, true, List, [], ◌∷◌, None, Some, Result, Ok, Err, arith, find, not, refl}
+use Rattle.std.specs.List.{list_all}
 use Rattle.nor_layout.specs.declared.fault.LayoutFault.{LayoutFault}
 use Rattle.nor_layout.specs.declared.fault.LayoutFault.TheVariants as layout
 use Rattle.nor_layout.specs.declared.region.Region.{Region}
 use Rattle.nor_layout.specs.Grammar.{IsLayout}
-use Rattle.nor_layout.specs.Included.{are_known}
-use Rattle.nor_layout.specs.Text.{◌>>=◌, AsksMemory, ReadsLayout, layout_says, lines_of, lines_say, with_line}
-use Rattle.nor_lines.specs.Requests.{IncludesNone}
+use Rattle.nor_layout.specs.Included.{are_known, names_of}
+use Rattle.nor_layout.specs.Text.{◌>>=◌, AsksMemory, ReadsLayout, is_region_named, layout_says, lines_of, lines_say, with_line}
+use Rattle.nor_words.specs.declared.job.Regions.{Regions}
+use Rattle.nor_files.specs.Files.{View}
+use Rattle.nor_lines.specs.Requests.{FailsToInclude, IsLayoutFault, IsUnparsed, first_unknown}
+use Rattle.nor_lines.specs.declared.messages.Fault.{Fault}
+use Rattle.nor_lines.specs.declared.messages.Fault.TheVariants as end
 
 -- ---- parsing a layout never returns `NoRegion`
 
@@ -32,17 +37,28 @@ text_named text e = lines_named (lines_of text) [] 1 e
 
 -- ---- faults of the text, and unknown names
 
-module _ (text names : List ℕ) where
-  pub is_unread : (fault : LayoutFault) → ReadsLayout (Err fault) (layout_says text)
+module _ (text : List ℕ) where
+  pub is_unparsed : (fault : LayoutFault) → ReadsLayout (Err fault) (layout_says text)
       → (fault ≡ layout.Memory → AsksMemory text)
-      → ((regions : List Region) → IsLayout text regions → ReadsLayout (Err fault) (Ok regions)) → IncludesNone text names fault
-  is_unread layout.Memory reads asks taken = asks refl
-  is_unread layout.NoRegion reads asks taken = absurd (text_named text reads)
-  is_unread layout.TooMany reads asks taken = record { none = λ regions is. (let e = taken regions is in cc); first = reads }
-  is_unread (layout.InLine line fault) reads asks taken =
+      → ((regions : List Region) → IsLayout text regions → ReadsLayout (Err fault) (Ok regions)) → IsUnparsed text fault
+  is_unparsed layout.Memory reads asks taken = asks refl
+  is_unparsed layout.NoRegion reads asks taken = absurd (text_named text reads)
+  is_unparsed layout.TooMany reads asks taken = record { none = λ regions is. (let e = taken regions is in cc); first = reads }
+  is_unparsed (layout.InLine line fault) reads asks taken =
       record { none = λ regions is. (let e = taken regions is in cc); first = reads }
 
-  pub is_unknown : (fault : LayoutFault) (regions : List Region) → fault ≡ layout.NoRegion → IsLayout text regions
-      → are_known regions names ≡ false → IncludesNone text names fault
-  is_unknown fault regions is layout unknown =
-      rw is (record { regions = regions; layout = layout; unknown = unknown })
+all_pass : (test : List ℕ → Bool) (xs : List (List ℕ)) → find (λ x. not (test x)) xs ≡ None → list_all test xs ≡ true
+all_pass test [] none = refl
+all_pass test (x ∷ xs) none = grind (arith, all_pass test xs)
+
+-- if no name is unknown, all are known
+pub all_known : (regions : List Region) (names : List ℕ) → first_unknown regions names ≡ None
+    → are_known regions names ≡ true
+all_known regions names none = all_pass (is_region_named regions) (names_of names) none
+
+-- a reason why nothing is included is a fault of including the regions
+pub fails_included : (view : View) (regions : Regions) (fault : Fault) → IsLayoutFault view regions fault
+    → FailsToInclude view (Some regions) fault
+fails_included view regions (end.Layout fault) is = is
+fails_included view regions (end.NoRegion name) is = is
+fails_included view regions _ is = absurd is.why

@@ -1,6 +1,6 @@
 -- The printed lines of faults, byte by byte.
 use Rattle.std.specs.Prelude.{ℕ, List, [], ◌∷◌, ◌++◌, Option, Some, None, codes, decimal}
-use Rattle.std.specs.Fmt.{with_newline}
+use Rattle.std.specs.Fmt.{option_append, with_newline}
 use Rattle.std.specs.List.{concat}
 use Rattle.nor_layout.specs.Faults.{line_of_fault, layout_fault_number as layout_number}
 use Rattle.nor_request.specs.Refusal.{refusal_number}
@@ -9,6 +9,7 @@ use Rattle.nor_words.specs.Faults.{usage_fault_text as usage_text}
 use Rattle.nor_words.specs.Text.{Text}
 use Rattle.nor_lines.specs.Escapes.{escaped}
 use Rattle.nor_lines.specs.Messages.{file_number}
+use Rattle.nor_lines.specs.ReasonLines.{journal_line, layout_line, reason_line}
 use Rattle.nor_lines.specs.declared.messages.Fault.{Fault}
 use Rattle.nor_lines.specs.declared.messages.Fault.TheVariants as end
 use Rattle.nor_lines.specs.declared.messages.FileFault.{FileFault}
@@ -23,18 +24,21 @@ abbrev pub file_text : FileFault → Text → List ℕ
 file_text fault name =
     concat (codes "File fault " ∷ decimal (file_number fault) ∷ codes ": " ∷ escaped name ∷ codes "." ∷ [])
 
--- The text of a fault. It is `None` if the argument parser returned the fault or the help: nothing is stated about the
--- parser's texts.
+-- The text of a fault: the line that says what is wrong, if there is one, and the numbered text. It is `None` if the
+-- argument parser returned the fault or the help: nothing is stated about the parser's texts.
 abbrev pub text_of : Fault → Option (List ℕ)
-text_of (end.Usage fault) = usage_text fault
+text_of (end.Usage fault reason) = option_append (Some (reason_line reason)) (usage_text fault)
 text_of end.NoText = Some (codes "error: invalid UTF-8 was detected in one or more arguments\n\nUsage fault 1.")
 text_of (end.Layout fault) =
-    Some (concat (codes "Layout fault " ∷ decimal (layout_number fault) ∷ place (line_of_fault fault) ∷ codes "." ∷ []))
+    Some (concat (layout_line fault ∷ codes "Layout fault " ∷ decimal (layout_number fault)
+    ∷ place (line_of_fault fault) ∷ codes "." ∷ []))
+text_of (end.NoRegion name) =
+    Some (concat (codes "error: the layout has no region '" ∷ escaped name.now ∷ codes "'\nLayout fault 8." ∷ []))
 text_of (end.File fault name) = Some (file_text fault name.now)
 text_of (end.Refused refusal) =
-    Some (concat (codes "Error " ∷ decimal (refusal_number refusal) ∷ codes ": " ∷ refusal_text refusal
-    ∷ codes "." ∷ []))
+    Some (concat (journal_line refusal ∷ codes "Error " ∷ decimal (refusal_number refusal) ∷ codes ": "
+    ∷ refusal_text refusal ∷ codes "." ∷ []))
 
--- the line of a fault: its text and a line feed; `None` if `text_of` is `None`
+-- the lines of a fault: its text and a line feed; `None` if `text_of` is `None`
 abbrev pub line_of : Fault → Option (List ℕ)
 line_of fault = with_newline (text_of fault)

@@ -2,6 +2,7 @@ pub mod Messages
 pub mod Lines
 pub mod AnswerLines
 pub mod Escapes
+pub mod ReasonLines
 pub mod FaultLines
 pub mod Printing
 pub mod Stored

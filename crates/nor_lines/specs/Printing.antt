@@ -17,7 +17,7 @@ Prints IsText old new = (text : List ℕ) × IsText text × Appends old new text
 -- part of the result.
 abbrev pub IsAnswered : Result Answer Fault → Type 0
 IsAnswered (Ok found) = ⊤
-IsAnswered (Err (end.Usage (usage.Words error))) = kind_of error ≡ kind.DisplayHelp
+IsAnswered (Err (end.Usage (usage.Words error) reason)) = kind_of error ≡ kind.DisplayHelp
 IsAnswered (Err fault) = ⊥
 
 -- Holds if the result is an answer whose lines were printed, or a request for help. Nothing is stated about what is

@@ -1,13 +1,13 @@
 -- The request of a job, and the faults of reading its layout.
-use Rattle.std.specs.Prelude.{◌≡◌, ◌≤◌, ◌⊎◌, ℕ, true, false, List, Option, Some, None, Err, length}
+use Rattle.std.specs.Prelude.{◌≡◌, ◌≤◌, ◌⊎◌, ℕ, true, List, Option, Some, None, Err, find, length, not}
 use Rattle.nor_layout.specs.declared.fault.LayoutFault.{LayoutFault}
 use Rattle.nor_layout.specs.declared.fault.LayoutFault.TheVariants as layout
 use Rattle.nor_layout.specs.declared.ranges.Span.{Span}
 use Rattle.nor_layout.specs.declared.region.Region.{Region}
 use Rattle.nor_layout.specs.Grammar.{IsLayout}
-use Rattle.nor_layout.specs.Included.{are_known, is_included}
+use Rattle.nor_layout.specs.Included.{are_known, is_included, names_of}
 use Rattle.nor_layout.specs.Ranges.{contains}
-use Rattle.nor_layout.specs.Text.{AsksMemory, layout_says}
+use Rattle.nor_layout.specs.Text.{AsksMemory, is_region_named, layout_says}
 use Rattle.nor_probe.specs.declared.table.ChipName.{ChipName}
 use Rattle.nor_request.specs.declared.request.Request.{Request}
 use Rattle.nor_request.specs.declared.request.What.{What}
@@ -65,22 +65,31 @@ pub record IsNoLayout (text : List ℕ) (fault : LayoutFault) : Type 0 where
   pub none : (regions : List Region) → ¬ IsLayout text regions
   pub first : layout_says text ≡ Err fault
 
--- Holds if the text is a layout, and at least one of the names is not that of one of its regions.
-pub record AreUnknown (text names : List ℕ) : Type 0 where
+-- the first of the comma-separated names that is not the name of one of the regions
+abbrev pub first_unknown : List Region → (names : List ℕ) → Option (List ℕ)
+first_unknown regions names = find (λ name. not (is_region_named regions name)) (names_of names)
+
+-- Holds if the text is a layout, and `name` is the first of the names that is not that of one of its regions.
+pub record IsUnknown (text names name : List ℕ) : Type 0 where
   pub regions : List Region
   pub layout : IsLayout text regions
-  pub unknown : are_known regions names ≡ false
+  pub first : first_unknown regions names ≡ Some name
 
--- Holds if the fault is a reason why nothing is included: memory may run out while the text is parsed, a name is that
--- of no region, or the text is no layout.
-abbrev pub IncludesNone : (text names : List ℕ) → LayoutFault → Type 0
-IncludesNone text names layout.Memory = AsksMemory text
-IncludesNone text names layout.NoRegion = AreUnknown text names
-IncludesNone text names fault = IsNoLayout text fault
+-- Holds if the fault is a reason why the text can't be parsed: memory may run out, or the text is no layout.
+abbrev pub IsUnparsed : (text : List ℕ) → LayoutFault → Type 0
+IsUnparsed text layout.Memory = AsksMemory text
+IsUnparsed text layout.NoRegion = ⊥
+IsUnparsed text fault = IsNoLayout text fault
+
+-- Holds if the fault is a reason why nothing is included: the text can't be parsed, or a name is that of no region.
+abbrev pub IncludesNone : (text names : List ℕ) → Fault → Type 0
+IncludesNone text names (end.Layout fault) = IsUnparsed text fault
+IncludesNone text names (end.NoRegion name) = IsUnknown text names name.now
+IncludesNone text names fault = ⊥
 
 -- Holds if the layout's file has at most 16 MiB, and the fault is a reason why its text and the names include nothing.
 -- That `text` is the content of the file has the premise of `IsRead`.
-pub record IsLayoutFault (view : View) (regions : Regions) (fault : LayoutFault) : Type 0 where
+pub record IsLayoutFault (view : View) (regions : Regions) (fault : Fault) : Type 0 where
   pub text : List ℕ
   pub read : IsRead view regions.layout.now 16777217 text
   pub whole : length text ≤ 16777216
@@ -90,6 +99,7 @@ pub record IsLayoutFault (view : View) (regions : Regions) (fault : LayoutFault)
 -- of more than 16 MiB. Without regions there is no fault.
 abbrev pub FailsToInclude : View → Option Regions → Fault → Type 0
 FailsToInclude view None fault = ⊥
-FailsToInclude view (Some regions) (end.Layout fault) = IsLayoutFault view regions fault
+FailsToInclude view (Some regions) (end.Layout fault) = IsLayoutFault view regions (end.Layout fault)
+FailsToInclude view (Some regions) (end.NoRegion name) = IsLayoutFault view regions (end.NoRegion name)
 FailsToInclude view (Some regions) fault =
     IsReadingFault view regions.layout.now 16777217 fault ⊎ IsTooLong view regions.layout.now 16777216 fault

@@ -6,6 +6,7 @@
 //! - `answers.rt`: the result of a job
 //! - `calls.rt`: the calls to the engine that both programs make, with their files
 //! - `messages.rt`: the faults that end a run with exit status 1, and their texts
+//! - `reasons.rt`: the lines that precede the numbered line of a fault, and say what is wrong
 //! - `escapes.rt`: file names with their control characters escaped
 //! - `printing.rt`: prints answers, help and faults
 //! - `files.rt`: reads, locks and creates the files of a job, and makes the faults of files
@@ -13,8 +14,8 @@
 //! - `roles.rt`: the files that a task names, and the check that two names refer to two files
 //! - `streams.rt`: keeps the descriptors 0, 1 and 2 open, and prints by lines
 //!
-//! `specs/AnswerLines.antt` and `specs/FaultLines.antt` define each line that this crate prints, except those of the
-//! argument parser. `specs/Files.antt` defines the faults of files, `specs/Readings.antt` and `specs/Sessions.antt` the
+//! `specs/AnswerLines.antt`, `specs/FaultLines.antt` and `specs/ReasonLines.antt` define each line that this crate
+//! prints, except those of the argument parser. `specs/Files.antt` defines the faults of files, `specs/Readings.antt` and `specs/Sessions.antt` the
 //! results of the calls.
 #![tactic(auto)]
 
@@ -24,6 +25,7 @@ mod escapes;
 mod files;
 mod messages;
 mod printing;
+mod reasons;
 mod requests;
 mod roles;
 mod streams;

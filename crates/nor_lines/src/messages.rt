@@ -3,9 +3,10 @@ ghost use Rattle.std.specs.Prelude.{◌≡◌, Some};
 ghost use Rattle.nor_lines.specs.Messages.{IsReportedAs};
 
 use crate::escapes::Escaped;
+use crate::reasons::{JournalLine, LayoutLine, ReasonLine};
 use nor_layout::LayoutFault;
 use nor_session::Refusal;
-use nor_words::UsageFault;
+use nor_words::{Reason, UsageFault};
 use std::alloc::AllocError;
 use std::io::ErrorKind;
 use std::{fmt, io};
@@ -41,21 +42,34 @@ impl FileFault {
 /// of the arguments, too, but the help is printed to standard output, and the exit status is 0 if that succeeds.
 #[derive(Drop)]
 pub enum Fault<'a> {
-    /// A fault of the arguments, or a request for help.
-    Usage(UsageFault),
+    /// A fault of the arguments and its reason, or a request for help.
+    Usage {
+        fault: UsageFault,
+        reason: Reason<'a>,
+    },
     /// Arguments that are not UTF-8, so that nothing can be parsed. This is printed as usage fault 1, as if the parser
     /// had refused the arguments.
     NoText,
-    /// A layout, or the names of its regions, that can't be used.
+    /// A layout that can't be used.
     Layout(LayoutFault),
+    /// Layout fault 8: the first of the given names that is not the name of a region.
+    NoRegion {
+        name: &'a str,
+    },
     /// A failure of the file of this name.
-    File { fault: FileFault, name: &'a str },
+    File {
+        fault: FileFault,
+        name: &'a str,
+    },
     /// An error of a call; or, before the call, error 15 for an invalid journal or error 18 if memory ran out.
     Refused(Refusal),
 }
 
 impl Fault<'_> {
     ghost use Rattle.nor_lines.specs.Messages.{IsOfArguments};
+    ghost use Rattle.nor_lines.specs.declared.messages.Fault.TheVariants as Faults;
+    ghost use Rattle.nor_words.specs.declared.reasons.Reason.TheVariants as Reasons;
+    ghost use Rattle.nor_words.specs.declared.words.UsageFault.TheVariants as Usage;
 
     /// Returns the fault of arguments that could not be collected: usage fault 10 if memory ran out, or `NoText` for
     /// any other error.
@@ -63,8 +77,18 @@ impl Fault<'_> {
         ensures { IsOfArguments error.now result }
     {
         match error.kind() {
-            ErrorKind::OutOfMemory => Fault::Usage(UsageFault::Memory),
+            ErrorKind::OutOfMemory => Fault::out_of_memory(),
             _ => Fault::NoText,
+        }
+    }
+
+    /// Returns usage fault 10: memory ran out before the arguments were parsed.
+    pub fn out_of_memory() -> Fault<'static>
+        ensures { result ≡ Faults.Usage Usage.Memory Reasons.Unsaid }
+    {
+        Fault::Usage {
+            fault: UsageFault::Memory,
+            reason: Reason::Unsaid,
         }
     }
 }
@@ -76,16 +100,6 @@ pub fn or_fault<'a, T>(outcome: Result<T, Refusal>) -> Result<T, Fault<'a>>
     match outcome {
         Ok(value) => Ok(value),
         Err(refusal) => Err(Fault::Refused(refusal)),
-    }
-}
-
-impl From<LayoutFault> for Fault<'_> {
-    ghost use Rattle.nor_lines.specs.declared.messages.Fault.TheVariants.{Layout};
-
-    ghost from_gives = { λ layout fault. fault ≡ Layout layout };
-
-    fn from(fault: LayoutFault) -> Self {
-        Fault::Layout(fault)
     }
 }
 
@@ -108,18 +122,29 @@ impl fmt::Display for Fault<'_> {
 
     fn fmt<W: fmt::Write>(&self, f: &mut fmt::Formatter<W>) -> fmt::Result {
         match self {
-            Fault::Usage(fault) => write!(f, "{fault}"),
+            Fault::Usage { fault, reason } => write!(f, "{}{fault}", ReasonLine(*reason)),
             Fault::NoText => f.write_str(
                 "error: invalid UTF-8 was detected in one or more arguments\n\nUsage fault 1.",
             ),
             Fault::Layout(fault) => {
-                write!(f, "Layout fault {}{}.", fault.number(), Place(fault.line()))
+                let (number, place) = (fault.number(), Place(fault.line()));
+                write!(f, "{}Layout fault {number}{place}.", LayoutLine(*fault))
+            }
+            Fault::NoRegion { name } => {
+                let name = Escaped(name);
+                write!(
+                    f,
+                    "error: the layout has no region '{name}'\nLayout fault 8."
+                )
             }
             Fault::File { fault, name } => {
                 let name = Escaped(name);
                 write!(f, "File fault {}: {name}.", fault.number())
             }
-            Fault::Refused(refusal) => write!(f, "Error {}: {refusal}.", refusal.number()),
+            Fault::Refused(refusal) => {
+                let number = refusal.number();
+                write!(f, "{}Error {number}: {refusal}.", JournalLine(refusal))
+            }
         }
     }
 }

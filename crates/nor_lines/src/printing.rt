@@ -25,9 +25,10 @@ pub fn help_of<'a>(fault: &'a Fault<'_>) -> Option<&'a WordsError>
     ensures none { IsNone result → IsAnswered (Err fault.now) → ⊥ }
 {
     match fault {
-        Fault::Usage(UsageFault::Words(said)) if said.kind() == ErrorKind::DisplayHelp => Some(
-            said,
-        ),
+        Fault::Usage {
+            fault: UsageFault::Words(said),
+            ..
+        } if said.kind() == ErrorKind::DisplayHelp => Some(said),
         _ => None,
     }
 }

@@ -1,11 +1,12 @@
 //! The request of a change, and the addresses of the regions that it includes.
-ghost use Rattle.std.specs.Prelude.{◌≡◌, IfOk, IfErr, option_copied};
-ghost use Rattle.nor_lines.specs.Requests.{AreIncluded, AreRangesOf, FailsToInclude, IncludesNone, request_for, what_of};
+ghost use Rattle.std.specs.Prelude.{◌≡◌, IfOk, IfErr, option_map};
+ghost use Rattle.nor_layout.specs.Text.{is_region_named};
+ghost use Rattle.nor_lines.specs.Requests.{AreIncluded, AreRangesOf, FailsToInclude, IncludesNone, first_unknown, request_for, what_of};
 
 use crate::files::{MOST_LAYOUT_BYTES, read_file};
 use crate::messages::{Fault, FileFault};
 use nor_files::Store;
-use nor_layout::{Layout, LayoutFault, Ranges};
+use nor_layout::{Layout, Ranges, Region};
 use nor_probe::ChipName;
 use nor_session::{Request, What};
 use nor_words::{Change, Regions, Wanted};
@@ -40,12 +41,38 @@ pub fn read_included<'a, R: Store>(
 }
 
 // Parses `text` as a layout, and returns the addresses of its regions with the comma-separated `names`.
-#[tactic(auto, using(crate::proofs::Included::is_unread, crate::proofs::Included::is_unknown))]
-fn included_in(alloc: Global, text: &[u8], names: &str) -> Result<Ranges, LayoutFault>
+#[tactic(auto, using(crate::proofs::Included::is_unparsed, crate::proofs::Included::all_known))]
+fn included_in<'a>(alloc: Global, text: &[u8], names: &'a str) -> Result<Ranges, Fault<'a>>
     ensures ok { IfOk result (AreIncluded text.now names.now) }
     ensures err { IfErr result (IncludesNone text.now names.now) }
 {
-    Layout::read(alloc, text)?.include(names)
+    let layout = match Layout::read(alloc, text) {
+        Ok(layout) => layout,
+        Err(fault) => return Err(Fault::Layout(fault)),
+    };
+    if let Some(name) = first_unknown(layout.regions(), names) {
+        return Err(Fault::NoRegion { name });
+    }
+    match layout.include(names) {
+        Ok(ranges) => Ok(ranges),
+        Err(fault) => Err(Fault::Layout(fault)),
+    }
+}
+
+// Returns the first of the comma-separated `names` that is not the name of one of the regions.
+fn first_unknown<'a>(regions: &[Region], names: &'a str) -> Option<&'a str>
+    ensures { option_map (λ name. name.now) result ≡ first_unknown regions.now names.now }
+{
+    names.split(',').find(|name| !is_named(regions, name))
+}
+
+// True if one of the regions has the name.
+fn is_named(regions: &[Region], name: &str) -> bool
+    ensures { result ≡ is_region_named regions.now name.now }
+{
+    regions
+        .iter()
+        .any(|region| region.name.as_slice() == name.as_bytes())
 }
 
 /// Returns the request of a change. `named` is the name that the chip must have, or `None` for any chip. `included` has

@@ -1,14 +1,17 @@
 -- The job or fault of the arguments follows from that of the options that they give.
-use Rattle.std.proofs.Common.{◌≡◌, arith, Bool, List, [], Some, None, Result}
+use Rattle.std.proofs.Common.{◌≡◌, arith, Bool, List, [], Some, None, Result, Ok, Err, refl, subst, sym}
 use Rattle.std.specs.Prelude.{MatchResult}
 use Rattle.clap.specs.declared.error.Error.{Error}
 use Rattle.nor_words.specs.Text.{Text}
 use Rattle.nor_words.specs.Given.{Texts, given_by, hardware_given_by}
 use Rattle.nor_words.specs.Faults.{first_fault, usage_faults}
-use Rattle.nor_words.specs.Job.{IsAsked, IsHardwareAsked}
-use Rattle.nor_words.specs.Words.{IsFault, IsHardwareFault, IsHardwareJob, IsJob, hardware_refusals_of, refusals_of}
+use Rattle.nor_words.specs.Job.{IsAsked, IsHardwareAsked, LacksProgrammer}
+use Rattle.nor_words.specs.Reasons.{IsReason}
+use Rattle.nor_words.specs.Words.{AreWrong, AreWrongForHardware, IsFault, IsHardwareJob, IsJob, hardware_refusals_of}
+use Rattle.nor_words.specs.Words.{refusals_of}
 use Rattle.nor_words.specs.declared.job.HardwareJob.{HardwareJob}
 use Rattle.nor_words.specs.declared.job.Job.{Job}
+use Rattle.nor_words.specs.declared.reasons.WrongArguments.{WrongArguments}
 use Rattle.nor_words.specs.declared.words.UsageFault.{UsageFault}
 use Rattle.nor_words.specs.declared.words.UsageFault.TheVariants as why
 use Rattle.nor_words.proofs.Sound.{cases}
@@ -30,12 +33,29 @@ pub asked-by_words : (words : List Text) (given : Texts) (r : Result Job UsageFa
     → MatchResult r (IsJob words) (IsFault words)
 asked-by_words words given r taken same h = grind (arith, fault-returned)
 
+-- if `clap` accepts the arguments, the fault and the reason of the options that they give are those of the arguments
+pub wrong-by_words : (words : List Text) (given : Texts) (fault : UsageFault) (wrong : WrongArguments)
+    → refusals_of words ≡ [] → given ≡ given_by words → first_fault (usage_faults given) ≡ Some fault
+    → wrong.fault ≡ fault → IsReason given fault wrong.reason → AreWrong words wrong
+wrong-by_words words given fault wrong taken same is named because =
+    let asked = asked-by_words words given (Err fault) taken same is in
+    let said = subst (λ (g : Texts). IsReason g fault wrong.reason) same because in record {
+      fault = subst (IsFault words) (sym named) asked;
+      reason = subst (λ (f : UsageFault). IsReason (given_by words) f wrong.reason) (sym named) said;
+    }
+
 -- ---- programs for hardware
 
 -- if `clap` accepts the arguments of a program for hardware, the job or fault of the options that they give is that of
 -- the arguments
-pub hardware_asked-by_words : (program : Text) (words : List Text) (given : Texts) (r : Result HardwareJob UsageFault)
+pub hardware_asked-by_words : (program : Text) (words : List Text) (given : Texts)
+    (r : Result HardwareJob WrongArguments)
     → hardware_refusals_of program words ≡ [] → given ≡ hardware_given_by program words
-    → MatchResult r (IsHardwareAsked given) (λ fault. (fault ≡ why.NoProgrammer) × (given.programmer ≡ None))
-    → MatchResult r (IsHardwareJob program words) (IsHardwareFault program words)
-hardware_asked-by_words program words given r taken same h = grind arith
+    → MatchResult r (IsHardwareAsked given) (LacksProgrammer given)
+    → MatchResult r (IsHardwareJob program words) (AreWrongForHardware program words)
+hardware_asked-by_words program words given (Ok job) taken same h =
+    record { taken = taken; asked = subst (λ (g : Texts). IsHardwareAsked g job) same h }
+hardware_asked-by_words program words given (Err wrong) taken same h = record {
+  fault = rw h.fault (taken, subst (λ (g : Texts). g.programmer ≡ None) same h.lacks);
+  reason = rw (h.fault, h.reason) refl;
+}

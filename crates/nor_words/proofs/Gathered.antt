@@ -1,9 +1,10 @@
 -- Settings that are taken in one after another: those taken in so far, and those that remain.
 use Rattle.std.proofs.Common.{◌≡◌, ℕ, ◌+◌, ◌<◌, ◌&&◌, ◌||◌, Bool, true, false, cond, List, [], ◌∷◌, Option, length}
-use Rattle.std.proofs.Common.{drop, get_or, nat_le, is_some, refl, sym, arith}
+use Rattle.std.proofs.Common.{drop, get_or, nat_le, is_some, refl, sym, arith, None, inl, inr}
 use Rattle.std.specs.Prelude.{option_and_then}
 use Rattle.std.specs.Option.{option_or}
 use Rattle.std.specs.List.{count_by, list_all}
+use Rattle.std.proofs.lemmas.Bool.{cases_Bool}
 use Rattle.std.proofs.lemmas.Bool.Decides.{nat_tests}
 use Rattle.std.proofs.lemmas.List.Folds.{list_all_at}
 use Rattle.std.proofs.lemmas.List.Sums.{sum_by-cons}
@@ -109,3 +110,11 @@ gathered-last all n said before end =
           (λ setting. any-key setting (is_alone_in all setting ≡ true) (search once)) (sym now.sound),
       grind (arith, now.keys),
     )
+
+-- a setting that can't be added although no key has a value has an unknown key or a wrong value
+pub refused_first : (setting : Text) (said : Settings) → EachKey (λ T key is_value read place. place said ≡ None)
+    → IsRefusedSetting setting said → is_setting setting ≡ false
+refused_first setting said none refused = elim (cases_Bool (is_setting setting)) [
+  | inl is ↦ absurd (any-key setting ⊥ (grind (arith, none, refused)) is)
+  | inr other ↦ other
+]

@@ -7,7 +7,12 @@ use Rattle.clap.specs.declared.parser.matches.ArgMatches.{ArgMatches}
 use Rattle.clap.proofs.OnLiterals.{clap_on_literals}
 use Rattle.nor_words.specs.Text.{Text}
 use Rattle.nor_words.specs.Options.{hardware_options, options}
-use Rattle.nor_words.specs.Words.{BecomesFault, IsHardwareFault}
+use Rattle.nor_words.specs.Given.{Texts, given_by, hardware_given_by}
+use Rattle.nor_words.specs.Reasons.{IsReason}
+use Rattle.nor_words.specs.Words.{AreWrong, AreWrongForHardware, BecomesFault, BecomesWrong, IsFault, IsHardwareFault}
+use Rattle.nor_words.specs.declared.reasons.Reason.{Reason}
+use Rattle.nor_words.specs.declared.reasons.Reason.TheVariants as because
+use Rattle.nor_words.specs.declared.reasons.WrongArguments.{WrongArguments}
 use Rattle.nor_words.specs.declared.words.UsageFault.{UsageFault}
 
 -- no option requires or excludes another, and all options have a form for which `clap` defines the matches
@@ -37,8 +42,33 @@ module _ (app own : App) (same : app ≡ own) (words : List Text) (m : ArgMatche
   pub rows-taken : is_simple own ≡ true → HasMatchesOf app words m → rows_of (found_of m) ≡ matches_of own words
   rows-taken simple matches = let rows = rw same at matches in (rows simple).0
 
+-- an error of `clap` becomes a fault that the arguments may have
+refused : (words : List Text) (app : App) → app ≡ options → (error : Error) (fault : UsageFault)
+    → (is_simple_and_free app ≡ true → FailsBy {T = ArgMatches} (fault_of app words) (Err error))
+    → BecomesFault error fault → IsFault words fault
+refused words app same error fault fails (inl memory) = rw memory.1 tt
+refused words app same error fault fails (inr other) =
+    let free = (rw same at fails) options_are_free in rw other.1 (elim free [
+      | inl memory ↦ absurd (other.0 memory)
+      | inr among ↦ among
+    ])
+
+-- an error of `clap` has no reason
+unsaid : (given : Texts) (error : Error) (fault : UsageFault) (reason : Reason) → BecomesFault error fault
+    → reason ≡ because.Unsaid → IsReason given fault reason
+unsaid given error fault reason (inl memory) is = rw memory.1 is
+unsaid given error fault reason (inr other) is = rw other.1 is
+
+pub refused-wrong : (words : List Text) (app : App) → app ≡ options → (error : Error) (wrong : WrongArguments)
+    → (is_simple_and_free app ≡ true → FailsBy {T = ArgMatches} (fault_of app words) (Err error))
+    → BecomesWrong error wrong → AreWrong words wrong
+refused-wrong words app same error wrong fails becomes = record {
+  fault = refused words app same error wrong.fault fails becomes.fault;
+  reason = unsaid (given_by words) error wrong.fault wrong.reason becomes.fault becomes.reason;
+}
+
 -- an error of `clap` becomes a fault that the arguments of a program for hardware may have
-pub hardware-refused : (program : Text) (app : App) → app ≡ hardware_options program → (words : List Text)
+hardware-refused : (program : Text) (app : App) → app ≡ hardware_options program → (words : List Text)
     (error : Error) (fault : UsageFault)
     → (is_simple_and_free app ≡ true → FailsBy {T = ArgMatches} (fault_of app words) (Err error))
     → BecomesFault error fault → IsHardwareFault program words fault
@@ -48,3 +78,12 @@ hardware-refused program app same words error fault fails (inr other) =
       | inl memory ↦ absurd (other.0 memory)
       | inr among ↦ among
     ])
+
+pub hardware-wrong : (program : Text) (app : App) → app ≡ hardware_options program → (words : List Text)
+    (error : Error) (wrong : WrongArguments)
+    → (is_simple_and_free app ≡ true → FailsBy {T = ArgMatches} (fault_of app words) (Err error))
+    → BecomesWrong error wrong → AreWrongForHardware program words wrong
+hardware-wrong program app same words error wrong fails becomes = record {
+  fault = hardware-refused program app same words error wrong.fault fails becomes.fault;
+  reason = unsaid (hardware_given_by program words) error wrong.fault wrong.reason becomes.fault becomes.reason;
+}

@@ -7,6 +7,7 @@ use Rattle.nor_words.specs.Faults.{first_fault, operation_faults}
 use Rattle.nor_words.specs.Given.{Texts, operations}
 use Rattle.nor_words.specs.Numbers.{range_of}
 use Rattle.nor_words.specs.Programmer.{IsProgrammer}
+use Rattle.nor_words.specs.Reasons.{IsReason}
 use Rattle.nor_words.specs.Stops.{stops_of}
 use Rattle.nor_words.specs.Text.{Text}
 use Rattle.nor_words.specs.declared.job.Change.{Change}
@@ -22,6 +23,9 @@ use Rattle.nor_words.specs.declared.job.Task.{Task}
 use Rattle.nor_words.specs.declared.job.Task.TheVariants as task
 use Rattle.nor_words.specs.declared.job.Wanted.{Wanted}
 use Rattle.nor_words.specs.declared.job.Wanted.TheVariants as want
+use Rattle.nor_words.specs.declared.reasons.Reason.TheVariants as because
+use Rattle.nor_words.specs.declared.reasons.WrongArguments.{WrongArguments}
+use Rattle.nor_words.specs.declared.words.UsageFault.TheVariants as why
 
 -- Holds if the option's value is this file name.
 abbrev pub NamesFile : Option Text → Bor Text → Type 0
@@ -86,9 +90,19 @@ pub record IsOperation (given : Texts) (operation : Operation) : Type 0 where
   pub is_quick : operation.is_quick ≡ given.quick
   pub task : IsTask given operation.task
 
+-- Holds if the fault is the first of the faults 4 to 9 that the options have, and the reason is its reason.
+pub record IsWrongOperation (given : Texts) (wrong : WrongArguments) : Type 0 where
+  pub fault : first_fault (operation_faults given) ≡ Some wrong.fault
+  pub reason : IsReason given wrong.fault wrong.reason
+
+-- Holds if `-p` is missing, and the fault and its reason say so.
+pub record LacksProgrammer (given : Texts) (wrong : WrongArguments) : Type 0 where
+  pub fault : wrong.fault ≡ why.NoProgrammer
+  pub reason : wrong.reason ≡ because.NoProgrammer
+  pub lacks : given.programmer ≡ None
+
 -- Holds if the programmer's text is the value of `-p`, and the operation is the one that the options ask for, or the
--- first of the faults 4 to 9 that they have.
+-- first of the faults 4 to 9 that they have, with its reason.
 pub record IsHardwareAsked (given : Texts) (on_hardware : HardwareJob) : Type 0 where
   pub programmer : NamesFile given.programmer on_hardware.programmer
-  pub operation : MatchResult on_hardware.operation (IsOperation given)
-      (λ fault. first_fault (operation_faults given) ≡ Some fault)
+  pub operation : MatchResult on_hardware.operation (IsOperation given) (IsWrongOperation given)

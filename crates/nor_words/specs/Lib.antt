@@ -7,6 +7,7 @@ pub mod Programmer
 pub mod Options
 pub mod Given
 pub mod Faults
+pub mod Reasons
 -- The job that the arguments ask for.
 pub mod Job
 pub mod Words

@@ -12,8 +12,11 @@ use Rattle.nor_words.specs.Options.{hardware_options, options}
 use Rattle.nor_words.specs.Given.{given_by, hardware_given_by}
 use Rattle.nor_words.specs.Faults.{first_fault, usage_faults}
 use Rattle.nor_words.specs.Job.{IsAsked, IsHardwareAsked}
+use Rattle.nor_words.specs.Reasons.{IsReason}
 use Rattle.nor_words.specs.declared.job.HardwareJob.{HardwareJob}
 use Rattle.nor_words.specs.declared.job.Job.{Job}
+use Rattle.nor_words.specs.declared.reasons.Reason.TheVariants as because
+use Rattle.nor_words.specs.declared.reasons.WrongArguments.{WrongArguments}
 use Rattle.nor_words.specs.declared.words.UsageFault.{UsageFault}
 use Rattle.nor_words.specs.declared.words.UsageFault.TheVariants as why
 
@@ -39,11 +42,21 @@ IsFault words (why.Words error) = IsAmong (kind_of error) (refusals_of words)
 IsFault words why.Memory = ⊤
 IsFault words fault = (refusals_of words ≡ []) × (first_fault (usage_faults (given_by words)) ≡ Some fault)
 
+-- Holds if the arguments may have this fault, and the reason is its reason.
+pub record AreWrong (words : List Text) (wrong : WrongArguments) : Type 0 where
+  pub fault : IsFault words wrong.fault
+  pub reason : IsReason (given_by words) wrong.fault wrong.reason
+
 -- Holds for the usage fault that an error of `clap` becomes: `Memory` if memory ran out, otherwise `Words`.
 abbrev pub BecomesFault : Error → UsageFault → Type 0
 BecomesFault error fault =
     ((kind_of error ≡ kind.OutOfMemory) × (fault ≡ why.Memory))
     ⊎ ((kind_of error ≢ kind.OutOfMemory) × (fault ≡ why.Words error))
+
+-- Holds for the fault that an error of `clap` becomes, which has no reason.
+pub record BecomesWrong (error : Error) (wrong : WrongArguments) : Type 0 where
+  pub fault : BecomesFault error wrong.fault
+  pub reason : wrong.reason ≡ because.Unsaid
 
 -- Holds if the arguments ask neither for a job nor for help.
 pub record IsRefusedArguments (words : List Text) : Type 0 where
@@ -71,3 +84,8 @@ IsHardwareFault program words why.Memory = ⊤
 IsHardwareFault program words why.NoProgrammer =
     (hardware_refusals_of program words ≡ []) × ((hardware_given_by program words).programmer ≡ None)
 IsHardwareFault program words fault = ⊥
+
+-- Holds if the arguments of the program with this name may have this fault, and the reason is its reason.
+pub record AreWrongForHardware (program : Text) (words : List Text) (wrong : WrongArguments) : Type 0 where
+  pub fault : IsHardwareFault program words wrong.fault
+  pub reason : IsReason (hardware_given_by program words) wrong.fault wrong.reason

@@ -3,22 +3,24 @@ ghost use Rattle.std.specs.Prelude.{◌≡◌, ◌&&◌, ◌||◌, None, Some, f
 ghost use Rattle.std.specs.Option.{IsSomeAnd};
 ghost use Rattle.clap.specs.Words.{found_of, rows_of};
 ghost use Rattle.nor_words.specs.Given.{given_in, hardware_given_in, is_set_in, operations, is_new_content, asks_change, takes_regions};
-ghost use Rattle.nor_words.specs.Faults.{first_fault, has_unneeded, has_wrong_journal, has_wrong_regions, is_no, operation_faults, passes_test, usage_faults};
-ghost use Rattle.nor_words.specs.Job.{IsAsked, IsHardwareAsked, IsJournalUse, IsOperation, IsRegions, IsTask, IsWantedByArguments};
+ghost use Rattle.nor_words.specs.Faults.{first_fault, has_unneeded, has_wrong_journal, has_wrong_regions, is_no, passes_test, usage_faults};
+ghost use Rattle.nor_words.specs.Job.{IsAsked, IsHardwareAsked, IsJournalUse, IsOperation, IsRegions, IsTask, IsWantedByArguments, IsWrongOperation, LacksProgrammer};
 ghost use Rattle.nor_words.specs.Numbers.{range_of};
 ghost use Rattle.nor_words.specs.Programmer.{IsProgrammer, has_stop, is_programmer_text};
 ghost use Rattle.nor_words.specs.Stops.{stops_of};
 ghost use Rattle.nor_words.specs.Text.{reads};
-ghost use Rattle.nor_words.specs.declared.words.UsageFault.TheVariants.{NoProgrammer};
 
 use crate::job::{Change, ChipJob, HardwareJob, Job, JournalUse, Operation, Regions, Task, Wanted};
 use crate::numbers::read_range;
 use crate::programmer::Programmer;
+use crate::reasons::WrongArguments;
 use crate::stops::{MOST_STOPS, read_stops};
 use crate::words::UsageFault;
 use arrayvec::ArrayVec;
 use clap::ArgMatches;
 use nor_probe::ChipName;
+
+mod reasons;
 
 // A value of `-p` without a fault.
 const ANY_CHIP: &str = "dummy:emulate=TINY64";
@@ -113,26 +115,24 @@ impl<'a> Given<'a> {
 
     /// Returns the job of a program for hardware: the value of `-p`, and the operation or its fault. Returns fault 2 if
     /// `-p` is missing. Requires options without `-L`.
-    pub fn hardware_job(self) -> Result<HardwareJob<'a>, UsageFault>
+    pub fn hardware_job(self) -> Result<HardwareJob<'a>, WrongArguments<'a>>
         requires { self.list ≡ false }
-        ensures { MatchResult result (IsHardwareAsked (texts_of self.entry))
-            (λ fault. (fault ≡ NoProgrammer) × ((texts_of self.entry).programmer ≡ None)) }
+        ensures { MatchResult result (IsHardwareAsked (texts_of self.entry)) (LacksProgrammer (texts_of self.entry)) }
     {
         match self.programmer {
             Some(programmer) => Ok(HardwareJob {
                 programmer,
                 operation: self.operation(),
             }),
-            None => Err(UsageFault::NoProgrammer),
+            None => Err(self.explained(UsageFault::NoProgrammer)),
         }
     }
 
-    // Returns the operation that the options ask for, or the first of the faults 4 to 9 that they have. Requires
-    // options without `-L`, so the job is never a list.
-    fn operation(self) -> Result<Operation<'a>, UsageFault>
+    // Returns the operation that the options ask for, or the first of the faults 4 to 9 that they have, with its
+    // reason. Requires options without `-L`, so the job is never a list.
+    fn operation(self) -> Result<Operation<'a>, WrongArguments<'a>>
         requires { self.list ≡ false }
-        ensures { MatchResult result (IsOperation (texts_of self.entry))
-            (λ fault. first_fault (operation_faults (texts_of self.entry)) ≡ Some fault) }
+        ensures { MatchResult result (IsOperation (texts_of self.entry)) (IsWrongOperation (texts_of self.entry)) }
     {
         // The faults of the other options are the same for each emulated chip without a `stop=`, so any will do.
         let emulated = Given {
@@ -146,8 +146,8 @@ impl<'a> Given<'a> {
                 is_quick: self.quick,
                 task,
             }),
-            Ok(Job::List) => Err(UsageFault::TwoOperations),
-            Err(fault) => Err(fault),
+            Ok(Job::List) => Err(self.explained(UsageFault::TwoOperations)),
+            Err(fault) => Err(self.explained(fault)),
         }
     }
 

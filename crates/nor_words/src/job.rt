@@ -1,8 +1,8 @@
 //! The job that the arguments ask for.
 
 use crate::programmer::Programmer;
+use crate::reasons::WrongArguments;
 use crate::stops::MOST_STOPS;
-use crate::words::UsageFault;
 use arrayvec::ArrayVec;
 use nor_probe::ChipName;
 
@@ -29,9 +29,9 @@ pub struct ChipJob<'a> {
 pub struct HardwareJob<'a> {
     /// The value of `-p`, which isn't parsed.
     pub programmer: &'a str,
-    /// The operation, or the first of the usage faults 4 to 8. Fault 9 can't occur, because there is no `--rehearse`.
+    /// The operation, or the first of the usage faults 4 to 8 with its reason. Fault 9 can't occur, because there is no `--rehearse`.
     /// If the program finds that the value of `-p` is wrong, it must report usage fault 3 instead of these faults.
-    pub operation: Result<Operation<'a>, UsageFault>,
+    pub operation: Result<Operation<'a>, WrongArguments<'a>>,
 }
 
 /// An operation on a chip that is not emulated.

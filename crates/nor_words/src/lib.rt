@@ -14,6 +14,9 @@
 //! - `words.rt`: `request_of`, `operation_of` for programs for hardware, and the usage faults
 //! - `options.rt`: the options, as `clap` parses them and as the help shows them
 //! - `given.rt`: the values of the options; the job that they ask for, or the first fault that they have
+//! - `given/reasons.rt`: the reason of each fault that the options have
+//! - `reasons.rt`: the types of reasons
+//! - `flaws.rt`: the reason why the value of `-p` is wrong
 //! - `job.rt`: the types of a job
 //! - `programmer.rt`: the value of `-p`, and the chips that can be emulated
 //! - `settings.rt`: the settings in the value of `-p`
@@ -21,14 +24,16 @@
 //! - `numbers.rt`: the numbers in values
 //!
 //! `specs/Words.antt` and `specs/Job.antt` define which arguments ask for which job, `specs/Faults.antt` the usage
-//! faults.
+//! faults, `specs/Reasons.antt` their reasons.
 #![tactic(auto)]
 
+mod flaws;
 mod given;
 mod job;
 mod numbers;
 mod options;
 mod programmer;
+mod reasons;
 mod settings;
 mod stops;
 mod words;
@@ -37,5 +42,6 @@ pub use job::{Change, ChipJob, HardwareJob, Job, JournalUse, Operation, Regions,
 pub use numbers::read_number;
 pub use options::Help;
 pub use programmer::{Emulated, Programmer};
+pub use reasons::{Flaw, OptionName, Reason, WrongArguments};
 pub use stops::MOST_STOPS;
-pub use words::{UsageFault, operation_of, request_of};
+pub use words::{UsageFault, explained_request_of, operation_of, request_of};

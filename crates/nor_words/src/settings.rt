@@ -44,9 +44,9 @@ impl<'a> Settings<'a> {
     }
 }
 
-// Returns the key, which ends at the first `=`, and the value after that. Without an `=` the whole setting is the key,
-// and the value is empty.
-fn split_setting(setting: &str) -> (&str, &str)
+/// Returns the key, which ends at the first `=`, and the value after that. Without an `=` the whole setting is the key,
+/// and the value is empty.
+pub fn split_setting(setting: &str) -> (&str, &str)
     ensures { (result.0.now ≡ key_of setting.now) × (result.1.now ≡ value_of setting.now) }
 {
     match setting.split_once('=') {

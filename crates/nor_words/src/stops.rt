@@ -1,5 +1,6 @@
 //! The value of the option `--rehearse`.
 ghost use Rattle.std.specs.Prelude.{◌≡◌, option_map};
+ghost use Rattle.nor_words.specs.Reasons.{first_unread};
 ghost use Rattle.nor_words.specs.Stops.{stops_of};
 
 use crate::numbers::read_number;
@@ -18,4 +19,11 @@ pub fn read_stops(text: &str) -> Option<ArrayVec<u64, MOST_STOPS>>
         stops.try_push(read_number(number)?).ok()?;
     }
     Some(stops)
+}
+
+/// Returns the first part of `text` between its commas that `read_number` doesn't read.
+pub fn first_unread(text: &str) -> Option<&str>
+    ensures { option_map (λ part. part.now) result ≡ first_unread text.now }
+{
+    text.split(',').find(|part| read_number(part).is_none())
 }

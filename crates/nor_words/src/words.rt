@@ -1,10 +1,11 @@
 //! `request_of` and `operation_of`, which turn arguments into jobs, and the faults that arguments may have.
 ghost use Rattle.std.specs.Prelude.{◌≡◌, MatchResult, map, string_bytes};
-ghost use Rattle.nor_words.specs.Words.{IsFault, IsHardwareFault, IsHardwareJob, IsJob};
+ghost use Rattle.nor_words.specs.Words.{AreWrong, AreWrongForHardware, IsFault, IsHardwareJob, IsJob};
 
 use crate::given::Given;
 use crate::job::{HardwareJob, Job};
 use crate::options::{Help, make_hardware_options, make_options};
+use crate::reasons::WrongArguments;
 use clap::Error as WordsError;
 use clap::error::ErrorKind;
 use std::alloc::{AllocError, Global};
@@ -105,21 +106,38 @@ impl From<WordsError> for UsageFault {
 pub fn request_of<'a>(alloc: Global, words: &'a [String]) -> Result<Job<'a>, UsageFault>
     ensures { MatchResult result (IsJob (map string_bytes words.now)) (IsFault (map string_bytes words.now)) }
 {
-    let matches = make_options(alloc)?.try_get_matches_from(words)?;
-    Given::of(&matches).job()
+    match explained_request_of(alloc, words) {
+        Ok(job) => Ok(job),
+        Err(wrong) => Err(wrong.fault),
+    }
 }
 
-/// Returns the job of a program for hardware that the arguments ask for, or one of the usage faults 1, 2 and 10.
-/// `words` has the arguments without the program's name. The options are those of flashnor except `-L` and
+/// Returns what `request_of` returns, and the reason of the fault.
+pub fn explained_request_of<'a>(
+    alloc: Global,
+    words: &'a [String],
+) -> Result<Job<'a>, WrongArguments<'a>>
+    ensures { MatchResult result (IsJob (map string_bytes words.now)) (AreWrong (map string_bytes words.now)) }
+{
+    let matches = make_options(alloc)?.try_get_matches_from(words)?;
+    let given = Given::of(&matches);
+    match given.job() {
+        Ok(job) => Ok(job),
+        Err(fault) => Err(given.explained(fault)),
+    }
+}
+
+/// Returns the job of a program for hardware that the arguments ask for, or one of the usage faults 1, 2 and 10 with
+/// its reason. `words` has the arguments without the program's name. The options are those of flashnor except `-L` and
 /// `--rehearse`, and `-N` and `--quick`. The value of `-p` isn't parsed. Fault 10, out of memory, may be returned for
 /// any arguments.
 pub fn operation_of<'a>(
     alloc: Global,
     help: Help,
     words: &'a [String],
-) -> Result<HardwareJob<'a>, UsageFault>
+) -> Result<HardwareJob<'a>, WrongArguments<'a>>
     ensures { MatchResult result (IsHardwareJob help.program.now (map string_bytes words.now))
-        (IsHardwareFault help.program.now (map string_bytes words.now)) }
+        (AreWrongForHardware help.program.now (map string_bytes words.now)) }
 {
     let matches = make_hardware_options(alloc, help)?.try_get_matches_from(words)?;
     Given::of_hardware(&matches).hardware_job()

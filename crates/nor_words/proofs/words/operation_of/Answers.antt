@@ -1,7 +1,7 @@
 use Rattle.std.proofs.lemmas.Result.{err_from_is_err_and}
 use Rattle.nor_words.proofs.Asked.{hardware_asked-by_words}
 use Rattle.nor_words.proofs.Taken.{hardware_options_are_free, hardware_options_are_simple}
-use Rattle.nor_words.proofs.Taken.{hardware-refused, none-refused, rows-taken}
+use Rattle.nor_words.proofs.Taken.{hardware-wrong, none-refused, rows-taken}
 use Rattle.nor_words.proofs.words.operation_of.Goals as goal
 
 pub returns : goal.returns
@@ -15,4 +15,4 @@ returns c =
 pub returns-in_err-matches : goal.returns-in_err-matches
 returns-in_err-matches c =
     let p = err_from_is_err_and c.from_residual-in_err-matches.result c.from_residual-in_err-matches.ensures.1 in
-    rw p.1 (hardware-refused _ _ c.in_ok-make_hardware_options.ensures _ _ _ c.in_err-matches.ensures.kinds p.2)
+    rw p.1 (hardware-wrong _ _ c.in_ok-make_hardware_options.ensures _ _ _ c.in_err-matches.ensures.kinds p.2)

@@ -1,4 +1,4 @@
-use Rattle.std.proofs.Common.{◌∙◌, ap, codes, inr, option_map, sym}
+use Rattle.std.proofs.Common.{◌∙◌, ap, codes, option_map, sym}
 use Rattle.std.proofs.lemmas.Iterator.Consumers.{YieldsList-turn, YieldsList-end}
 use Rattle.std.proofs.lemmas.List.{length_push}
 use Rattle.std.proofs.lemmas.Result.{err_from_is_err_and}
@@ -27,7 +27,7 @@ returns-in_err-take_in c =
     let now = rw (turned (serprog_settings c.args.text.now) _ _ turn) at c.loop-setting.invariant.2 in
     let first = settings-refused _ _ _ _ now c.in_err-take_in.ensures.1 in
     let p = err_from_is_err_and c.from_residual.result c.from_residual.ensures.1 in
-    rw (p.1, p.2) (wrong_is c.args.text.now c.in-Some-setting.setting.now _ c.in_err-take_in.ensures.0
+    rw (p.1, p.2) (wrong_is c.args.text.now c.in-Some-setting.setting _ c.in_err-take_in.ensures.0
     (record { begins = begins; first = first }))
 
 pub returns-in_default-device : goal.returns-in_default-device
@@ -38,7 +38,7 @@ returns-in_default-device c =
     let end = YieldsList-end pieces _ _ c.loop-setting.yielded_by _ _ c.in-None.is c.next.ensures.steps in
     let last = settings-last (serprog_settings c.args.text.now) _ c.loop-setting.settings c.loop-setting.invariant.2
     end.1 in
-    inr (inr (last.0, sym (and_then-some _) ∙ last.1.device ∙ ap (option_map (λ name. name.now)) c.in_default-device.is))
+    (last.0, sym (and_then-some _) ∙ last.1.device ∙ ap (option_map (λ name. name.now)) c.in_default-device.is)
 
 pub returns-in_err-refuse_rate : goal.returns-in_err-refuse_rate
 returns-in_err-refuse_rate c =

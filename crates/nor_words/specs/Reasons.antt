@@ -1,0 +1,158 @@
+-- The reasons of usage faults: what is wrong with the options, for each fault that they have (specs/Faults.antt).
+use Rattle.std.specs.Prelude.{◌≡◌, ◌&&◌, ◌||◌, ℕ, Bool, true, false, ⊤, List, [], ◌∷◌, Option, Some, None, codes, find, is_some, nat_eq, not, option_map, reverse, if◌then◌else◌}
+use Rattle.std.specs.List.{list_any, starts_with}
+use Rattle.nor_words.specs.Text.{Text, pieces_of, reads}
+use Rattle.nor_words.specs.Given.{Texts, asks_change, is_new_content}
+use Rattle.nor_words.specs.Numbers.{decimal_number}
+use Rattle.nor_words.specs.Programmer.{has_key, is_setting, is_alone_in, keys, settings_of}
+use Rattle.nor_words.specs.Stops.{stops_of}
+use Rattle.nor_words.specs.declared.reasons.Flaw.{Flaw}
+use Rattle.nor_words.specs.declared.reasons.Flaw.TheVariants as flaw
+use Rattle.nor_words.specs.declared.reasons.OptionName.{OptionName}
+use Rattle.nor_words.specs.declared.reasons.OptionName.TheVariants as option
+use Rattle.nor_words.specs.declared.reasons.Reason.{Reason}
+use Rattle.nor_words.specs.declared.reasons.Reason.TheVariants as because
+use Rattle.nor_words.specs.declared.reasons.WrongArguments.{WrongArguments}
+use Rattle.nor_words.specs.declared.words.UsageFault.{UsageFault}
+use Rattle.nor_words.specs.declared.words.UsageFault.TheVariants as why
+
+-- an option, as you type it
+abbrev pub option_text : OptionName → List ℕ
+option_text option.List = codes "-L"
+option_text option.FlashSize = codes "--flash-size"
+option_text option.WpStatus = codes "--wp-status"
+option_text option.WpList = codes "--wp-list"
+option_text option.Read = codes "-r"
+option_text option.Verify = codes "-v"
+option_text option.Write = codes "-w"
+option_text option.Erase = codes "-E"
+option_text option.WpRange = codes "--wp-range"
+option_text option.Restore = codes "--restore"
+option_text option.Journal = codes "--journal"
+option_text option.Rehearse = codes "--rehearse"
+option_text option.NoVerify = codes "-n"
+option_text option.NoVerifyAll = codes "-N"
+option_text option.Unlock = codes "--unlock"
+
+-- ---- fault 3
+
+-- true if the setting has an unknown key, a wrong value, or a key that another setting has too
+unfoldable pub is_flawed : List Text → Text → Bool
+is_flawed settings setting = not (is_setting setting) || not (is_alone_in settings setting)
+
+-- the first setting that `is_flawed` is true for
+abbrev pub first_flawed : List Text → Option Text
+first_flawed settings = find (is_flawed settings) settings
+
+-- true if the setting has a known key
+abbrev pub has_known_key : Text → Bool
+has_known_key setting = list_any (λ known. has_key known.0 setting) keys
+
+-- what is wrong with a setting that has a flaw
+abbrev pub flaw_of : Text → Flaw
+flaw_of setting =
+    if not (has_known_key setting) then flaw.Key else if is_setting setting then flaw.Twice else flaw.Value
+
+-- Holds if this is the reason why the value of `-p` is wrong: it doesn't begin with `dummy:`, or this is the first
+-- setting with a flaw, or no setting has one, so that `emulate=` is missing.
+abbrev pub IsWrongProgrammer : Text → Reason → Type 0
+IsWrongProgrammer text because.NoPrefix = starts_with nat_eq text (codes "dummy:") ≡ false
+IsWrongProgrammer text (because.Setting setting wrong) = (starts_with nat_eq text (codes "dummy:") ≡ true)
+    × (first_flawed (settings_of text) ≡ Some setting.now) × (wrong ≡ flaw_of setting.now)
+IsWrongProgrammer text because.NoChip = (starts_with nat_eq text (codes "dummy:") ≡ true)
+    × (first_flawed (settings_of text) ≡ None)
+IsWrongProgrammer text _ = ⊥
+
+-- ---- fault 4
+
+-- an option, and whether it is given
+abbrev pub Choosing : Type 0
+Choosing = Bool × OptionName
+
+-- the operations in the order of the help
+abbrev pub operation_choices : Texts → List Choosing
+operation_choices given =
+    (given.list, option.List) ∷ (given.flash_size, option.FlashSize) ∷ (given.wp_status, option.WpStatus)
+    ∷ (given.wp_list, option.WpList) ∷ (is_some given.read, option.Read) ∷ (is_some given.verify, option.Verify)
+    ∷ (is_some given.write, option.Write) ∷ (given.erase, option.Erase)
+    ∷ (is_some given.wp_range, option.WpRange) ∷ (is_some given.restore, option.Restore) ∷ []
+
+-- the first option that is given
+abbrev pub first_given : List Choosing → Option OptionName
+first_given choices = option_map (λ (choosing : Choosing). choosing.1) (find (λ (choosing : Choosing). choosing.0) choices)
+
+-- the reason with the first and the last operation that are given
+abbrev pub operations_reason : (first last : Option OptionName) → Reason
+operations_reason (Some first) (Some last) = because.Operations first last
+operations_reason first last = because.Unsaid
+
+-- ---- faults 5 to 9
+
+-- Holds if this is the reason why the value of `--wp-range` is wrong: the value itself.
+abbrev pub IsWrongRange : Option Text → Reason → Type 0
+IsWrongRange (Some value) (because.Range text) = text.now ≡ value
+IsWrongRange None because.Unsaid = ⊤
+IsWrongRange value _ = ⊥
+
+-- the option of a change that is given first, in the order of the help
+abbrev pub change_option : Texts → OptionName
+change_option given = if is_some given.write then option.Write else if given.erase then option.Erase else option.WpRange
+
+-- the reason of fault 6
+abbrev pub journal_reason : Texts → Reason
+journal_reason given =
+    if is_some given.journal && is_some given.rehearse then because.JournalAndRehearse
+    else if asks_change given then because.NoJournal (change_option given)
+    else because.NoChange (if is_some given.journal then option.Journal else option.Rehearse)
+
+-- the reason of fault 7
+abbrev pub regions_reason : Texts → Reason
+regions_reason given =
+    if is_some given.layout then (if is_some given.names then because.NoRegions else because.NoNames)
+    else because.NoLayout
+
+-- the reason of fault 8: an option that needs `-w` or `-E`, or `--quick`, which needs `--restore`
+abbrev pub unneeded_reason : Texts → Reason
+unneeded_reason given =
+    if is_new_content given then because.NoRestore
+    else if given.no_verify then because.NoContent option.NoVerify
+    else if given.no_verify_all then because.NoContent option.NoVerifyAll
+    else if given.unlock then because.NoContent option.Unlock
+    else because.NoRestore
+
+-- the first part of the value of `--rehearse` that isn't a number
+abbrev pub first_unread : Text → Option Text
+first_unread text = find (λ piece. not (reads decimal_number piece)) (pieces_of text)
+
+-- Holds if this is the reason of fault 9: the first part of the value of `--rehearse` that isn't a number, or too many
+-- numbers, or a `stop=` of `-p`.
+abbrev pub IsWrongStops : Option Text → Reason → Type 0
+IsWrongStops (Some text) (because.Stop piece) = first_unread text ≡ Some piece.now
+IsWrongStops (Some text) because.ManyStops = (first_unread text ≡ None) × (stops_of text ≡ None)
+IsWrongStops (Some text) because.StopAndRehearse = (first_unread text ≡ None) × (is_some (stops_of text) ≡ true)
+IsWrongStops None because.Unsaid = ⊤
+IsWrongStops text _ = ⊥
+
+-- ---- all faults
+
+-- Holds if this is the reason of fault 3 for this value of `-p`.
+abbrev pub IsProgrammerReason : Option Text → Reason → Type 0
+IsProgrammerReason (Some text) reason = IsWrongProgrammer text reason
+IsProgrammerReason None reason = reason ≡ because.Unsaid
+
+-- Holds if this is the reason of a fault that these options have.
+abbrev pub IsReason : Texts → UsageFault → Reason → Type 0
+IsReason given why.NoProgrammer reason = reason ≡ because.NoProgrammer
+IsReason given why.Programmer reason = IsProgrammerReason given.programmer reason
+IsReason given why.TwoOperations reason = reason
+    ≡ operations_reason (first_given (operation_choices given)) (first_given (reverse (operation_choices given)))
+IsReason given why.Range reason = IsWrongRange given.wp_range reason
+IsReason given why.Journal reason = reason ≡ journal_reason given
+IsReason given why.Layout reason = reason ≡ regions_reason given
+IsReason given why.Unneeded reason = reason ≡ unneeded_reason given
+IsReason given why.Stops reason = IsWrongStops given.rehearse reason
+IsReason given _ reason = reason ≡ because.Unsaid
+
+-- Holds for the fault `Memory` (out of memory), which has no reason.
+abbrev pub IsOutOfMemory : WrongArguments → Type 0
+IsOutOfMemory wrong = (wrong.fault ≡ why.Memory) × (wrong.reason ≡ because.Unsaid)

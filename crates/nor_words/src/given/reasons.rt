@@ -1,0 +1,173 @@
+//! The reason of each usage fault that the options have.
+ghost use Rattle.std.specs.Prelude.{◌≡◌, reverse};
+ghost use Rattle.nor_words.specs.Given.{texts_of};
+ghost use Rattle.nor_words.specs.Reasons.{IsProgrammerReason, IsReason, IsWrongRange, IsWrongStops, change_option, first_given};
+ghost use Rattle.nor_words.specs.Reasons.{journal_reason, operation_choices, operations_reason, regions_reason, unneeded_reason};
+
+use crate::flaws::programmer_reason;
+use crate::given::Given;
+use crate::reasons::{OptionName, Reason, WrongArguments};
+use crate::stops::{first_unread, read_stops};
+use crate::words::UsageFault;
+
+impl<'a> Given<'a> {
+    /// Returns the fault with its reason. Requires that the options have this fault, or none of the faults 2 to 9.
+    pub fn explained(&self, fault: UsageFault) -> WrongArguments<'a>
+        ensures fault { result.fault ≡ fault }
+        ensures reason { IsReason (texts_of self.now) fault result.reason }
+    {
+        let reason = self.reason(&fault);
+        WrongArguments { fault, reason }
+    }
+
+    // Returns the reason of this fault.
+    fn reason(&self, fault: &UsageFault) -> Reason<'a>
+        ensures { IsReason (texts_of self.now) fault.now result }
+    {
+        match fault {
+            UsageFault::NoProgrammer => Reason::NoProgrammer,
+            UsageFault::Programmer => self.programmer_reason(),
+            UsageFault::TwoOperations => self.operations_reason(),
+            UsageFault::Range => self.range_reason(),
+            UsageFault::Journal => self.journal_reason(),
+            UsageFault::Layout => self.regions_reason(),
+            UsageFault::Unneeded => self.unneeded_reason(),
+            UsageFault::Stops => self.stops_reason(),
+            UsageFault::Words(_) | UsageFault::Memory => Reason::Unsaid,
+        }
+    }
+
+    fn programmer_reason(&self) -> Reason<'a>
+        ensures { IsProgrammerReason (texts_of self.now).programmer result }
+    {
+        match self.programmer {
+            Some(text) => programmer_reason(text),
+            None => Reason::Unsaid,
+        }
+    }
+
+    fn operations_reason(&self) -> Reason<'a>
+        ensures { result ≡ operations_reason (first_given (operation_choices (texts_of self.now)))
+            (first_given (reverse (operation_choices (texts_of self.now)))) }
+    {
+        match (self.first_operation(), self.last_operation()) {
+            (Some(first), Some(last)) => Reason::Operations { first, last },
+            _ => Reason::Unsaid,
+        }
+    }
+
+    // Returns the first operation that is given, in the order of the help.
+    fn first_operation(&self) -> Option<OptionName>
+        ensures { result ≡ first_given (operation_choices (texts_of self.now)) }
+    {
+        match self.operation_choices().iter().find(|choice| choice.0) {
+            Some(choice) => Some(choice.1),
+            None => None,
+        }
+    }
+
+    // Returns the last operation that is given, in the order of the help.
+    fn last_operation(&self) -> Option<OptionName>
+        ensures { result ≡ first_given (reverse (operation_choices (texts_of self.now))) }
+    {
+        match self
+            .operation_choices()
+            .iter()
+            .rev()
+            .find(|choice| choice.0)
+        {
+            Some(choice) => Some(choice.1),
+            None => None,
+        }
+    }
+
+    // Returns the operations in the order of the help, and for each whether it is given.
+    fn operation_choices(&self) -> [(bool, OptionName); 10]
+        ensures { result ≡ operation_choices (texts_of self.now) }
+    {
+        [
+            (self.list, OptionName::List),
+            (self.flash_size, OptionName::FlashSize),
+            (self.wp_status, OptionName::WpStatus),
+            (self.wp_list, OptionName::WpList),
+            (self.read.is_some(), OptionName::Read),
+            (self.verify.is_some(), OptionName::Verify),
+            (self.write.is_some(), OptionName::Write),
+            (self.erase, OptionName::Erase),
+            (self.wp_range.is_some(), OptionName::WpRange),
+            (self.restore.is_some(), OptionName::Restore),
+        ]
+    }
+
+    fn range_reason(&self) -> Reason<'a>
+        ensures { IsWrongRange (texts_of self.now).wp_range result }
+    {
+        match self.wp_range {
+            Some(value) => Reason::Range(value),
+            None => Reason::Unsaid,
+        }
+    }
+
+    fn journal_reason(&self) -> Reason<'a>
+        ensures { result ≡ journal_reason (texts_of self.now) }
+    {
+        match (self.journal, self.rehearse) {
+            (Some(_), Some(_)) => Reason::JournalAndRehearse,
+            _ if self.is_change() => Reason::NoJournal(self.change_option()),
+            (Some(_), None) => Reason::NoChange(OptionName::Journal),
+            (None, _) => Reason::NoChange(OptionName::Rehearse),
+        }
+    }
+
+    // Returns the option of a change that is given first, in the order of the help. Requires that one is given.
+    fn change_option(&self) -> OptionName
+        ensures { result ≡ change_option (texts_of self.now) }
+    {
+        if self.write.is_some() {
+            OptionName::Write
+        } else if self.erase {
+            OptionName::Erase
+        } else {
+            OptionName::WpRange
+        }
+    }
+
+    fn regions_reason(&self) -> Reason<'a>
+        ensures { result ≡ regions_reason (texts_of self.now) }
+    {
+        match (self.layout, self.names) {
+            (Some(_), Some(_)) => Reason::NoRegions,
+            (Some(_), None) => Reason::NoNames,
+            (None, _) => Reason::NoLayout,
+        }
+    }
+
+    fn unneeded_reason(&self) -> Reason<'a>
+        ensures { result ≡ unneeded_reason (texts_of self.now) }
+    {
+        if self.is_new_content() {
+            Reason::NoRestore
+        } else if self.no_verify {
+            Reason::NoContent(OptionName::NoVerify)
+        } else if self.no_verify_all {
+            Reason::NoContent(OptionName::NoVerifyAll)
+        } else if self.unlock {
+            Reason::NoContent(OptionName::Unlock)
+        } else {
+            Reason::NoRestore
+        }
+    }
+
+    fn stops_reason(&self) -> Reason<'a>
+        ensures { IsWrongStops (texts_of self.now).rehearse result }
+    {
+        let Some(text) = self.rehearse else {
+            return Reason::Unsaid;
+        };
+        match first_unread(text) {
+            Some(part) => Reason::Stop(part),
+            None if read_stops(text).is_none() => Reason::ManyStops,
+            None => Reason::StopAndRehearse,
+        }
+    }
+}

@@ -1,0 +1,140 @@
+//! The reason of a usage fault: what is wrong with the arguments.
+ghost use Rattle.std.specs.Prelude.{◌≡◌};
+
+use crate::words::UsageFault;
+use clap::Error as WordsError;
+use std::alloc::AllocError;
+
+/// An option, as a reason names it.
+#[derive(Clone, Copy)]
+pub enum OptionName {
+    List,
+    FlashSize,
+    WpStatus,
+    WpList,
+    Read,
+    Verify,
+    Write,
+    Erase,
+    WpRange,
+    Restore,
+    Journal,
+    Rehearse,
+    NoVerify,
+    NoVerifyAll,
+    Unlock,
+}
+
+impl OptionName {
+    ghost use Rattle.nor_words.specs.Reasons.{option_text};
+
+    /// Returns the option as you type it.
+    pub fn as_str(self) -> &'static str
+        ensures { result.now ≡ option_text self }
+    {
+        match self {
+            OptionName::List => "-L",
+            OptionName::FlashSize => "--flash-size",
+            OptionName::WpStatus => "--wp-status",
+            OptionName::WpList => "--wp-list",
+            OptionName::Read => "-r",
+            OptionName::Verify => "-v",
+            OptionName::Write => "-w",
+            OptionName::Erase => "-E",
+            OptionName::WpRange => "--wp-range",
+            OptionName::Restore => "--restore",
+            OptionName::Journal => "--journal",
+            OptionName::Rehearse => "--rehearse",
+            OptionName::NoVerify => "-n",
+            OptionName::NoVerifyAll => "-N",
+            OptionName::Unlock => "--unlock",
+        }
+    }
+}
+
+/// What is wrong with a setting of `-p`.
+#[derive(Clone, Copy)]
+pub enum Flaw {
+    /// Its key is unknown.
+    Key,
+    /// Its key is known, but does not have this value.
+    Value,
+    /// Another setting has the same key.
+    Twice,
+}
+
+/// The reason of a usage fault.
+#[derive(Clone, Copy)]
+pub enum Reason<'a> {
+    /// No reason: the parser's own message has it (fault 1), or memory ran out (fault 10).
+    Unsaid,
+    /// 2: `-p` is missing.
+    NoProgrammer,
+    /// 3: the value of `-p` doesn't begin with `dummy:`.
+    NoPrefix,
+    /// 3: this is the first setting of `-p` with a flaw.
+    Setting { setting: &'a str, flaw: Flaw },
+    /// 3: no setting of `-p` has a flaw, but `emulate=` is missing.
+    NoChip,
+    /// 4: the first and the last of the given operations, in the order of the help.
+    Operations { first: OptionName, last: OptionName },
+    /// 5: the value of `--wp-range`.
+    Range(&'a str),
+    /// 6: this change has neither `--journal` nor `--rehearse`.
+    NoJournal(OptionName),
+    /// 6: both `--journal` and `--rehearse` are given.
+    JournalAndRehearse,
+    /// 6: this option is given, but no change.
+    NoChange(OptionName),
+    /// 7: `-i` is missing.
+    NoNames,
+    /// 7: `-l` is missing.
+    NoLayout,
+    /// 7: `-l` and `-i` are given, but no operation that takes regions.
+    NoRegions,
+    /// 8: this option is given with neither `-w` nor `-E`.
+    NoContent(OptionName),
+    /// 8: `--quick` is given without `--restore`.
+    NoRestore,
+    /// 9: this is the first part of the value of `--rehearse` that isn't a number.
+    Stop(&'a str),
+    /// 9: the value of `--rehearse` has more than 64 numbers.
+    ManyStops,
+    /// 9: both `--rehearse` and a `stop=` of `-p` are given.
+    StopAndRehearse,
+}
+
+/// A usage fault with its reason.
+#[derive(Drop)]
+pub struct WrongArguments<'a> {
+    pub fault: UsageFault,
+    pub reason: Reason<'a>,
+}
+
+impl From<AllocError> for WrongArguments<'_> {
+    ghost use Rattle.nor_words.specs.Reasons.{IsOutOfMemory};
+
+    ghost from_gives = { λ _ wrong. IsOutOfMemory wrong };
+
+    fn from(error: AllocError) -> Self {
+        let reason = Reason::Unsaid;
+        WrongArguments {
+            fault: UsageFault::from(error),
+            reason,
+        }
+    }
+}
+
+impl From<WordsError> for WrongArguments<'_> {
+    ghost use Rattle.nor_words.specs.Words.{BecomesWrong};
+
+    ghost from_gives = { BecomesWrong };
+
+    fn from(error: WordsError) -> Self {
+        let reason = Reason::Unsaid;
+        WrongArguments {
+            fault: UsageFault::from(error),
+            reason,
+        }
+    }
+}
